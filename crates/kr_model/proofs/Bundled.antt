@@ -1,0 +1,58 @@
+-- The bundled lock tables are lawful, and no case of them fails.
+use Rattle.std.specs.Prelude.{◌≡◌, [], ◌∷◌, length, map, filter, refl}
+use Rattle.kr_model.specs.Protocol.{IsLawful}
+use Rattle.kr_model.specs.Covers.{cases, serves, modes, all_covers, IsCovered}
+use Rattle.kr_model.specs.Kvl as kvl
+use Rattle.kr_model.specs.Im as im
+use Rattle.kr_model.specs.RangeKey as range_key
+use Rattle.kr_model.proofs.Tested.{lawful_by_test}
+
+-- key-value locking keeps the laws
+pub kvl_lawful : IsLawful kvl.kvl
+kvl_lawful = lawful_by_test kvl.kvl refl
+
+-- index-specific locking keeps the laws
+pub im_lawful : IsLawful im.im
+im_lawful = lawful_by_test im.im refl
+
+-- range-key locking keeps the laws
+pub range_key_lawful : IsLawful range_key.range_key
+range_key_lawful = lawful_by_test range_key.range_key refl
+
+-- check kvl: 244 cases, and none fails
+pub kvl_cases : length (cases kvl.kvl) ≡ 244
+kvl_cases = refl
+
+-- key-value locking is covered
+pub kvl_covered : IsCovered kvl.kvl
+kvl_covered = refl
+
+-- check im: 61 cases, and none fails
+pub im_cases : length (cases im.im) ≡ 61
+im_cases = refl
+
+-- index-specific locking is covered
+pub im_covered : IsCovered im.im
+im_covered = refl
+
+-- check range-key: 988 cases, and none fails
+pub range_key_cases : length (cases range_key.range_key) ≡ 988
+range_key_cases = refl
+
+-- range-key locking is covered
+pub range_key_covered : IsCovered range_key.range_key
+range_key_covered = refl
+
+-- which modes of key-value locking serve a read key, a read gap, an inserted key and a deleted gap
+pub kvl_serves : map (λ c. filter (serves kvl.kvl c) (modes kvl.kvl)) all_covers
+    ≡ (kvl.IS ∷ kvl.IX ∷ kvl.S ∷ kvl.SIX ∷ kvl.X ∷ []) ∷ (kvl.S ∷ kvl.SIX ∷ kvl.X ∷ []) ∷ (kvl.IX ∷ kvl.SIX ∷ kvl.X ∷ []) ∷ (kvl.SIX ∷ kvl.X ∷ []) ∷ []
+kvl_serves = refl
+
+-- the same of index-specific locking
+pub im_serves : map (λ c. filter (serves im.im c) (modes im.im)) all_covers ≡ (im.S ∷ im.X ∷ []) ∷ (im.S ∷ im.X ∷ []) ∷ (im.X ∷ []) ∷ (im.X ∷ []) ∷ []
+im_serves = refl
+
+-- the same of range-key locking: all modes; S-N, S-S, S-X, X-N, X-S, X-X; I-X, X-X; X-N, X-S, X-X
+pub range_key_serves : map (λ c. filter (serves range_key.range_key c) (modes range_key.range_key)) all_covers
+    ≡ (1 ∷ 2 ∷ 3 ∷ 4 ∷ 5 ∷ 6 ∷ 7 ∷ 8 ∷ 9 ∷ 10 ∷ 11 ∷ []) ∷ (3 ∷ 4 ∷ 5 ∷ 9 ∷ 10 ∷ 11 ∷ []) ∷ (8 ∷ 11 ∷ []) ∷ (9 ∷ 10 ∷ 11 ∷ []) ∷ []
+range_key_serves = refl

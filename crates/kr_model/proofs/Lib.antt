@@ -1,0 +1,11 @@
+pub mod Tested
+pub mod Guarantees
+pub mod MapLaws
+pub mod UndoLaws
+pub mod LockLaws
+pub mod RunLaws
+pub mod SerialLaws
+pub mod CaseCount
+pub mod Bundled
+pub mod WorkedCovers
+pub mod WorkedRuns

@@ -1,0 +1,151 @@
+-- What a lock has to protect, and the cases that a covered protocol meets. No case names a key, a map or a run.
+use Rattle.std.specs.Prelude.{◌≡◌, ℕ, suc, zero, Bool, true, false, not, List, [], ◌∷◌, Option, Some, None, map, filter, if◌then◌else◌}
+use Rattle.std.specs.List.{flat_map, filter_map}
+use Rattle.std.specs.Option.{option_map_or}
+use Rattle.kr_model.specs.declared.Row.{Row}
+use Rattle.kr_model.specs.declared.Row.TheVariants as row
+use Rattle.kr_model.specs.declared.Side.{Side}
+use Rattle.kr_model.specs.declared.Side.TheVariants.{Current, Next}
+use Rattle.kr_model.specs.declared.Span.{Span}
+use Rattle.kr_model.specs.declared.Span.TheVariants.{Instant, Commit}
+use Rattle.kr_model.specs.declared.Cover.{Cover}
+use Rattle.kr_model.specs.declared.Cover.TheVariants.{ReadKey, ReadGap, InsertedKey, DeletedGap}
+use Rattle.kr_model.specs.declared.Rule.{Rule}
+use Rattle.kr_model.specs.declared.Rule.TheVariants as rule
+use Rattle.kr_model.specs.declared.Origin.{Origin}
+use Rattle.kr_model.specs.declared.Origin.TheVariants.{One, Two}
+use Rattle.kr_model.specs.declared.Place.{Place}
+use Rattle.kr_model.specs.declared.FailedCase.{FailedCase}
+use Rattle.kr_model.specs.Protocol.{Protocol}
+
+-- Modes in order --
+
+-- The n numbers from a, rising.
+abbrev pub count_up : ℕ → ℕ → List ℕ
+count_up a zero = []
+count_up a (suc n) = a ∷ count_up (suc a) n
+
+-- The modes of p, rising.
+abbrev pub modes : Protocol → List ℕ
+modes p = count_up 1 p.count
+
+-- None and then the modes of p, rising: what a transaction may hold on a name.
+abbrev pub modes_or_none : Protocol → List ℕ
+modes_or_none p = count_up 0 (suc p.count)
+
+-- Covers --
+
+-- A row and a side of the lock table.
+abbrev pub Ask : Type 0
+Ask = Row × Side
+
+-- What no other transaction may be granted beside a lock that has the cover, in order.
+abbrev pub must_refuse : Cover → List Ask
+must_refuse ReadKey = (row.Delete, Current) ∷ []
+must_refuse ReadGap = (row.Insert, Next) ∷ (row.Delete, Current) ∷ []
+must_refuse InsertedKey = (row.FetchHit, Current) ∷ (row.FetchMiss, Next) ∷ (row.ScanKey, Current) ∷ (row.ScanStop, Next) ∷ (row.Delete, Current) ∷ (row.Delete, Next) ∷ []
+must_refuse DeletedGap = (row.FetchMiss, Next) ∷ (row.ScanKey, Current) ∷ (row.ScanStop, Next) ∷ (row.Insert, Next) ∷ (row.Delete, Current) ∷ (row.Delete, Next) ∷ []
+
+-- One who asks at a row and side, with his own mode on the name and his own mode on the next name.
+abbrev pub place : Ask → ℕ → ℕ → Place
+place (r, s) own own_next = record { row = r; side = s; own = own; own_next = own_next }
+
+-- All who may ask at a row and side, own modes rising; at the side next the name is the next name, so the two own modes are one.
+abbrev pub places_of : Protocol → Ask → List Place
+places_of p (r, Current) = flat_map (λ o. map (λ n. place (r, Current) o n) (modes_or_none p)) (modes_or_none p)
+places_of p (r, Next) = map (λ o. place (r, Next) o o) (modes_or_none p)
+
+-- Whether what is asked by one who holds o is refused beside another's h: the converted mode may not stand there.
+abbrev pub refuses : Protocol → ℕ → ℕ → Option (ℕ × Span) → Bool
+refuses p h o None = false
+refuses p h o (Some (q, span)) = not (p.ok (p.convert o q) h)
+
+-- Whether a lock in mode h lets the place through: nothing is asked there, or what is asked may stand beside h.
+abbrev pub is_open : Protocol → ℕ → Place → Bool
+is_open p h x = not (refuses p h x.own (p.ask x.row x.side x.own_next))
+
+-- The places that a lock in mode h leaves open, of those that the cover must refuse, in order.
+abbrev pub open_places : Protocol → Cover → ℕ → List Place
+open_places p c h = filter (is_open p h) (flat_map (places_of p) (must_refuse c))
+
+-- Whether a list has no elements.
+abbrev pub is_empty : {A : Type 0} → List A → Bool
+is_empty [] = true
+is_empty (x ∷ xs) = false
+
+-- Whether a lock in mode h serves the cover: it leaves none of its places open.
+abbrev pub serves : Protocol → Cover → ℕ → Bool
+serves p c h = is_empty (open_places p c h)
+
+-- Cases --
+
+-- The mode on a name of one who held o, after what he asked there was granted: an instant request isn't kept.
+abbrev pub mode_after : Protocol → ℕ → Option (ℕ × Span) → ℕ
+mode_after p o None = o
+mode_after p o (Some (q, Commit)) = p.convert o q
+mode_after p o (Some (q, Instant)) = o
+
+-- A case: `mode` has to serve the cover; where a mode is `given`, only if that one does.
+pub record Case : Type 0 where
+  pub rule : Rule
+  pub cover : Cover
+  pub from : Origin
+  pub given : Option ℕ
+  pub mode : ℕ
+
+-- The case with these parts.
+abbrev pub case : Rule → Cover → Origin → Option ℕ → ℕ → Case
+case r c from given mode = record { rule = r; cover = c; from = from; given = given; mode = mode }
+
+-- The four covers, in order.
+abbrev pub all_covers : List Cover
+all_covers = ReadKey ∷ ReadGap ∷ InsertedKey ∷ DeletedGap ∷ []
+
+-- The cases of a reading row: for each of the covers and each own mode, the mode after the request serves the cover.
+abbrev pub row_cases : Protocol → Rule → Row → Side → List Cover → List Case
+row_cases p rl r side cs = flat_map (λ c. map (λ o. case rl c (One o) None (mode_after p o (p.ask r side 0))) (modes_or_none p)) cs
+
+-- The cases of a rule, in order.
+abbrev pub cases_of : Protocol → Rule → List Case
+-- A conversion keeps each cover that the held mode h serves.
+cases_of p rule.Conversion = flat_map (λ c. flat_map (λ h. map (λ q. case rule.Conversion c (Two h q) (Some h) (p.convert h q)) (modes p)) (modes p)) all_covers
+-- What was read is covered.
+cases_of p rule.FetchHit = row_cases p rule.FetchHit row.FetchHit Current (ReadKey ∷ [])
+cases_of p rule.FetchMiss = row_cases p rule.FetchMiss row.FetchMiss Next (ReadGap ∷ [])
+cases_of p rule.ScanKey = row_cases p rule.ScanKey row.ScanKey Current (ReadKey ∷ ReadGap ∷ [])
+cases_of p rule.ScanStop = row_cases p rule.ScanStop row.ScanStop Next (ReadGap ∷ [])
+-- An inserted key is covered, from each own mode n on the next name and o on the key.
+cases_of p rule.Insert = flat_map (λ n. map (λ o. case rule.Insert InsertedKey (Two n o) None (mode_after p o (p.ask row.Insert Current n))) (modes_or_none p)) (modes_or_none p)
+-- An insert that splits a gap which its own transaction covers by n carries the cover over to the new name.
+cases_of p rule.Split = flat_map (λ c. flat_map (λ n. map (λ o. case rule.Split c (Two n o) (Some n) (mode_after p o (p.ask row.Insert Current n))) (modes_or_none p)) (modes_or_none p)) (ReadGap ∷ DeletedGap ∷ [])
+-- A delete covers the gap that it widens, from each own mode n on the next name.
+cases_of p rule.Delete = map (λ n. case rule.Delete DeletedGap (One n) None (mode_after p n (p.ask row.Delete Next n))) (modes_or_none p)
+
+-- The eight rules, in order.
+abbrev pub all_rules : List Rule
+all_rules = rule.Conversion ∷ rule.FetchHit ∷ rule.FetchMiss ∷ rule.ScanKey ∷ rule.ScanStop ∷ rule.Insert ∷ rule.Split ∷ rule.Delete ∷ []
+
+-- All cases of a protocol, in order.
+abbrev pub cases : Protocol → List Case
+cases p = flat_map (cases_of p) all_rules
+
+-- Whether the case asks anything: no mode is given, or the given one serves the cover.
+abbrev pub is_due : Protocol → Case → Bool
+is_due p c = option_map_or (serves p c.cover) c.given true
+
+-- The case failed at the first of the places that its mode leaves open, if there is one.
+abbrev pub failed_at : Case → List Place → Option FailedCase
+failed_at c [] = None
+failed_at c (hole ∷ holes) = Some (record { case = c.rule; cover = c.cover; from = c.from; mode = c.mode; hole = hole })
+
+-- The failure of a case, or nothing where it holds.
+abbrev pub failure : Protocol → Case → Option FailedCase
+failure p c = if is_due p c then failed_at c (open_places p c.cover c.mode) else None
+
+-- The cases that don't hold, in order, each with the first place left open.
+abbrev pub failed_cases : Protocol → List FailedCase
+failed_cases p = filter_map (failure p) (cases p)
+
+-- A protocol is covered if every case holds.
+abbrev pub IsCovered : Protocol → Type 0
+IsCovered p = failed_cases p ≡ []

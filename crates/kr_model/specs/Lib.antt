@@ -1,0 +1,14 @@
+pub mod Protocol
+pub mod Covers
+pub mod Matrices
+pub mod Kvl
+pub mod Im
+pub mod RangeKey
+pub mod Map
+pub mod Locks
+pub mod State
+pub mod Plan
+pub mod Step
+pub mod Run
+pub mod Serial
+pub mod Difference

@@ -1,0 +1,48 @@
+-- A lock protocol: its modes, which of them may stand beside each other, and what each row of the lock table asks for.
+-- A mode is a number: 0 is none, and the modes are 1 to `count`.
+use Rattle.std.specs.Prelude.{◌≡◌, ℕ, ◌<◌, ◌≤◌, Bool, true, Option, Some}
+use Rattle.kr_model.specs.declared.Row.{Row}
+use Rattle.kr_model.specs.declared.Row.TheVariants.{FetchHit, FetchMiss, ScanKey, ScanStop, Insert, Delete}
+use Rattle.kr_model.specs.declared.Side.{Side}
+use Rattle.kr_model.specs.declared.Span.{Span}
+
+-- A lock table, as four functions of its modes.
+pub record Protocol : Type 0 where
+  -- how many modes there are
+  pub count : ℕ
+  -- ok q h: a request in mode q may stand beside a lock that another transaction holds in mode h
+  pub ok : ℕ → ℕ → Bool
+  -- convert h q: the mode of one who holds h and asks for q
+  pub convert : ℕ → ℕ → ℕ
+  -- ask row side own: the mode and the span asked for, or nothing; own is the asker's mode on the next name before the operation
+  pub ask : Row → Side → ℕ → Option (ℕ × Span)
+
+-- A row is a reading row if its operation changes nothing.
+abbrev pub IsReading : Row → Type 0
+IsReading FetchHit = Unit {0}
+IsReading FetchMiss = Unit {0}
+IsReading ScanKey = Unit {0}
+IsReading ScanStop = Unit {0}
+IsReading Insert = ⊥
+IsReading Delete = ⊥
+
+-- A number is a mode of p if it isn't none and at most the count.
+pub record IsMode (p : Protocol) (m : ℕ) : Type 0 where
+  pub some : 0 < m
+  pub in_range : m ≤ p.count
+
+-- The laws that each protocol keeps, covered or not.
+pub record IsLawful (p : Protocol) : Type 0 where
+  -- there are at most 15 modes
+  pub few : p.count ≤ 15
+  -- every request may stand beside none, and none beside every lock
+  pub ok-none_held : (q : ℕ) → q ≤ p.count → p.ok q 0 ≡ true
+  pub ok-none_asked : (h : ℕ) → h ≤ p.count → p.ok 0 h ≡ true
+  -- none and a mode convert to that mode, and two modes to a mode
+  pub convert-none_held : (q : ℕ) → q ≤ p.count → p.convert 0 q ≡ q
+  pub convert-none_asked : (h : ℕ) → h ≤ p.count → p.convert h 0 ≡ h
+  pub convert-modes : (h q : ℕ) → IsMode p h → IsMode p q → IsMode p (p.convert h q)
+  -- what is asked for is a mode
+  pub ask-mode : (row : Row) (side : Side) (own q : ℕ) (span : Span) → own ≤ p.count → p.ask row side own ≡ Some (q, span) → IsMode p q
+  -- a reading row asks the same whatever is held
+  pub ask-reading : (row : Row) (side : Side) (own : ℕ) → IsReading row → own ≤ p.count → p.ask row side own ≡ p.ask row side 0
