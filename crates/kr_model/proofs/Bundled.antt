@@ -5,7 +5,9 @@ use Rattle.kr_model.specs.Covers.{cases, serves, modes, all_covers, IsCovered}
 use Rattle.kr_model.specs.Kvl as kvl
 use Rattle.kr_model.specs.Im as im
 use Rattle.kr_model.specs.RangeKey as range_key
+use Rattle.kr_model.specs.ModeNames.{AreModeNames, kvl_names, im_names, range_key_names}
 use Rattle.kr_model.proofs.Tested.{lawful_by_test}
+use Rattle.kr_model.proofs.NamesTested.{named_by_test}
 
 -- key-value locking keeps the laws
 pub kvl_lawful : IsLawful kvl.kvl
@@ -18,6 +20,18 @@ im_lawful = lawful_by_test im.im refl
 -- range-key locking keeps the laws
 pub range_key_lawful : IsLawful range_key.range_key
 range_key_lawful = lawful_by_test range_key.range_key refl
+
+-- each mode of key-value locking has a name of its own
+pub kvl_named : AreModeNames kvl_names 5
+kvl_named = named_by_test kvl_names 5 refl
+
+-- each mode of index-specific locking has a name of its own
+pub im_named : AreModeNames im_names 2
+im_named = named_by_test im_names 2 refl
+
+-- each mode of range-key locking has a name of its own
+pub range_key_named : AreModeNames range_key_names 11
+range_key_named = named_by_test range_key_names 11 refl
 
 -- check kvl: 244 cases, and none fails
 pub kvl_cases : length (cases kvl.kvl) ≡ 244

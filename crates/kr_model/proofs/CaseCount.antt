@@ -65,6 +65,7 @@ module _ (p : Protocol) where
   deletes : length (cases_of p rule.Delete) ≡ p.count + 1
   deletes = length_mapped (λ n. case rule.Delete DeletedGap (One n) None (mode_after p n (p.ask row.Delete Next n))) (modes_or_none p) ∙ or_none
 
+  -- the number of cases, by the number of modes
   pub length-cases : length (cases p) ≡ 4 * (p.count * p.count) + 6 * (p.count + 1) + 3 * ((p.count + 1) * (p.count + 1))
   length-cases =
       eight (cases_of p rule.Conversion) (cases_of p rule.FetchHit) (cases_of p rule.FetchMiss) (cases_of p rule.ScanKey) (cases_of p rule.ScanStop) (cases_of p rule.Insert) (cases_of p rule.Split) (cases_of p rule.Delete)

@@ -1,4 +1,5 @@
 pub mod Tested
+pub mod NamesTested
 pub mod Guarantees
 pub mod MapLaws
 pub mod UndoLaws
@@ -9,3 +10,7 @@ pub mod CaseCount
 pub mod Bundled
 pub mod WorkedCovers
 pub mod WorkedRuns
+pub mod Entries
+pub mod Keep
+pub mod Numbers
+pub mod Retained

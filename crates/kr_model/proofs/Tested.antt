@@ -135,7 +135,8 @@ span_of_test Commit Commit h = refl
 span_of_test Instant Commit h = absurd (cc)
 span_of_test Commit Instant h = absurd (cc)
 
-eq_of_test : (a b : ℕ) → (a == b) ≡ true → a ≡ b
+-- numbers that are the same by the test are equal
+pub eq_of_test : (a b : ℕ) → (a == b) ≡ true → a ≡ b
 eq_of_test a b h = grind (arith, nat_tests)
 
 same_some : (q r : ℕ) (s t : Span) → q ≡ r → s ≡ t → ◌≡◌ {A = Option (ℕ × Span)} (Some (q, s)) (Some (r, t))
@@ -156,7 +157,8 @@ mode_of_test p m h =
 asked_mode : (p : Protocol) (a : Option (ℕ × Span)) (q : ℕ) (s : Span) → asks_mode p a ≡ true → a ≡ Some (q, s) → IsMode p q
 asked_mode p a q s h e = mode_of_test p q (subst (λ x. asks_mode p x ≡ true) e h)
 
-le_of_test : (a b : ℕ) → nat_le a b ≡ true → a ≤ b
+-- a number that is at most another by the test is so
+pub le_of_test : (a b : ℕ) → nat_le a b ≡ true → a ≤ b
 le_of_test a b h = grind (arith, nat_tests)
 
 -- a protocol that passes the tests keeps the laws

@@ -46,7 +46,7 @@ must_refuse ReadGap = (row.Insert, Next) ∷ (row.Delete, Current) ∷ []
 must_refuse InsertedKey = (row.FetchHit, Current) ∷ (row.FetchMiss, Next) ∷ (row.ScanKey, Current) ∷ (row.ScanStop, Next) ∷ (row.Delete, Current) ∷ (row.Delete, Next) ∷ []
 must_refuse DeletedGap = (row.FetchMiss, Next) ∷ (row.ScanKey, Current) ∷ (row.ScanStop, Next) ∷ (row.Insert, Next) ∷ (row.Delete, Current) ∷ (row.Delete, Next) ∷ []
 
--- One who asks at a row and side, with his own mode on the name and his own mode on the next name.
+-- An asker at a row and side, with its own modes on the name and on the next name.
 abbrev pub place : Ask → ℕ → ℕ → Place
 place (r, s) own own_next = record { row = r; side = s; own = own; own_next = own_next }
 
@@ -79,7 +79,7 @@ serves p c h = is_empty (open_places p c h)
 
 -- Cases --
 
--- The mode on a name of one who held o, after what he asked there was granted: an instant request isn't kept.
+-- The mode on a name of one who held o, after what it asked for there was granted: an instant request isn't kept.
 abbrev pub mode_after : Protocol → ℕ → Option (ℕ × Span) → ℕ
 mode_after p o None = o
 mode_after p o (Some (q, Commit)) = p.convert o q

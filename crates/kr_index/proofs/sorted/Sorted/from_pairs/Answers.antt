@@ -1,0 +1,20 @@
+use Rattle.std.proofs.Common.{◌≡◌, ◌∙◌, ap, sym, subst, arith}
+use Rattle.std.proofs.lemmas.Grind.{common_steps}
+use Rattle.kr_index.specs.Slots.{pairs_of, pins_of, unpinned, IsInOrder}
+use Rattle.kr_index.proofs.SlotLaws.{in_order-unpinned, pairs-unpinned, pins-unpinned}
+use Rattle.kr_index.proofs.sorted.Sorted.from_pairs.Goals as goal
+
+pub invariant_of-result : goal.invariant_of-result
+invariant_of-result c =
+    let all : c.loop-key.entries.items ≡ unpinned c.args.pairs.now = grind (arith, common_steps) in
+    subst IsInOrder (sym all) (in_order-unpinned c.args.pairs.now c.requires)
+
+pub returns-clause-map : goal.returns-clause-map
+returns-clause-map c =
+    let all : c.loop-key.entries.items ≡ unpinned c.args.pairs.now = grind (arith, common_steps) in
+    ap pairs_of all ∙ pairs-unpinned c.args.pairs.now
+
+pub returns-clause-pins : goal.returns-clause-pins
+returns-clause-pins c q =
+    let all : c.loop-key.entries.items ≡ unpinned c.args.pairs.now = grind (arith, common_steps) in
+    ap (λ l. pins_of l q) all ∙ pins-unpinned c.args.pairs.now q

@@ -1,0 +1,16 @@
+use Rattle.std.proofs.Common.{ap}
+use Rattle.kr_index.specs.Slots.{value_in}
+use Rattle.kr_index.proofs.SlotLaws.{get-pairs}
+use Rattle.kr_index.proofs.sorted.SortedOrdered.get.Goals as goal
+
+pub returns-in-Ok : goal.returns-in-Ok
+returns-in-Ok c =
+    let value = get-pairs c.self.inside.entries.items c.args.key c.self.invariant in
+    let found = ap value_in c.in-Ok.ensures.slot in
+    cc (value, found, c.deref.ensures.value, c.self.view_is)
+
+pub returns-in-Err : goal.returns-in-Err
+returns-in-Err c =
+    let value = get-pairs c.self.inside.entries.items c.args.key c.self.invariant in
+    let found = ap value_in c.in-Err.ensures.absent in
+    cc (value, found, c.deref.ensures.value, c.self.view_is)

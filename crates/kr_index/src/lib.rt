@@ -1,0 +1,82 @@
+//! An ordered index: a map from keys to values, and pins that keep places for keys.
+//!
+//! A pinned key has its place, so writing it or taking it away needs no memory and cannot fail.
+//! A caller that has to finish what it began pins the key first, while it may still give up.
+#![tactic(auto)]
+
+ghost use Rattle.std.specs.Prelude.{◌≡◌, ℕ, ◌+◌, ◌-◌, ◌<◌, ◌^◌, ◌==◌, if◌then◌else◌, OnOk, OnErr, IfOk};
+ghost use Rattle.kr_model.specs.Map.{Map, IsMap, get, set, without, at, after};
+
+mod slots;
+mod sorted;
+#[cfg(test)]
+mod tests;
+
+pub use kr_model::Name;
+use kr_model::Pairs;
+pub use sorted::Sorted;
+use std::alloc::{AllocError, Global};
+
+/// A growth was refused.
+pub type Memory = AllocError;
+
+/// A map from keys to values in the order of the keys, with a count of pins for each key.
+///
+/// A pinned key has its place in the index, whether it is present or absent.
+/// Only `pin` and `copy` take memory, so they are the only calls that can fail.
+pub trait Ordered: Drop {
+    /// The pairs of the present keys, keys rising.
+    ghost map: { Self → Map };
+
+    /// How many pins a key has.
+    ghost pins: { Self → ℕ → ℕ };
+
+    /// The value of `key`, or `None` if `key` is absent.
+    fn get(&self, key: u64) -> Option<u64>
+        ensures { result ≡ get (map self.now) key };
+
+    /// The least present key not below `from`, or `End` if there is none.
+    fn at(&self, from: u64) -> Name
+        ensures { result ≡ at (map self.now) from };
+
+    /// The least present key above `key`, or `End` if there is none.
+    fn after(&self, key: u64) -> Name
+        ensures { result ≡ after (map self.now) key };
+
+    /// Adds a pin to `key`, which may be present or absent. No value changes.
+    ///
+    /// A key has at most 4,294,967,295 pins.
+    /// Where a growth is refused the answer is `Memory`, and no pin changes either.
+    fn pin(&mut self, key: u64) -> Result<(), Memory>
+        requires { pins self.old key + 1 < 2 ^ 32 }
+        ensures map { map self.new ≡ map self.old }
+        ensures ok { OnOk result ((q : ℕ) → pins self.new q ≡ (if q == key then pins self.old q + 1 else pins self.old q)) }
+        ensures err { OnErr result ((q : ℕ) → pins self.new q ≡ pins self.old q) };
+
+    /// Gives up a pin of `key`, which has one. No value changes, not even at the last pin.
+    fn unpin(&mut self, key: u64)
+        requires { 0 < pins self.old key }
+        ensures map { map self.new ≡ map self.old }
+        ensures pins { (q : ℕ) → pins self.new q ≡ (if q == key then pins self.old q - 1 else pins self.old q) };
+
+    /// Writes `value` at the pinned `key`, over an old value if there is one. Pins and other keys stay.
+    fn put(&mut self, key: u64, value: u64)
+        requires { 0 < pins self.old key }
+        ensures map { map self.new ≡ set (map self.old) key value }
+        ensures pins { (q : ℕ) → pins self.new q ≡ pins self.old q };
+
+    /// Takes the value of the pinned `key` away and returns it, or returns `None` if `key` is absent.
+    /// Pins and other keys stay.
+    fn take(&mut self, key: u64) -> Option<u64>
+        requires { 0 < pins self.old key }
+        ensures value { result ≡ get (map self.old) key }
+        ensures map { map self.new ≡ without (map self.old) key }
+        ensures pins { (q : ℕ) → pins self.new q ≡ pins self.old q };
+
+    /// A copy of all pairs, keys rising, or `Memory` where a growth is refused.
+    fn copy(&self, alloc: Global) -> Result<Pairs, Memory>
+        ensures pairs { IfOk result (λ pairs. pairs ≡ map self.now) }
+
+        // This is known of the index itself, so also where the copy is refused.
+        ensures in_order { IsMap (map self.now) };
+}

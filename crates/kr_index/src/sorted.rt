@@ -1,0 +1,139 @@
+//! An index as a sorted vector.
+ghost use Rattle.std.specs.Prelude.{◌≡◌, ℕ, [], IfOk};
+ghost use Rattle.kr_model.specs.Map.{IsMap};
+ghost use Rattle.kr_index.specs.Slots.{pairs_of, pins_of};
+
+use crate::slots::{Slot, add, first_present, remove, search, write};
+use crate::{Memory, Ordered};
+use kr_model::{Name, Pairs};
+use std::alloc::Global;
+use std::marker::Model;
+
+/// An index in one vector, sorted by key.
+///
+/// A key is found by bisection, so each call compares it with a logarithmic number of keys.
+/// Entries shift only where `pin` adds a new key, and where `unpin` gives up the last pin of an absent one.
+/// `at` and `after` also step over the absent keys that are pinned right before their answer.
+#[derive(Debug, Drop)]
+pub struct Sorted {
+    entries: Vec<(u64, Slot)>,
+}
+
+impl Model for Sorted {
+    ghost use Rattle.std.specs.Prelude.{ℕ, List};
+    ghost use Rattle.kr_index.specs.Slots.{IsInOrder};
+    ghost use Rattle.kr_index.specs.declared.slots.Slot.{Slot};
+
+    ghost Value = { List (ℕ × Slot) };
+
+    ghost view = { λ s. s.entries.items };
+
+    ghost invariant = { λ s. IsInOrder s.entries.items };
+}
+
+impl Sorted {
+    /// An empty index without pins. It takes no memory yet.
+    pub fn new(alloc: Global) -> Sorted
+        ensures map { ⟦<Sorted as Ordered>⟧.map result ≡ [] }
+        ensures pins { (q : ℕ) → ⟦<Sorted as Ordered>⟧.pins result q ≡ 0 }
+    {
+        Sorted {
+            entries: Vec::new(alloc),
+        }
+    }
+
+    /// An index of the pairs, whose keys strictly rise, without pins.
+    /// The answer is `Memory` where a growth is refused. Its time is linear in the number of pairs.
+    pub fn from_pairs(pairs: &[(u64, u64)], alloc: Global) -> Result<Sorted, Memory>
+        requires { IsMap pairs.now }
+        ensures map { IfOk result (λ index. ⟦<Sorted as Ordered>⟧.map index ≡ pairs.now) }
+        ensures pins { IfOk result (λ index. (q : ℕ) → ⟦<Sorted as Ordered>⟧.pins index q ≡ 0) }
+    {
+        let mut entries = Vec::with_capacity(alloc, pairs.len())?;
+        for &(key, value) in pairs {
+            let slot = Slot {
+                value: Some(value),
+                pins: 0,
+            };
+            entries.push((key, slot))?;
+        }
+        Ok(Sorted { entries })
+    }
+}
+
+impl Ordered for Sorted {
+    ghost map = { λ s. pairs_of s };
+
+    ghost pins = { λ s k. pins_of s k };
+
+    fn get(&self, key: u64) -> Option<u64> {
+        match search(&self.entries, key) {
+            Ok((_, slot)) => slot.value,
+            Err(_) => None,
+        }
+    }
+
+    fn at(&self, from: u64) -> Name {
+        match search(&self.entries, from) {
+            Ok((place, _)) => first_present(&self.entries[place..]),
+            Err(place) => first_present(&self.entries[place..]),
+        }
+    }
+
+    fn after(&self, key: u64) -> Name {
+        match search(&self.entries, key) {
+            Ok((place, _)) => first_present(&self.entries[place + 1..]),
+            Err(place) => first_present(&self.entries[place..]),
+        }
+    }
+
+    fn pin(&mut self, key: u64) -> Result<(), Memory> {
+        match search(&self.entries, key) {
+            Ok((place, slot)) => {
+                let pins = slot.pins + 1;
+                write(&mut self.entries, place, key, Slot { pins, ..slot });
+            }
+            Err(place) => add(&mut self.entries, place, key)?,
+        }
+        Ok(())
+    }
+
+    fn unpin(&mut self, key: u64) {
+        if let Ok((place, slot)) = search(&self.entries, key) {
+            if slot.value.is_none() && slot.pins == 1 {
+                remove(&mut self.entries, place, key);
+            } else {
+                let pins = slot.pins - 1;
+                write(&mut self.entries, place, key, Slot { pins, ..slot });
+            }
+        }
+    }
+
+    fn put(&mut self, key: u64, value: u64) {
+        if let Ok((place, slot)) = search(&self.entries, key) {
+            let value = Some(value);
+            write(&mut self.entries, place, key, Slot { value, ..slot });
+        }
+    }
+
+    fn take(&mut self, key: u64) -> Option<u64> {
+        match search(&self.entries, key) {
+            Ok((place, slot)) => {
+                let value = None;
+                write(&mut self.entries, place, key, Slot { value, ..slot });
+                slot.value
+            }
+            Err(_) => None,
+        }
+    }
+
+    fn copy(&self, alloc: Global) -> Result<Pairs, Memory> {
+        let mut list = Vec::new(alloc);
+        for &(key, slot) in &self.entries {
+            if let Some(value) = slot.value {
+                list.push((key, value))?;
+            }
+        }
+        Ok(Pairs::from_vec(list))
+    }
+}

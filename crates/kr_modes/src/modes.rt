@@ -1,0 +1,117 @@
+//! Modes with their compatibility and their conversion.
+ghost use Rattle.std.specs.Prelude.{◌≡◌, ℕ, ◌+◌, ◌-◌, ◌*◌, ◌<◌, ◌≤◌, length, IfSome, IfNone};
+ghost use Rattle.kr_model.specs.ModeNames.{name_of};
+ghost use Rattle.kr_modes.specs.Matrix.{Matrix, IsMatrix, matrix_of, ok_of, convert_of, IsNamed};
+
+use kr_model::Mode;
+use std::marker::Model;
+
+/// 1 to 15 modes by name, with their compatibility and their conversion. The mode at place `i` of
+/// the names is `i + 1`, and 0 is none. No call takes memory.
+#[derive(Debug, Drop)]
+pub struct Modes {
+    names: Vec<String>,
+    compatible: Vec<bool>,
+    conversion: Vec<Mode>,
+}
+
+impl Model for Modes {
+    ghost use Rattle.kr_modes.specs.Matrix.{Matrix, IsMatrix, matrix_of};
+
+    ghost Value = { Matrix };
+
+    ghost view = { λ s. matrix_of s.names.items s.compatible.items s.conversion.items };
+
+    ghost invariant = { λ s. IsMatrix (matrix_of s.names.items s.compatible.items s.conversion.items) };
+}
+
+impl Modes {
+    /// Modes with these names. Of `m` names, entry `(q - 1) * m + h - 1` of `ok` says whether a
+    /// request in mode `q` may stand beside a lock held in mode `h`, and entry
+    /// `(h - 1) * m + q - 1` of `convert` is the mode of one who holds `h` and asks for `q`.
+    ///
+    /// There are 1 to 15 names, each of 1 to 24 bytes from 32 to 126; no name is `none`, and none
+    /// stands twice. `ok` and `convert` have `m * m` entries, those of `convert` from 1 to `m`.
+    pub fn new(names: Vec<String>, ok: Vec<bool>, convert: Vec<Mode>) -> Modes
+        requires { IsMatrix (matrix_of names.items ok.items convert.items) }
+        ensures { result ≡ matrix_of names.items ok.items convert.items }
+    {
+        Modes {
+            names,
+            compatible: ok,
+            conversion: convert,
+        }
+    }
+
+    /// How many modes there are, from 1 to 15: the greatest mode.
+    pub fn count(&self) -> Mode
+        ensures count { result ≡ length self.now.names }
+        ensures matrix { IsMatrix self.now }
+    {
+        self.names.len() as Mode
+    }
+
+    /// Whether a request in one mode may stand beside a lock that another holds. None stands
+    /// beside every mode, and every mode beside none.
+    pub fn ok(&self, requested: Mode, held: Mode) -> bool
+        requires requested_is_mode { requested ≤ length self.now.names }
+        requires held_is_mode { held ≤ length self.now.names }
+        ensures { result ≡ ok_of self.now requested held }
+    {
+        if requested == 0 || held == 0 {
+            return true;
+        }
+        self.compatible[self.place(requested, held)]
+    }
+
+    /// The mode of one who holds a mode and asks for another. Where one of them is none, it is
+    /// the other.
+    pub fn convert(&self, held: Mode, requested: Mode) -> Mode
+        requires held_is_mode { held ≤ length self.now.names }
+        requires requested_is_mode { requested ≤ length self.now.names }
+        ensures { result ≡ convert_of self.now held requested }
+    {
+        if held == 0 {
+            return requested;
+        }
+        if requested == 0 {
+            return held;
+        }
+        self.conversion[self.place(held, requested)]
+    }
+
+    /// The name of a mode, and `none` for none.
+    pub fn name(&self, mode: Mode) -> &str
+        requires { mode ≤ length self.now.names }
+        ensures { result.now ≡ name_of self.now.names mode }
+    {
+        if mode == 0 {
+            return "none";
+        }
+        self.names[mode as usize - 1].as_str()
+    }
+
+    /// The mode with exactly this name. `none` is the name of no mode.
+    pub fn find(&self, name: &str) -> Option<Mode>
+        ensures some { IfSome result (IsNamed self.now name.now) }
+        ensures only { IfSome result (λ m. (k : ℕ) → IsNamed self.now name.now k → k ≡ m) }
+        ensures none { IfNone result ((m : ℕ) → IsNamed self.now name.now m → ⊥) }
+    {
+        for mode in 1..self.count() + 1 {
+            if self.name(mode) == name {
+                return Some(mode);
+            }
+        }
+        None
+    }
+
+    /// The place of two modes in a square of all modes, which has a row for each first one.
+    fn place(&self, first: Mode, second: Mode) -> usize
+        requires first { (0 < first) × (first ≤ length self.now.names) }
+        requires second { (0 < second) × (second ≤ length self.now.names) }
+        ensures place { result ≡ (first - 1) * length self.now.names + (second - 1) }
+        ensures in_square { result < length self.now.names * length self.now.names }
+    {
+        (first as usize - 1) * self.names.len() + (second as usize - 1)
+    }
+}

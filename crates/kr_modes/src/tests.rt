@@ -1,0 +1,73 @@
+//! Two modes of which the order matters, looked at by every call.
+ghost use Rattle.std.specs.Prelude.{◌≡◌, length, IfOk};
+
+use crate::{Mode, Modes};
+use std::alloc::{AllocError, Global};
+use std::test::Fail;
+
+/// The modes `A` and `B`: a request for `A` stands beside both, one for `B` beside none, and the
+/// mode that is asked for last is held.
+fn two_modes(alloc: Global) -> Result<Modes, AllocError>
+    ensures { IfOk result (λ modes. length modes.names ≡ 2) }
+{
+    let mut names = Vec::new(alloc);
+    names.push(String::from_str(alloc, "A")?)?;
+    names.push(String::from_str(alloc, "B")?)?;
+    let ok = vec![in alloc; true, true, false, false]?;
+    let convert = vec![in alloc; 1, 2, 1, 2]?;
+    Ok(Modes::new(names, ok, convert))
+}
+
+#[test]
+fn stand_beside_each_other(rt: HostRuntime) -> Result<(), Fail> {
+    let modes = two_modes(rt.alloc())?;
+    let beside = [[true, true, true], [true, true, true], [true, false, false]];
+    for requested in 0..3_u8 {
+        for held in 0..3_u8 {
+            let wanted = beside[requested as usize][held as usize];
+            assert_eq!(rt;
+                modes.ok(requested, held),
+                wanted,
+                "{requested} beside {held}"
+            );
+        }
+    }
+    Ok(())
+}
+
+#[test]
+fn convert_to_one_mode(rt: HostRuntime) -> Result<(), Fail> {
+    let modes = two_modes(rt.alloc())?;
+    let converted: [[Mode; 3]; 3] = [[0, 1, 2], [1, 1, 2], [2, 1, 2]];
+    for held in 0..3_u8 {
+        for requested in 0..3_u8 {
+            let wanted = converted[held as usize][requested as usize];
+            assert_eq!(rt;
+                modes.convert(held, requested),
+                wanted,
+                "{held} with {requested}"
+            );
+        }
+    }
+    Ok(())
+}
+
+#[test]
+fn bear_names(rt: HostRuntime) -> Result<(), Fail> {
+    let modes = two_modes(rt.alloc())?;
+    assert_eq!(rt; modes.count(), 2);
+    for (mode, name) in [(0_u8, "none"), (1, "A"), (2, "B")] {
+        assert!(rt; mode <= modes.count());
+        assert_eq!(rt; modes.name(mode), name);
+    }
+    for (name, mode) in [
+        ("A", Some(1_u8)),
+        ("B", Some(2)),
+        ("none", None),
+        ("AB", None),
+        ("", None),
+    ] {
+        assert_eq!(rt; modes.find(name), mode, "the mode {name}");
+    }
+    Ok(())
+}

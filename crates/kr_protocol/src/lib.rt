@@ -1,0 +1,19 @@
+//! Lock protocols of ordered indexes: what one is, which ones are covered, and the three that
+//! come with the checker.
+#![tactic(auto)]
+
+mod im;
+mod kvl;
+mod parts;
+mod protocol;
+mod range_key;
+mod request;
+
+pub use im::Im;
+pub use kr_model::{Mode, Row, Side, Span};
+pub use kvl::Kvl;
+pub use protocol::{Covered, Protocol};
+pub use range_key::RangeKey;
+
+#[cfg(test)]
+mod tests;

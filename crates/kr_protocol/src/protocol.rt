@@ -1,0 +1,94 @@
+//! What every lock protocol answers.
+ghost use Rattle.std.specs.Prelude.{◌≡◌, ℕ, ◌≤◌, List};
+ghost use Rattle.kr_model.specs.Protocol.{Protocol, IsLawful};
+ghost use Rattle.kr_model.specs.Covers.{IsCovered};
+ghost use Rattle.kr_model.specs.ModeNames.{name_of, AreModeNames};
+
+use kr_model::{Mode, Row, Side, Span};
+
+/// A lock protocol: its modes, which of them may stand beside each other, how they combine, and
+/// what each access to the index asks for. No call takes memory or fails.
+pub trait Protocol: Drop {
+    /// Its tables.
+    ghost table: { Self → Protocol };
+
+    /// The names of its modes, in the order of the modes.
+    ghost names: { Self → List (List ℕ) };
+
+    /// How many modes there are, at most 15: the greatest mode.
+    fn count(&self) -> Mode
+        ensures { result ≡ (table self.now).count };
+
+    /// Whether a request in one mode may stand beside a lock that another transaction holds. None
+    /// stands beside every mode, and every mode beside none.
+    fn ok(&self, requested: Mode, held: Mode) -> bool
+        requires requested_is_mode { requested ≤ (table self.now).count }
+        requires held_is_mode { held ≤ (table self.now).count }
+        ensures { result ≡ (table self.now).ok requested held };
+
+    /// The mode of one who holds a mode and asks for another. Where one of them is none, it is
+    /// the other.
+    fn convert(&self, held: Mode, requested: Mode) -> Mode
+        requires held_is_mode { held ≤ (table self.now).count }
+        requires requested_is_mode { requested ≤ (table self.now).count }
+        ensures { result ≡ (table self.now).convert held requested };
+
+    /// The name of a mode, and `none` for none.
+    fn name(&self, mode: Mode) -> &str
+        requires { mode ≤ (table self.now).count }
+        ensures { result.now ≡ name_of (names self.now) mode };
+
+    /// The mode that an access asks for at one side, and how long it is held, where the asker
+    /// holds `own_next` on the next name. At `None` nothing is asked. The rows that read ask for
+    /// the same whatever `own_next` is.
+    fn ask(&self, row: Row, side: Side, own_next: Mode) -> Option<(Mode, Span)>
+        requires { own_next ≤ (table self.now).count }
+        ensures { result ≡ (table self.now).ask row side own_next };
+
+    /// None adds nothing and hinders nothing, and what is converted or asked for is a mode.
+    ghost lawful: { (p : Self) → IsLawful (table p) };
+
+    /// Each mode has a name of its own.
+    ghost named: { (p : Self) → AreModeNames (names p) (table p).count };
+}
+
+/// A protocol of which every case holds: what is read, inserted or deleted is covered until its
+/// transaction ends, and neither a conversion nor the split of a gap loses a cover.
+pub trait Covered: Protocol {
+    /// No case of its tables fails.
+    ghost covered: { (p : Self) → IsCovered (Self.table p) };
+}
+
+impl<P: Protocol> Protocol for &P {
+    ghost table = { λ p. P.table p.now };
+
+    ghost names = { λ p. P.names p.now };
+
+    fn count(&self) -> Mode {
+        P::count(*self)
+    }
+
+    fn ok(&self, requested: Mode, held: Mode) -> bool {
+        P::ok(*self, requested, held)
+    }
+
+    fn convert(&self, held: Mode, requested: Mode) -> Mode {
+        P::convert(*self, held, requested)
+    }
+
+    fn name(&self, mode: Mode) -> &str {
+        P::name(*self, mode)
+    }
+
+    fn ask(&self, row: Row, side: Side, own_next: Mode) -> Option<(Mode, Span)> {
+        P::ask(*self, row, side, own_next)
+    }
+
+    ghost lawful = { λ p. P.lawful p.now };
+
+    ghost named = { λ p. P.named p.now };
+}
+
+impl<P: Covered> Covered for &P {
+    ghost covered = { λ p. P.covered p.now };
+}

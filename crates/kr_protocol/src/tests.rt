@@ -1,0 +1,216 @@
+//! Each protocol drawn in full through its bound, and compared with a drawing made by hand.
+ghost use Rattle.std.specs.Prelude.{◌≡◌};
+ghost use Rattle.kr_model.specs.Covers.{IsCovered};
+
+use crate::{Covered, Im, Kvl, Mode, Protocol, RangeKey, Row, Side, Span};
+use std::alloc::{AllocError, Global};
+use std::test::Fail;
+
+/// A line for each mode requested, from none on: `+` where it may stand beside the mode held.
+fn drawn_compatibility<P: Protocol>(alloc: Global, protocol: &P) -> Result<String, AllocError> {
+    let mut text = String::new(alloc);
+    for requested in 0..protocol.count() + 1 {
+        for held in 0..protocol.count() + 1 {
+            text.push(if protocol.ok(requested, held) {
+                '+'
+            } else {
+                '.'
+            })?;
+        }
+        text.push('\n')?;
+    }
+    Ok(text)
+}
+
+/// A line for each mode held, from none on: the mode after each mode requested.
+fn drawn_conversion<P: Protocol>(alloc: Global, protocol: &P) -> Result<String, AllocError> {
+    let mut text = String::new(alloc);
+    for held in 0..protocol.count() + 1 {
+        for requested in 0..protocol.count() + 1 {
+            let mode = protocol.convert(held, requested);
+            text.push_str(if requested == 0 { "" } else { " " })?;
+            if mode <= protocol.count() {
+                text.push_str(protocol.name(mode))?;
+            }
+        }
+        text.push('\n')?;
+    }
+    Ok(text)
+}
+
+/// A line for each row and side: what is asked for at each own mode on next, from none on; `!`
+/// stands behind a lock for an instant, and `-` where nothing is asked.
+fn drawn_rules<P: Protocol>(alloc: Global, protocol: &P) -> Result<String, AllocError> {
+    let rows = [
+        Row::FetchHit,
+        Row::FetchMiss,
+        Row::ScanKey,
+        Row::ScanStop,
+        Row::Insert,
+        Row::Delete,
+    ];
+    let mut text = String::new(alloc);
+    for row in rows {
+        for side in [Side::Current, Side::Next] {
+            for own in 0..protocol.count() + 1 {
+                text.push_str(if own == 0 { "" } else { " " })?;
+                match protocol.ask(row, side, own) {
+                    Some((mode, span)) => {
+                        text.push_str(protocol.name(mode))?;
+                        text.push_str(if span == Span::Instant { "!" } else { "" })?;
+                    }
+                    None => text.push_str("-")?,
+                }
+            }
+            text.push('\n')?;
+        }
+    }
+    Ok(text)
+}
+
+/// How many modes a covered protocol has.
+fn covered_count<P: Covered>(protocol: &P) -> Mode
+    ensures count { result ≡ (P.table protocol.now).count }
+    ensures covered { IsCovered (P.table protocol.now) }
+{
+    protocol.count()
+}
+
+const KVL_COMPATIBILITY: &str = "\
+++++++
++++++.
++++...
+++.+..
+++....
++.....
+";
+
+const KVL_CONVERSION: &str = "\
+none IS IX S SIX X
+IS IS IX S SIX X
+IX IX IX SIX SIX X
+S S SIX S SIX X
+SIX SIX SIX SIX SIX X
+X X X X X X
+";
+
+const KVL_RULES: &str = "\
+S S S S S S
+- - - - - -
+- - - - - -
+S S S S S S
+S S S S S S
+- - - - - -
+- - - - - -
+S S S S S S
+IX IX IX X X X
+IX! IX! IX! IX! IX! IX!
+X! X! X! X! X! X!
+X X X X X X
+";
+
+const RANGE_KEY_COMPATIBILITY: &str = "\
+++++++++++++
+++.++.++.++.
++..+..+..+..
+++++++......
+++.++.......
++..+........
++++...+++...
+++....++....
++.....+.....
++++.........
+++..........
++...........
+";
+
+const RANGE_KEY_CONVERSION: &str = "\
+none N-S N-X S-N S-S S-X I-N I-S I-X X-N X-S X-X
+N-S N-S N-X S-S S-S S-X I-S I-S I-X X-S X-S X-X
+N-X N-X N-X S-X S-X S-X I-X I-X I-X X-X X-X X-X
+S-N S-S S-X S-N S-S S-X X-N X-S X-X X-N X-S X-X
+S-S S-S S-X S-S S-S S-X X-S X-S X-X X-S X-S X-X
+S-X S-X S-X S-X S-X S-X X-X X-X X-X X-X X-X X-X
+I-N I-S I-X X-N X-S X-X I-N I-S I-X X-N X-S X-X
+I-S I-S I-X X-S X-S X-X I-S I-S I-X X-S X-S X-X
+I-X I-X I-X X-X X-X X-X I-X I-X I-X X-X X-X X-X
+X-N X-S X-X X-N X-S X-X X-N X-S X-X X-N X-S X-X
+X-S X-S X-X X-S X-S X-X X-S X-S X-X X-S X-S X-X
+X-X X-X X-X X-X X-X X-X X-X X-X X-X X-X X-X X-X
+";
+
+const RANGE_KEY_RULES: &str = "\
+N-S N-S N-S N-S N-S N-S N-S N-S N-S N-S N-S N-S
+- - - - - - - - - - - -
+- - - - - - - - - - - -
+S-N S-N S-N S-N S-N S-N S-N S-N S-N S-N S-N S-N
+S-S S-S S-S S-S S-S S-S S-S S-S S-S S-S S-S S-S
+- - - - - - - - - - - -
+- - - - - - - - - - - -
+S-N S-N S-N S-N S-N S-N S-N S-N S-N S-N S-N S-N
+I-X I-X I-X X-X X-X X-X I-X I-X I-X X-X X-X X-X
+I-N! I-N! I-N! I-N! I-N! I-N! I-N! I-N! I-N! I-N! I-N! I-N!
+X-X! X-X! X-X! X-X! X-X! X-X! X-X! X-X! X-X! X-X! X-X! X-X!
+X-N X-N X-N X-N X-N X-N X-N X-N X-N X-N X-N X-N
+";
+
+#[test]
+fn key_value_locking(rt: HostRuntime) -> Result<(), Fail> {
+    let alloc = rt.alloc();
+    assert_eq!(rt; covered_count(&Kvl), 5);
+    assert_eq!(rt;
+        drawn_compatibility(alloc, &Kvl)?.as_str(),
+        KVL_COMPATIBILITY
+    );
+    assert_eq!(rt; drawn_conversion(alloc, &Kvl)?.as_str(), KVL_CONVERSION);
+    assert_eq!(rt; drawn_rules(alloc, &Kvl)?.as_str(), KVL_RULES);
+    Ok(())
+}
+
+#[test]
+fn index_specific_locking(rt: HostRuntime) -> Result<(), Fail> {
+    let alloc = rt.alloc();
+    assert_eq!(rt; covered_count(&Im), 2);
+    assert_eq!(rt;
+        drawn_compatibility(alloc, &Im)?.as_str(),
+        "+++\n++.\n+..\n"
+    );
+    assert_eq!(rt;
+        drawn_conversion(alloc, &Im)?.as_str(),
+        "none S X\nS S X\nX X X\n"
+    );
+    assert_eq!(rt;
+        drawn_rules(alloc, &Im)?.as_str(),
+        "S S S\n- - -\n- - -\nS S S\nS S S\n- - -\n- - -\nS S S\nX X X\nX! X! X!\nX! X! X!\nX X X\n"
+    );
+    Ok(())
+}
+
+#[test]
+fn range_key_locking(rt: HostRuntime) -> Result<(), Fail> {
+    let alloc = rt.alloc();
+    assert_eq!(rt; covered_count(&RangeKey), 11);
+    assert_eq!(rt;
+        drawn_compatibility(alloc, &RangeKey)?.as_str(),
+        RANGE_KEY_COMPATIBILITY
+    );
+    assert_eq!(rt;
+        drawn_conversion(alloc, &RangeKey)?.as_str(),
+        RANGE_KEY_CONVERSION
+    );
+    assert_eq!(rt; drawn_rules(alloc, &RangeKey)?.as_str(), RANGE_KEY_RULES);
+    Ok(())
+}
+
+#[test]
+fn a_reference_is_its_protocol(rt: HostRuntime) -> Result<(), Fail> {
+    let alloc = rt.alloc();
+    assert_eq!(rt; covered_count(&&Kvl), 5);
+    assert_eq!(rt;
+        drawn_compatibility(alloc, &&Kvl)?.as_str(),
+        KVL_COMPATIBILITY
+    );
+    assert_eq!(rt; drawn_conversion(alloc, &&Kvl)?.as_str(), KVL_CONVERSION);
+    assert_eq!(rt; drawn_rules(alloc, &&Kvl)?.as_str(), KVL_RULES);
+    Ok(())
+}
