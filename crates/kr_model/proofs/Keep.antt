@@ -34,7 +34,8 @@ equal_of Less e = absurd (false≢true e)
 equal_of Equal e = refl
 equal_of Greater e = absurd (false≢true e)
 
-same_holder : (p q : Holder) → same p q ≡ true → p ≡ q
+-- the test tells holders apart
+pub same_holder : (p q : Holder) → same p q ≡ true → p ≡ q
 same_holder p q h = holder_exact p q (equal_of (holder_cmp p q) h)
 
 -- a holder is the same as itself

@@ -14,3 +14,5 @@ pub mod Entries
 pub mod Keep
 pub mod Numbers
 pub mod Retained
+pub mod SortedSearch
+pub mod RisingNumbers

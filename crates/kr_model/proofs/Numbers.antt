@@ -87,7 +87,8 @@ module _ where
   add_front x [] a = refl
   add_front x (y ∷ ys) a = at_order x y ys Less (less x y a.0)
 
-  above_filter : (f : ℕ → Bool) (x : ℕ) (xs : List ℕ) → Above x xs → Above x (filter f xs)
+  -- what is left after a filter is above x still
+  pub above_filter : (f : ℕ → Bool) (x : ℕ) (xs : List ℕ) → Above x xs → Above x (filter f xs)
   above_filter f x [] a = tt
   above_filter f x (y ∷ ys) a = by (f y) (above_filter f x ys a.1)
     where
@@ -111,7 +112,8 @@ module _ where
       none = tt
   rising_add x (y ∷ ys) r = rising_add_by x y ys (nat_cmp x y) refl r.0 r.1 (rising_add x ys r.1)
 
-  lockers_rise : (h : Locks) → Rising (lockers h)
+  -- the transactions that hold a lock rise
+  pub lockers_rise : (h : Locks) → Rising (lockers h)
   lockers_rise [] = tt
   lockers_rise (l ∷ ls) = rising_add l.0.1 (lockers ls) (lockers_rise ls)
 

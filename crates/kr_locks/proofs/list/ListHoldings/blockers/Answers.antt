@@ -1,0 +1,24 @@
+use Rattle.std.proofs.Common.{arith, ap, ◌∙◌, subst}
+use Rattle.kr_model.specs.Locks.{Locks, IsLocks}
+use Rattle.kr_locks.specs.List.{locks_on}
+use Rattle.kr_locks.proofs.Refusers.{part_within, blockers_found}
+use Rattle.kr_locks.proofs.list.ListHoldings.blockers.Goals as goal
+
+pub loop-lock-init : goal.loop-lock-init
+loop-lock-init g c = record {
+  asked = record {
+    laws = g.met.P.Protocol.lawful c.args.protocol.now;
+    in_order = subst IsLocks c.self.view_is c.self.invariant;
+    within = c.requires.held;
+    few = c.requires.asked;
+    converted = cc;
+    on_name = c.locks_on-lock-items.ensures ∙ ap (λ (h : Locks). locks_on h c.args.name) (c.deref.ensures.value ∙ c.self.view_is);
+  };
+  found = c.new-blockers.ensures.items;
+}
+
+pub refuses-requires-clause-held : goal.refuses-requires-clause-held
+refuses-requires-clause-held g c = part_within _ _ _ _ _ _ _ c.loop-lock.invariant.asked _ _ c.loop-lock-test.true
+
+pub returns : goal.returns
+returns g c = blockers_found _ _ _ _ _ _ _ c.loop-lock.invariant.asked c.loop-lock.lock-index _ (omega arith) c.loop-lock.invariant.found

@@ -1,0 +1,54 @@
+use Rattle.std.proofs.Common.{◌≡◌, ℕ, ◌+◌, ◌≤◌, ◌<◌, List, ap, sym, ◌∙◌, subst, arith, Some, None}
+use Rattle.std.proofs.lemmas.Grind.{common_steps}
+use Rattle.std.specs.Prelude.{IsTrue}
+use Rattle.std.specs.Ordering.{nat_cmp}
+use Rattle.std.specs.FinMap.{find, put, is_sorted}
+use Rattle.kr_model.specs.declared.Op.TheVariants as op
+use Rattle.kr_model.specs.State.{State, Active}
+use Rattle.kr_model.specs.Step.{step}
+use Rattle.kr_txn.specs.Standings.{active_of, entries, without_txn}
+use Rattle.kr_txn.proofs.Lists.{find-without, put_back, in_order-without}
+use Rattle.kr_machine.specs.Pending.{after_op}
+use Rattle.kr_machine.proofs.Steps.{stepped_end}
+use Rattle.kr_machine.proofs.reserve.reserve_end.Goals as goal
+
+pub returns-in-Some-clause-seen_active : goal.returns-in-Some-clause-seen_active
+returns-in-Some-clause-seen_active g c = ap (λ es. put nat_cmp c.args.txn (active_of c.in-Some.standing) es) c.take_out.ensures.rest ∙ put_back c.args.txn (entries c.args.active.now.items) c.requires.at_rest.standing (active_of c.in-Some.standing) (sym c.in-Some.ensures.found)
+
+pub returns-in-Some-clause-ok : goal.returns-in-Some-clause-ok
+returns-in-Some-clause-ok g c =
+    let rest = c.requires.at_rest in
+    let p = g.P.Protocol.table c.args.protocol.now in
+    let m = g.I.Ordered.map c.args.index.now in
+    let h = g.L.Holdings.locks c.args.locks.now in
+    let a = active_of c.in-Some.standing in
+    let es = entries c.args.active.now.items in
+    let seen = ap (λ xs. put nat_cmp c.args.txn a xs) c.take_out.ensures.rest ∙ put_back c.args.txn es rest.standing a (sym c.in-Some.ensures.found) in
+    let stepped = ap (λ (xs : List (ℕ × Active)). let o = step p (record { map = m; locks = h; ended = c.args.ended.now.numbers; active = xs }) c.args.txn op.Commit in o.1) seen
+    ∙ stepped_end p m h c.args.ended.now.numbers es c.args.txn a c.requires.allowed
+    ∙ ap (λ xs. after_op m h c.args.ended.now.numbers xs c.args.txn a op.Commit) (sym c.take_out.ensures.rest) in
+    let order = subst (λ xs. IsTrue (is_sorted nat_cmp xs)) (sym c.take_out.ensures.rest) (in_order-without c.args.txn es rest.standing) in
+    record {
+      is_map = rest.is_map;
+      in_order = rest.in_order;
+      within = rest.within;
+      no_none = rest.no_none;
+      standing = order;
+      room = omega (arith, rest.room, c.in-Some.ensures.some);
+      no_pins = tt;
+      reserved = record {
+        handled = tt;
+        stepped = stepped;
+        itself = c.in-Some.ensures.txn;
+        apart = rw c.take_out.ensures.rest (find-without c.args.txn es);
+        next_held = tt;
+        current_held = tt;
+        within = rest.within;
+        no_none = rest.no_none;
+        in_order = rest.in_order;
+        has_pins = rest.no_pins;
+        room_ended = omega (arith, rest.room, c.in-Some.ensures.some);
+        room_back = λ _. grind (arith, common_steps, c.in-Some.ensures.some, c.take_out.ensures.capacity);
+        room = tt;
+      };
+    }

@@ -1,0 +1,143 @@
+//! All memory of a granted step.
+ghost use Rattle.std.specs.Prelude.{None, Some, ◌≡◌, ◌≢◌, ℕ, ◌<◌, ◌≤◌, [], IfOk, IfErr, IsOk, OnErr, OnOk, true, false};
+ghost use Rattle.std.specs.Ordering.{nat_cmp};
+ghost use Rattle.std.specs.FinMap.{find};
+ghost use Rattle.kr_model.specs.Locks.{blockers, AreWithin};
+ghost use Rattle.kr_model.specs.declared.Op.TheVariants as Op;
+ghost use Rattle.kr_model.specs.Plan.{requests, plan_of};
+ghost use Rattle.kr_model.specs.Step.{refusal_of};
+ghost use Rattle.kr_plan.specs.Modes.{ArePlanModes};
+ghost use Rattle.kr_txn.specs.Standings.{entries};
+ghost use Rattle.kr_machine.specs.Pending.{IsMachine, IsAttempt, attempt_of, shown, shown_locks, shown_active};
+
+use crate::pending::Pending;
+use crate::{change, holds, room};
+use kr_index::Ordered;
+use kr_locks::{Holdings, Memory};
+use kr_model::{Event, Op, Plan, Row, Step};
+use kr_protocol::Protocol;
+use kr_txn::{Ended, Standing, take_out};
+
+/// The plan of an attempt, whose modes are the protocol's.
+pub(crate) fn plan_for<P: Protocol, I: Ordered, L: Holdings>(
+    protocol: &P,
+    index: &I,
+    locks: &L,
+    txn: u32,
+    step: Step,
+) -> Plan
+    requires { AreWithin (P.table protocol.now).count (L.locks locks.now) }
+    ensures plan { result ≡ plan_of (P.table protocol.now) (I.map index.now) (L.locks locks.now) txn step }
+    ensures modes { ArePlanModes (P.table protocol.now).count result }
+{
+    kr_plan::plan(protocol, index, locks, txn, step)
+}
+
+/// Takes the memory of a granted attempt, and keeps its locks.
+pub(crate) fn reserve<P: Protocol, I: Ordered, L: Holdings>(
+    protocol: &P,
+    index: &mut I,
+    locks: &mut L,
+    ended: &mut Ended,
+    active: &mut Vec<Standing>,
+    txn: u32,
+    op: Op,
+    plan: Plan,
+) -> Result<Pending, Memory>
+    requires at_rest { IsMachine (P.table protocol.now) (I.map index.old) (I.pins index.old) (L.locks locks.old) ended.old active.old None }
+    requires attempt { IsAttempt op }
+    requires allowed { refusal_of (shown None (I.map index.old) (L.locks locks.old) ended.old.numbers (entries active.old.items)) txn op ≡ None }
+    requires plan { plan ≡ plan_of (P.table protocol.now) (I.map index.old) (L.locks locks.old) txn (attempt_of op) }
+    requires modes { ArePlanModes (P.table protocol.now).count plan }
+    requires granted { blockers (P.table protocol.now) (L.locks locks.old) txn (requests plan) ≡ [] }
+    ensures map { I.map index.new ≡ I.map index.old }
+    ensures ended { ended.new.numbers ≡ ended.old.numbers }
+    ensures event { IfOk result (λ p. p.event ≡ record { txn = txn; op = op }) }
+    ensures seen_locks { IfOk result (λ p. shown_locks (Some p) (L.locks locks.new) ≡ L.locks locks.old) }
+    ensures seen_active { IfOk result (λ p. shown_active (Some p) (entries active.new.items) ≡ entries active.old.items) }
+    ensures ok { IfOk result (λ p. IsMachine (P.table protocol.now) (I.map index.new) (I.pins index.new) (L.locks locks.new) ended.new active.new (Some p)) }
+    ensures locks { OnErr result (L.locks locks.new ≡ L.locks locks.old) }
+    ensures active { OnErr result (entries active.new.items ≡ entries active.old.items) }
+    ensures err { OnErr result (IsMachine (P.table protocol.now) (I.map index.new) (I.pins index.new) (L.locks locks.new) ended.new active.new None) }
+{
+    room::make_room(ended, active)?;
+    let (standing, was_active) = room::stand(active, txn)?;
+    if let Err(refused) = change::reserve(index, op) {
+        room::put_down(active, txn, standing, was_active);
+        return Err(refused);
+    }
+    match holds::hold_both(protocol, locks, txn, plan) {
+        Ok((current_was, next_was)) => Ok(Pending {
+            event: Event { txn, op },
+            plan,
+            current_was,
+            next_was,
+            standing,
+            was_active,
+        }),
+        Err(refused) => {
+            change::give_up(index, op);
+            room::put_down(active, txn, standing, was_active);
+            Err(refused)
+        }
+    }
+}
+
+/// Takes the memory of a commit: none, where the transaction is active.
+pub(crate) fn reserve_end<P: Protocol, I: Ordered, L: Holdings>(
+    protocol: &P,
+    index: &I,
+    locks: &L,
+    ended: &mut Ended,
+    active: &mut Vec<Standing>,
+    txn: u32,
+) -> Result<Pending, Memory>
+    requires at_rest { IsMachine (P.table protocol.now) (I.map index.now) (I.pins index.now) (L.locks locks.now) ended.old active.old None }
+    requires allowed { refusal_of (shown None (I.map index.now) (L.locks locks.now) ended.old.numbers (entries active.old.items)) txn Op.Commit ≡ None }
+    ensures ended { ended.new.numbers ≡ ended.old.numbers }
+    ensures event { IfOk result (λ p. p.event ≡ record { txn = txn; op = Op.Commit }) }
+    ensures seen_locks { IfOk result (λ p. shown_locks (Some p) (L.locks locks.now) ≡ L.locks locks.now) }
+    ensures seen_active { IfOk result (λ p. shown_active (Some p) (entries active.new.items) ≡ entries active.old.items) }
+    ensures ok { IfOk result (λ p. IsMachine (P.table protocol.now) (I.map index.now) (I.pins index.now) (L.locks locks.now) ended.new active.new (Some p)) }
+    ensures active { OnErr result (entries active.new.items ≡ entries active.old.items) }
+    ensures err { OnErr result (IsMachine (P.table protocol.now) (I.map index.now) (I.pins index.now) (L.locks locks.now) ended.new active.new None) }
+    ensures active_commits { find nat_cmp txn (entries active.old.items) ≢ None → IsOk result }
+{
+    match take_out(active, txn) {
+        Some(standing) => Ok(Pending {
+            event: Event {
+                txn,
+                op: Op::Commit,
+            },
+            plan: Plan {
+                row: Row::FetchHit,
+                current: None,
+                next: None,
+            },
+            current_was: 0,
+            next_was: 0,
+            standing,
+            was_active: true,
+        }),
+        None => {
+            let more = active.len() + 1;
+            ended.make_room(more)?;
+            let standing = Standing::new(*active.allocator(), txn);
+            Ok(Pending {
+                event: Event {
+                    txn,
+                    op: Op::Commit,
+                },
+                plan: Plan {
+                    row: Row::FetchHit,
+                    current: None,
+                    next: None,
+                },
+                current_was: 0,
+                next_was: 0,
+                standing,
+                was_active: false,
+            })
+        }
+    }
+}

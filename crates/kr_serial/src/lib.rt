@@ -1,0 +1,11 @@
+//! Runs: lists of events attempted one after another on a machine.
+#![tactic(auto)]
+
+mod lists;
+mod ran;
+mod steps;
+
+pub use kr_model::{Mode, Name, Pairs, Reply, Txn, Txns};
+pub use lists::{Replies, Triples};
+pub use ran::Ran;
+pub use steps::replay;

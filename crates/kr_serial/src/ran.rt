@@ -1,0 +1,18 @@
+//! What a run leaves.
+
+use crate::{Pairs, Replies, Triples, Txns};
+
+/// A run at its end.
+#[derive(Debug, Drop)]
+pub struct Ran {
+    /// The index before the first step, keys rising.
+    pub opening: Pairs,
+    /// The reply to each step, in the order of the steps.
+    pub replies: Replies,
+    /// The index after the last step, keys rising.
+    pub index: Pairs,
+    /// The locks that are held after the last step: holders rise by name, then by transaction.
+    pub locks: Triples,
+    /// The transactions that are active after the last step, rising.
+    pub unfinished: Txns,
+}

@@ -1,0 +1,120 @@
+-- Rising numbers: what bisection finds, and where one more goes.
+use Rattle.std.specs.Prelude.{◌==◌}
+use Rattle.std.specs.List.{insert, list_any}
+use Rattle.std.specs.List.Sorted.{IsStrictlyIncreasing, IsBinarySearchResult}
+use Rattle.std.specs.Ordering.{nat_cmp}
+use Rattle.std.proofs.Common.{◌≡◌, ◌≢◌, ℕ, zero, suc, ◌+◌, ◌-◌, ◌<◌, ◌≤◌, length, get_or, Bool, true, false, Result, Ok, Err, is_ok, List, [], ◌∷◌, ◌||◌, ◌⊎◌, inl, inr, ⊎_elim, sym, ◌∙◌, ap, refl, subst, arith, MatchResult}
+use Rattle.std.proofs.Math.Numerals.{add-one}
+use Rattle.std.proofs.lemmas.Bool.Decides.{nat_tests}
+use Rattle.std.proofs.lemmas.List.Sorted.{searched}
+use Rattle.std.proofs.lemmas.List.Edits.{get_or-insert_at, get_or-insert_below, get_or-insert_above, length-insert, insert_end}
+use Rattle.kr_model.specs.Locks.{add_once}
+use Rattle.kr_model.proofs.Numbers.{add_once_insert, add_once_there, add_once_end}
+
+here_or_later : (i j : ℕ) → i ≤ suc j → (i ≡ suc j) ⊎ (i ≤ j)
+here_or_later i j le = grind arith
+
+-- a later number is no less
+pub rise_between : (xs : List ℕ) → IsStrictlyIncreasing xs → (i j : ℕ) → i ≤ j → j < length xs → get_or xs i 0 ≤ get_or xs j 0
+rise_between xs up i zero le lt = let e : i ≡ 0 = omega arith in subst (λ x. get_or xs x 0 ≤ get_or xs 0 0) (sym e) (omega arith)
+rise_between xs up i (suc j) le lt =
+    ⊎_elim (λ e. subst (λ x. get_or xs x 0 ≤ get_or xs (suc j) 0) (sym e) (omega arith))
+    (λ b.
+    let before : get_or xs i 0 ≤ get_or xs j 0 = rise_between xs up i j b (omega arith) in
+    let next : get_or xs j 0 < get_or xs (suc j) 0 = subst (λ k. get_or xs j 0 < get_or xs k 0) (add-one j) (up j (omega arith)) in
+    omega (arith, before, next)) (here_or_later i j le)
+
+-- what bisection tells: where the number is, or where it would be
+abbrev pub IsFoundAt : List ℕ → ℕ → Result ℕ ℕ → Type 0
+IsFoundAt xs t r = MatchResult r (λ i. (i < length xs) × (get_or xs i 0 ≡ t)) (λ i. (i ≤ length xs) × ((k : ℕ) → k < i → get_or xs k 0 < t) × ((k : ℕ) → i ≤ k → k < length xs → t < get_or xs k 0))
+
+-- bisection of rising numbers tells that
+pub found_at : (xs : List ℕ) (t : ℕ) (r : Result ℕ ℕ) → IsStrictlyIncreasing xs → IsBinarySearchResult (λ y. nat_cmp y t) xs r → IsFoundAt xs t r
+found_at xs t r up is = searched xs t r is (rise_between xs up)
+
+or_true : (b : Bool) → (b || true) ≡ true
+or_true true = refl
+or_true false = refl
+
+any_at : (xs : List ℕ) (t i : ℕ) → i < length xs → get_or xs i 0 ≡ t → list_any (λ u. u == t) xs ≡ true
+any_at [] t i lt e = absurd (omega arith)
+any_at (x ∷ xs) t zero lt e = ap (λ b. b || list_any (λ u. u == t) xs) (let same : (x == t) ≡ true = grind (arith, nat_tests) in same)
+any_at (x ∷ xs) t (suc i) lt e = ap (λ b. (x == t) || b) (any_at xs t i (omega arith) e) ∙ or_true (x == t)
+
+none_at : (xs : List ℕ) (t : ℕ) → ((k : ℕ) → k < length xs → get_or xs k 0 ≢ t) → list_any (λ u. u == t) xs ≡ false
+none_at [] t out = refl
+none_at (x ∷ xs) t out =
+    ap (λ b. b || list_any (λ u. u == t) xs) (let ne : x ≢ t = out 0 (omega arith) in let differ : (x == t) ≡ false = grind (arith, nat_tests) in differ)
+    ∙ none_at xs t (λ k lt. out (suc k) (omega arith))
+
+before_or_not : (k i : ℕ) → (k < i) ⊎ (i ≤ k)
+before_or_not k i = grind arith
+
+-- a number is among rising ones exactly where bisection finds it
+pub any-found : (xs : List ℕ) (t : ℕ) (r : Result ℕ ℕ) → IsFoundAt xs t r → list_any (λ u. u == t) xs ≡ is_ok r
+any-found xs t (Ok i) at = any_at xs t i at.0 at.1
+any-found xs t (Err i) at = none_at xs t (λ k lt e. ⊎_elim (λ b. let h = at.1 k b in absurd (omega arith)) (λ b. let h = at.2 k b lt in absurd (omega arith)) (before_or_not k i))
+
+end_or_not : (i n : ℕ) → i ≤ n → (i ≡ n) ⊎ (i < n)
+end_or_not i n le = grind arith
+
+-- a number that is not there goes to the place that bisection tells
+pub add_once-missing : (xs : List ℕ) (t i : ℕ) → IsFoundAt xs t (Err i) → add_once t xs ≡ insert xs i t
+add_once-missing xs t i at =
+    ⊎_elim
+    (λ e. add_once_end t xs (λ k lt. at.1 k (omega (arith, lt, e))) ∙ sym (insert_end xs t) ∙ ap (λ n. insert xs n t) (sym e))
+    (λ lt. add_once_insert t xs i lt at.1 (at.2 i (omega arith) lt)) (end_or_not i (length xs) at.0)
+
+-- a number that is there stays there
+pub add_once-present : (xs : List ℕ) (t i : ℕ) → IsStrictlyIncreasing xs → IsFoundAt xs t (Ok i) → add_once t xs ≡ xs
+add_once-present xs t i up at = add_once_there t xs i at.0 (λ k lt. below xs up i k lt at.0 (get_or xs i 0) refl t at.1) (sym at.1)
+  where
+    below : (xs : List ℕ) → IsStrictlyIncreasing xs → (i k : ℕ) → k < i → i < length xs → (x : ℕ) → get_or xs i 0 ≡ x → (t : ℕ) → x ≡ t → get_or xs k 0 < t
+    below xs up i k lt in_range x e t f =
+        let step : get_or xs k 0 < get_or xs (k + 1) 0 = up k (omega arith) in
+        let rest : get_or xs (k + 1) 0 ≤ get_or xs i 0 = rise_between xs up (k + 1) i (omega arith) in_range in
+        omega (arith, step, rest, e, f)
+
+around : (k i : ℕ) → (k + 1 < i) ⊎ ((k + 1 ≡ i) ⊎ ((k ≡ i) ⊎ (i < k)))
+around k i = grind arith
+
+-- at each place, the next number is greater
+abbrev pub RisesAt : List ℕ → ℕ → Type 0
+RisesAt xs k = get_or xs k 0 < get_or xs (k + 1) 0
+
+module _ (xs : List ℕ) (t i : ℕ) (up : IsStrictlyIncreasing xs) (at : IsFoundAt xs t (Err i)) where
+  both_below : (k : ℕ) → k + 1 < i → RisesAt (insert xs i t) k
+  both_below k b =
+      let le = at.0 in
+      let now : get_or (insert xs i t) k 0 ≡ get_or xs k 0 = get_or-insert_below xs i t 0 k (omega arith) at.0 in
+      let next : get_or (insert xs i t) (k + 1) 0 ≡ get_or xs (k + 1) 0 = get_or-insert_below xs i t 0 (k + 1) b at.0 in
+      let step = up k (omega arith) in
+      omega (arith, now, next, step)
+
+  up_to_it : (k : ℕ) → k + 1 ≡ i → RisesAt (insert xs i t) k
+  up_to_it k e =
+      let now : get_or (insert xs i t) k 0 ≡ get_or xs k 0 = get_or-insert_below xs i t 0 k (omega arith) at.0 in
+      let next : get_or (insert xs i t) (k + 1) 0 ≡ t = ap (λ n. get_or (insert xs i t) n 0) e ∙ get_or-insert_at xs i t 0 at.0 in
+      let below = at.1 k (omega arith) in
+      omega (arith, now, next, below)
+
+  from_it : (k : ℕ) → k ≡ i → k < length xs → RisesAt (insert xs i t) k
+  from_it k e in_range =
+      let now : get_or (insert xs i t) k 0 ≡ t = ap (λ n. get_or (insert xs i t) n 0) e ∙ get_or-insert_at xs i t 0 at.0 in
+      let next : get_or (insert xs i t) (k + 1) 0 ≡ get_or xs k 0 = get_or-insert_above xs i t 0 k (omega arith) at.0 in
+      let above = at.2 k (omega arith) in_range in
+      omega (arith, now, next, above)
+
+  both_above : (j : ℕ) → i ≤ j → j + 1 < length xs → RisesAt (insert xs i t) (j + 1)
+  both_above j b in_range =
+      let now : get_or (insert xs i t) (j + 1) 0 ≡ get_or xs j 0 = get_or-insert_above xs i t 0 j b at.0 in
+      let next : get_or (insert xs i t) (j + 1 + 1) 0 ≡ get_or xs (j + 1) 0 = get_or-insert_above xs i t 0 (j + 1) (omega arith) at.0 in
+      let step = up j in_range in
+      omega (arith, now, next, step)
+
+  -- with the number put there, they still rise
+  pub rises-insert : IsStrictlyIncreasing (insert xs i t)
+  rises-insert k lt =
+      let many : length (insert xs i t) ≡ length xs + 1 = length-insert xs i t at.0 in
+      let in_range : k < length xs = omega (arith, lt, many) in
+      ⊎_elim (λ b. both_below k b) (λ r. ⊎_elim (λ e. up_to_it k e) (λ r. ⊎_elim (λ e. from_it k e in_range) (λ b. let e : (k - 1) + 1 ≡ k = omega arith in subst (RisesAt (insert xs i t)) e (both_above (k - 1) (omega arith) (omega arith))) r) r) (around k i)
