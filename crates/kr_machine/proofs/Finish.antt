@@ -1,5 +1,5 @@
 -- What a pending step says where its event is known.
-use Rattle.std.proofs.Common.{◌≡◌, ℕ, Bool, true, false, Option, Some, None, IfSome, List, [], ◌∷◌, sym, ap, ◌∙◌, refl, Vec, subst, cond}
+use Rattle.std.proofs.Common.{All, IfOk, Result, Ok, Err, ◌≡◌, ℕ, Bool, true, false, Option, Some, None, IfSome, List, [], ◌∷◌, sym, ap, ◌∙◌, refl, Vec, subst, cond}
 use Rattle.std.specs.Prelude.{T, IsTrue, not, ◌==◌}
 use Rattle.std.specs.Option.{option_map}
 use Rattle.std.specs.Ordering.{nat_cmp}
@@ -7,6 +7,7 @@ use Rattle.std.specs.Cmp.{nat_cmp_total}
 use Rattle.std.specs.FinMap.{put, is_sorted}
 use Rattle.std.specs.FinMap.Entries.{is_sorted-put, is_sorted-where_key}
 use Rattle.kr_model.specs.declared.Event.{Event}
+use Rattle.kr_model.specs.declared.Name.{Name}
 use Rattle.kr_model.specs.declared.Op.{Op}
 use Rattle.kr_model.specs.declared.Op.TheVariants as op
 use Rattle.kr_model.specs.State.{Active}
@@ -75,3 +76,8 @@ map-effect m a (op.Scan lo hi) h = h
 pub put_down_order : (b : Bool) (t : ℕ) (a : Active) (xs : List (ℕ × Active)) → IsTrue (is_sorted nat_cmp xs) → IsTrue (is_sorted nat_cmp (cond b (put nat_cmp t a xs) xs))
 put_down_order true t a xs h = in_order-put t xs h a
 put_down_order false t a xs h = h
+
+-- what holds of each lock holds of each of a copy
+pub all_of_items : {A E : Type 0} (items : A → Locks) (P : (Name × ℕ) × ℕ → Type 0) (r : Result A E) (h : Locks) → All P h → IfOk r (λ a. items a ≡ h) → IfOk r (λ a. All P (items a))
+all_of_items items P (Ok a) h all is = subst (All P) (sym is) all
+all_of_items items P (Err e) h all is = tt

@@ -1,7 +1,7 @@
 //! Steps of transactions on an index under a protocol.
 #![tactic(auto)]
 
-ghost use Rattle.std.specs.Prelude.{map, ◌≡◌, ◌≢◌, ℕ, ◌<◌, ◌≤◌, ◌⊎◌, [], None, Some, IfOk, IfErr, OnOk, OnErr, IsTrue, IsOk, true, is_some};
+ghost use Rattle.std.specs.Prelude.{All, map, ◌≡◌, ◌≢◌, ℕ, ◌<◌, ◌≤◌, ◌⊎◌, [], None, Some, IfOk, IfErr, OnOk, OnErr, IsTrue, IsOk, true, is_some};
 ghost use Rattle.kr_model.specs.Map.{IsMap};
 ghost use Rattle.kr_model.specs.State.{State, start, active_of};
 ghost use Rattle.kr_model.specs.Step.{step, IsStep, refusal_of};
@@ -89,7 +89,8 @@ impl<P: Protocol, I: Ordered, L: Holdings> Machine<P, I, L> {
     /// The locks, by name and then by transaction.
     pub fn locks(&self) -> Result<Vec<((Name, u32), u8)>, Memory>
         requires { self.now.1.1 ≡ None }
-        ensures { IfOk result (λ list. list.items ≡ self.now.1.0.locks) }
+        ensures locks { IfOk result (λ list. list.items ≡ self.now.1.0.locks) }
+        ensures modes { IfOk result (λ list. All (λ l. l.1 ≤ (P.table self.now.0).count) list.items) }
     {
         self.locks.copy(*self.active.allocator())
     }

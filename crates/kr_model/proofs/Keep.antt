@@ -1,16 +1,18 @@
 -- What keeping a mode does to the modes of each transaction and name.
-use Rattle.std.proofs.Common.{◌≡◌, ℕ, zero, suc, ◌<◌, ◌≤◌, Bool, true, false, cond, Option, Some, None, sym, ◌∙◌, ap, refl, arith, subst, IsTrue, unwrap_or}
+use Rattle.std.proofs.Common.{◌≡◌, ℕ, zero, suc, ◌<◌, ◌≤◌, All, length, get_or, Bool, true, false, cond, Option, Some, None, sym, ◌∙◌, ap, refl, arith, subst, IsTrue, unwrap_or}
 use mathlib.Core.Bool.{false≢true, not}
 use Rattle.std.specs.Prelude.{◌==◌, T}
 use Rattle.std.specs.declared.cmp.Ordering.{Ordering}
 use Rattle.std.specs.declared.cmp.Ordering.TheVariants.{Less, Equal, Greater}
 use Rattle.std.specs.Ordering.{eq_by_cmp, is_eq}
-use Rattle.std.specs.Cmp.{eq_by_cmp_equiv}
+use Rattle.std.specs.Cmp.{eq_by_cmp_equiv, tied_itself}
+use Rattle.std.proofs.lemmas.List.{get_or_default}
 use Rattle.std.specs.FinMap.{find, put, is_sorted}
 use Rattle.std.specs.FinMap.Entries.{find-put, find-where_key, is_sorted-put, is_sorted-where_key, same_entries}
 use Rattle.kr_model.specs.declared.Name.{Name}
 use Rattle.kr_model.specs.Protocol.{Protocol, IsLawful, IsMode}
 use Rattle.kr_model.specs.Locks.{Locks, Holder, IsLocks, holder_cmp, own, keep_or_drop, release, AreWithin, HasNoNone}
+use Rattle.kr_model.proofs.SortedSearch.{find_place}
 use Rattle.kr_model.proofs.LockLaws.{holder_total, holder_exact, find-release}
 
 t_of : (b : Bool) → IsTrue b → T b
@@ -178,3 +180,13 @@ AreWithin-release count h t within u n =
       | true ↦ λ e. let here = ap (λ g. unwrap_or g 0) (find-release h t (n, u) ∙ ap (λ b. cond b (find holder_cmp (n, u) h) None) e) in rw here (within u n)
       | false ↦ λ e. let here = ap (λ g. unwrap_or g 0) (find-release h t (n, u) ∙ ap (λ b. cond b (find holder_cmp (n, u) h) None) e) in rw here (omega arith)
     ] refl
+
+same_entry : (h : Locks) (k : ℕ) (d e : Holder × ℕ) → k < length h → get_or h k e ≡ get_or h k d
+same_entry h k d e lt = get_or_default h k e d lt
+
+-- of locks none of whose modes is above the count, each is so by itself
+pub entries_within : (count : ℕ) (h : Locks) → IsLocks h → AreWithin count h → All (λ l. l.1 ≤ count) h
+entries_within count h sorted within k d lt =
+    let e : Holder × ℕ = get_or h k d in
+    let found = find_place holder_cmp holder_total e.0 h k (t_of (is_sorted holder_cmp h) sorted) lt (λ x. ap (λ (y : Holder × ℕ). holder_cmp y.0 e.0) (same_entry h k d x lt) ∙ tied_itself holder_total e.0) d in
+    subst (λ o. unwrap_or o 0 ≤ count) found (within e.0.1 e.0.0)

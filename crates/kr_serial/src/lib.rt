@@ -3,9 +3,11 @@
 
 mod lists;
 mod ran;
+mod run;
 mod steps;
 
 pub use kr_model::{Mode, Name, Pairs, Reply, Txn, Txns};
 pub use lists::{Replies, Triples};
 pub use ran::Ran;
+pub use run::run_any;
 pub use steps::replay;

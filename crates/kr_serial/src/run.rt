@@ -1,0 +1,66 @@
+//! Whole runs.
+ghost use Rattle.std.specs.Prelude.{◌≡◌, ◌≤◌, None, IfOk, All, map};
+ghost use Rattle.kr_model.specs.Map.{IsMap};
+ghost use Rattle.kr_model.specs.State.{start};
+ghost use Rattle.kr_model.specs.Run.{run, replies_of};
+ghost use Rattle.kr_machine.specs.Pending.{IsHandled};
+
+use std::alloc::Global;
+
+use kr_index::{Memory, Ordered, Sorted};
+use kr_locks::{Holdings, List};
+use kr_machine::Machine;
+use kr_model::{Event, Pairs};
+use kr_protocol::Protocol;
+
+use crate::{Ran, Replies, Triples, replay};
+
+/// Runs the events under any protocol, from an opening map whose keys rise strictly. The only fault is `Memory`: a step
+/// that was refused memory ends the run, and nothing of it is shown.
+pub fn run_any<P: Protocol>(
+    alloc: Global,
+    protocol: &P,
+    opening: &[(u64, u64)],
+    events: &[Event],
+) -> Result<Ran, Memory>
+    requires opening { IsMap opening.now }
+    requires handled { All (λ e. IsHandled e.op) events.now }
+    ensures opening { IfOk result (λ ran. ran.opening ≡ opening.now) }
+    ensures replies { IfOk result (λ ran. let r = run (P.table protocol.now) (start opening.now) events.now in ran.replies ≡ replies_of r.history) }
+    ensures index { IfOk result (λ ran. let r = run (P.table protocol.now) (start opening.now) events.now in ran.index ≡ r.state.map) }
+    ensures locks { IfOk result (λ ran. let r = run (P.table protocol.now) (start opening.now) events.now in ran.locks ≡ r.state.locks) }
+    ensures modes { IfOk result (λ ran. All (λ l. l.1 ≤ (P.table protocol.now).count) ran.locks) }
+    ensures unfinished { IfOk result (λ ran. let r = run (P.table protocol.now) (start opening.now) events.now in ran.unfinished ≡ map (λ a. a.0) r.state.active) }
+{
+    let first = Pairs::from_vec(opening.to_vec(alloc)?);
+    let index = Sorted::from_pairs(opening, alloc)?;
+    let mut machine = Machine::new(alloc, protocol, index, List::new(alloc));
+    let replies = replay(alloc, &mut machine, events)?;
+    show(&machine, first, replies)
+}
+
+/// What a machine shows after a run with these replies from this opening map.
+fn show<P: Protocol, I: Ordered, L: Holdings>(
+    machine: &Machine<P, I, L>,
+    opening: Pairs,
+    replies: Replies,
+) -> Result<Ran, Memory>
+    requires { machine.now.1.1 ≡ None }
+    ensures opening { IfOk result (λ ran. ran.opening ≡ opening) }
+    ensures replies { IfOk result (λ ran. ran.replies ≡ replies) }
+    ensures index { IfOk result (λ ran. ran.index ≡ machine.now.1.0.map) }
+    ensures locks { IfOk result (λ ran. ran.locks ≡ machine.now.1.0.locks) }
+    ensures modes { IfOk result (λ ran. All (λ l. l.1 ≤ (P.table machine.now.0).count) ran.locks) }
+    ensures unfinished { IfOk result (λ ran. ran.unfinished ≡ map (λ a. a.0) machine.now.1.0.active) }
+{
+    let index = machine.index()?;
+    let locks = Triples::from_vec(machine.locks()?);
+    let unfinished = machine.unfinished()?;
+    Ok(Ran {
+        opening,
+        replies,
+        index,
+        locks,
+        unfinished,
+    })
+}
