@@ -5,6 +5,8 @@ mod lists;
 mod ran;
 mod run;
 mod steps;
+#[cfg(test)]
+mod tests;
 
 pub use kr_model::{Mode, Name, Pairs, Reply, Txn, Txns};
 pub use lists::{Replies, Triples};

@@ -46,7 +46,7 @@ impl Replies {
 /// Locks as triples of a name, its holder and the mode, seen as the list of them.
 #[derive(Debug, Drop)]
 pub struct Triples {
-    list: Vec<((Name, Txn), Mode)>,
+    triples: Vec<((Name, Txn), Mode)>,
 }
 
 impl Model for Triples {
@@ -54,28 +54,28 @@ impl Model for Triples {
 
     ghost Value = { Locks };
 
-    ghost view = { λ t. t.list.items };
+    ghost view = { λ t. t.triples.items };
 }
 
 impl Triples {
     /// The triples of the vector, in its order. Takes no memory.
-    pub fn from_vec(list: Vec<((Name, Txn), Mode)>) -> Triples
-        ensures { result ≡ list.items }
+    pub fn from_vec(triples: Vec<((Name, Txn), Mode)>) -> Triples
+        ensures { result ≡ triples.items }
     {
-        Triples { list }
+        Triples { triples }
     }
 
     /// The triples as a slice.
     pub fn as_slice(&self) -> &[((Name, Txn), Mode)]
         ensures { result.now ≡ self.now }
     {
-        &self.list
+        &self.triples
     }
 
     /// Gives the vector back. Takes no memory.
     pub fn into_vec(self) -> Vec<((Name, Txn), Mode)>
         ensures { result.items ≡ self }
     {
-        self.list
+        self.triples
     }
 }

@@ -1,0 +1,72 @@
+//! From the bytes of a script to its report on a sink.
+ghost use Rattle.std.specs.Prelude.{◌≡◌, ◌⊎◌, IfOk, IfErr, Ok};
+ghost use Rattle.std.specs.Io.KnownBytes.{Appends};
+ghost use Rattle.kr_script.specs.Script.{Script};
+ghost use Rattle.kr_script.specs.Reading.{reading};
+ghost use Rattle.kr.specs.Over.{report_line, Explains};
+ghost use Rattle.kr.specs.declared.over.OverFault.TheVariants as fault;
+
+use kr_protocol::Protocol;
+use kr_script::{PrintFault, ScriptFault, Sink, print, read_script, report_run};
+use kr_serial::run_any;
+use std::alloc::{AllocError, Global};
+use thiserror::Error;
+
+/// Why nothing, or not all, was written.
+#[derive(Debug, Drop, Error)]
+pub enum OverFault {
+    /// The bytes are no script.
+    #[error("{0}")]
+    Script(ScriptFault),
+    /// A growth was refused.
+    #[error("out of memory")]
+    Memory,
+    /// The sink didn't take the whole report.
+    #[error("output")]
+    Print,
+}
+
+impl From<AllocError> for OverFault {
+    ghost from_gives = { λ _ e. e ≡ fault.Memory };
+
+    fn from(_e: AllocError) -> OverFault {
+        OverFault::Memory
+    }
+}
+
+impl From<PrintFault> for OverFault {
+    ghost from_gives = { λ _ e. e ≡ fault.Print };
+
+    fn from(_e: PrintFault) -> OverFault {
+        OverFault::Print
+    }
+}
+
+impl From<ScriptFault> for OverFault {
+    ghost from_gives = { λ f e. e ≡ fault.Script f };
+
+    fn from(f: ScriptFault) -> OverFault {
+        OverFault::Script(f)
+    }
+}
+
+/// Runs the script that the bytes are under a protocol, and writes the report of the run and a line feed. Where the
+/// bytes are no script, or a growth was refused, nothing is written; where printing fails, a beginning of the report was.
+pub fn run_over<P: Protocol, W: Sink>(
+    alloc: Global,
+    protocol: &P,
+    script: &[u8],
+    out: &mut W,
+) -> Result<(), OverFault>
+    ensures ok { IfOk result (λ _. (s : Script) × ((reading script.now ≡ Ok s)
+        × Appends (W.taken out.old) (W.taken out.new) (report_line (P.table protocol.now) (P.names protocol.now) s))) }
+    ensures err { IfErr result (Explains (P.table protocol.now) (P.names protocol.now) script.now
+        (W.taken out.old) (W.taken out.new) (W.failures out.old) (W.failures out.new)) }
+    ensures nothing { IfErr result (λ e. (e ≡ fault.Print) ⊎ (out.new ≡ out.old)) }
+{
+    let script = read_script(alloc, script)?;
+    let ran = run_any(alloc, protocol, script.opening(), script.steps())?;
+    let text = report_run(alloc, protocol, &ran)?;
+    print(out, text.as_str())?;
+    Ok(())
+}

@@ -1,0 +1,66 @@
+//! What the words ask.
+use clap::error::ErrorKind;
+use clap::{Arg, ArgAction, Command};
+use std::alloc::{AllocError, Global};
+
+/// What is asked.
+#[derive(Drop)]
+pub enum Asked<'a> {
+    /// To run a script under a table, each named by its word.
+    Run { table: &'a str, script: &'a str },
+}
+
+/// Why nothing is asked.
+#[derive(Clone, Copy, Debug, PartialEq, Eq)]
+pub enum WordsFault {
+    /// The words are of no form.
+    NotUnderstood,
+    /// A growth was refused.
+    Memory,
+}
+
+impl From<AllocError> for WordsFault {
+    fn from(_e: AllocError) -> WordsFault {
+        WordsFault::Memory
+    }
+}
+
+fn positional<'a>(alloc: Global, id: &'a str) -> Arg<'a> {
+    Arg::new(alloc, id).required(true).action(ArgAction::Set)
+}
+
+fn command<'a>(alloc: Global) -> Result<Command<'a>, AllocError> {
+    let run = Command::new(alloc, "run")
+        .arg(positional(alloc, "table"))?
+        .arg(positional(alloc, "script"))?;
+    Command::new(alloc, "kr")
+        .no_binary_name(true)
+        .disable_help_flag(true)
+        .disable_help_subcommand(true)
+        .subcommand_required(true)
+        .subcommand(run)
+}
+
+/// Whether no word begins with a hyphen: none of the forms has such a word.
+fn has_form(words: &[String]) -> bool {
+    words.iter().all(|word| !word.as_str().starts_with('-'))
+}
+
+/// What the words ask, the program's name left out: `run TABLE SCRIPT`.
+pub fn read_words<'a>(alloc: Global, words: &'a [String]) -> Result<Asked<'a>, WordsFault> {
+    if !has_form(words) {
+        return Err(WordsFault::NotUnderstood);
+    }
+    let matches = match command(alloc)?.try_get_matches_from(words) {
+        Ok(matches) => matches,
+        Err(e) if e.kind() == ErrorKind::OutOfMemory => return Err(WordsFault::Memory),
+        Err(_) => return Err(WordsFault::NotUnderstood),
+    };
+    let Some((_run, given)) = matches.subcommand() else {
+        return Err(WordsFault::NotUnderstood);
+    };
+    match (given.get_str("table"), given.get_str("script")) {
+        (Some(table), Some(script)) => Ok(Asked::Run { table, script }),
+        _ => Err(WordsFault::NotUnderstood),
+    }
+}

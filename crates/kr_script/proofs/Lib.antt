@@ -1,0 +1,5 @@
+pub mod Grows
+pub mod NoFloats
+pub mod Firsts
+pub mod Kept
+pub mod Written

@@ -1,0 +1,81 @@
+-- The report of a run: the value that it is, and its text.
+use Rattle.std.specs.Prelude.{ℕ, List, codes, map}
+use Rattle.serde_json.specs.Data.{Data, string, array, object, item, no_items, member, no_members}
+use Rattle.serde_json.specs.View.{items_of}
+use Rattle.serde_json.specs.Written.{compact_text}
+use Rattle.kr_model.specs.declared.Name.{Name}
+use Rattle.kr_model.specs.declared.Name.TheVariants.{Key, End}
+use Rattle.kr_model.specs.declared.Refusal.{Refusal}
+use Rattle.kr_model.specs.declared.Refusal.TheVariants as refusal
+use Rattle.kr_model.specs.declared.Reply.{Reply}
+use Rattle.kr_model.specs.declared.Reply.TheVariants as reply
+use Rattle.kr_model.specs.Map.{Map}
+use Rattle.kr_model.specs.Locks.{Locks}
+use Rattle.kr_model.specs.ModeNames.{name_of}
+use Rattle.kr_model.specs.Difference.{refusal_number}
+use Rattle.kr_script.specs.Json.{whole, after_word}
+
+-- Whole numbers, in their order.
+abbrev pub numbers_data : List ℕ → Data
+numbers_data ns = array (items_of (map whole ns))
+
+-- A key with its value.
+abbrev pub pair_data : ℕ × ℕ → Data
+pair_data p = array (item (whole p.0) (item (whole p.1) no_items))
+
+-- Keys with their values, in their order.
+abbrev pub pairs_data : List (ℕ × ℕ) → Data
+pairs_data ps = array (items_of (map pair_data ps))
+
+-- The name of a refusal.
+abbrev pub refusal_name : Refusal → List ℕ
+refusal_name refusal.Ended = codes "Ended"
+refusal_name refusal.Busy = codes "Busy"
+refusal_name refusal.NoScan = codes "NoScan"
+refusal_name refusal.BadRange = codes "BadRange"
+refusal_name refusal.Full = codes "Full"
+refusal_name refusal.Memory = codes "Memory"
+
+-- A reply: a word, and behind it what the reply tells.
+abbrev pub reply_data : Reply → Data
+reply_data (reply.Found v) = after_word (codes "found") (item (whole v) no_items)
+reply_data reply.None = after_word (codes "none") no_items
+reply_data (reply.Going k) = after_word (codes "going") (item (whole k) no_items)
+reply_data (reply.Rows rows) = after_word (codes "rows") (item (pairs_data rows) no_items)
+reply_data reply.Done = after_word (codes "done") no_items
+reply_data reply.Duplicate = after_word (codes "duplicate") no_items
+reply_data (reply.Deleted v) = after_word (codes "deleted") (item (whole v) no_items)
+reply_data reply.Absent = after_word (codes "absent") no_items
+reply_data reply.Committed = after_word (codes "committed") no_items
+reply_data reply.Aborted = after_word (codes "aborted") no_items
+reply_data (reply.Blocked txns) = after_word (codes "blocked") (item (numbers_data txns) no_items)
+reply_data (reply.Refused r) = after_word (codes "refused") (item (whole (refusal_number r)) (item (string (refusal_name r)) no_items))
+
+-- Replies, in their order.
+abbrev pub replies_data : List Reply → Data
+replies_data rs = array (items_of (map reply_data rs))
+
+-- A lock name: the key, or a word for the name past all keys.
+abbrev pub name_data : Name → Data
+name_data (Key k) = whole k
+name_data End = string (codes "End")
+
+-- A lock: its name, its holder, and the name of its mode.
+abbrev pub lock_data : List (List ℕ) → (Name × ℕ) × ℕ → Data
+lock_data names l = array (item (name_data l.0.0) (item (whole l.0.1) (item (string (name_of names l.1)) no_items)))
+
+-- Locks, in their order.
+abbrev pub locks_data : List (List ℕ) → Locks → Data
+locks_data names ls = array (items_of (map (lock_data names) ls))
+
+-- A run, where the modes have these names: the index and the locks at its end, the replies, and the transactions that are unfinished.
+abbrev pub run_data : List (List ℕ) → Map → Locks → List Reply → List ℕ → Data
+run_data names index locks replies unfinished =
+    object (member (codes "index") (pairs_data index)
+    (member (codes "locks") (locks_data names locks)
+    (member (codes "replies") (replies_data replies)
+    (member (codes "unfinished") (numbers_data unfinished) no_members))))
+
+-- The text of a run's report.
+abbrev pub run_text : List (List ℕ) → Map → Locks → List Reply → List ℕ → List ℕ
+run_text names index locks replies unfinished = compact_text (run_data names index locks replies unfinished)

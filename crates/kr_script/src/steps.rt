@@ -1,0 +1,55 @@
+//! What a step is.
+ghost use Rattle.std.specs.Prelude.{◌≡◌, ◌↔◌, ◌<◌, ◌^◌, Some};
+ghost use Rattle.serde_json.specs.Data.{Data};
+ghost use Rattle.serde_json.specs.View.{view};
+ghost use Rattle.kr_model.specs.declared.Event.{Event};
+ghost use Rattle.kr_script.specs.Steps as spec;
+
+use crate::json::{length_of, number_at, word_at};
+use kr_model::{Event, Op};
+use serde_json::Value;
+
+fn one_number(value: &Value, len: usize) -> Option<u64>
+    ensures { result ≡ spec.one_number len (view value.now) }
+{
+    if len == 3 { number_at(value, 2) } else { None }
+}
+
+fn two_numbers(value: &Value, len: usize) -> Option<(u64, u64)>
+    ensures { result ≡ spec.two_numbers len (view value.now) }
+{
+    if len == 4 {
+        Some((number_at(value, 2)?, number_at(value, 3)?))
+    } else {
+        None
+    }
+}
+
+fn op_of(word: &str, value: &Value, len: usize) -> Option<Op>
+    ensures { result ≡ spec.op_of word.now len (view value.now) }
+{
+    match word {
+        "fetch" => one_number(value, len).map(Op::Fetch),
+        "insert" => two_numbers(value, len).map(|(key, number)| Op::Insert(key, number)),
+        "commit" if len == 2 => Some(Op::Commit),
+        _ => None,
+    }
+}
+
+/// The event of a step, if the value has the form of one.
+pub fn event_of(value: &Value) -> Option<Event>
+    ensures { result ≡ spec.event_of (view value.now) }
+{
+    let len = length_of(value)?;
+    let txn = number_at(value, 0)?;
+    let word = word_at(value, 1)?;
+    let op = op_of(word, value, len)?;
+    let txn = u32::try_from(txn).ok()?;
+    Some(Event { txn, op })
+}
+
+/// A value reads as an event exactly where it is the step that the event is written as, of a
+/// transaction whose number has 32 bits: each event is written in one way.
+pub fn one_step_for_each_event()
+    ensures { (d : Data) (e : Event) → (spec.event_of d ≡ Some e) ↔ ((spec.step_of e ≡ Some d) × (e.txn < 2 ^ 32)) }
+{}
