@@ -1,9 +1,11 @@
 -- The first of some faults, and bytes that are no document.
-use Rattle.std.proofs.Common.{◌≡◌, ℕ, List, [], ◌∷◌, ◌++◌, Option, Some, None, Err, true, false, refl}
+use Rattle.std.proofs.Common.{◌≡◌, ℕ, ◌<◌, List, [], ◌∷◌, ◌++◌, length, Option, Some, None, Err, true, false, refl, arith}
 use Rattle.std.specs.Prelude.{IsUtf8, IfSome, if◌then◌else◌}
 use Rattle.std.specs.Str.{is_utf8}
 use Rattle.std.proofs.lemmas.Str.{IsUtf8-from_is_utf8}
+use Rattle.serde_json.specs.Data.{Data}
 use Rattle.serde_json.specs.Read.{read}
+use Rattle.serde_json.proofs.OnLiterals.{serde_json_on_literals}
 use Rattle.kr_script.specs.Faults.{Fault, Tells, fault_of, first, not_json}
 use Rattle.kr_script.specs.Reading.{Gives, unless_faulty, reading_of, document}
 use Rattle.kr_script.specs.Script.{Script}
@@ -21,6 +23,15 @@ no_document bytes h =
       | true ↦ λ e. rw (h (IsUtf8-from_is_utf8 bytes e))
       | false ↦ λ e. refl
     ] refl
+
+nothing_read : read [] ≡ None
+unfolding serde_json_on_literals
+nothing_read = refl
+
+-- where a document was read, there were bytes
+pub some_read : (bytes : List ℕ) (d : Data) → read bytes ≡ Some d → 0 < length bytes
+some_read [] d h = let n = nothing_read in cc
+some_read (b ∷ bs) d h = omega arith
 
 tells_within : (o : Option Fault) (fs gs : List Fault) (s : Script) → IfSome o (λ f. first fs ≡ Some f) → IfSome o (λ f. unless_faulty (first (fs ++ gs)) s ≡ Err f)
 tells_within None fs gs s h = tt

@@ -1,7 +1,8 @@
 //! Reading a script.
-ghost use Rattle.std.specs.Prelude.{◌≡◌, ◌∷◌, MatchResult, None, Some, [], codes, is_some, nat_lt};
+ghost use Rattle.std.specs.Prelude.{◌≡◌, ◌<◌, ◌≤◌, ◌∷◌, Err, MatchResult, None, Some, [], codes, length, nat_lt};
 ghost use Rattle.serde_json.specs.Events.{items_len};
 ghost use Rattle.serde_json.specs.View.{view, items_view, members_view};
+ghost use Rattle.kr_script.specs.declared.faults.ScriptFault.TheVariants as told_as;
 ghost use Rattle.kr_script.specs.Json.{number_in, list_in};
 ghost use Rattle.kr_script.specs.Faults as fault;
 ghost use Rattle.kr_script.specs.Faults.{Passes, Tells, format_faults, name_faults, list_faults, opening_faults, step_faults, unless};
@@ -164,9 +165,11 @@ fn script_of(alloc: Global, value: &Value) -> Result<Script, ScriptFault>
     Ok(Script::new(opening, steps))
 }
 
-/// The script that the bytes are, or the first of their faults.
+/// The script that the bytes are, or the first of their faults. `Memory` comes only where a growth
+/// was refused, and so at no empty text and at none that is too long.
 pub fn read_script(alloc: Global, bytes: &[u8]) -> Result<Script, ScriptFault>
-    ensures { Gives result (reading bytes.now) }
+    ensures reads { Gives result (reading bytes.now) }
+    ensures memory { (result ≡ Err told_as.Memory) → (0 < length bytes.now) × (length bytes.now ≤ 16777216) }
 {
     if bytes.len() > MAX_BYTES {
         return Err(ScriptFault::TooLong);

@@ -2,7 +2,10 @@ use crate::{Name, Pairs, Ran, Replies, Reply, Triples, Txns};
 use std::alloc::{AllocError, Global};
 
 fn ran(alloc: Global) -> Result<Ran, AllocError> {
-    let replies = vec![in alloc; Reply::None, Reply::Blocked(Txns::from_vec(vec![in alloc; 1]?))]?;
+    let replies = vec![in alloc;
+        Reply::None,
+        Reply::Blocked(Txns::from_vec(vec![in alloc; 1]?)),
+    ]?;
     let locks = vec![in alloc; ((Name::Key(20), 1), 3), ((Name::End, 2), 5)]?;
     Ok(Ran {
         opening: Pairs::from_vec(vec![in alloc; (20, 2)]?),
