@@ -1,10 +1,8 @@
 -- The steps of a script that was read are such as the machine does.
-use Rattle.std.specs.Prelude.{◌≡◌, ℕ, ◌^◌, ◌==◌, Bool, true, false, List, [], ◌∷◌, Option, Some, None, Result, Ok, Err, All, option_map, option_and_then, nat_lt, bytes_eq, codes, if◌then◌else◌}
-use Rattle.std.specs.Str.{is_utf8}
+use Rattle.std.specs.Prelude.{◌≡◌, ℕ, ◌^◌, ◌==◌, Bool, true, false, List, Option, Some, None, Result, Ok, Err, All, option_map, option_and_then, nat_lt, bytes_eq, codes, if◌then◌else◌}
 use Rattle.std.proofs.Common.{subst}
 use Rattle.std.proofs.lemmas.List.Elements.{All-nil, All-cons}
 use Rattle.serde_json.specs.Data.{Data, Items, no_items, item}
-use Rattle.serde_json.specs.Read.{read}
 use Rattle.kr_model.specs.declared.Op.{Op}
 use Rattle.kr_model.specs.declared.Op.TheVariants.{Fetch, Insert, Commit}
 use Rattle.kr_model.specs.declared.Event.{Event}

@@ -1,5 +1,5 @@
 -- What a pending step says where its event is known.
-use Rattle.std.proofs.Common.{All, IfOk, Result, Ok, Err, ◌≡◌, ℕ, Bool, true, false, Option, Some, None, IfSome, List, [], ◌∷◌, sym, ap, ◌∙◌, refl, Vec, subst, cond}
+use Rattle.std.proofs.Common.{All, IfOk, Result, Ok, Err, ◌≡◌, ℕ, Bool, true, false, Option, Some, None, IfSome, List, sym, ap, ◌∙◌, refl, Vec, subst, cond}
 use Rattle.std.specs.Prelude.{T, IsTrue, not, ◌==◌}
 use Rattle.std.specs.Option.{option_map}
 use Rattle.std.specs.Ordering.{nat_cmp}
@@ -22,6 +22,7 @@ use Rattle.kr_model.specs.Locks.{Locks}
 use Rattle.kr_txn.specs.declared.Standing.{Standing}
 use Rattle.kr_txn.specs.EndedNumbers.{EndedNumbers}
 
+-- The step that is pending is granted, and has its memory.
 pub reserved_now : (p : Protocol) (m : Map) (pins : ℕ → ℕ) (real : Locks) (ended : EndedNumbers) (active : Vec Standing Global) (o : Option Pending) (d : Pending) → o ≡ Some d → IfSome o (IsReserved p m pins real ended active) → IsReserved p m pins real ended active d
 reserved_now p m pins real ended active None d e h = absurd (no e)
   where
@@ -32,6 +33,7 @@ reserved_now p m pins real ended active (Some q) d e h = subst (IsReserved p m p
     same : q ≡ d
     same = cc
 
+-- The step that is pending is that of its event.
 pub event_of_pending : (o : Option Pending) (d : Pending) (e : Event) → option_map (λ p. p.event) o ≡ Some e → o ≡ Some d → d.event ≡ e
 event_of_pending o d e h is = some (ap (option_map (λ (p : Pending). p.event)) (sym is) ∙ h)
   where
@@ -63,7 +65,7 @@ delete_map : (m : Map) (a : Active) (k : ℕ) (g : Option ℕ) → IsMap m → I
 delete_map m a k None h = h
 delete_map m a k (Some w) h = map_without m k h
 
--- an operation leaves keys rising
+-- An operation leaves keys rising.
 pub map-effect : (m : Map) (a : Active) (o : Op) → IsMap m → IsMap (let e = effect_of m a o in e.map)
 map-effect m a (op.Fetch k) h = fetch_map m a (get m k) h
 map-effect m a (op.Insert k v) h = insert_map m a k v (get m k) h
@@ -73,6 +75,7 @@ map-effect m a op.Abort h = h
 map-effect m a op.Go h = h
 map-effect m a (op.Scan lo hi) h = h
 
+-- With a transaction put back, the numbers rise.
 pub put_down_order : (b : Bool) (t : ℕ) (a : Active) (xs : List (ℕ × Active)) → IsTrue (is_sorted nat_cmp xs) → IsTrue (is_sorted nat_cmp (cond b (put nat_cmp t a xs) xs))
 put_down_order true t a xs h = in_order-put t xs h a
 put_down_order false t a xs h = h

@@ -1,5 +1,5 @@
 -- What the definitions say of a step, by the parts that the machine finds.
-use Rattle.std.proofs.Common.{◌≡◌, ℕ, Bool, true, false, cond, Option, Some, None, List, [], ◌∷◌, ap, sym, ◌∙◌, refl, length, is_some, subst}
+use Rattle.std.proofs.Common.{◌≡◌, ℕ, Bool, true, false, cond, Option, Some, None, List, [], ◌∷◌, ap, sym, ◌∙◌, refl, length, is_some}
 use Rattle.std.specs.Prelude.{nat_le, not, ◌&&◌, ◌==◌, unwrap_or}
 use Rattle.std.specs.List.{list_any, filter}
 use Rattle.std.specs.Ordering.{nat_cmp}
@@ -8,12 +8,11 @@ use Rattle.kr_model.specs.declared.Op.{Op}
 use Rattle.kr_model.specs.declared.Op.TheVariants as op
 use Rattle.kr_model.specs.declared.Refusal.{Refusal}
 use Rattle.kr_model.specs.declared.Refusal.TheVariants.{Ended, Full, Busy, NoScan, BadRange}
-use Rattle.kr_model.specs.declared.Reply.{Reply}
 use Rattle.kr_model.specs.declared.Reply.TheVariants as reply
 use Rattle.kr_model.specs.Protocol.{Protocol}
 use Rattle.kr_model.specs.declared.Plan.{Plan}
 use Rattle.kr_model.specs.Map.{Map, get}
-use Rattle.kr_model.specs.Locks.{Locks, Request, blockers, kept, release, add_once}
+use Rattle.kr_model.specs.Locks.{Locks, Request, blockers, kept}
 use Rattle.kr_model.specs.State.{State, Active, Scan, idle, standing}
 use Rattle.kr_model.specs.Plan.{requests, plan_of}
 use Rattle.kr_model.specs.Step.{Outcome, Effect, fetched, inserted, deleted, refusal_of, step, granted_or_blocked, unless_refused, after_effect, performed}
@@ -22,7 +21,7 @@ use Rattle.kr_txn.specs.declared.Scan as txn
 use Rattle.kr_txn.specs.Standings.{scan_of}
 use Rattle.kr_machine.specs.Pending.{IsHandled, IsAttempt, attempt_of, effect_of, after_op}
 
--- the refusal of an operation that no scan allows
+-- The refusal of an operation that no scan allows, where its transaction has not ended.
 abbrev pub refused_by : Option Active → Bool → Option Refusal
 refused_by None full = cond full (Some Full) None
 refused_by (Some a) full = cond (is_some a.scan) (Some Busy) None
@@ -37,6 +36,7 @@ chain false (Some a) l = by a.scan
     by None = refl
     by (Some c) = refl
 
+-- The refusal of an operation, by whether its transaction has ended, how it stands and whether 64 are active.
 pub refusal_by : (m : Map) (h : Locks) (ended : List ℕ) (es : List (ℕ × Active)) (t : ℕ) (o : Op) → IsHandled o → refusal_of (record { map = m; locks = h; ended = ended; active = es }) t o ≡ cond (list_any (λ u. u == t) ended) (Some Ended) (refused_by (find nat_cmp t es) (nat_le 64 (length es)))
 refusal_by m h ended es t op.Commit is = chain _ _ _
 refusal_by m h ended es t (op.Fetch k) is = chain _ _ _
@@ -59,9 +59,11 @@ module _ (p : Protocol) (s : State) (t : ℕ) (o : Op) (allowed : refusal_of s t
   by_attempt op.Go is = absurd is
   by_attempt (op.Scan lo hi) is = absurd is
 
+  -- Where no refusal applies, an attempt is granted or blocked.
   pub attempts : IsAttempt o → step p s t o ≡ granted_or_blocked p s t (requests (plan_of p s.map s.locks t (attempt_of o))) (effect_of s.map (standing s t) o) (blockers p s.locks t (requests (plan_of p s.map s.locks t (attempt_of o))))
   attempts is = performs ∙ by_attempt o is
 
+  -- An attempt that nobody blocks has its effect.
   pub granted_step : IsAttempt o → blockers p s.locks t (requests (plan_of p s.map s.locks t (attempt_of o))) ≡ [] → step p s t o ≡ after_effect p s t (requests (plan_of p s.map s.locks t (attempt_of o))) (effect_of s.map (standing s t) o)
   granted_step is none = attempts is ∙ ap (granted_or_blocked p s t (requests (plan_of p s.map s.locks t (attempt_of o))) (effect_of s.map (standing s t) o)) none
 
@@ -77,7 +79,7 @@ delete_reply : (m : Map) (a b : Active) (k : ℕ) (g : Option ℕ) → (deleted 
 delete_reply m a b k None = refl
 delete_reply m a b k (Some w) = refl
 
--- the reply doesn't depend on how the transaction stands
+-- The reply doesn't depend on how the transaction stands.
 pub reply_same : (m : Map) (a b : Active) (o : Op) → (effect_of m a o).reply ≡ (effect_of m b o).reply
 reply_same m a b (op.Fetch k) = fetch_reply m a b (get m k)
 reply_same m a b (op.Insert k v) = insert_reply m a b k v (get m k)
@@ -87,6 +89,7 @@ reply_same m a b op.Abort = refl
 reply_same m a b op.Go = refl
 reply_same m a b (op.Scan lo hi) = refl
 
+-- The refusal of an operation, by what is known of its transaction.
 pub refusal_is : (m : Map) (h : Locks) (ended : List ℕ) (es : List (ℕ × Active)) (t : ℕ) (o : Op) → IsHandled o → (x : Bool) → list_any (λ u. u == t) ended ≡ x → (f : Option Active) → find nat_cmp t es ≡ f → (l : Bool) → nat_le 64 (length es) ≡ l
     → refusal_of (record { map = m; locks = h; ended = ended; active = es }) t o ≡ cond x (Some Ended) (refused_by f l)
 refusal_is m h ended es t o is x hx f hf l hl =
@@ -102,6 +105,7 @@ after_attempt m real ended es t a op.Abort is = absurd is
 after_attempt m real ended es t a op.Go is = absurd is
 after_attempt m real ended es t a (op.Scan lo hi) is = absurd is
 
+-- The state after a granted attempt, by what the machine has taken for it.
 pub stepped_attempt : (p : Protocol) (m : Map) (h real : Locks) (ended : List ℕ) (es rest : List (ℕ × Active)) (t : ℕ) (o : Op) (a : Active) (plan : Plan) → IsAttempt o
     → refusal_of (record { map = m; locks = h; ended = ended; active = es }) t o ≡ None
     → plan ≡ plan_of p m h t (attempt_of o) → blockers p h t (requests plan) ≡ [] → real ≡ kept p h t (requests plan)
@@ -116,6 +120,7 @@ stepped_attempt p m h real ended es rest t o a plan is allowed is_plan none is_r
     ∙ ap (λ b. record { map = let f = effect_of m b o in f.map; locks = real; ended = ended; active = put nat_cmp t (let f = effect_of m b o in f.standing) rest }) (sym is_a)
     ∙ sym (after_attempt m real ended rest t a o is)
 
+-- The state after a commit, by what the machine has taken for it.
 pub stepped_end : (p : Protocol) (m : Map) (h : Locks) (ended : List ℕ) (es : List (ℕ × Active)) (t : ℕ) (a : Active)
     → refusal_of (record { map = m; locks = h; ended = ended; active = es }) t op.Commit ≡ None
     → ◌≡◌ {A = State} (let o' = step p (record { map = m; locks = h; ended = ended; active = es }) t op.Commit in o'.1) (after_op m h ended (filter (λ e. not (e.0 == t)) es) t a op.Commit)
@@ -125,16 +130,19 @@ blocked_by : (p : Protocol) (s : State) (t : ℕ) (rs : List Request) (e : Effec
 blocked_by p s t rs e [] h = absurd (h refl)
 blocked_by p s t rs e (u ∷ us) h = refl
 
+-- An attempt that somebody blocks answers who, and leaves the state.
 pub blocked_step : (p : Protocol) (s : State) (t : ℕ) (o : Op) (plan : Plan) (us : List ℕ) → IsAttempt o → refusal_of s t o ≡ None → plan ≡ plan_of p s.map s.locks t (attempt_of o) → us ≡ blockers p s.locks t (requests plan) → (blockers p s.locks t (requests plan) ≡ [] → ⊥) → ◌≡◌ {A = Outcome} (reply.Blocked us, s) (step p s t o)
 blocked_step p s t o plan us is allowed is_plan is_us some =
     let here = ap (λ pl. blockers p s.locks t (requests pl)) is_plan in
     ap (λ l. (reply.Blocked l, s)) (is_us ∙ here)
     ∙ sym (attempts p s t o allowed is ∙ blocked_by p s t (requests (plan_of p s.map s.locks t (attempt_of o))) (effect_of s.map (standing s t) o) (blockers p s.locks t (requests (plan_of p s.map s.locks t (attempt_of o)))) (λ none. some (here ∙ none)))
 
+-- A scan in progress is one for the definitions too.
 pub scanning : (c : Option txn.Scan) → is_some (option_map scan_of c) ≡ is_some c
 scanning None = refl
 scanning (Some c) = refl
 
+-- A choice is empty where what is made of it is.
 pub nothing_open : {A B : Type 0} (f : A → B) (o : Option A) → option_map f o ≡ None → o ≡ None
 nothing_open f None h = refl
 nothing_open f (Some a) h = cc

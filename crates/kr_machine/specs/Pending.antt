@@ -1,13 +1,13 @@
 -- What a step that has its memory keeps in the machine, and what contracts see of the state meanwhile.
-use Rattle.std.specs.Prelude.{◌≡◌, ◌≢◌, ℕ, ◌+◌, ◌<◌, ◌≤◌, Bool, true, false, List, [], ◌∷◌, Option, Some, None, IfSome, IsTrue, if◌then◌else◌, Vec}
+use Rattle.std.specs.Prelude.{◌≡◌, ◌≢◌, ℕ, ◌+◌, ◌<◌, ◌≤◌, List, Option, Some, None, IfSome, IsTrue, if◌then◌else◌, Vec}
 use Rattle.std.specs.Vec.{vec_len, vec_capacity}
 use Rattle.std.specs.declared.alloc.Global.{Global}
 use Rattle.std.specs.Ordering.{nat_cmp}
-use Rattle.std.specs.FinMap.{find, put, is_sorted}
+use Rattle.std.specs.FinMap.{find, put}
 use Rattle.kr_model.specs.Protocol.{Protocol}
-use Rattle.kr_model.specs.Map.{Map, IsMap, get, restore_all}
-use Rattle.kr_model.specs.Locks.{Locks, Request, IsLocks, own, keep_or_drop, release, add_once, blockers, kept, AreWithin, HasNoNone}
-use Rattle.kr_model.specs.State.{State, Active, idle}
+use Rattle.kr_model.specs.Map.{Map, IsMap, get}
+use Rattle.kr_model.specs.Locks.{Locks, Request, IsLocks, own, keep_or_drop, release, add_once, AreWithin, HasNoNone}
+use Rattle.kr_model.specs.State.{State, Active}
 use Rattle.kr_model.specs.Step.{Effect, effect, fetched, inserted, deleted, step}
 use Rattle.kr_model.specs.declared.Name.{Name}
 use Rattle.kr_model.specs.declared.Span.{Span}
@@ -22,14 +22,14 @@ use Rattle.kr_txn.specs.EndedNumbers.{EndedNumbers}
 use Rattle.kr_txn.specs.Standings.{active_of, entries, IsInOrder}
 use Rattle.kr_machine.specs.declared.pending.Pending.{Pending}
 
--- the operations that make one attempt
+-- The operations that make one attempt at the index.
 abbrev pub IsAttempt : Op → Type 0
 IsAttempt (op.Fetch k) = Unit {0}
 IsAttempt (op.Insert k v) = Unit {0}
 IsAttempt (op.Delete k) = Unit {0}
 IsAttempt _ = ⊥
 
--- the operations that the machine does
+-- The operations that the machine does so far: fetch, insert, delete and commit. Scans and abort come later, and then this condition goes.
 abbrev pub IsHandled : Op → Type 0
 IsHandled op.Commit = Unit {0}
 IsHandled (op.Fetch k) = Unit {0}
@@ -37,66 +37,71 @@ IsHandled (op.Insert k v) = Unit {0}
 IsHandled (op.Delete k) = Unit {0}
 IsHandled _ = ⊥
 
+-- The attempt of an operation that makes one.
 abbrev pub attempt_of : Op → Step
 attempt_of (op.Fetch k) = attempt.Fetch k
 attempt_of (op.Insert k v) = attempt.Insert k
 attempt_of (op.Delete k) = attempt.Delete k
 attempt_of _ = attempt.Fetch 0
 
+-- What a granted operation does to the index and to its transaction, who stands as a says.
 abbrev pub effect_of : Map → Active → Op → Effect
 effect_of m a (op.Fetch k) = fetched m a (get m k)
 effect_of m a (op.Insert k v) = inserted m a k v (get m k)
 effect_of m a (op.Delete k) = deleted m a k (get m k)
 effect_of m a _ = effect reply.None m a
 
--- the state after an operation of t, who stands as a says, where es are the other transactions
+-- The state after an operation of t, who stands as a says, where es are the other transactions.
 abbrev pub after_op : Map → Locks → List ℕ → List (ℕ × Active) → ℕ → Active → Op → State
 after_op m real ended es t a op.Commit = record { map = m; locks = release real t; ended = add_once t ended; active = es }
 after_op m real ended es t a o = let e = effect_of m a o in record { map = e.map; locks = real; ended = ended; active = put nat_cmp t e.standing es }
 
--- the locks before a mode was kept, where the transaction had the mode `was`
+-- The locks before a mode of t was kept on n for this span, where t had the mode `was` there.
 abbrev pub put_back_mode : Locks → ℕ → Name → ℕ → Span → Locks
 put_back_mode real t n was span.Instant = real
 put_back_mode real t n was span.Commit = keep_or_drop real t n was
 
+-- The locks before the request of a side was kept.
 abbrev pub put_back : Locks → ℕ → Option Request → ℕ → Locks
 put_back real t None was = real
 put_back real t (Some (n, q, s)) was = put_back_mode real t n was s
 
--- the locks as contracts see them
+-- The locks as contracts see them: those before a pending step.
 abbrev pub shown_locks : Option Pending → Locks → Locks
 shown_locks None real = real
 shown_locks (Some p) real = put_back (put_back real p.event.txn p.plan.next p.next_was) p.event.txn p.plan.current p.current_was
 
--- the active transactions as contracts see them
+-- The active transactions as contracts see them: those before a pending step.
 abbrev pub shown_active : Option Pending → List (ℕ × Active) → List (ℕ × Active)
 shown_active None es = es
 shown_active (Some p) es = if p.was_active then put nat_cmp p.event.txn (active_of p.standing) es else es
 
+-- The state as contracts see it: that before a pending step.
 abbrev pub shown : Option Pending → Map → Locks → List ℕ → List (ℕ × Active) → State
 shown p m real ended es = record { map = m; locks = shown_locks p real; ended = ended; active = shown_active p es }
 
--- the transaction holds a mode where a request of commit duration was kept
+-- The transaction holds a mode on n, where a request to commit was kept there.
 abbrev pub HoldsMode : Locks → ℕ → Name → Span → Type 0
 HoldsMode locks t n span.Instant = Unit {0}
 HoldsMode locks t n span.Commit = own locks t n ≢ 0
 
+-- The transaction holds a mode where the request of a side was kept.
 abbrev pub HoldsSide : Locks → ℕ → Option Request → Type 0
 HoldsSide locks t None = Unit {0}
 HoldsSide locks t (Some (n, q, s)) = HoldsMode locks t n s
 
--- no pin but that of a change
+-- The one pin is that of the key that an operation may change.
 abbrev pub HasPins : (ℕ → ℕ) → Op → Type 0
 HasPins pins (op.Insert k v) = (pins k ≡ 1) × ((q : ℕ) → q ≢ k → pins q ≡ 0)
 HasPins pins (op.Delete k) = (pins k ≡ 1) × ((q : ℕ) → q ≢ k → pins q ≡ 0)
 HasPins pins _ = (q : ℕ) → pins q ≡ 0
 
--- room for what an operation adds, and for a transaction in the list
+-- There is room for what an operation adds: a change, and its transaction in the list.
 abbrev pub HasRoom : Vec Standing Global → Standing → Op → Type 0
 HasRoom active s op.Commit = Unit {0}
 HasRoom active s o = (vec_len active < vec_capacity active) × (vec_len s.changes < vec_capacity s.changes)
 
--- a pending step is granted, and has all its memory
+-- A pending step is granted, and has all its memory.
 pub record IsReserved (p : Protocol) (m : Map) (pins : ℕ → ℕ) (real : Locks) (ended : EndedNumbers) (active : Vec Standing Global) (d : Pending) : Type 0 where
   pub handled : IsHandled d.event.op
   pub stepped : ◌≡◌ {A = State} (let o = step p (shown (Some d) m real ended.numbers (entries active.items)) d.event.txn d.event.op in o.1) (after_op m real ended.numbers (entries active.items) d.event.txn (active_of d.standing) d.event.op)
@@ -112,10 +117,12 @@ pub record IsReserved (p : Protocol) (m : Map) (pins : ℕ → ℕ) (real : Lock
   pub room_back : IsTrue d.was_active → vec_len active < vec_capacity active
   pub room : HasRoom active d.standing d.event.op
 
+-- With no pending step there are no pins.
 abbrev pub HasNoPins : Option Pending → (ℕ → ℕ) → Type 0
 HasNoPins None pins = (q : ℕ) → pins q ≡ 0
 HasNoPins (Some p) pins = Unit {0}
 
+-- What always holds of a machine's parts.
 pub record IsMachine (p : Protocol) (m : Map) (pins : ℕ → ℕ) (real : Locks) (ended : EndedNumbers) (active : Vec Standing Global) (pending : Option Pending) : Type 0 where
   pub is_map : IsMap m
   pub in_order : IsLocks real

@@ -9,7 +9,7 @@ use kr_index::{Memory, Ordered};
 use kr_model::{Op, Reply, Step};
 use kr_txn::Standing;
 
-/// The attempt of an operation.
+/// The attempt of an operation that makes one; of any other it doesn't matter.
 pub(crate) fn attempt_of(op: Op) -> Step
     ensures { result ≡ attempt_of op }
 {
@@ -21,7 +21,7 @@ pub(crate) fn attempt_of(op: Op) -> Step
     }
 }
 
-/// Keeps the place that an operation needs.
+/// Pins the key that an operation may change, or answers `Memory` and pins none.
 pub(crate) fn reserve<I: Ordered>(index: &mut I, op: Op) -> Result<(), Memory>
     requires { (q : ℕ) → I.pins index.old q ≡ 0 }
     ensures map { I.map index.new ≡ I.map index.old }
@@ -41,7 +41,7 @@ pub(crate) fn reserve<I: Ordered>(index: &mut I, op: Op) -> Result<(), Memory>
     }
 }
 
-/// Gives up that place.
+/// Gives up that pin.
 pub(crate) fn give_up<I: Ordered>(index: &mut I, op: Op)
     requires { HasPins (I.pins index.old) op }
     ensures map { I.map index.new ≡ I.map index.old }
@@ -54,7 +54,7 @@ pub(crate) fn give_up<I: Ordered>(index: &mut I, op: Op)
     }
 }
 
-/// Does a granted operation, and gives up its place.
+/// Does a granted operation on the index, notes the change, and gives up the pin.
 pub(crate) fn change<I: Ordered>(index: &mut I, standing: Standing, op: Op) -> Standing
     requires attempt { IsAttempt op }
     requires pins { HasPins (I.pins index.old) op }
@@ -85,7 +85,7 @@ pub(crate) fn change<I: Ordered>(index: &mut I, standing: Standing, op: Op) -> S
     standing
 }
 
-/// What a granted operation answers.
+/// What an operation answers where it is granted.
 pub(crate) fn reply_to<I: Ordered>(index: &I, op: Op) -> Reply
     ensures { result ≡ (effect_of (I.map index.now) idle op).reply }
 {

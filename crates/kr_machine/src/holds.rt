@@ -9,17 +9,17 @@ ghost use Rattle.kr_plan.specs.Modes.{SideIsMode, ArePlanModes};
 ghost use Rattle.kr_machine.specs.Pending.{put_back, HoldsSide};
 
 use kr_locks::{Holdings, Memory};
-use kr_model::{Name, Plan, Span};
+use kr_model::{Mode, Name, Plan, Span, Txn};
 use kr_protocol::Protocol;
 
-/// Keeps a requested mode in the converted form, and answers the mode before.
+/// Keeps the mode to which the own one is converted by a request, and answers the mode before.
 fn hold_mode<P: Protocol, L: Holdings>(
     protocol: &P,
     locks: &mut L,
-    txn: u32,
+    txn: Txn,
     name: Name,
-    mode: u8,
-) -> Result<u8, Memory>
+    mode: Mode,
+) -> Result<Mode, Memory>
     requires within { AreWithin (P.table protocol.now).count (L.locks locks.old) }
     requires no_none { HasNoNone (L.locks locks.old) }
     requires in_order { IsLocks (L.locks locks.old) }
@@ -33,13 +33,13 @@ fn hold_mode<P: Protocol, L: Holdings>(
     Ok(was)
 }
 
-/// Keeps the mode of one side's request, and answers the mode before.
+/// Keeps the mode of one side's request, where it is to commit, and answers the mode before; else 0.
 pub(crate) fn hold<P: Protocol, L: Holdings>(
     protocol: &P,
     locks: &mut L,
-    txn: u32,
-    side: Option<(Name, u8, Span)>,
-) -> Result<u8, Memory>
+    txn: Txn,
+    side: Option<(Name, Mode, Span)>,
+) -> Result<Mode, Memory>
     requires within { AreWithin (P.table protocol.now).count (L.locks locks.old) }
     requires no_none { HasNoNone (L.locks locks.old) }
     requires in_order { IsLocks (L.locks locks.old) }
@@ -61,12 +61,12 @@ pub(crate) fn hold<P: Protocol, L: Holdings>(
     }
 }
 
-/// Puts back the mode before, which takes no memory.
+/// Puts back the mode before, where the side's request was to commit. Takes no memory.
 pub(crate) fn give_back<L: Holdings>(
     locks: &mut L,
-    txn: u32,
-    side: Option<(Name, u8, Span)>,
-    was: u8,
+    txn: Txn,
+    side: Option<(Name, Mode, Span)>,
+    was: Mode,
 )
     requires { HoldsSide (L.locks locks.old) txn side }
     ensures { L.locks locks.new ≡ put_back (L.locks locks.old) txn side was }
@@ -78,13 +78,13 @@ pub(crate) fn give_back<L: Holdings>(
     }
 }
 
-/// Keeps the modes of both sides' requests, and answers the modes before.
+/// Keeps the modes of both sides' requests, and answers the modes before. Where a growth is refused, no lock changes.
 pub(crate) fn hold_both<P: Protocol, L: Holdings>(
     protocol: &P,
     locks: &mut L,
-    txn: u32,
+    txn: Txn,
     plan: Plan,
-) -> Result<(u8, u8), Memory>
+) -> Result<(Mode, Mode), Memory>
     requires within { AreWithin (P.table protocol.now).count (L.locks locks.old) }
     requires no_none { HasNoNone (L.locks locks.old) }
     requires in_order { IsLocks (L.locks locks.old) }

@@ -1,4 +1,7 @@
-//! Steps of transactions on an index under a protocol.
+//! A machine: an ordered index on which transactions do steps under a lock protocol.
+//!
+//! A step is done at once, or in two parts: `ready` takes all memory that it needs and tells its reply, and `finish`
+//! does it or `cancel` gives it up, neither of which can fail.
 #![tactic(auto)]
 
 ghost use Rattle.std.specs.Prelude.{All, map, ◌≡◌, ◌≢◌, ℕ, ◌<◌, ◌≤◌, ◌⊎◌, [], None, Some, IfOk, IfErr, OnOk, OnErr, IsTrue, IsOk, true, is_some};
@@ -12,10 +15,13 @@ mod holds;
 mod pending;
 mod reserve;
 mod room;
+#[cfg(test)]
+mod tests;
 
 use kr_index::Ordered;
 use kr_locks::{Holdings, Memory};
-use kr_model::{Event, Name, Op, Pairs, Refusal, Reply, Txns};
+pub use kr_model::{Mode, Name, Txn};
+use kr_model::{Event, Op, Pairs, Refusal, Reply, Txns};
 use kr_protocol::Protocol;
 use kr_txn::{Ended, Standing, put_in};
 use pending::Pending;
@@ -23,14 +29,23 @@ pub use pending::Ready;
 use std::alloc::Global;
 use std::marker::Model;
 
-/// An index under a protocol, with the locks of its transactions.
+/// An index under a lock protocol, with the locks of its transactions and how each stands.
+///
+/// Contracts see its protocol, its state between two steps, and the event of a step that is ready and not yet done.
+/// While a step is ready the machine has taken what the step needs, and the state is seen as without it.
 #[derive(Drop)]
 pub struct Machine<P: Protocol, I: Ordered, L: Holdings> {
+    /// The lock table.
     protocol: P,
+    /// The index; the one pin is that of the change of a pending step.
     index: I,
+    /// The locks that are held, with those that a pending step keeps.
     locks: L,
+    /// The transactions that have ended, with room for each active one and for that of a pending step.
     ended: Ended,
+    /// The active transactions, rising by number, without that of a pending step.
     active: Vec<Standing>,
+    /// A step that has its memory and is neither done nor given up.
     pending: Option<Pending>,
 }
 
@@ -50,7 +65,7 @@ impl<P: Protocol, I: Ordered, L: Holdings> Model for Machine<P, I, L> {
 }
 
 impl<P: Protocol, I: Ordered, L: Holdings> Machine<P, I, L> {
-    /// Takes no memory.
+    /// A machine with this opening index and no transactions. The index has no pins, and no locks are held. Takes no memory.
     pub fn new(alloc: Global, protocol: P, index: I, locks: L) -> Self
         requires is_map { IsMap (I.map index) }
         requires no_pins { (q : ℕ) → I.pins index q ≡ 0 }
@@ -67,8 +82,8 @@ impl<P: Protocol, I: Ordered, L: Holdings> Machine<P, I, L> {
         }
     }
 
-    /// Whether a transaction is active.
-    pub fn active(&self, txn: u32) -> bool
+    /// Whether a transaction is active: some step of it was granted, and it has neither committed nor aborted.
+    pub fn active(&self, txn: Txn) -> bool
         requires { self.now.1.1 ≡ None }
         ensures { result ≡ is_some (active_of self.now.1.0 txn) }
     {
@@ -78,7 +93,7 @@ impl<P: Protocol, I: Ordered, L: Holdings> Machine<P, I, L> {
         }
     }
 
-    /// The pairs of the index, rising.
+    /// A copy of the pairs of the index, keys rising, or `Memory` where a growth is refused.
     pub fn index(&self) -> Result<Pairs, Memory>
         requires { self.now.1.1 ≡ None }
         ensures { IfOk result (λ pairs. pairs ≡ self.now.1.0.map) }
@@ -86,8 +101,9 @@ impl<P: Protocol, I: Ordered, L: Holdings> Machine<P, I, L> {
         self.index.copy(*self.active.allocator())
     }
 
-    /// The locks, by name and then by transaction.
-    pub fn locks(&self) -> Result<Vec<((Name, u32), u8)>, Memory>
+    /// A copy of the locks that are held, each with its mode, by name, the end last, and then by transaction; or `Memory`
+    /// where a growth is refused.
+    pub fn locks(&self) -> Result<Vec<((Name, Txn), Mode)>, Memory>
         requires { self.now.1.1 ≡ None }
         ensures locks { IfOk result (λ list. list.items ≡ self.now.1.0.locks) }
         ensures modes { IfOk result (λ list. All (λ l. l.1 ≤ (P.table self.now.0).count) list.items) }
@@ -95,7 +111,7 @@ impl<P: Protocol, I: Ordered, L: Holdings> Machine<P, I, L> {
         self.locks.copy(*self.active.allocator())
     }
 
-    /// The active transactions, rising.
+    /// The numbers of the active transactions, rising, or `Memory` where a growth is refused.
     pub fn unfinished(&self) -> Result<Txns, Memory>
         requires { self.now.1.1 ≡ None }
         ensures { IfOk result (λ txns. txns ≡ map (λ a. a.0) self.now.1.0.active) }
@@ -103,8 +119,12 @@ impl<P: Protocol, I: Ordered, L: Holdings> Machine<P, I, L> {
         kr_txn::numbers(*self.active.allocator(), &self.active)
     }
 
-    /// Takes all memory of a step, and tells its reply.
-    pub fn ready(&mut self, txn: u32, op: Op) -> Result<Ready, Reply>
+    /// Takes all memory of a step, and tells its reply without doing it.
+    ///
+    /// What it gives must be spent by `finish` or `cancel` before the next call. Until then the state is seen as before
+    /// the step. It answers `Err` with the reply that `step` would have where the step is refused or blocked; then
+    /// nothing has changed, and nothing is to be spent.
+    pub fn ready(&mut self, txn: Txn, op: Op) -> Result<Ready, Reply>
         requires handled { IsHandled op }
         requires at_rest { self.old.1.1 ≡ None }
         ensures event { IfOk result (λ r. r.event ≡ record { txn = txn; op = op }) }
@@ -139,8 +159,8 @@ impl<P: Protocol, I: Ordered, L: Holdings> Machine<P, I, L> {
         }
     }
 
-    /// The same for an operation that makes an attempt, where no refusal applies.
-    fn attempt(&mut self, txn: u32, op: Op) -> Result<Ready, Reply>
+    /// The same for an operation that asks for locks, where no refusal applies.
+    fn attempt(&mut self, txn: Txn, op: Op) -> Result<Ready, Reply>
         requires attempt { IsAttempt op }
         requires at_rest { self.old.1.1 ≡ None }
         requires allowed { refusal_of self.old.1.0 txn op ≡ None }
@@ -150,13 +170,8 @@ impl<P: Protocol, I: Ordered, L: Holdings> Machine<P, I, L> {
         ensures refusal { IfErr result (λ r. IsStep (P.table self.old.0) self.old.1.0 txn op r self.old.1.0) }
         ensures err { OnErr result (self.new ≡ self.old) }
     {
-        let plan = reserve::plan_for(
-            &self.protocol,
-            &self.index,
-            &self.locks,
-            txn,
-            change::attempt_of(op),
-        );
+        let attempt = change::attempt_of(op);
+        let plan = kr_plan::plan(&self.protocol, &self.index, &self.locks, txn, attempt);
         if !kr_plan::granted(&self.protocol, &self.locks, txn, &plan) {
             let alloc = *self.active.allocator();
             match kr_plan::blockers(alloc, &self.protocol, &self.locks, txn, &plan) {
@@ -186,8 +201,21 @@ impl<P: Protocol, I: Ordered, L: Holdings> Machine<P, I, L> {
         }
     }
 
-    /// One attempt of a transaction.
-    pub fn step(&mut self, txn: u32, op: Op) -> Reply
+    /// Attempts one operation of a transaction: a fetch, an insert, a delete or a commit.
+    ///
+    /// A step that is refused or blocked changes nothing:
+    ///
+    /// - `Refused(Ended)`: the transaction has committed or aborted.
+    /// - `Refused(Full)`: 64 transactions are active, and this isn't one of them.
+    /// - `Refused(Busy)`: a scan of the transaction is in progress.
+    /// - `Refused(Memory)`: a growth was refused, and no other refusal applies. The commit of an active transaction takes
+    ///   no memory.
+    /// - `Blocked`: these transactions hold locks that refuse a lock that the step asks for. A transaction that wasn't
+    ///   active isn't so after it.
+    ///
+    /// Any other reply says that the step is done. The transaction is then active and holds the locks that the protocol
+    /// asks for; or, after a commit, it has ended and holds none.
+    pub fn step(&mut self, txn: Txn, op: Op) -> Reply
         requires handled { IsHandled op }
         requires at_rest { self.old.1.1 ≡ None }
         ensures step { IsStep (P.table self.old.0) self.old.1.0 txn op result self.new.1.0 }
@@ -200,7 +228,7 @@ impl<P: Protocol, I: Ordered, L: Holdings> Machine<P, I, L> {
         }
     }
 
-    /// Gives up a step. Takes no memory.
+    /// Gives up the step that is ready: the machine is as before it was. Takes no memory.
     pub fn cancel(&mut self, ready: Ready)
         requires { self.old.1.1 ≡ Some ready.event }
         ensures { self.new ≡ (self.old.0, (self.old.1.0, None)) }
@@ -222,7 +250,7 @@ impl<P: Protocol, I: Ordered, L: Holdings> Machine<P, I, L> {
         }
     }
 
-    /// Does a step. Takes no memory.
+    /// Does the step that is ready, and gives the reply that was told. Takes no memory.
     pub fn finish(&mut self, ready: Ready) -> Reply
         requires { self.old.1.1 ≡ Some ready.event }
         ensures reply { result ≡ ready.reply }

@@ -1,22 +1,28 @@
-//! A step that has its memory, and is not done yet.
+//! A step that has its memory and is not done yet.
 ghost use Rattle.std.specs.Prelude.{◌≡◌};
 
-use kr_model::{Event, Plan, Reply};
+use kr_model::{Event, Mode, Plan, Reply};
 use kr_txn::Standing;
 use std::marker::Model;
 
-/// What the machine keeps of it: the modes are those that its transaction had before, and the transaction stands here meanwhile.
+/// What the machine keeps of the step.
 #[derive(Drop)]
 pub struct Pending {
+    /// What is attempted, and by which transaction.
     pub event: Event,
+    /// The locks that the step asked for, of which those to commit are held by now; a commit asks for none.
     pub plan: Plan,
-    pub current_was: u8,
-    pub next_was: u8,
+    /// The mode that the transaction had on the current name, where the step keeps a lock there.
+    pub current_was: Mode,
+    /// The mode that the transaction had on the next name, where the step keeps a lock there.
+    pub next_was: Mode,
+    /// How the transaction stands before the step; it isn't in the machine's list meanwhile.
     pub standing: Standing,
+    /// Whether the transaction was active before the step.
     pub was_active: bool,
 }
 
-/// What its caller keeps, and must spend.
+/// A step that is ready, with its reply. The machine that gave it must do it or give it up: it can't be dropped.
 pub struct Ready {
     pub(crate) event: Event,
     pub(crate) reply: Reply,
@@ -37,7 +43,7 @@ impl Model for Ready {
 }
 
 impl Ready {
-    /// The reply that the step will have.
+    /// The reply that the step has if it is done.
     pub fn reply(&self) -> &Reply
         ensures { result.now ≡ self.now.reply }
     {

@@ -14,33 +14,19 @@ use crate::pending::Pending;
 use crate::{change, holds, room};
 use kr_index::Ordered;
 use kr_locks::{Holdings, Memory};
-use kr_model::{Event, Op, Plan, Row, Step};
+use kr_model::{Event, Op, Plan, Row, Txn};
 use kr_protocol::Protocol;
 use kr_txn::{Ended, Standing, take_out};
 
-/// The plan of an attempt, whose modes are the protocol's.
-pub(crate) fn plan_for<P: Protocol, I: Ordered, L: Holdings>(
-    protocol: &P,
-    index: &I,
-    locks: &L,
-    txn: u32,
-    step: Step,
-) -> Plan
-    requires { AreWithin (P.table protocol.now).count (L.locks locks.now) }
-    ensures plan { result ≡ plan_of (P.table protocol.now) (I.map index.now) (L.locks locks.now) txn step }
-    ensures modes { ArePlanModes (P.table protocol.now).count result }
-{
-    kr_plan::plan(protocol, index, locks, txn, step)
-}
-
-/// Takes the memory of a granted attempt, and keeps its locks.
+/// Takes the memory of a granted attempt, keeps its locks, and takes its transaction out of the list. Where a growth is
+/// refused, index, locks and transactions are as before.
 pub(crate) fn reserve<P: Protocol, I: Ordered, L: Holdings>(
     protocol: &P,
     index: &mut I,
     locks: &mut L,
     ended: &mut Ended,
     active: &mut Vec<Standing>,
-    txn: u32,
+    txn: Txn,
     op: Op,
     plan: Plan,
 ) -> Result<Pending, Memory>
@@ -83,14 +69,21 @@ pub(crate) fn reserve<P: Protocol, I: Ordered, L: Holdings>(
     }
 }
 
-/// Takes the memory of a commit: none, where the transaction is active.
+/// The plan of a commit, which asks for no lock; its row doesn't matter.
+const NO_LOCKS: Plan = Plan {
+    row: Row::FetchHit,
+    current: None,
+    next: None,
+};
+
+/// Takes the memory of a commit, which is none where the transaction is active, and takes it out of the list.
 pub(crate) fn reserve_end<P: Protocol, I: Ordered, L: Holdings>(
     protocol: &P,
     index: &I,
     locks: &L,
     ended: &mut Ended,
     active: &mut Vec<Standing>,
-    txn: u32,
+    txn: Txn,
 ) -> Result<Pending, Memory>
     requires at_rest { IsMachine (P.table protocol.now) (I.map index.now) (I.pins index.now) (L.locks locks.now) ended.old active.old None }
     requires allowed { refusal_of (shown None (I.map index.now) (L.locks locks.now) ended.old.numbers (entries active.old.items)) txn Op.Commit ≡ None }
@@ -103,17 +96,14 @@ pub(crate) fn reserve_end<P: Protocol, I: Ordered, L: Holdings>(
     ensures err { OnErr result (IsMachine (P.table protocol.now) (I.map index.now) (I.pins index.now) (L.locks locks.now) ended.new active.new None) }
     ensures active_commits { find nat_cmp txn (entries active.old.items) ≢ None → IsOk result }
 {
+    let event = Event {
+        txn,
+        op: Op::Commit,
+    };
     match take_out(active, txn) {
         Some(standing) => Ok(Pending {
-            event: Event {
-                txn,
-                op: Op::Commit,
-            },
-            plan: Plan {
-                row: Row::FetchHit,
-                current: None,
-                next: None,
-            },
+            event,
+            plan: NO_LOCKS,
             current_was: 0,
             next_was: 0,
             standing,
@@ -124,15 +114,8 @@ pub(crate) fn reserve_end<P: Protocol, I: Ordered, L: Holdings>(
             ended.make_room(more)?;
             let standing = Standing::new(*active.allocator(), txn);
             Ok(Pending {
-                event: Event {
-                    txn,
-                    op: Op::Commit,
-                },
-                plan: Plan {
-                    row: Row::FetchHit,
-                    current: None,
-                    next: None,
-                },
+                event,
+                plan: NO_LOCKS,
                 current_was: 0,
                 next_was: 0,
                 standing,

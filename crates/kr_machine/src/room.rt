@@ -1,4 +1,4 @@
-//! The lists of ended and active transactions.
+//! The lists of ended and active transactions, and room in them.
 ghost use Rattle.std.specs.Prelude.{◌≡◌, ◌≢◌, ℕ, ◌+◌, ◌<◌, ◌≤◌, None, Some, OnOk, OnErr, IfOk, IfErr, IsOk, IsTrue, length, vec_len, vec_capacity, if◌then◌else◌, unwrap_or, [], false};
 ghost use Rattle.std.specs.Ordering.{nat_cmp};
 ghost use Rattle.std.specs.FinMap.{find, put};
@@ -8,12 +8,12 @@ ghost use Rattle.kr_model.specs.Step.{refusal_of};
 ghost use Rattle.kr_txn.specs.Standings.{active_of, entries, IsInOrder, without_txn};
 ghost use Rattle.kr_machine.specs.Pending.{IsHandled, shown};
 
-use kr_model::{Op, Refusal};
+use kr_model::{Op, Refusal, Txn};
 use kr_txn::{Ended, Memory, Standing, position, put_in, take_out};
 use std::alloc::Global;
 
-/// The first refusal that applies.
-pub(crate) fn refusal(ended: &Ended, active: &[Standing], txn: u32, op: Op) -> Option<Refusal>
+/// The first refusal that applies, want of memory aside.
+pub(crate) fn refusal(ended: &Ended, active: &[Standing], txn: Txn, op: Op) -> Option<Refusal>
     requires { IsHandled op }
     ensures { result ≡ refusal_of (shown None [] [] ended.now.numbers (entries active.now)) txn op }
 {
@@ -36,7 +36,7 @@ pub(crate) fn refusal(ended: &Ended, active: &[Standing], txn: u32, op: Op) -> O
     }
 }
 
-/// Room for a transaction among the active ones, now, and among the ended ones, later.
+/// Takes room for a transaction among the active ones, now, and among the ended ones, later.
 pub(crate) fn make_room(ended: &mut Ended, active: &mut Vec<Standing>) -> Result<(), Memory>
     requires { vec_len active.old ≤ ended.old.room }
     ensures ended { ended.new.numbers ≡ ended.old.numbers }
@@ -51,8 +51,8 @@ pub(crate) fn make_room(ended: &mut Ended, active: &mut Vec<Standing>) -> Result
     Ok(())
 }
 
-/// Takes a transaction out of the list, or makes a new one, with room for a change.
-pub(crate) fn stand(active: &mut Vec<Standing>, txn: u32) -> Result<(Standing, bool), Memory>
+/// Takes a transaction out of the list, or makes a new one, with room for a change; and tells whether it was there.
+pub(crate) fn stand(active: &mut Vec<Standing>, txn: Txn) -> Result<(Standing, bool), Memory>
     requires order { IsInOrder active.old.items }
     requires room { vec_len active.old < vec_capacity active.old }
     ensures apart { OnOk result (find nat_cmp txn (entries active.new.items) ≡ None) }
@@ -88,7 +88,7 @@ pub(crate) fn stand(active: &mut Vec<Standing>, txn: u32) -> Result<(Standing, b
 }
 
 /// Puts a transaction back that was active.
-pub(crate) fn put_down(active: &mut Vec<Standing>, txn: u32, standing: Standing, was_active: bool)
+pub(crate) fn put_down(active: &mut Vec<Standing>, txn: Txn, standing: Standing, was_active: bool)
     requires itself { standing.txn ≡ txn }
     requires others { find nat_cmp txn (entries active.old.items) ≡ None }
     requires room { IsTrue was_active → vec_len active.old < vec_capacity active.old }

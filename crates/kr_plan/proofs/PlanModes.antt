@@ -1,5 +1,5 @@
 -- A plan asks for modes of its protocol.
-use Rattle.std.proofs.Common.{◌≡◌, ℕ, ◌≤◌, ◌<◌, Option, Some, None, refl, arith, sym, ◌∙◌}
+use Rattle.std.proofs.Common.{◌≡◌, ℕ, ◌≤◌, Option, Some, None, refl, arith}
 use Rattle.kr_model.specs.declared.Name.{Name}
 use Rattle.kr_model.specs.declared.Row.{Row}
 use Rattle.kr_model.specs.declared.Row.TheVariants as row
@@ -7,8 +7,7 @@ use Rattle.kr_model.specs.declared.Side.{Side}
 use Rattle.kr_model.specs.declared.Side.TheVariants.{Current, Next}
 use Rattle.kr_model.specs.declared.Span.{Span}
 use Rattle.kr_model.specs.declared.Step.{Step}
-use Rattle.kr_model.specs.declared.Plan.{Plan}
-use Rattle.kr_model.specs.Protocol.{Protocol, IsLawful, IsMode}
+use Rattle.kr_model.specs.Protocol.{Protocol, IsLawful}
 use Rattle.kr_model.specs.Map.{Map}
 use Rattle.kr_model.specs.Locks.{Locks, AreWithin}
 use Rattle.kr_model.specs.Plan.{Access, access_of, own_next, side_request, plan_by, plan_of}
@@ -35,5 +34,6 @@ modes_by p h t a laws w =
     let le = own_next_within p.count h t a.row a.next w in
     (side_mode p a.row Current (own_next h t a.row a.next) a.current (p.ask a.row Current (own_next h t a.row a.next)) laws le refl, side_mode p a.row Next (own_next h t a.row a.next) a.next (p.ask a.row Next (own_next h t a.row a.next)) laws le refl)
 
+-- The plan of an attempt under a lawful protocol asks for its modes.
 pub plan_modes : (p : Protocol) (m : Map) (h : Locks) (t : ℕ) (a : Step) → IsLawful p → AreWithin p.count h → ArePlanModes p.count (plan_of p m h t a)
 plan_modes p m h t a laws w = modes_by p h t (access_of m a) laws w

@@ -4,121 +4,84 @@
 ghost use Rattle.std.specs.Prelude.{◌≡◌, ℕ, ◌<◌, ◌≤◌, IsTrue, List, [], ◌∷◌, OnOk, IfOk, ◌↔◌};
 ghost use Rattle.std.specs.Option.{option_to_list};
 ghost use Rattle.kr_model.specs.Locks.{Locks, AreWithin, own, add_once, blockers};
-ghost use Rattle.kr_model.specs.Plan.{plan_of, plan_by, access, side_request, requests};
+ghost use Rattle.kr_model.specs.Plan.{plan_of, plan_by, access, access_of, side_request, requests};
 ghost use Rattle.kr_model.proofs.Numbers.{merged};
 ghost use Rattle.kr_plan.specs.Modes.{SideIsMode, ArePlanModes};
 
+#[cfg(test)]
+mod tests;
+
 use kr_index::Ordered;
 use kr_locks::{Holdings, Memory};
-use kr_model::{Name, Plan, Row, Side, Span, Step};
+pub use kr_model::{Mode, Name, Txn};
+use kr_model::{Plan, Row, Side, Span, Step};
 use kr_protocol::Protocol;
 use std::alloc::Global;
 
-/// The row and the requests of an attempt.
+/// What an attempt asks for: its row by what the index has now, and the request of each side, `None` where nothing is
+/// asked for there.
+///
+/// An insert of a present key goes by the row fetch hit, and a delete of an absent one by fetch miss. An insert or a
+/// delete tells the protocol the transaction's own mode on the next name. The held modes are at most the protocol's
+/// count, and the modes asked for are its modes. Takes no memory.
 pub fn plan<P: Protocol, I: Ordered, L: Holdings>(
     protocol: &P,
     index: &I,
     locks: &L,
-    txn: u32,
+    txn: Txn,
     step: Step,
 ) -> Plan
     requires { AreWithin (P.table protocol.now).count (L.locks locks.now) }
-    ensures { result ≡ plan_of (P.table protocol.now) (I.map index.now) (L.locks locks.now) txn step }
+    ensures plan { result ≡ plan_of (P.table protocol.now) (I.map index.now) (L.locks locks.now) txn step }
+    ensures modes { ArePlanModes (P.table protocol.now).count result }
+{
+    let (row, current, next) = names(index, step);
+    plan_at(protocol, locks, txn, row, current, next)
+}
+
+/// The row of an attempt, and the names at its two sides.
+fn names<I: Ordered>(index: &I, step: Step) -> (Row, Option<Name>, Option<Name>)
+    ensures { access result.0 result.1 result.2 ≡ access_of (I.map index.now) step }
 {
     match step {
-        Step::Fetch(k) => match index.get(k) {
-            Some(_) => plan_at(
-                protocol,
-                locks,
-                txn,
-                Row::FetchHit,
-                Some(Name::Key(k)),
-                None,
-            ),
-            None => plan_at(
-                protocol,
-                locks,
-                txn,
-                Row::FetchMiss,
-                None,
-                Some(index.at(k)),
-            ),
+        Step::Fetch(key) => match index.get(key) {
+            Some(_) => (Row::FetchHit, Some(Name::Key(key)), None),
+            None => (Row::FetchMiss, None, Some(index.at(key))),
         },
-        Step::Insert(k) => match index.get(k) {
-            Some(_) => plan_at(
-                protocol,
-                locks,
-                txn,
-                Row::FetchHit,
-                Some(Name::Key(k)),
-                None,
-            ),
-            None => plan_at(
-                protocol,
-                locks,
-                txn,
-                Row::Insert,
-                Some(Name::Key(k)),
-                Some(index.at(k)),
-            ),
+        Step::Insert(key) => match index.get(key) {
+            Some(_) => (Row::FetchHit, Some(Name::Key(key)), None),
+            None => (Row::Insert, Some(Name::Key(key)), Some(index.at(key))),
         },
-        Step::Delete(k) => match index.get(k) {
-            Some(_) => plan_at(
-                protocol,
-                locks,
-                txn,
-                Row::Delete,
-                Some(Name::Key(k)),
-                Some(index.after(k)),
-            ),
-            None => plan_at(
-                protocol,
-                locks,
-                txn,
-                Row::FetchMiss,
-                None,
-                Some(index.at(k)),
-            ),
+        Step::Delete(key) => match index.get(key) {
+            Some(_) => (Row::Delete, Some(Name::Key(key)), Some(index.after(key))),
+            None => (Row::FetchMiss, None, Some(index.at(key))),
         },
-        Step::Look(Name::Key(k), hi) => {
-            if k <= hi {
-                plan_at(protocol, locks, txn, Row::ScanKey, Some(Name::Key(k)), None)
+        Step::Look(Name::Key(key), hi) => {
+            if key <= hi {
+                (Row::ScanKey, Some(Name::Key(key)), None)
             } else {
-                plan_at(
-                    protocol,
-                    locks,
-                    txn,
-                    Row::ScanStop,
-                    None,
-                    Some(Name::Key(k)),
-                )
+                (Row::ScanStop, None, Some(Name::Key(key)))
             }
         }
-        Step::Look(Name::End, _) => plan_at(
-            protocol,
-            locks,
-            txn,
-            Row::ScanStop,
-            None,
-            Some(Name::End),
-        ),
+        Step::Look(Name::End, _) => (Row::ScanStop, None, Some(Name::End)),
     }
 }
 
-fn side(name: Option<Name>, asked: Option<(u8, Span)>) -> Option<(Name, u8, Span)>
+/// The request of a side, where there is a name and something is asked for.
+fn side(name: Option<Name>, asked: Option<(Mode, Span)>) -> Option<(Name, Mode, Span)>
     ensures { result ≡ side_request name asked }
 {
     match (name, asked) {
-        (Some(n), Some((m, s))) => Some((n, m, s)),
+        (Some(name), Some((mode, span))) => Some((name, mode, span)),
         (_, _) => None,
     }
 }
 
-/// The plan of a row at these names.
+/// What a row asks for at these names.
 fn plan_at<P: Protocol, L: Holdings>(
     protocol: &P,
     locks: &L,
-    txn: u32,
+    txn: Txn,
     row: Row,
     current: Option<Name>,
     next: Option<Name>,
@@ -127,8 +90,8 @@ fn plan_at<P: Protocol, L: Holdings>(
     ensures { result ≡ plan_by (P.table protocol.now) (L.locks locks.now) txn (access row current next) }
 {
     let own = match (row, next) {
-        (Row::Insert, Some(n)) => locks.own(txn, n),
-        (Row::Delete, Some(n)) => locks.own(txn, n),
+        (Row::Insert, Some(name)) => locks.own(txn, name),
+        (Row::Delete, Some(name)) => locks.own(txn, name),
         (_, _) => 0,
     };
     Plan {
@@ -142,8 +105,8 @@ fn plan_at<P: Protocol, L: Holdings>(
 fn side_granted<P: Protocol, L: Holdings>(
     protocol: &P,
     locks: &L,
-    txn: u32,
-    side: Option<(Name, u8, Span)>,
+    txn: Txn,
+    side: Option<(Name, Mode, Span)>,
 ) -> bool
     requires held { AreWithin (P.table protocol.now).count (L.locks locks.now) }
     requires asked { SideIsMode (P.table protocol.now).count side }
@@ -155,8 +118,12 @@ fn side_granted<P: Protocol, L: Holdings>(
     }
 }
 
-/// Whether nobody refuses a request of a plan.
-pub fn granted<P: Protocol, L: Holdings>(protocol: &P, locks: &L, txn: u32, plan: &Plan) -> bool
+/// Whether no other transaction refuses a request of a plan.
+///
+/// Another transaction refuses where the mode to which the own one would be converted may not stand beside what it holds
+/// on the name. Requests for an instant count as those to commit. The modes asked for are the protocol's, and the held
+/// ones at most its count. Takes no memory.
+pub fn granted<P: Protocol, L: Holdings>(protocol: &P, locks: &L, txn: Txn, plan: &Plan) -> bool
     requires held { AreWithin (P.table protocol.now).count (L.locks locks.now) }
     requires asked { ArePlanModes (P.table protocol.now).count plan.now }
     ensures { IsTrue result ↔ (blockers (P.table protocol.now) (L.locks locks.now) txn (requests plan.now) ≡ []) }
@@ -170,9 +137,9 @@ fn side_blockers<P: Protocol, L: Holdings>(
     alloc: Global,
     protocol: &P,
     locks: &L,
-    txn: u32,
-    side: Option<(Name, u8, Span)>,
-) -> Result<Vec<u32>, Memory>
+    txn: Txn,
+    side: Option<(Name, Mode, Span)>,
+) -> Result<Vec<Txn>, Memory>
     requires held { AreWithin (P.table protocol.now).count (L.locks locks.now) }
     requires asked { SideIsMode (P.table protocol.now).count side }
     ensures { IfOk result (λ list. list.items ≡ blockers (P.table protocol.now) (L.locks locks.now) txn (option_to_list side)) }
@@ -183,9 +150,9 @@ fn side_blockers<P: Protocol, L: Holdings>(
     }
 }
 
-/// Puts a transaction into a rising list.
+/// Puts a transaction into its place in a rising list, once.
 #[tactic(auto, using(kr_model::proofs::Numbers::add_once_insert, kr_model::proofs::Numbers::add_once_there, kr_model::proofs::Numbers::add_once_end))]
-fn add(list: &mut Vec<u32>, txn: u32) -> Result<(), Memory>
+fn add(list: &mut Vec<Txn>, txn: Txn) -> Result<(), Memory>
     ensures { OnOk result (list.new.items ≡ add_once txn list.old.items) }
 {
     for i in 0..list.len() {
@@ -202,8 +169,8 @@ fn add(list: &mut Vec<u32>, txn: u32) -> Result<(), Memory>
     Ok(())
 }
 
-/// Puts the transactions of one list into a rising one.
-fn add_all(list: &mut Vec<u32>, more: &[u32]) -> Result<(), Memory>
+/// Puts the transactions of one list into a rising one, each once.
+fn add_all(list: &mut Vec<Txn>, more: &[Txn]) -> Result<(), Memory>
     ensures { OnOk result (list.new.items ≡ merged more.now list.old.items) }
 {
     for i in (0..more.len()).rev() {
@@ -212,14 +179,17 @@ fn add_all(list: &mut Vec<u32>, more: &[u32]) -> Result<(), Memory>
     Ok(())
 }
 
-/// The transactions that refuse a request of a plan, rising, each once.
+/// The transactions that refuse a request of a plan, as `granted` says it, rising, each once; or `Memory` where a growth
+/// is refused. There are none exactly where the plan is granted.
+///
+/// The conditions on modes are those of `granted`.
 pub fn blockers<P: Protocol, L: Holdings>(
     alloc: Global,
     protocol: &P,
     locks: &L,
-    txn: u32,
+    txn: Txn,
     plan: &Plan,
-) -> Result<Vec<u32>, Memory>
+) -> Result<Vec<Txn>, Memory>
     requires held { AreWithin (P.table protocol.now).count (L.locks locks.now) }
     requires asked { ArePlanModes (P.table protocol.now).count plan.now }
     ensures { IfOk result (λ list. list.items ≡ blockers (P.table protocol.now) (L.locks locks.now) txn (requests plan.now)) }

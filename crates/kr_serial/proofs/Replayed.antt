@@ -1,11 +1,9 @@
 -- A run whose first steps are done.
-use Rattle.std.specs.Prelude.{◌≡◌, List, [], ◌∷◌, ◌++◌, refl}
-use Rattle.std.proofs.Common.{sym, ◌∙◌, ap}
+use Rattle.std.specs.Prelude.{◌≡◌, List, ◌++◌}
 use Rattle.kr_model.specs.declared.Event.{Event}
 use Rattle.kr_model.specs.declared.Reply.{Reply}
 use Rattle.kr_model.specs.Protocol.{Protocol}
 use Rattle.kr_model.specs.State.{State}
-use Rattle.kr_model.specs.Step.{Outcome, step}
 use Rattle.kr_model.specs.Run.{run, replies_of}
 
 -- the replies given so far, then those of the events left, are the replies of the whole run from `first`, and both end in one state

@@ -5,15 +5,13 @@ ghost use Rattle.kr_model.specs.State.{start};
 ghost use Rattle.kr_model.specs.Run.{run, replies_of};
 ghost use Rattle.kr_machine.specs.Pending.{IsHandled};
 
-use std::alloc::Global;
-
+use crate::{Ran, Replies, Triples, replay};
 use kr_index::{Memory, Ordered, Sorted};
 use kr_locks::{Holdings, List};
 use kr_machine::Machine;
 use kr_model::{Event, Pairs};
 use kr_protocol::Protocol;
-
-use crate::{Ran, Replies, Triples, replay};
+use std::alloc::Global;
 
 /// Runs the events under any protocol, from an opening map whose keys rise strictly. The only fault is `Memory`: a step
 /// that was refused memory ends the run, and nothing of it is shown.

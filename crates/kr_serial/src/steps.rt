@@ -5,15 +5,13 @@ ghost use Rattle.kr_model.specs.declared.Refusal.TheVariants as refusal_is;
 ghost use Rattle.kr_model.specs.Run.{run, replies_of};
 ghost use Rattle.kr_machine.specs.Pending.{IsHandled};
 
-use std::alloc::{AllocError, Global};
-
+use crate::Replies;
 use kr_index::{Memory, Ordered};
 use kr_locks::Holdings;
 use kr_machine::Machine;
 use kr_model::{Event, Refusal, Reply};
 use kr_protocol::Protocol;
-
-use crate::Replies;
+use std::alloc::{AllocError, Global};
 
 /// Attempts the events one after another, and answers the replies. Ends with `Memory` at the first step that is
 /// refused memory, or where a reply can't be kept.

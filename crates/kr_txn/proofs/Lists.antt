@@ -1,21 +1,21 @@
 -- A list of transactions without one, and with one more.
 use Rattle.std.specs.List.{insert}
 use Rattle.std.proofs.lemmas.Bool.Decides.{nat_tests}
-use Rattle.std.proofs.Common.{◌≡◌, ◌≢◌, ℕ, zero, suc, ◌+◌, ◌<◌, ◌≤◌, length, get_or, take, drop, map, Bool, true, false, cond, Option, Some, None, List, [], ◌∷◌, ◌++◌, ◌&&◌, sym, ◌∙◌, ap, refl, arith, subst}
+use Rattle.std.proofs.Common.{◌≡◌, ◌≢◌, ℕ, zero, suc, ◌<◌, ◌≤◌, length, get_or, take, drop, Bool, true, false, cond, Option, Some, None, List, [], ◌∷◌, ◌++◌, ◌&&◌, sym, ◌∙◌, ap, refl, arith, subst}
 use Rattle.std.specs.Prelude.{T, IsTrue, ◌==◌, not}
 use Rattle.std.specs.declared.cmp.Ordering.{Ordering}
 use Rattle.std.specs.declared.cmp.Ordering.TheVariants.{Less, Equal, Greater}
-use Rattle.std.specs.Ordering.{nat_cmp, eq_by_cmp, is_eq, is_lt}
+use Rattle.std.specs.Ordering.{nat_cmp, eq_by_cmp, is_lt}
 use Rattle.std.specs.FinMap.{find, put, is_sorted}
 use Rattle.std.specs.FinMap.Entries.{below_all, by_order, find-put, find-where_key, is_sorted-put, is_sorted-where_key, same_entries}
 use Rattle.std.specs.Cmp.{nat_cmp_total}
 use Rattle.std.proofs.lemmas.Map.Lookups.{exact_unsigned}
-use Rattle.std.specs.Prelude.{Result, Ok, Err, IsOk}
+use Rattle.std.specs.Prelude.{Result, IsOk}
 use Rattle.std.specs.Result.{is_ok}
 use Rattle.std.specs.Option.{is_some}
 use Rattle.kr_model.specs.State.{Active}
 use Rattle.kr_txn.specs.declared.Standing.{Standing}
-use Rattle.kr_txn.specs.Standings.{active_of, entry, entries, without_txn, AreOthers, IsPlace, IsPosition, IsInOrder}
+use Rattle.kr_txn.specs.Standings.{active_of, entry, entries, without_txn, AreOthers}
 
 first : (a b : Bool) → T (a && b) → T a
 first true b p = tt
@@ -52,7 +52,7 @@ keys_apart k t h = grind (arith, nat_tests)
 keys_same : (k t : ℕ) → k ≡ t → eq_by_cmp nat_cmp t k ≡ true
 keys_same k t h = grind (arith, nat_tests)
 
--- what is left without the one at place i
+-- The list without the one at place i.
 pub left : (t : ℕ) (xs : List Standing) (i : ℕ) → i < length xs → AreOthers t xs i → ((d : Standing) → (get_or xs i d).txn ≡ t) → T (is_sorted nat_cmp (entries xs)) → entries (take i xs ++ drop (suc i) xs) ≡ without_txn t (entries xs)
 left t [] i lt others here s = absurd (omega arith)
 left t (x ∷ xs) zero lt others here s =
@@ -61,6 +61,7 @@ left t (x ∷ xs) (suc i) lt others here s =
     ap (λ l. entry x ∷ l) (left t xs i (omega arith) (rest_others t x xs i others) here (second _ _ s))
     ∙ sym (ap (λ b. cond (not b) (entry x ∷ without_txn t (entries xs)) (without_txn t (entries xs))) (apart x.txn t (others 0 x (omega arith))))
 
+-- The transaction at its place is the one that is found.
 pub found : (t : ℕ) (xs : List Standing) (i : ℕ) → i < length xs → AreOthers t xs i → ((d : Standing) → (get_or xs i d).txn ≡ t) → (d : Standing) → find nat_cmp t (entries xs) ≡ Some (active_of (get_or xs i d))
 found t [] i lt others here d = absurd (omega arith)
 found t (x ∷ xs) zero lt others here d = ap (λ b. cond b (Some (active_of x)) (find nat_cmp t (entries xs))) (keys_same x.txn t (here x))
@@ -68,10 +69,12 @@ found t (x ∷ xs) (suc i) lt others here d =
     ap (λ b. cond b (Some (active_of x)) (find nat_cmp t (entries xs))) (keys_apart x.txn t (others 0 x (omega arith)))
     ∙ found t xs i (omega arith) (rest_others t x xs i others) here d
 
+-- A transaction that stands nowhere is not found.
 pub not_found : (t : ℕ) (xs : List Standing) → AreOthers t xs (length xs) → find nat_cmp t (entries xs) ≡ None
 not_found t [] h = refl
 not_found t (x ∷ xs) h = ap (λ b. cond b (Some (active_of x)) (find nat_cmp t (entries xs))) (keys_apart x.txn t (h 0 x (omega arith))) ∙ not_found t xs (rest_others t x xs (length xs) h)
 
+-- Without a transaction that stands nowhere, the list is the same.
 pub all_left : (t : ℕ) (xs : List Standing) → AreOthers t xs (length xs) → entries xs ≡ without_txn t (entries xs)
 all_left t [] h = refl
 all_left t (x ∷ xs) h = ap (λ l. entry x ∷ l) (all_left t xs (rest_others t x xs (length xs) h)) ∙ sym (ap (λ b. cond (not b) (entry x ∷ without_txn t (entries xs)) (without_txn t (entries xs))) (apart x.txn t (h 0 x (omega arith))))
@@ -90,7 +93,7 @@ others_by t x xs false e q r = at
     at zero d lt = key_apart t x.txn e
     at (suc j) d lt = r q j d (omega arith)
 
--- a key that isn't found is no transaction's
+-- A key that isn't found is no transaction's.
 pub others_of : (t : ℕ) (xs : List Standing) → find nat_cmp t (entries xs) ≡ None → AreOthers t xs (length xs)
 others_of t [] h = λ j d lt. absurd (omega arith)
 others_of t (x ∷ xs) h = others_by t x xs (eq_by_cmp nat_cmp t x.txn) refl h (others_of t xs)
@@ -98,7 +101,7 @@ others_of t (x ∷ xs) h = others_by t x xs (eq_by_cmp nat_cmp t x.txn) refl h (
 not_itself : (t : ℕ) → not (t == t) ≡ false
 not_itself t = grind (arith, nat_tests)
 
--- a transaction isn't among the rest
+-- A transaction isn't among the rest.
 pub find-without : (t : ℕ) (es : List (ℕ × Active)) → find nat_cmp t (without_txn t es) ≡ None
 find-without t es = find-where_key nat_cmp (λ k. not (k == t)) t (λ x e. ap (λ y. not (y == t)) (sym (exact_unsigned t x e))) es ∙ ap (λ b. cond b (find nat_cmp t es) None) (not_itself t)
 
@@ -118,6 +121,7 @@ module _ (t : ℕ) (es : List (ℕ × Active)) (s : IsTrue (is_sorted nat_cmp es
   sorted : T (is_sorted nat_cmp es)
   sorted = subst (λ (c : Bool). T c) (sym s) tt
 
+  -- Without a transaction, the numbers still rise.
   pub sorted-without : T (is_sorted nat_cmp (without_txn t es))
   sorted-without = is_sorted-where_key nat_cmp (λ k. not (k == t)) es sorted
 
@@ -128,7 +132,7 @@ module _ (t : ℕ) (es : List (ℕ × Active)) (s : IsTrue (is_sorted nat_cmp es
   back_at a q true c e f h = sym h ∙ ap (λ k. find nat_cmp k es) (sym (tied_key q t e))
   back_at a q false c e f h = ap (λ x. cond (not x) (find nat_cmp q es) None) (sym f ∙ untied_key q t e)
 
-  -- taken out and put back
+  -- Taken out and put back, the list is the same.
   pub put_back : (a : Active) → find nat_cmp t es ≡ Some a → put nat_cmp t a (without_txn t es) ≡ es
   put_back a h = same_entries nat_cmp nat_cmp_total exact_unsigned (put nat_cmp t a (without_txn t es)) es (is_sorted-put nat_cmp nat_cmp_total t a (without_txn t es) sorted-without) sorted (λ q.
       find-put nat_cmp nat_cmp_total q t a (without_txn t es) ∙ ap (λ x. cond (eq_by_cmp nat_cmp q t) (Some a) x) (find-rest q)
@@ -140,7 +144,7 @@ module _ (t : ℕ) (es : List (ℕ × Active)) (s : IsTrue (is_sorted nat_cmp es
   apart_at a q false true e f h = absurd (tests_differ_too q t e f)
   apart_at a q false false e f h = refl
 
-  -- put in and taken out
+  -- Put in and taken out, the list is the same.
   pub without-put : (a : Active) → find nat_cmp t es ≡ None → without_txn t (put nat_cmp t a es) ≡ es
   without-put a h = same_entries nat_cmp nat_cmp_total exact_unsigned (without_txn t (put nat_cmp t a es)) es (is_sorted-where_key nat_cmp (λ k. not (k == t)) (put nat_cmp t a es) (is_sorted-put nat_cmp nat_cmp_total t a es sorted)) sorted (λ q.
       find-where_key nat_cmp (λ k. not (k == t)) q (λ x e. ap (λ y. not (y == t)) (sym (exact_unsigned q x e))) (put nat_cmp t a es)
@@ -151,7 +155,7 @@ module _ (t : ℕ) (es : List (ℕ × Active)) (s : IsTrue (is_sorted nat_cmp es
   over_at a b o true = refl
   over_at a b o false = refl
 
-  -- written over
+  -- A second standing takes the place of the first.
   pub put-put : (a b : Active) → put nat_cmp t b (put nat_cmp t a es) ≡ put nat_cmp t b es
   put-put a b = same_entries nat_cmp nat_cmp_total exact_unsigned (put nat_cmp t b (put nat_cmp t a es)) (put nat_cmp t b es) (is_sorted-put nat_cmp nat_cmp_total t b (put nat_cmp t a es) (is_sorted-put nat_cmp nat_cmp_total t a es sorted)) (is_sorted-put nat_cmp nat_cmp_total t b es sorted) (λ q.
       find-put nat_cmp nat_cmp_total q t b (put nat_cmp t a es) ∙ ap (λ x. cond (eq_by_cmp nat_cmp q t) (Some b) x) (find-put nat_cmp nat_cmp_total q t a es)
@@ -161,7 +165,7 @@ module _ (t : ℕ) (es : List (ℕ × Active)) (s : IsTrue (is_sorted nat_cmp es
   over_rest b q true d e f = refl
   over_rest b q false d e f = ap (λ x. cond (not x) (find nat_cmp q es) None) (sym f ∙ untied_key q t e)
 
-  -- put among the rest, it is put over itself
+  -- Put among the rest, a transaction is put over itself.
   pub put-rest : (b : Active) → put nat_cmp t b (without_txn t es) ≡ put nat_cmp t b es
   put-rest b = same_entries nat_cmp nat_cmp_total exact_unsigned (put nat_cmp t b (without_txn t es)) (put nat_cmp t b es) (is_sorted-put nat_cmp nat_cmp_total t b (without_txn t es) sorted-without) (is_sorted-put nat_cmp nat_cmp_total t b es sorted) (λ q.
       find-put nat_cmp nat_cmp_total q t b (without_txn t es) ∙ ap (λ x. cond (eq_by_cmp nat_cmp q t) (Some b) x) (find-rest q)
@@ -171,9 +175,11 @@ module _ (t : ℕ) (es : List (ℕ × Active)) (s : IsTrue (is_sorted nat_cmp es
   of_t true h = refl
   of_t false h = absurd h
 
+  -- Without a transaction, the list is in order.
   pub in_order-without : IsTrue (is_sorted nat_cmp (without_txn t es))
   in_order-without = of_t _ sorted-without
 
+  -- With a transaction put in, the list is in order.
   pub in_order-put : (a : Active) → IsTrue (is_sorted nat_cmp (put nat_cmp t a es))
   in_order-put a = of_t _ (is_sorted-put nat_cmp nat_cmp_total t a es sorted)
 
@@ -183,7 +189,7 @@ cmp_less t k h = grind (arith, nat_tests)
 cmp_greater : (t k : ℕ) → k < t → nat_cmp t k ≡ Greater
 cmp_greater t k h = grind (arith, nat_tests)
 
--- the list with one more in its place
+-- A transaction inserted at its place is put in.
 pub placed : (s : Standing) (xs : List Standing) (i : ℕ) → i ≤ length xs → ((j : ℕ) (d : Standing) → j < i → (get_or xs j d).txn < s.txn) → ((d : Standing) → i < length xs → s.txn < (get_or xs i d).txn) → entries (insert xs i s) ≡ put nat_cmp s.txn (active_of s) (entries xs)
 placed s [] zero le below above = refl
 placed s [] (suc i) le below above = absurd (omega arith)
@@ -193,13 +199,16 @@ placed s (x ∷ xs) (suc i) le below above =
     ap (λ l. entry x ∷ l) (placed s xs i (omega arith) (λ j d lt. below (suc j) d (omega arith)) (λ d lt. above d (omega arith)))
     ∙ sym (ap (λ o. by_order o (entry s ∷ entry x ∷ entries xs) ((x.txn, active_of s) ∷ entries xs) (entry x ∷ put nat_cmp s.txn (active_of s) (entries xs))) (cmp_greater s.txn x.txn (below 0 x (omega arith))))
 
+-- A choice by an answer that is `Ok` is the first one.
 pub if_ok : {A B X : Type 0} (r : Result A B) (xs a b : X) → IsOk r → xs ≡ cond (is_ok r) a b → xs ≡ a
 if_ok r xs a b h e = e ∙ ap (λ c. cond c a b) h
 
+-- There are as many entries as transactions.
 pub length_entries : (xs : List Standing) → length (entries xs) ≡ length xs
 length_entries [] = refl
 length_entries (x ∷ xs) = ap suc (length_entries xs)
 
+-- A transaction that has a place is found.
 pub is_found : (t : ℕ) (xs : List Standing) (i : ℕ) → i < length xs → AreOthers t xs i → ((d : Standing) → (get_or xs i d).txn ≡ t) → is_some (find nat_cmp t (entries xs)) ≡ true
 is_found t [] i lt others here = absurd (omega arith)
 is_found t (x ∷ xs) i lt others here = ap is_some (found t (x ∷ xs) i lt others here x)

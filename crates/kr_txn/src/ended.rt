@@ -43,7 +43,8 @@ impl Ended {
         self.numbers.binary_search(&txn).is_ok()
     }
 
-    /// Takes the memory that so many more need; at an error the room is no less than before.
+    /// Takes the memory that so many more numbers need, or answers an error where a growth is refused. The numbers stay,
+    /// and the room never gets less.
     pub fn make_room(&mut self, count: usize) -> Result<(), AllocError>
         ensures numbers { self.new.numbers ≡ self.old.numbers }
         ensures ok { OnOk result (count ≤ self.new.room) }
@@ -53,7 +54,7 @@ impl Ended {
         Ok(())
     }
 
-    /// Notes that a transaction has ended. Takes no memory.
+    /// Notes that a transaction has ended; one that has ended already changes nothing. Takes no memory.
     pub fn add(&mut self, txn: Txn)
         requires { 0 < self.old.room }
         ensures numbers { self.new.numbers ≡ add_once txn self.old.numbers }

@@ -1,4 +1,4 @@
-//! The transactions that are active.
+//! How transactions stand: those that are active, and the numbers of those that have ended.
 #![tactic(auto)]
 
 ghost use Rattle.std.specs.Prelude.{map, ◌≡◌, ◌≢◌, ℕ, ◌+◌, ◌<◌, ◌≤◌, [], Some, None, IfSome, IfNone, IfOk, OnOk, OnErr, not, ◌==◌, length, vec_len, vec_capacity, filter};
@@ -9,32 +9,42 @@ ghost use Rattle.kr_model.specs.State.{idle};
 ghost use Rattle.kr_txn.specs.Standings.{active_of, entries, IsInOrder, IsPosition, IsPlace, AreOthers, without_txn};
 
 mod ended;
+#[cfg(test)]
+mod tests;
 
 pub use ended::Ended;
+pub use kr_model::Txn;
 use kr_model::Txns;
 use std::alloc::{AllocError, Global};
 
 /// A growth was refused.
 pub type Memory = AllocError;
 
-/// A scan in progress: its bounds, and the pairs read so far.
+/// A scan in progress.
 #[derive(Drop)]
 pub struct Scan {
+    /// The least key of the range.
     pub lo: u64,
+    /// The greatest key of the range, which is in it.
     pub hi: u64,
+    /// The pairs that it has read, keys rising.
     pub rows: Vec<(u64, u64)>,
 }
 
-/// An active transaction: its scan in progress, and its changes, oldest first, each key with what stood there before.
+/// An active transaction.
 #[derive(Drop)]
 pub struct Standing {
-    pub txn: u32,
+    /// Its number.
+    pub txn: Txn,
+    /// Its scan in progress, if there is one.
     pub scan: Option<Scan>,
+    /// Its changes, oldest first: each a key, and the value that stood there before, or nothing.
     pub changes: Vec<(u64, Option<u64>)>,
 }
 
 impl Standing {
-    pub fn new(alloc: Global, txn: u32) -> Standing
+    /// A transaction that has done nothing. Takes no memory.
+    pub fn new(alloc: Global, txn: Txn) -> Standing
         ensures txn { result.txn ≡ txn }
         ensures idle { active_of result ≡ idle }
     {
@@ -46,8 +56,8 @@ impl Standing {
     }
 }
 
-/// Where a transaction stands.
-pub fn position(list: &[Standing], txn: u32) -> Option<usize>
+/// The place of a transaction in the list, the first from 0, or `None` where it isn't there. Looks at one after another.
+pub fn position(list: &[Standing], txn: Txn) -> Option<usize>
     ensures some { IfSome result (IsPosition txn list.now) }
     ensures none { IfNone result (AreOthers txn list.now (length list.now)) }
 {
@@ -59,7 +69,7 @@ pub fn position(list: &[Standing], txn: u32) -> Option<usize>
     None
 }
 
-/// The numbers of the transactions.
+/// The numbers of the transactions, in the order of the list, or `Memory` where a growth is refused.
 pub fn numbers(alloc: Global, list: &[Standing]) -> Result<Txns, Memory>
     ensures { IfOk result (λ txns. txns ≡ map (λ a. a.0) (entries list.now)) }
 {
@@ -70,8 +80,8 @@ pub fn numbers(alloc: Global, list: &[Standing]) -> Result<Txns, Memory>
     Ok(Txns::from_vec(numbers))
 }
 
-/// Where a transaction would stand.
-fn place(list: &[Standing], txn: u32) -> usize
+/// The place of the first transaction with a greater number, or else the end of the list.
+fn place(list: &[Standing], txn: Txn) -> usize
     requires { AreOthers txn list.now (length list.now) }
     ensures { IsPlace txn list.now result }
 {
@@ -83,8 +93,9 @@ fn place(list: &[Standing], txn: u32) -> usize
     list.len()
 }
 
-/// Takes a transaction out of the list.
-pub fn take_out(list: &mut Vec<Standing>, txn: u32) -> Option<Standing>
+/// Takes a transaction out of the list, which rises by number, and gives it back; `None` where it isn't there, and then
+/// the list stays. The others keep their order, and the list keeps its memory.
+pub fn take_out(list: &mut Vec<Standing>, txn: Txn) -> Option<Standing>
     requires { IsInOrder list.old.items }
     ensures found { option_map active_of result ≡ find nat_cmp txn (entries list.old.items) }
     ensures txn { IfSome result (λ s. s.txn ≡ txn) }
@@ -100,7 +111,8 @@ pub fn take_out(list: &mut Vec<Standing>, txn: u32) -> Option<Standing>
     }
 }
 
-/// Puts a transaction into its place in a list that has room.
+/// Puts a transaction that isn't in the list before the first with a greater number. The list has room, so it takes no
+/// memory.
 pub fn put_in(list: &mut Vec<Standing>, standing: Standing)
     requires others { find nat_cmp standing.txn (entries list.old.items) ≡ None }
     requires room { vec_len list.old < vec_capacity list.old }

@@ -1,4 +1,4 @@
-use Rattle.std.proofs.Common.{◌≡◌, All, sym, subst}
+use Rattle.std.proofs.Common.{All, sym, subst}
 use Rattle.kr.proofs.Handled.{Does, reading_handled}
 use Rattle.kr.proofs.over.run_over.Goals as goal
 

@@ -1,4 +1,4 @@
-use Rattle.std.proofs.Common.{◌≡◌, ℕ, true, false, ap, sym, ◌∙◌, subst, None, inl}
+use Rattle.std.proofs.Common.{◌≡◌, ap, sym, ◌∙◌, subst, None, inl}
 use mathlib.Core.Bool.{false≢true}
 use Rattle.kr_model.specs.State.{State}
 use Rattle.kr_model.specs.Plan.{plan_of}
@@ -18,7 +18,7 @@ returns-in-Ok-clause-refusal g c =
     let s : State = shown None m h c.self.inside.ended.numbers (entries c.self.inside.active.items) in
     let same : s ≡ c.args.self.now.1.0 = ap (λ o. shown o m h c.self.inside.ended.numbers (entries c.self.inside.active.items)) (sym rest) ∙ ap (λ v. v.1.0) c.self.view_is in
     let allowed : refusal_of s c.args.txn c.args.op ≡ None = subst (λ x. refusal_of x c.args.txn c.args.op ≡ None) (sym same) c.requires.allowed in
-    let planned = c.plan_for-plan.ensures.plan ∙ ap (λ a. plan_of p m h c.args.txn a) c.attempt_of.ensures in
-    let blocked = blocked_step p s c.args.txn c.args.op c.plan_for-plan.result c.from_vec.result c.requires.attempt allowed planned (c.from_vec.ensures ∙ c.in-Ok.ensures) (λ none. false≢true (sym c.if-not-granted.true ∙ c.granted.ensures.1 none)) in
+    let planned = c.plan-plan.ensures.plan ∙ ap (λ a. plan_of p m h c.args.txn a) c.attempt_of-attempt.ensures in
+    let blocked = blocked_step p s c.args.txn c.args.op c.plan-plan.result c.from_vec.result c.requires.attempt allowed planned (c.from_vec.ensures ∙ c.in-Ok.ensures) (λ none. false≢true (sym c.if-not-granted.true ∙ c.granted.ensures.1 none)) in
     subst (λ q. IsStep (g.P.Protocol.table q) c.args.self.now.1.0 c.args.txn c.args.op (reply.Blocked c.from_vec.result) c.args.self.now.1.0) (ap (λ v. v.0) c.self.view_is)
     (subst (λ x. IsStep p x c.args.txn c.args.op (reply.Blocked c.from_vec.result) x) same (inl blocked))

@@ -1,12 +1,12 @@
-use Rattle.std.proofs.Common.{rules, arith, ◌≡◌, subst, sym, ap, ◌∙◌, Some, None}
+use Rattle.std.proofs.Common.{arith, ◌≡◌, subst, sym, ap, ◌∙◌, Some}
 use Rattle.kr_model.specs.Map.{IsMap}
 use Rattle.kr_model.specs.Locks.{IsLocks, AreWithin, HasNoNone}
 use Rattle.kr_model.proofs.Keep.{HasNoNone-release, AreWithin-release, IsLocks-release}
-use Rattle.kr_txn.specs.Standings.{active_of, entries, IsInOrder}
+use Rattle.kr_txn.specs.Standings.{active_of, entries}
 use Rattle.kr_txn.proofs.Lists.{in_order-put}
 use Rattle.kr_machine.specs.Due.{Due}
-use Rattle.kr_machine.specs.Pending.{IsMachine, IsReserved, HasPins, shown_locks}
-use Rattle.kr_machine.proofs.Finish.{reserved_now, event_of_pending, map-effect, put_down_order}
+use Rattle.kr_machine.specs.Pending.{IsMachine, HasPins}
+use Rattle.kr_machine.proofs.Finish.{reserved_now, event_of_pending, map-effect}
 use Rattle.std.specs.Prelude.{IsTrue}
 use Rattle.std.specs.Ordering.{nat_cmp}
 use Rattle.std.specs.FinMap.{is_sorted}

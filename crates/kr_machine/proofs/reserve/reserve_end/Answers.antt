@@ -1,12 +1,12 @@
-use Rattle.std.proofs.Common.{◌≡◌, ℕ, ◌+◌, ◌≤◌, ◌<◌, List, ap, sym, ◌∙◌, subst, arith, Some, None}
+use Rattle.std.proofs.Common.{ℕ, List, ap, sym, ◌∙◌, subst, arith}
 use Rattle.std.proofs.lemmas.Grind.{common_steps}
 use Rattle.std.specs.Prelude.{IsTrue}
 use Rattle.std.specs.Ordering.{nat_cmp}
-use Rattle.std.specs.FinMap.{find, put, is_sorted}
+use Rattle.std.specs.FinMap.{put, is_sorted}
 use Rattle.kr_model.specs.declared.Op.TheVariants as op
-use Rattle.kr_model.specs.State.{State, Active}
+use Rattle.kr_model.specs.State.{Active}
 use Rattle.kr_model.specs.Step.{step}
-use Rattle.kr_txn.specs.Standings.{active_of, entries, without_txn}
+use Rattle.kr_txn.specs.Standings.{active_of, entries}
 use Rattle.kr_txn.proofs.Lists.{find-without, put_back, in_order-without}
 use Rattle.kr_machine.specs.Pending.{after_op}
 use Rattle.kr_machine.proofs.Steps.{stepped_end}

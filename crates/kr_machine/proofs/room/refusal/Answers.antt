@@ -1,9 +1,9 @@
-use Rattle.std.proofs.Common.{◌≡◌, ℕ, Bool, true, false, cond, Option, Some, None, get_or, List, [], ◌∷◌, ap, sym, ◌∙◌, refl, length, is_some, subst, arith, rules, ◌≤◌, ◌<◌}
+use Rattle.std.proofs.Common.{◌≡◌, ℕ, true, false, cond, Some, None, get_or, [], ap, sym, ◌∙◌, refl, length, arith, ◌≤◌, ◌<◌}
 use Rattle.std.specs.Prelude.{nat_le}
 use Rattle.std.proofs.lemmas.Bool.Decides.{nat_tests}
 use Rattle.kr_txn.specs.Standings.{entries, active_of}
 use Rattle.kr_txn.proofs.Lists.{found, not_found, length_entries}
-use Rattle.kr_model.specs.declared.Refusal.TheVariants.{Ended, Full, Busy}
+use Rattle.kr_model.specs.declared.Refusal.TheVariants.{Busy}
 use Rattle.kr_machine.proofs.Steps.{refusal_is, scanning}
 use Rattle.kr_machine.proofs.room.refusal.Goals as goal
 

@@ -2,7 +2,7 @@ use Rattle.std.specs.List.{list_any}
 use Rattle.std.specs.List.Sorted.{IsBinarySearchResult}
 use Rattle.std.specs.Ordering.{nat_cmp}
 use Rattle.std.specs.Prelude.{◌==◌}
-use Rattle.std.proofs.Common.{◌≡◌, sym, ◌∙◌, ap, subst}
+use Rattle.std.proofs.Common.{sym, ◌∙◌, ap, subst}
 use Rattle.kr_txn.specs.EndedNumbers.{EndedNumbers}
 use Rattle.kr_txn.proofs.EndedLaws.{found_at, any-found}
 use Rattle.kr_txn.proofs.ended.Ended.has.Goals as goal
