@@ -5,7 +5,9 @@ pub mod MapLaws
 pub mod UndoLaws
 pub mod LockLaws
 pub mod RunLaws
+pub mod LogLaws
 pub mod SerialLaws
+pub mod DifferenceLaws
 pub mod CaseCount
 pub mod Bundled
 pub mod WorkedCovers

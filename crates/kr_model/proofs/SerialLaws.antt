@@ -115,17 +115,24 @@ no_difference t m n ((o, a) ∷ rest) h =
 
 -- all programs --
 
-answered_append : (m : Map) (xs ys : List Answered) → AreAnswered m xs → AreAnswered (map_left m xs) ys → AreAnswered m (xs ++ ys)
+-- programs put together are answered one after another
+pub answered_append : (m : Map) (xs ys : List Answered) → AreAnswered m xs → AreAnswered (map_left m xs) ys → AreAnswered m (xs ++ ys)
 answered_append m [] ys h g = g
 answered_append m ((o, a) ∷ xs) ys h g = (h.0, answered_append (whole m o).1 xs ys h.1 g)
 
-answered_front : (m : Map) (xs ys : List Answered) → AreAnswered m (xs ++ ys) → AreAnswered m xs
+-- and so is each part of programs that are
+pub answered_front : (m : Map) (xs ys : List Answered) → AreAnswered m (xs ++ ys) → AreAnswered m xs
 answered_front m [] ys h = tt
 answered_front m ((o, a) ∷ xs) ys h = (h.0, answered_front (whole m o).1 xs ys h.1)
 
-answered_back : (m : Map) (xs ys : List Answered) → AreAnswered m (xs ++ ys) → AreAnswered (map_left m xs) ys
+pub answered_back : (m : Map) (xs ys : List Answered) → AreAnswered m (xs ++ ys) → AreAnswered (map_left m xs) ys
 answered_back m [] ys h = h
 answered_back m ((o, a) ∷ xs) ys h = answered_back (whole m o).1 xs ys h.1
+
+-- the map that operations leave is that which the later leave after the earlier
+pub map_left-append : (m : Map) (xs ys : List Answered) → map_left m (xs ++ ys) ≡ map_left (map_left m xs) ys
+map_left-append m [] ys = refl
+map_left-append m ((o, a) ∷ xs) ys = map_left-append (whole m o).1 xs ys
 
 or_first : (a b : Option Difference) → or_else a b ≡ None → a ≡ None
 or_first (Some d) b h = absurd (cc)

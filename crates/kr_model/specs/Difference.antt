@@ -1,12 +1,13 @@
 -- The first answer of committed programs that isn't the serial one.
-use Rattle.std.specs.Prelude.{ℕ, suc, Bool, true, false, ◌&&◌, ◌==◌, List, [], ◌∷◌, Option, Some, None, if◌then◌else◌}
+use Rattle.std.specs.Prelude.{◌≡◌, ℕ, suc, ◌+◌, Bool, true, false, ◌&&◌, ◌==◌, List, [], ◌∷◌, ◌++◌, Option, Some, None, if◌then◌else◌, length}
+use Rattle.kr_model.specs.declared.Op.{Op}
 use Rattle.kr_model.specs.declared.Reply.{Reply}
 use Rattle.kr_model.specs.declared.Reply.TheVariants as reply
 use Rattle.kr_model.specs.declared.Refusal.{Refusal}
 use Rattle.kr_model.specs.declared.Refusal.TheVariants as refusal
 use Rattle.kr_model.specs.Map.{Map}
 use Rattle.kr_model.specs.Run.{Answered, Program}
-use Rattle.kr_model.specs.Serial.{whole, map_left}
+use Rattle.kr_model.specs.Serial.{whole, all_operations, AreAnswered, map_left}
 
 -- Whether two lists of numbers are the same.
 abbrev pub same_numbers : List ℕ → List ℕ → Bool
@@ -70,3 +71,17 @@ or_else None other = other
 abbrev pub first_difference : Map → List Program → Option Difference
 first_difference m [] = None
 first_difference m (q ∷ qs) = or_else (difference_in q.txn m 1 q.operations) (first_difference (map_left m q.operations) qs)
+
+-- What a first difference is, said by itself: the answer given to an operation isn't that of the operation run whole, and each answer before it, in commit order, is.
+pub record IsFirstDifference (m : Map) (ps : List Program) (d : Difference) : Type 0 where
+  -- the programs before its own, the operations before it in its own, the operation, and what comes after
+  pub before : List Program
+  pub done : List Answered
+  pub op : Op
+  pub rest : List Answered
+  pub after : List Program
+  pub place : ps ≡ before ++ (record { txn = d.txn; operations = done ++ (op, d.given) ∷ rest }) ∷ after
+  pub numbered : d.operation ≡ length done + 1
+  pub answered : AreAnswered m (all_operations before ++ done)
+  pub whole_answer : d.serial ≡ (whole (map_left m (all_operations before ++ done)) op).0
+  pub differs : d.given ≡ d.serial → ⊥

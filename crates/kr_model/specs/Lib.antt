@@ -11,5 +11,6 @@ pub mod State
 pub mod Plan
 pub mod Step
 pub mod Run
+pub mod Log
 pub mod Serial
 pub mod Difference

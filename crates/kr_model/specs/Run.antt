@@ -4,6 +4,7 @@ use Rattle.std.specs.List.{filter_map}
 use Rattle.kr_model.specs.declared.Op.{Op}
 use Rattle.kr_model.specs.declared.Op.TheVariants as op
 use Rattle.kr_model.specs.declared.Event.{Event}
+use Rattle.kr_model.specs.declared.Program as declared
 use Rattle.kr_model.specs.declared.Reply.{Reply}
 use Rattle.kr_model.specs.declared.Reply.TheVariants as reply
 use Rattle.kr_model.specs.Protocol.{Protocol}
@@ -51,10 +52,9 @@ AreSteps p s ((e, r) ∷ rest) new = (mid : State) × (IsStep p s e.txn e.op r m
 abbrev pub Answered : Type 0
 Answered = Op × Reply
 
--- What a transaction did: its operations in order, with their answers.
-pub record Program : Type 0 where
-  pub txn : ℕ
-  pub operations : List Answered
+-- What a transaction did: its number, and its operations in order, with their answers.
+abbrev pub Program : Type 0
+Program = declared.Program
 
 -- Whether an event is an operation of its transaction's program: a commit ends the program, and going on with a scan is part of the scan.
 abbrev pub is_operation : Op → Bool

@@ -2,11 +2,14 @@
 //! operations, replies and refusals, and what the case checker tells. `specs/` defines what they mean.
 #![tactic(auto)]
 
+mod copies;
 mod lists;
+mod programs;
 #[cfg(test)]
 mod tests;
 
 pub use lists::{Pairs, Txns};
+pub use programs::{Answers, Programs};
 
 /// A lock mode: 0 is none, and the modes of a protocol are 1 to its count, at most 15.
 pub type Mode = u8;
@@ -209,4 +212,14 @@ pub enum Reply {
     /// These transactions hold locks that refuse the step, which changed nothing; rising, each once.
     Blocked(Txns),
     Refused(Refusal),
+}
+
+/// What a transaction did, read from its steps. Going on with a scan is part of the scan, whose answer is the rows that
+/// it ends with.
+#[derive(Debug, Drop)]
+pub struct Program {
+    /// The transaction.
+    pub txn: Txn,
+    /// Its operations in order, with their answers.
+    pub operations: Answers,
 }

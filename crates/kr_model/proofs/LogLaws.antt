@@ -1,0 +1,695 @@
+-- The log of a run has the operations so far of each active transaction, and the committed programs.
+use Rattle.std.specs.Prelude.{◌≡◌, ℕ, Bool, true, false, not, ◌==◌, ◌&&◌, ◌||◌, cond, nat_le, IsTrue, List, [], ◌∷◌, ◌++◌, Option, Some, None, is_some, unwrap_or, filter, map, refl, if◌then◌else◌, T, ◌⊎◌}
+use Rattle.std.specs.List.{list_any, filter_map, cons_option}
+use Rattle.std.specs.Ordering.{nat_cmp, eq_by_cmp, is_lt, is_eq}
+use Rattle.std.specs.declared.cmp.Ordering.{Ordering}
+use Rattle.std.specs.declared.cmp.Ordering.TheVariants.{Less, Equal, Greater}
+use Rattle.std.specs.Cmp.{nat_cmp_total}
+use Rattle.std.specs.FinMap.{find, put, is_sorted}
+use Rattle.std.specs.FinMap.Entries.{find-put, find-where_key, is_sorted-put, is_sorted-where_key, by_order, same_entries, below_all}
+use Rattle.std.proofs.lemmas.Bool.Decides.{nat_tests}
+use Rattle.std.proofs.lemmas.Map.Lookups.{exact_unsigned}
+use Rattle.std.proofs.lemmas.Bool.{cases_eq}
+use Rattle.std.proofs.Common.{sym, ◌∙◌, ap, ap₂, subst, arith, append_assoc, append-nil, inl, inr}
+use Rattle.kr_model.specs.declared.Name.{Name}
+use Rattle.kr_model.specs.declared.Name.TheVariants.{Key, End}
+use Rattle.kr_model.specs.declared.Op.{Op}
+use Rattle.kr_model.specs.declared.Op.TheVariants as op
+use Rattle.kr_model.specs.declared.Event.{Event}
+use Rattle.kr_model.specs.declared.Reply.{Reply}
+use Rattle.kr_model.specs.declared.Reply.TheVariants as reply
+use Rattle.kr_model.specs.declared.Refusal.{Refusal}
+use Rattle.kr_model.specs.declared.Refusal.TheVariants as refusal
+use Rattle.kr_model.specs.Protocol.{Protocol}
+use Rattle.kr_model.specs.Map.{Map, get}
+use Rattle.kr_model.specs.Locks.{Request, add_once, blockers}
+use Rattle.kr_model.specs.Plan.{plan_of, requests}
+use Rattle.kr_model.specs.declared.Step.TheVariants as attempt
+use Rattle.kr_model.specs.State.{State, Active, Scan, start, idle, active_of, standing, has_ended, is_scanning}
+use Rattle.kr_model.specs.Step.{Effect, Outcome, step, IsStep, refusal_of, unless_refused, performed, granted_or_blocked, looked, row_read, fetched, inserted, deleted, attempted_scan, name_to_look, ended_with, is_full, goes_on, is_go, is_bad_range}
+use Rattle.kr_model.specs.Run.{Entry, Answered, Program, Trace, run, operations_of, answer_of, first_rows, committed, programs, is_rows, is_committed, is_operation, is_granted, AreSteps}
+use Rattle.kr_model.specs.Log.{Log, no_log, operations_so_far, last_answered, with_step, step_logged, end_logged, logged, log_after}
+use Rattle.kr_model.proofs.MapLaws.{keys_apart, key_tie, equal_of_test}
+use Rattle.kr_model.proofs.RunLaws.{steps_of_run}
+
+abbrev event : ℕ → Op → Event
+event t o = record { txn = t; op = o }
+
+tied : (t : ℕ) → (t == t) ≡ true
+tied t = grind (arith, nat_tests)
+
+untied : (u t : ℕ) → (u ≡ t → ⊥) → (u == t) ≡ false
+untied u t h = grind (arith, nat_tests)
+
+turned : (u t : ℕ) → (u == t) ≡ (t == u)
+turned u t = grind (arith, nat_tests)
+
+-- How a history so far reads --
+
+-- The operations of t in a history are these, whatever comes after it; in the midst of a scan the last of them waits for its rows.
+abbrev ReadsAs : ℕ → List Entry → List Answered → Bool → Type 0
+ReadsAs t h os false = (f : List Entry) → operations_of t (h ++ f) ≡ os ++ operations_of t f
+ReadsAs t h os true =
+    (q : List Answered) × (lo : ℕ) × (hi : ℕ) × (a : Reply) × (os ≡ q ++ (op.Scan lo hi, a) ∷ [])
+    × ((f : List Entry) → operations_of t (h ++ f) ≡ q ++ (op.Scan lo hi, first_rows t a f) ∷ operations_of t f)
+
+append_entry : (h : List Entry) (x : Entry) (f : List Entry) → (h ++ x ∷ []) ++ f ≡ h ++ x ∷ f
+append_entry h x f = append_assoc h (x ∷ []) f
+
+append_one : (p : List Answered) (x : Answered) (r : List Answered) → p ++ x ∷ r ≡ (p ++ x ∷ []) ++ r
+append_one p x r = sym (append_assoc p (x ∷ []) r)
+
+-- An entry that adds nothing to the operations of t.
+abbrev IsSilent : ℕ → Entry → Type 0
+IsSilent t x = (f : List Entry) → (operations_of t (x ∷ f) ≡ operations_of t f) × ((r : Reply) → first_rows t r (x ∷ f) ≡ first_rows t r f)
+
+silent_other : (t : ℕ) (e : Event) (a : Reply) → (e.txn == t) ≡ false → IsSilent t (e, a)
+silent_other t e a d f = (
+  ap (λ b. cond {A = List Answered} (b && (is_operation e.op && is_granted a)) ((e.op, answer_of t e.op a f) ∷ operations_of t f) (operations_of t f)) d,
+  λ r. ap (λ b. cond (b && is_rows a) a (first_rows t r f)) d,
+)
+
+and_false : (b c : Bool) → c ≡ false → (b && c) ≡ false
+and_false true c h = h
+and_false false c h = refl
+
+silent_by : (t : ℕ) (e : Event) (a : Reply) → (is_operation e.op && is_granted a) ≡ false → is_rows a ≡ false → IsSilent t (e, a)
+silent_by t e a d g f = (
+  ap (λ b. cond {A = List Answered} b ((e.op, answer_of t e.op a f) ∷ operations_of t f) (operations_of t f)) (and_false (e.txn == t) (is_operation e.op && is_granted a) d),
+  λ r. ap (λ b. cond b a (first_rows t r f)) (and_false (e.txn == t) (is_rows a) g),
+)
+
+rows_are_granted : (a : Reply) → is_granted a ≡ false → is_rows a ≡ false
+rows_are_granted (reply.Rows rows) h = absurd (cc)
+rows_are_granted _ h = refl
+
+silent_refused : (t : ℕ) (e : Event) (a : Reply) → is_granted a ≡ false → IsSilent t (e, a)
+silent_refused t e a d = silent_by t e a (and_false (is_operation e.op) (is_granted a) d) (rows_are_granted a d)
+
+first_rows_past : (t : ℕ) (x : Entry) (f : List Entry) (r : Reply) (h : List Entry) → IsSilent t x → first_rows t r (h ++ x ∷ f) ≡ first_rows t r (h ++ f)
+first_rows_past t x f r [] s = (s f).1 r
+first_rows_past t x f r ((e, a) ∷ h) s = ap (λ z. cond ((e.txn == t) && is_rows a) a z) (first_rows_past t x f r h s)
+
+answer_past : (t : ℕ) (o : Op) (a : Reply) (x : Entry) (f : List Entry) (h : List Entry) → IsSilent t x → answer_of t o a (h ++ x ∷ f) ≡ answer_of t o a (h ++ f)
+answer_past t (op.Scan lo hi) a x f h s = ap (λ z. cond (is_rows a) a z) (first_rows_past t x f a h s)
+answer_past t (op.Fetch k) a x f h s = refl
+answer_past t op.Go a x f h s = refl
+answer_past t (op.Insert k v) a x f h s = refl
+answer_past t (op.Delete k) a x f h s = refl
+answer_past t op.Commit a x f h s = refl
+answer_past t op.Abort a x f h s = refl
+
+-- A silent entry leaves the operations as they are.
+operations_past : (t : ℕ) (x : Entry) (f : List Entry) (h : List Entry) → IsSilent t x → operations_of t (h ++ x ∷ f) ≡ operations_of t (h ++ f)
+operations_past t x f [] s = (s f).0
+operations_past t x f ((e, a) ∷ h) s =
+    ap₂ (λ (z : Reply) (more : List Answered). cond {A = List Answered} ((e.txn == t) && (is_operation e.op && is_granted a)) ((e.op, z) ∷ more) more) (answer_past t e.op a x f h s) (operations_past t x f h s)
+
+operations_kept : (t : ℕ) (x : Entry) (h : List Entry) → IsSilent t x → operations_of t (h ++ x ∷ []) ≡ operations_of t h
+operations_kept t x h s = operations_past t x [] h s ∙ ap (operations_of t) (append-nil h)
+
+reads_silent : (t : ℕ) (h : List Entry) (x : Entry) (os : List Answered) (b : Bool) → IsSilent t x → ReadsAs t h os b → ReadsAs t (h ++ x ∷ []) os b
+reads_silent t h x os false s r = λ f. ap (operations_of t) (append_entry h x f) ∙ r (x ∷ f) ∙ ap (λ z. os ++ z) (s f).0
+reads_silent t h x os true s (q, lo, hi, a, e, r) =
+    (q, lo, hi, a, e, λ f. ap (operations_of t) (append_entry h x f) ∙ r (x ∷ f) ∙ ap₂ (λ b z. q ++ (op.Scan lo hi, b) ∷ z) ((s f).1 a) (s f).0)
+
+own_entry : (t : ℕ) (o : Op) (a : Reply) (f : List Entry) → (is_operation o && is_granted a) ≡ true → operations_of t ((event t o, a) ∷ f) ≡ (o, answer_of t o a f) ∷ operations_of t f
+own_entry t o a f d = ap₂ (λ b c. cond {A = List Answered} (b && c) ((o, answer_of t o a f) ∷ operations_of t f) (operations_of t f)) (tied t) d
+
+-- An operation has its answer at once.
+reads_answer : (t : ℕ) (h : List Entry) (o : Op) (a : Reply) (os : List Answered) → (is_operation o && is_granted a) ≡ true → ((f : List Entry) → answer_of t o a f ≡ a)
+    → ReadsAs t h os false → ReadsAs t (h ++ (event t o, a) ∷ []) (os ++ (o, a) ∷ []) false
+reads_answer t h o a os d same r f =
+    ap (operations_of t) (append_entry h (event t o, a) f) ∙ r ((event t o, a) ∷ f)
+    ∙ ap (λ z. os ++ z) (own_entry t o a f d ∙ ap (λ (z : Reply). let x : Answered = (o, z) in x ∷ operations_of t f) (same f))
+    ∙ append_one os (o, a) (operations_of t f)
+
+-- A scan begins.
+reads_begins : (t : ℕ) (h : List Entry) (lo hi k : ℕ) (os : List Answered) → ReadsAs t h os false → ReadsAs t (h ++ (event t (op.Scan lo hi), reply.Going k) ∷ []) (os ++ (op.Scan lo hi, reply.Going k) ∷ []) true
+reads_begins t h lo hi k os r = (
+  os,
+  lo,
+  hi,
+  reply.Going k,
+  refl,
+  λ f. ap (operations_of t) (append_entry h (event t (op.Scan lo hi), reply.Going k) f) ∙ r ((event t (op.Scan lo hi), reply.Going k) ∷ f)
+      ∙ ap (λ z. os ++ z) (own_entry t (op.Scan lo hi) (reply.Going k) f refl),
+)
+
+last_of : (q : List Answered) (o : Op) (a b : Reply) → last_answered b (q ++ (o, a) ∷ []) ≡ q ++ (o, b) ∷ []
+last_of [] o a b = refl
+last_of (x ∷ []) o a b = refl
+last_of (x ∷ y ∷ ys) o a b = ap (λ z. x ∷ z) (last_of (y ∷ ys) o a b)
+
+-- A scan has its rows.
+reads_ends : (t : ℕ) (h : List Entry) (rows : List (ℕ × ℕ)) (os : List Answered) → ReadsAs t h os true → ReadsAs t (h ++ (event t op.Go, reply.Rows rows) ∷ []) (last_answered (reply.Rows rows) os) false
+reads_ends t h rows os (q, lo, hi, a, e, r) f =
+    let x : Entry = (event t op.Go, reply.Rows rows) in
+    ap (operations_of t) (append_entry h x f) ∙ r (x ∷ f)
+    ∙ ap₂ (λ b z. q ++ (op.Scan lo hi, b) ∷ z) (ap (λ b. cond (b && true) (reply.Rows rows) (first_rows t a f)) (tied t)) (ap (λ b. cond {A = List Answered} (b && false) ((op.Go, answer_of t op.Go (reply.Rows rows) f) ∷ operations_of t f) (operations_of t f)) (tied t))
+    ∙ append_one q (op.Scan lo hi, reply.Rows rows) (operations_of t f)
+    ∙ ap (λ z. z ++ operations_of t f) (sym (ap (last_answered (reply.Rows rows)) e ∙ last_of q (op.Scan lo hi) a (reply.Rows rows)))
+
+-- At the end of the history.
+reads_whole : (t : ℕ) (h : List Entry) (os : List Answered) (b : Bool) → ReadsAs t h os b → operations_of t h ≡ os
+reads_whole t h os false r = ap (operations_of t) (sym (append-nil h)) ∙ r [] ∙ append-nil os
+reads_whole t h os true (q, lo, hi, a, e, r) = ap (operations_of t) (sym (append-nil h)) ∙ r [] ∙ sym e
+
+-- What a granted step adds --
+
+-- The step adds to the log and to the operations of its transaction alike; b and c say whether it scans before the step and after it.
+record Adds (o : Op) (a : Reply) (b c : Bool) : Type 0 where
+  logs : (l : Log) (t : ℕ) → logged l (event t o, a) ≡ step_logged l t o a
+  stays : is_committed a ≡ false
+  reads : (t : ℕ) (h : List Entry) (os : List Answered) → ReadsAs t h os b → ReadsAs t (h ++ (event t o, a) ∷ []) (with_step os o a) c
+
+-- An operation that has its answer at once.
+adds_answer : (o : Op) (a : Reply) (b : Bool) → b ≡ false → ((l : Log) (t : ℕ) → logged l (event t o, a) ≡ step_logged l t o a) → is_committed a ≡ false → (is_operation o && is_granted a) ≡ true
+    → ((t : ℕ) (f : List Entry) → answer_of t o a f ≡ a) → ((os : List Answered) → with_step os o a ≡ os ++ (o, a) ∷ []) → Adds o a b false
+adds_answer o a b e logs stays operation answer with = record {
+  logs = logs;
+  stays = stays;
+  reads = λ t h os r. subst (λ z. ReadsAs t (h ++ (event t o, a) ∷ []) z false) (sym (with os)) (reads_answer t h o a os operation (answer t) (subst (λ z. ReadsAs t h os z) e r));
+}
+
+adds_begins : (lo hi k : ℕ) (b : Bool) → b ≡ false → Adds (op.Scan lo hi) (reply.Going k) b true
+adds_begins lo hi k b e = record {
+  logs = λ l t. refl;
+  stays = refl;
+  reads = λ t h os r. reads_begins t h lo hi k os (subst (λ z. ReadsAs t h os z) e r);
+}
+
+adds_goes_on : (k : ℕ) (b : Bool) → b ≡ true → Adds op.Go (reply.Going k) b true
+adds_goes_on k b e = record {
+  logs = λ l t. refl;
+  stays = refl;
+  reads = λ t h os r. reads_silent t h (event t op.Go, reply.Going k) os true (silent_by t (event t op.Go) (reply.Going k) refl refl) (subst (λ z. ReadsAs t h os z) e r);
+}
+
+adds_ends : (rows : List (ℕ × ℕ)) (b : Bool) → b ≡ true → Adds op.Go (reply.Rows rows) b false
+adds_ends rows b e = record {
+  logs = λ l t. refl;
+  stays = refl;
+  reads = λ t h os r. reads_ends t h rows os (subst (λ z. ReadsAs t h os z) e r);
+}
+
+-- The effect is logged as it reads.
+abbrev EffectAdds : Op → Bool → Effect → Type 0
+EffectAdds o b e = Adds o e.reply b (is_some e.standing.scan)
+
+adds_fetch : (m : Map) (a : Active) (k : ℕ) (r : Option ℕ) (b : Bool) → b ≡ false → is_some a.scan ≡ false → EffectAdds (op.Fetch k) b (fetched m a r)
+adds_fetch m a k (Some v) b e f = subst (λ z. Adds (op.Fetch k) (reply.Found v) b z) (sym f) (adds_answer (op.Fetch k) (reply.Found v) b e (λ l t. refl) refl refl (λ t g. refl) (λ os. refl))
+adds_fetch m a k None b e f = subst (λ z. Adds (op.Fetch k) reply.None b z) (sym f) (adds_answer (op.Fetch k) reply.None b e (λ l t. refl) refl refl (λ t g. refl) (λ os. refl))
+
+adds_insert : (m : Map) (a : Active) (k v : ℕ) (r : Option ℕ) (b : Bool) → b ≡ false → is_some a.scan ≡ false → EffectAdds (op.Insert k v) b (inserted m a k v r)
+adds_insert m a k v (Some w) b e f = subst (λ z. Adds (op.Insert k v) reply.Duplicate b z) (sym f) (adds_answer (op.Insert k v) reply.Duplicate b e (λ l t. refl) refl refl (λ t g. refl) (λ os. refl))
+adds_insert m a k v None b e f = subst (λ z. Adds (op.Insert k v) reply.Done b z) (sym f) (adds_answer (op.Insert k v) reply.Done b e (λ l t. refl) refl refl (λ t g. refl) (λ os. refl))
+
+adds_delete : (m : Map) (a : Active) (k : ℕ) (r : Option ℕ) (b : Bool) → b ≡ false → is_some a.scan ≡ false → EffectAdds (op.Delete k) b (deleted m a k r)
+adds_delete m a k (Some w) b e f = subst (λ z. Adds (op.Delete k) (reply.Deleted w) b z) (sym f) (adds_answer (op.Delete k) (reply.Deleted w) b e (λ l t. refl) refl refl (λ t g. refl) (λ os. refl))
+adds_delete m a k None b e f = subst (λ z. Adds (op.Delete k) reply.Absent b z) (sym f) (adds_answer (op.Delete k) reply.Absent b e (λ l t. refl) refl refl (λ t g. refl) (λ os. refl))
+
+-- A scan's step, which ends the scan or goes on with it.
+adds_looked : (o : Op) (b : Bool) → ((rows : List (ℕ × ℕ)) → Adds o (reply.Rows rows) b false) → ((k : ℕ) → Adds o (reply.Going k) b true)
+    → (m : Map) (a : Active) (c : Scan) (n : Name) → EffectAdds o b (looked m a c n)
+adds_looked o b ends goes m a c End = ends c.rows
+adds_looked o b ends goes m a c (Key k) = by (nat_le k c.hi)
+  where
+    on : (rows : List (ℕ × ℕ)) (d : Bool) → EffectAdds o b (if d then record { reply = reply.Rows rows; map = m; standing = record { scan = None; changes = a.changes } } else record { reply = reply.Going k; map = m; standing = record { scan = Some (record { lo = c.lo; hi = c.hi; rows = rows }); changes = a.changes } })
+    on rows true = ends rows
+    on rows false = goes k
+
+    by : (d : Bool) → EffectAdds o b (if d then row_read m a c k (unwrap_or (get m k) 0) else record { reply = reply.Rows c.rows; map = m; standing = record { scan = None; changes = a.changes } })
+    by true = on (c.rows ++ (k, unwrap_or (get m k) 0) ∷ []) (k == c.hi)
+    by false = ends c.rows
+
+-- The kinds of steps --
+
+-- A step of t that is granted and doesn't end it.
+record IsGranted (s : State) (t : ℕ) (o : Op) (a : Reply) (new : State) : Type 0 where
+  standing : Active
+  active : new.active ≡ put nat_cmp t standing s.active
+  ended : new.ended ≡ s.ended
+  works : has_ended s t ≡ false
+  adds : Adds o a (is_scanning s t) (is_some standing.scan)
+
+-- A step of t that ends it.
+record IsEnd (s : State) (t : ℕ) (o : Op) (a : Reply) (new : State) : Type 0 where
+  active : new.active ≡ filter (λ e. not (e.0 == t)) s.active
+  ended : new.ended ≡ add_once t s.ended
+  works : has_ended s t ≡ false
+  kept : ((o ≡ op.Commit) × (a ≡ reply.Committed)) ⊎ (a ≡ reply.Aborted)
+
+-- A step changes nothing, or is granted, or ends its transaction.
+abbrev Kind : State → ℕ → Op → Reply → State → Type 0
+Kind s t o a new = ((new ≡ s) × (is_granted a ≡ false)) ⊎ (IsGranted s t o a new ⊎ IsEnd s t o a new)
+
+silent_kind : (s : State) (t : ℕ) (o : Op) (a b : Reply) (new : State) → ◌≡◌ {A = Outcome} (a, new) (b, s) → is_granted b ≡ false → Kind s t o a new
+silent_kind s t o a b new e g = inl (ap (λ (x : Outcome). x.1) e, ap (λ (x : Outcome). is_granted x.0) e ∙ g)
+
+attempt_kind : (p : Protocol) (s : State) (t : ℕ) (o : Op) (rs : List Request) (e : Effect) (us : List ℕ) (a : Reply) (new : State) → has_ended s t ≡ false → EffectAdds o (is_scanning s t) e
+    → ◌≡◌ {A = Outcome} (a, new) (granted_or_blocked p s t rs e us) → Kind s t o a new
+attempt_kind p s t o rs e (u ∷ us) a new works adds is = silent_kind s t o a (reply.Blocked (u ∷ us)) new is refl
+attempt_kind p s t o rs e [] a new works adds is =
+    inr (inl record {
+      standing = e.standing;
+      active = ap (λ (x : Outcome). x.1.active) is;
+      ended = ap (λ (x : Outcome). x.1.ended) is;
+      works = works;
+      adds = subst (λ z. Adds o z (is_scanning s t) (is_some e.standing.scan)) (sym (ap (λ (x : Outcome). x.0) is)) adds;
+    })
+
+looked_kind : (p : Protocol) (s : State) (t : ℕ) (o : Op) (c : Scan) (a : Reply) (new : State) → has_ended s t ≡ false
+    → ((rows : List (ℕ × ℕ)) → Adds o (reply.Rows rows) (is_scanning s t) false) → ((k : ℕ) → Adds o (reply.Going k) (is_scanning s t) true)
+    → ◌≡◌ {A = Outcome} (a, new) (attempted_scan p s t (Some c)) → Kind s t o a new
+looked_kind p s t o c a new works ends goes is =
+    let n = name_to_look s.map c in
+    let rs = requests (plan_of p s.map s.locks t (attempt.Look n c.hi)) in
+    attempt_kind p s t o rs (looked s.map (standing s t) c n) (blockers p s.locks t rs) a new works (adds_looked o (is_scanning s t) ends goes s.map (standing s t) c n) is
+
+go_kind : (p : Protocol) (s : State) (t : ℕ) (a : Reply) (new : State) (c : Option Scan) → (standing s t).scan ≡ c → has_ended s t ≡ false
+    → ◌≡◌ {A = Outcome} (a, new) (attempted_scan p s t c) → Kind s t op.Go a new
+go_kind p s t a new None e works is = silent_kind s t op.Go a (reply.Refused refusal.NoScan) new is refl
+go_kind p s t a new (Some c) e works is = looked_kind p s t op.Go c a new works (λ rows. adds_ends rows (is_scanning s t) (ap is_some e)) (λ k. adds_goes_on k (is_scanning s t) (ap is_some e)) is
+
+-- What an operation does that isn't refused.
+performed_kind : (p : Protocol) (s : State) (t : ℕ) (o : Op) (a : Reply) (new : State) → has_ended s t ≡ false → (goes_on o ≡ false → is_scanning s t ≡ false)
+    → ◌≡◌ {A = Outcome} (a, new) (performed p s t o) → Kind s t o a new
+performed_kind p s t (op.Fetch k) a new works rest is =
+    let rs = requests (plan_of p s.map s.locks t (attempt.Fetch k)) in
+    attempt_kind p s t (op.Fetch k) rs (fetched s.map (standing s t) (get s.map k)) (blockers p s.locks t rs) a new works (adds_fetch s.map (standing s t) k (get s.map k) (is_scanning s t) (rest refl) (rest refl)) is
+performed_kind p s t (op.Insert k v) a new works rest is =
+    let rs = requests (plan_of p s.map s.locks t (attempt.Insert k)) in
+    attempt_kind p s t (op.Insert k v) rs (inserted s.map (standing s t) k v (get s.map k)) (blockers p s.locks t rs) a new works (adds_insert s.map (standing s t) k v (get s.map k) (is_scanning s t) (rest refl) (rest refl)) is
+performed_kind p s t (op.Delete k) a new works rest is =
+    let rs = requests (plan_of p s.map s.locks t (attempt.Delete k)) in
+    attempt_kind p s t (op.Delete k) rs (deleted s.map (standing s t) k (get s.map k)) (blockers p s.locks t rs) a new works (adds_delete s.map (standing s t) k (get s.map k) (is_scanning s t) (rest refl) (rest refl)) is
+performed_kind p s t (op.Scan lo hi) a new works rest is =
+    looked_kind p s t (op.Scan lo hi) (record { lo = lo; hi = hi; rows = [] }) a new works
+    (λ rows. adds_answer (op.Scan lo hi) (reply.Rows rows) (is_scanning s t) (rest refl) (λ l u. refl) refl refl (λ u f. refl) (λ os. refl))
+    (λ k. adds_begins lo hi k (is_scanning s t) (rest refl)) is
+performed_kind p s t op.Go a new works rest is = go_kind p s t a new (standing s t).scan refl works is
+performed_kind p s t op.Commit a new works rest is =
+    inr (inr record {
+      active = ap (λ (x : Outcome). x.1.active) is;
+      ended = ap (λ (x : Outcome). x.1.ended) is;
+      works = works;
+      kept = inl (refl, ap (λ (x : Outcome). x.0) is);
+    })
+performed_kind p s t op.Abort a new works rest is =
+    inr (inr record {
+      active = ap (λ (x : Outcome). x.1.active) is;
+      ended = ap (λ (x : Outcome). x.1.ended) is;
+      works = works;
+      kept = inr (ap (λ (x : Outcome). x.0) is);
+    })
+
+not_refused : (b : Bool) (r : Refusal) (o : Option Refusal) → cond b (Some r) o ≡ None → (b ≡ false) × (o ≡ None)
+not_refused true r o e = absurd (cc)
+not_refused false r o e = (refl, e)
+
+not_busy : (b c : Bool) → (b && not c) ≡ false → c ≡ false → b ≡ false
+not_busy true true h e = absurd (cc)
+not_busy true false h e = absurd (cc)
+not_busy false c h e = refl
+
+unless_kind : (p : Protocol) (s : State) (t : ℕ) (o : Op) (a : Reply) (new : State) (r : Option Refusal) → refusal_of s t o ≡ r → ◌≡◌ {A = Outcome} (a, new) (unless_refused p s t o r) → Kind s t o a new
+unless_kind p s t o a new (Some r) e is = silent_kind s t o a (reply.Refused r) new is refl
+unless_kind p s t o a new None e is =
+    let ended = not_refused (has_ended s t) refusal.Ended _ e in
+    let full = not_refused (is_full s t) refusal.Full _ ended.1 in
+    let busy = not_refused (is_scanning s t && not (goes_on o)) refusal.Busy _ full.1 in
+    performed_kind p s t o a new ended.0 (not_busy (is_scanning s t) (goes_on o) busy.0) is
+
+-- Each step is of one of the kinds.
+kind_of : (p : Protocol) (s : State) (t : ℕ) (o : Op) (a : Reply) (new : State) → IsStep p s t o a new → Kind s t o a new
+kind_of p s t o a new (inl e) = unless_kind p s t o a new (refusal_of s t o) refl e
+kind_of p s t o a new (inr m) = inl (m.1, ap is_granted m.0)
+
+-- The ended and the active --
+
+tied_key : (q k : ℕ) → eq_by_cmp nat_cmp q k ≡ true → k ≡ q
+tied_key q k e = sym (exact_unsigned q k (equal_of_test (nat_cmp q k) e))
+
+map_append : {A B : Type 0} (f : A → B) (xs ys : List A) → map f (xs ++ ys) ≡ map f xs ++ map f ys
+map_append f [] ys = refl
+map_append f (x ∷ xs) ys = ap (λ l. f x ∷ l) (map_append f xs ys)
+
+or_same : (b c : Bool) → (b || c) ≡ (b || (b || c))
+or_same true c = refl
+or_same false c = refl
+
+or_swap : (a b c : Bool) → (a || (b || c)) ≡ (b || (a || c))
+or_swap true true c = refl
+or_swap true false c = refl
+or_swap false true c = refl
+or_swap false false c = refl
+
+any_put : (f : ℕ → Bool) (x y : ℕ) (ys : List ℕ) (o : Ordering) → nat_cmp x y ≡ o → list_any f (add_once x ys) ≡ (f x || list_any f ys)
+    → list_any f (by_order o (x ∷ y ∷ ys) (y ∷ ys) (y ∷ add_once x ys)) ≡ (f x || (f y || list_any f ys))
+any_put f x y ys Less e h = refl
+any_put f x y ys Equal e h = or_same (f y) (list_any f ys) ∙ ap (λ z. f z || (f y || list_any f ys)) (sym (exact_unsigned x y e))
+any_put f x y ys Greater e h = ap (λ b. f y || b) h ∙ or_swap (f y) (f x) (list_any f ys)
+
+any_add_once : (f : ℕ → Bool) (x : ℕ) (xs : List ℕ) → list_any f (add_once x xs) ≡ (f x || list_any f xs)
+any_add_once f x [] = refl
+any_add_once f x (y ∷ ys) = any_put f x y ys (nat_cmp x y) refl (any_add_once f x ys)
+
+or_true : (a b : Bool) → b ≡ true → (a || b) ≡ true
+or_true true b h = refl
+or_true false b h = h
+
+or_left : (a b : Bool) → a ≡ true → (a || b) ≡ true
+or_left true b h = refl
+or_left false b h = absurd (cc)
+
+or_none : (a b : Bool) → (a || b) ≡ false → (a ≡ false) × (b ≡ false)
+or_none true b h = absurd (cc)
+or_none false b h = (refl, h)
+
+find_put_same : {X : Type 0} (es : List (ℕ × X)) (t : ℕ) (v : X) → find nat_cmp t (put nat_cmp t v es) ≡ Some v
+find_put_same es t v = find-put nat_cmp nat_cmp_total t t v es ∙ ap (λ b. cond b (Some v) (find nat_cmp t es)) (key_tie t)
+
+find_put_other : {X : Type 0} (es : List (ℕ × X)) (t u : ℕ) (v : X) → (u ≡ t → ⊥) → find nat_cmp u (put nat_cmp t v es) ≡ find nat_cmp u es
+find_put_other es t u v d = find-put nat_cmp nat_cmp_total u t v es ∙ ap (λ b. cond b (Some v) (find nat_cmp u es)) (keys_apart u t d)
+
+find_filter : {X : Type 0} (es : List (ℕ × X)) (t u : ℕ) → find nat_cmp u (filter (λ e. not (e.0 == t)) es) ≡ cond (not (u == t)) (find nat_cmp u es) None
+find_filter es t u = find-where_key nat_cmp (λ x. not (x == t)) u (λ y e. ap (λ z. not (z == t)) (sym (exact_unsigned u y e))) es
+
+find_filter_other : {X : Type 0} (es : List (ℕ × X)) (t u : ℕ) → (u ≡ t → ⊥) → find nat_cmp u (filter (λ e. not (e.0 == t)) es) ≡ find nat_cmp u es
+find_filter_other es t u d = find_filter es t u ∙ ap (λ b. cond (not b) (find nat_cmp u es) None) (untied u t d)
+
+true_of : (b : Bool) → T b → b ≡ true
+true_of true h = refl
+true_of false h = absurd h
+
+t_of : (b : Bool) → b ≡ true → T b
+t_of true h = tt
+t_of false h = absurd (cc)
+
+sorted_put : {X : Type 0} (k : ℕ) (v : X) (es : List (ℕ × X)) → is_sorted nat_cmp es ≡ true → is_sorted nat_cmp (put nat_cmp k v es) ≡ true
+sorted_put k v es h = true_of (is_sorted nat_cmp (put nat_cmp k v es)) (is_sorted-put nat_cmp nat_cmp_total k v es (t_of (is_sorted nat_cmp es) h))
+
+sorted_filter : {X : Type 0} (t : ℕ) (es : List (ℕ × X)) → is_sorted nat_cmp es ≡ true → is_sorted nat_cmp (filter (λ e. not (e.0 == t)) es) ≡ true
+sorted_filter t es h = true_of (is_sorted nat_cmp (filter (λ e. not (e.0 == t)) es)) (is_sorted-where_key nat_cmp (λ x. not (x == t)) es (t_of (is_sorted nat_cmp es) h))
+
+same_some : {X Y : Type 0} (es : List (ℕ × X)) (fs : List (ℕ × Y)) (t q : ℕ) (v : X) (w : Y) → is_some (find nat_cmp q es) ≡ is_some (find nat_cmp q fs)
+    → is_some (find nat_cmp q (put nat_cmp t v es)) ≡ is_some (find nat_cmp q (put nat_cmp t w fs))
+same_some es fs t q v w h = ap is_some (find-put nat_cmp nat_cmp_total q t v es) ∙ by (eq_by_cmp nat_cmp q t) ∙ sym (ap is_some (find-put nat_cmp nat_cmp_total q t w fs))
+  where
+    by : (b : Bool) → is_some (cond b (Some v) (find nat_cmp q es)) ≡ is_some (cond b (Some w) (find nat_cmp q fs))
+    by true = refl
+    by false = h
+
+same_without : {X Y : Type 0} (es : List (ℕ × X)) (fs : List (ℕ × Y)) (t q : ℕ) → is_some (find nat_cmp q es) ≡ is_some (find nat_cmp q fs)
+    → is_some (find nat_cmp q (filter (λ e. not (e.0 == t)) es)) ≡ is_some (find nat_cmp q (filter (λ e. not (e.0 == t)) fs))
+same_without es fs t q h = ap is_some (find_filter es t q) ∙ by (not (q == t)) ∙ sym (ap is_some (find_filter fs t q))
+  where
+    by : (b : Bool) → is_some (cond b (find nat_cmp q es) None) ≡ is_some (cond b (find nat_cmp q fs) None)
+    by true = h
+    by false = refl
+
+-- The programs --
+
+committed_append : (h g : List Entry) → committed (h ++ g) ≡ committed h ++ committed g
+committed_append [] g = refl
+committed_append ((e, a) ∷ h) g = one (is_committed a) e.txn (committed (h ++ g)) (committed h) (committed g) (committed_append h g)
+  where
+    one : (b : Bool) (t : ℕ) (xs ys zs : List ℕ) → xs ≡ ys ++ zs → cons_option (if b then Some t else None) xs ≡ cons_option (if b then Some t else None) ys ++ zs
+    one true t xs ys zs h = ap (λ l. t ∷ l) h
+    one false t xs ys zs h = h
+
+committed_with : (h : List Entry) (x : Entry) (b : Bool) → is_committed x.1 ≡ b → committed (h ++ x ∷ []) ≡ committed h ++ (if b then x.0.txn ∷ [] else [])
+committed_with h x b e = committed_append h (x ∷ []) ∙ ap (λ l. committed h ++ l) (ap (λ c. cons_option (if c then Some x.0.txn else None) []) e ∙ by b)
+  where
+    by : (b : Bool) → cons_option (if b then Some x.0.txn else None) [] ≡ (if b then x.0.txn ∷ [] else [])
+    by true = refl
+    by false = refl
+
+-- The program of t in a history.
+abbrev program_in : List Entry → ℕ → Program
+program_in h t = record { txn = t; operations = operations_of t h }
+
+-- All of these transactions have ended.
+abbrev HaveEnded : State → List ℕ → Type 0
+HaveEnded s [] = Unit {0}
+HaveEnded s (u ∷ us) = (has_ended s u ≡ true) × HaveEnded s us
+
+ended_stay : (s new : State) (us : List ℕ) → ((u : ℕ) → has_ended s u ≡ true → has_ended new u ≡ true) → HaveEnded s us → HaveEnded new us
+ended_stay s new [] f h = tt
+ended_stay s new (u ∷ us) f h = (f u h.0, ended_stay s new us f h.1)
+
+ended_more : (s : State) (t : ℕ) (us : List ℕ) → has_ended s t ≡ true → HaveEnded s us → HaveEnded s (us ++ t ∷ [])
+ended_more s t [] e h = (e, tt)
+ended_more s t (u ∷ us) e h = (h.0, ended_more s t us e h.1)
+
+-- Programs of ended transactions stay, where an entry adds nothing to theirs.
+programs_stay : (s : State) (h : List Entry) (x : Entry) (us : List ℕ) → HaveEnded s us → ((u : ℕ) → has_ended s u ≡ true → IsSilent u x) → map (program_in (h ++ x ∷ [])) us ≡ map (program_in h) us
+programs_stay s h x [] ended silent = refl
+programs_stay s h x (u ∷ us) ended silent =
+    ap₂ (λ (os : List Answered) (more : List Program). let q : Program = record { txn = u; operations = os } in q ∷ more) (operations_kept u x h (silent u ended.0)) (programs_stay s h x us ended.1 silent)
+
+-- The log of a history --
+
+-- What holds of a log after each step: it has the active transactions, and what each has done so far; and the programs that have committed.
+record IsLog (h : List Entry) (s : State) (l : Log) : Type 0 where
+  in_order : is_sorted nat_cmp s.active ≡ true
+  log_in_order : is_sorted nat_cmp l.unfinished ≡ true
+  same : (t : ℕ) → is_some (find nat_cmp t l.unfinished) ≡ is_some (active_of s t)
+  works : (t : ℕ) → is_some (active_of s t) ≡ true → has_ended s t ≡ false
+  reads : (t : ℕ) → has_ended s t ≡ false → ReadsAs t h (operations_so_far l t) (is_scanning s t)
+  ended : HaveEnded s (committed h)
+  committed : l.committed ≡ programs h
+
+pub logged_silent : (l : Log) (e : Event) (a : Reply) → is_granted a ≡ false → logged l (e, a) ≡ l
+logged_silent l e (reply.Blocked us) h = refl
+logged_silent l e (reply.Refused r) h = refl
+logged_silent l e _ h = absurd (cc)
+
+not_committed : (a : Reply) → is_granted a ≡ false → is_committed a ≡ false
+not_committed reply.Committed h = absurd (cc)
+not_committed _ h = refl
+
+-- A step that changes nothing.
+log_silent : (h : List Entry) (s : State) (l : Log) (t : ℕ) (o : Op) (a : Reply) → is_granted a ≡ false → IsLog h s l → IsLog (h ++ (event t o, a) ∷ []) s (logged l (event t o, a))
+log_silent h s l t o a g k =
+    let x : Entry = (event t o, a) in
+    let silent : (u : ℕ) → IsSilent u x = λ u. silent_refused u (event t o) a g in
+    let listed : committed (h ++ x ∷ []) ≡ committed h = committed_with h x false (not_committed a g) ∙ append-nil (committed h) in
+    subst (λ z. IsLog (h ++ x ∷ []) s z) (sym (logged_silent l (event t o) a g)) record {
+      in_order = k.in_order;
+      log_in_order = k.log_in_order;
+      same = k.same;
+      works = k.works;
+      reads = λ u e. reads_silent u h x (operations_so_far l u) (is_scanning s u) (silent u) (k.reads u e);
+      ended = subst (λ z. HaveEnded s z) (sym listed) k.ended;
+      committed = k.committed ∙ sym (programs_stay s h x (committed h) k.ended (λ u e. silent u)) ∙ sym (ap (map (program_in (h ++ x ∷ []))) listed);
+    }
+
+false_true : (b : Bool) → b ≡ false → b ≡ true → ⊥
+false_true b e f = cc
+
+-- A step that is granted.
+log_granted : (h : List Entry) (s : State) (l : Log) (t : ℕ) (o : Op) (a : Reply) (new : State) → IsGranted s t o a new → IsLog h s l → IsLog (h ++ (event t o, a) ∷ []) new (logged l (event t o, a))
+log_granted h s l t o a new g k =
+    let x : Entry = (event t o, a) in
+    let os = with_step (operations_so_far l t) o a in
+    let other : (u : ℕ) → (u ≡ t → ⊥) → IsSilent u x = λ u d. silent_other u (event t o) a (turned t u ∙ untied u t d) in
+    let apart : (u : ℕ) → has_ended s u ≡ true → u ≡ t → ⊥ = λ u e d. false_true (has_ended s t) g.works (ap (has_ended s) (sym d) ∙ e) in
+    let listed : committed (h ++ x ∷ []) ≡ committed h = committed_with h x false g.adds.stays ∙ append-nil (committed h) in
+    let ends : (u : ℕ) → has_ended new u ≡ has_ended s u = λ u. ap (list_any (λ v. v == u)) g.ended in
+    subst (λ z. IsLog (h ++ x ∷ []) new z) (sym (g.adds.logs l t)) record {
+      in_order = ap (is_sorted nat_cmp) g.active ∙ sorted_put t g.standing s.active k.in_order;
+      log_in_order = sorted_put t os l.unfinished k.log_in_order;
+      same = λ u. same_some l.unfinished s.active t u os g.standing (k.same u) ∙ sym (ap (λ z. is_some (find nat_cmp u z)) g.active);
+      works = λ u e. ends u ∙ works_by u (cases u t) (sym (ap (λ z. is_some (find nat_cmp u z)) g.active) ∙ e);
+      reads = λ u e. reads_by u (cases u t) (sym (ends u) ∙ e);
+      ended = subst (λ z. HaveEnded new z) (sym listed) (ended_stay s new (committed h) (λ u e. ends u ∙ e) k.ended);
+      committed = k.committed ∙ sym (programs_stay s h x (committed h) k.ended (λ u e. other u (apart u e))) ∙ sym (ap (map (program_in (h ++ x ∷ []))) listed);
+    }
+  where
+    cases : (u t : ℕ) → (u ≡ t) ⊎ (u ≡ t → ⊥)
+    cases u t = cases_eq u t
+
+    works_by : (u : ℕ) → (u ≡ t) ⊎ (u ≡ t → ⊥) → is_some (find nat_cmp u (put nat_cmp t g.standing s.active)) ≡ true → has_ended s u ≡ false
+    works_by u (inl d) e = ap (has_ended s) d ∙ g.works
+    works_by u (inr d) e = k.works u (sym (ap is_some (find_put_other s.active t u g.standing d)) ∙ e)
+
+    reads_by : (u : ℕ) → (u ≡ t) ⊎ (u ≡ t → ⊥) → has_ended s u ≡ false → ReadsAs u (h ++ (event t o, a) ∷ []) (operations_so_far (step_logged l t o a) u) (is_scanning new u)
+    reads_by u (inl d) e =
+        let now : active_of new t ≡ Some g.standing = ap (find nat_cmp t) g.active ∙ find_put_same s.active t g.standing in
+        subst (λ z. ReadsAs z (h ++ (event t o, a) ∷ []) (operations_so_far (step_logged l t o a) z) (is_scanning new z)) (sym d)
+        (subst (λ z. ReadsAs t (h ++ (event t o, a) ∷ []) (unwrap_or z []) (is_scanning new t)) (sym (find_put_same l.unfinished t (with_step (operations_so_far l t) o a)))
+        (subst (λ z. ReadsAs t (h ++ (event t o, a) ∷ []) (with_step (operations_so_far l t) o a) (is_some (unwrap_or z idle).scan)) (sym now)
+        (g.adds.reads t h (operations_so_far l t) (k.reads t g.works))))
+    reads_by u (inr d) e =
+        let now : active_of new u ≡ active_of s u = ap (find nat_cmp u) g.active ∙ find_put_other s.active t u g.standing d in
+        subst (λ z. ReadsAs u (h ++ (event t o, a) ∷ []) (unwrap_or z []) (is_scanning new u)) (sym (find_put_other l.unfinished t u (with_step (operations_so_far l t) o a) d))
+        (subst (λ z. ReadsAs u (h ++ (event t o, a) ∷ []) (operations_so_far l u) (is_some (unwrap_or z idle).scan)) (sym now)
+        (reads_silent u h (event t o, a) (operations_so_far l u) (is_scanning s u) (silent_other u (event t o) a (turned t u ∙ untied u t d)) (k.reads u e)))
+
+module _ (h : List Entry) (s : State) (l : Log) (t : ℕ) (o : Op) (a : Reply) (new : State) (g : IsEnd s t o a new) (k : IsLog h s l) where
+  x : Entry
+  x = (event t o, a)
+
+  ends_is : (u : ℕ) → has_ended new u ≡ ((t == u) || has_ended s u)
+  ends_is u = ap (list_any (λ v. v == u)) g.ended ∙ any_add_once (λ v. v == u) t s.ended
+
+  other_past : (u : ℕ) → (u ≡ t → ⊥) → IsSilent u (event t o, a)
+  other_past u d = silent_other u (event t o) a (turned t u ∙ untied u t d)
+
+  apart_from : (u : ℕ) → has_ended s u ≡ true → u ≡ t → ⊥
+  apart_from u e d = false_true (has_ended s t) g.works (ap (has_ended s) (sym d) ∙ e)
+
+  differ : (u : ℕ) → (t == u) ≡ false → u ≡ t → ⊥
+  differ u e d = false_true (t == u) e (ap (λ z. t == z) d ∙ tied t)
+
+  stay : (u : ℕ) → has_ended s u ≡ true → has_ended new u ≡ true
+  stay u e = ends_is u ∙ or_true (t == u) (has_ended s u) e
+
+  works_after : (u : ℕ) → is_some (active_of new u) ≡ true → has_ended new u ≡ false
+  works_after u e = ends_is u ∙ by (t == u) refl (not (u == t)) refl (sym (ap is_some (ap (find nat_cmp u) g.active ∙ find_filter s.active t u)) ∙ e)
+    where
+      by : (b : Bool) → (t == u) ≡ b → (c : Bool) → not (u == t) ≡ c → is_some (cond c (active_of s u) None) ≡ true → (b || has_ended s u) ≡ false
+      by true d true f e = absurd (false_true (not (u == t)) (ap not (turned u t ∙ d)) f)
+      by true d false f e = absurd (cc)
+      by false d true f e = k.works u e
+      by false d false f e = absurd (cc)
+
+  reads_after : (programs : List Program) (u : ℕ) → has_ended new u ≡ false → ReadsAs u (h ++ (event t o, a) ∷ []) (operations_so_far (end_logged l t programs) u) (is_scanning new u)
+  reads_after programs u e =
+      let both = or_none (t == u) (has_ended s u) (sym (ends_is u) ∙ e) in
+      let d = differ u both.0 in
+      let now : active_of new u ≡ active_of s u = ap (find nat_cmp u) g.active ∙ find_filter_other s.active t u d in
+      subst (λ z. ReadsAs u (h ++ (event t o, a) ∷ []) (unwrap_or z []) (is_scanning new u)) (sym (find_filter_other l.unfinished t u d))
+      (subst (λ z. ReadsAs u (h ++ (event t o, a) ∷ []) (operations_so_far l u) (is_some (unwrap_or z idle).scan)) (sym now)
+      (reads_silent u h (event t o, a) (operations_so_far l u) (is_scanning s u) (other_past u d) (k.reads u both.1)))
+
+  -- the log after an end, where the programs listed are right
+  log_ended : (ps : List Program) → logged l (event t o, a) ≡ end_logged l t ps → HaveEnded new (committed (h ++ (event t o, a) ∷ [])) → ps ≡ programs (h ++ (event t o, a) ∷ []) → IsLog (h ++ (event t o, a) ∷ []) new (logged l (event t o, a))
+  log_ended ps is listed right = subst (λ z. IsLog (h ++ (event t o, a) ∷ []) new z) (sym is) record {
+    in_order = ap (is_sorted nat_cmp) g.active ∙ sorted_filter t s.active k.in_order;
+    log_in_order = sorted_filter t l.unfinished k.log_in_order;
+    same = λ u. same_without l.unfinished s.active t u (k.same u) ∙ sym (ap (λ z. is_some (find nat_cmp u z)) g.active);
+    works = works_after;
+    reads = reads_after ps;
+    ended = listed;
+    committed = right;
+  }
+
+  programs_past : map (program_in (h ++ (event t o, a) ∷ [])) (committed h) ≡ programs h
+  programs_past = programs_stay s h (event t o, a) (committed h) k.ended (λ u e. other_past u (apart_from u e))
+
+  -- A step that ends its transaction.
+  log_end : IsLog (h ++ (event t o, a) ∷ []) new (logged l (event t o, a))
+  log_end = by g.kept
+    where
+      by : ((o ≡ op.Commit) × (a ≡ reply.Committed)) ⊎ (a ≡ reply.Aborted) → IsLog (h ++ (event t o, a) ∷ []) new (logged l (event t o, a))
+      by (inr e) =
+          let listed : committed (h ++ (event t o, a) ∷ []) ≡ committed h = committed_with h (event t o, a) false (ap is_committed e) ∙ append-nil (committed h) in
+          log_ended l.committed (ap (λ z. logged l (event t o, z)) e)
+          (subst (λ z. HaveEnded new z) (sym listed) (ended_stay s new (committed h) stay k.ended))
+          (k.committed ∙ sym programs_past ∙ sym (ap (map (program_in (h ++ (event t o, a) ∷ []))) listed))
+      by (inl e) =
+          let listed : committed (h ++ (event t o, a) ∷ []) ≡ committed h ++ t ∷ [] = committed_with h (event t o, a) true (ap is_committed e.1) in
+          let itself : has_ended new t ≡ true = ends_is t ∙ or_left (t == t) (has_ended s t) (tied t) in
+          let silent : IsSilent t (event t o, a) = silent_by t (event t o) a (ap (λ z. is_operation z && is_granted a) e.0) (ap is_rows e.1) in
+          let whole : operations_of t (h ++ (event t o, a) ∷ []) ≡ operations_so_far l t = operations_kept t (event t o, a) h silent ∙ reads_whole t h (operations_so_far l t) (is_scanning s t) (k.reads t g.works) in
+          log_ended (l.committed ++ record { txn = t; operations = operations_so_far l t } ∷ []) (ap (λ z. logged l (event t o, z)) e.1)
+          (subst (λ z. HaveEnded new z) (sym listed) (ended_more new t (committed h) itself (ended_stay s new (committed h) stay k.ended)))
+          (ap₂ (λ (ps : List Program) (os : List Answered). let q : Program = record { txn = t; operations = os } in ps ++ q ∷ []) (k.committed ∙ sym programs_past) (sym whole)
+          ∙ sym (map_append (program_in (h ++ (event t o, a) ∷ [])) (committed h) (t ∷ []))
+          ∙ sym (ap (map (program_in (h ++ (event t o, a) ∷ []))) listed))
+
+-- Each step keeps it.
+log_step : (p : Protocol) (h : List Entry) (s : State) (l : Log) (e : Event) (a : Reply) (new : State) → IsStep p s e.txn e.op a new → IsLog h s l → IsLog (h ++ (e, a) ∷ []) new (logged l (e, a))
+log_step p h s l e a new is k = by (kind_of p s e.txn e.op a new is)
+  where
+    by : Kind s e.txn e.op a new → IsLog (h ++ (e, a) ∷ []) new (logged l (e, a))
+    by (inl g) = subst (λ z. IsLog (h ++ (e, a) ∷ []) z (logged l (e, a))) (sym g.0) (log_silent h s l e.txn e.op a g.1 k)
+    by (inr (inl g)) = log_granted h s l e.txn e.op a new g k
+    by (inr (inr g)) = log_end h s l e.txn e.op a new g k
+
+log_steps : (p : Protocol) (h more : List Entry) (s : State) (l : Log) (new : State) → AreSteps p s more new → IsLog h s l → IsLog (h ++ more) new (log_after l more)
+log_steps p h [] s l new are k = subst (λ z. IsLog (h ++ []) z l) (sym are) (subst (λ z. IsLog z s l) (sym (append-nil h)) k)
+log_steps p h ((e, a) ∷ more) s l new (mid, are) k =
+    subst (λ z. IsLog z new (log_after (logged l (e, a)) more)) (append_entry h (e, a) more)
+    (log_steps p (h ++ (e, a) ∷ []) more mid (logged l (e, a)) new are.1 (log_step p h s l e a mid are.0 k))
+
+log_at_start : (opening : Map) → IsLog [] (start opening) no_log
+log_at_start opening = record {
+  in_order = refl;
+  log_in_order = refl;
+  same = λ t. refl;
+  works = λ t e. refl;
+  reads = λ t e. λ f. refl;
+  ended = tt;
+  committed = refl;
+}
+
+found_as : (h : List Entry) (q : ℕ) (es : List (ℕ × Active)) → find nat_cmp q (map (λ a. (a.0, operations_of a.0 h)) es) ≡ (if is_some (find nat_cmp q es) then Some (operations_of q h) else None)
+found_as h q [] = refl
+found_as h q (e ∷ es) = by (found_as h q es) (eq_by_cmp nat_cmp q e.0) refl
+  where
+    by : find nat_cmp q (map (λ a. (a.0, operations_of a.0 h)) es) ≡ (if is_some (find nat_cmp q es) then Some (operations_of q h) else None) → (b : Bool) → eq_by_cmp nat_cmp q e.0 ≡ b → cond b (Some (operations_of e.0 h)) (find nat_cmp q (map (λ a. (a.0, operations_of a.0 h)) es)) ≡ (if is_some (cond b (Some e.1) (find nat_cmp q es)) then Some (operations_of q h) else None)
+    by more true d = ap (λ z. Some (operations_of z h)) (tied_key q e.0 d)
+    by more false d = more
+
+sorted_as : (h : List Entry) (es : List (ℕ × Active)) → is_sorted nat_cmp es ≡ true → is_sorted nat_cmp (map (λ a. (a.0, operations_of a.0 h)) es) ≡ true
+sorted_as h es e = alike es ∙ e
+  where
+    below : (k : ℕ) (es : List (ℕ × Active)) → below_all nat_cmp k (map (λ a. (a.0, operations_of a.0 h)) es) ≡ below_all nat_cmp k es
+    below k [] = refl
+    below k (e ∷ es) = ap (λ b. is_lt (nat_cmp k e.0) && b) (below k es)
+
+    alike : (es : List (ℕ × Active)) → is_sorted nat_cmp (map (λ a. (a.0, operations_of a.0 h)) es) ≡ is_sorted nat_cmp es
+    alike [] = refl
+    alike (e ∷ es) = ap₂ (λ b c. b && c) (below e.0 es) (alike es)
+
+-- What a log of this kind is.
+log_is : (h : List Entry) (s : State) (l : Log) → IsLog h s l → l ≡ record { unfinished = map (λ a. (a.0, operations_of a.0 h)) s.active; committed = programs h }
+log_is h s l k =
+    ap₂ (λ us ps. let m : Log = record { unfinished = us; committed = ps } in m)
+    (same_entries nat_cmp nat_cmp_total exact_unsigned l.unfinished (map (λ a. (a.0, operations_of a.0 h)) s.active) (t_of _ k.log_in_order) (t_of _ (sorted_as h s.active k.in_order)) (λ q. by q (find nat_cmp q l.unfinished) refl (active_of s q) refl ∙ sym (found_as h q s.active)))
+    k.committed
+  where
+    by : (q : ℕ) (x : Option (List Answered)) → find nat_cmp q l.unfinished ≡ x → (y : Option Active) → active_of s q ≡ y → find nat_cmp q l.unfinished ≡ (if is_some (active_of s q) then Some (operations_of q h) else None)
+    by q None d None f = d ∙ sym (ap (λ z. if is_some z then Some (operations_of q h) else None) f)
+    by q None d (Some a) f = absurd (false_true (is_some (active_of s q)) (sym (k.same q) ∙ ap is_some d) (ap is_some f))
+    by q (Some os) d None f = absurd (false_true (is_some (active_of s q)) (ap is_some f) (sym (k.same q) ∙ ap is_some d))
+    by q (Some os) d (Some a) f =
+        let active : is_some (active_of s q) ≡ true = ap is_some f in
+        d ∙ ap Some (sym (reads_whole q h (operations_so_far l q) (is_scanning s q) (k.reads q (k.works q active)) ∙ ap (λ z. unwrap_or z []) d))
+        ∙ sym (ap (λ b. if b then Some (operations_of q h) else None) active)
+
+-- The log of a history of steps has the operations so far of the active transactions, and the committed programs; steps may have been refused memory.
+pub log_of_steps : (p : Protocol) (opening : Map) (h : List Entry) (s : State) → AreSteps p (start opening) h s
+    → log_after no_log h ≡ record { unfinished = map (λ a. (a.0, operations_of a.0 h)) s.active; committed = programs h }
+log_of_steps p opening h s are = log_is h s (log_after no_log h) (log_steps p [] h (start opening) no_log s are (log_at_start opening))
+
+-- So has the log of a run.
+pub log_of_run : (p : Protocol) (opening : Map) (events : List Event) → let r = run p (start opening) events in
+    log_after no_log r.history ≡ record { unfinished = map (λ a. (a.0, operations_of a.0 r.history)) r.state.active; committed = programs r.history }
+log_of_run p opening events = let r = run p (start opening) events in log_of_steps p opening r.history r.state (steps_of_run p (start opening) events)
+
+-- The log after these entries and one more.
+pub log_after_one : (l : Log) (h : List Entry) (x : Entry) → log_after l (h ++ x ∷ []) ≡ logged (log_after l h) x
+log_after_one l [] x = refl
+log_after_one l (y ∷ h) x = log_after_one (logged l y) h x
+
+-- A step keeps it so that the log has exactly the active transactions.
+pub unfinished_after : (p : Protocol) (s : State) (l : Log) (e : Event) (a : Reply) (new : State) → IsStep p s e.txn e.op a new
+    → ((t : ℕ) → is_some (find nat_cmp t l.unfinished) ≡ is_some (active_of s t))
+    → (t : ℕ) → is_some (find nat_cmp t (logged l (e, a)).unfinished) ≡ is_some (active_of new t)
+unfinished_after p s l e a new is same t = by (kind_of p s e.txn e.op a new is)
+  where
+    by : Kind s e.txn e.op a new → is_some (find nat_cmp t (logged l (e, a)).unfinished) ≡ is_some (active_of new t)
+    by (inl g) = ap (λ z. is_some (find nat_cmp t z.unfinished)) (logged_silent l e a g.1) ∙ same t ∙ sym (ap (λ z. is_some (active_of z t)) g.0)
+    by (inr (inl g)) =
+        ap (λ z. is_some (find nat_cmp t z.unfinished)) (g.adds.logs l e.txn)
+        ∙ same_some l.unfinished s.active e.txn t (with_step (operations_so_far l e.txn) e.op a) g.standing (same t) ∙ sym (ap (λ z. is_some (find nat_cmp t z)) g.active)
+    by (inr (inr g)) = ending g.kept ∙ same_without l.unfinished s.active e.txn t (same t) ∙ sym (ap (λ z. is_some (find nat_cmp t z)) g.active)
+      where
+        ending : ((e.op ≡ op.Commit) × (a ≡ reply.Committed)) ⊎ (a ≡ reply.Aborted) → is_some (find nat_cmp t (logged l (e, a)).unfinished) ≡ is_some (find nat_cmp t (filter (λ x. not (x.0 == e.txn)) l.unfinished))
+        ending (inl f) = ap (λ z. is_some (find nat_cmp t (logged l (e, z)).unfinished)) f.1
+        ending (inr f) = ap (λ z. is_some (find nat_cmp t (logged l (e, z)).unfinished)) f
