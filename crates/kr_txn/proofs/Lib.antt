@@ -1,2 +1,4 @@
 pub mod Lists
 pub mod EndedLaws
+pub mod LogLists
+pub mod LogSteps

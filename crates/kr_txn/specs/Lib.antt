@@ -1,2 +1,3 @@
 pub mod Standings
 pub mod EndedNumbers
+pub mod Logs

@@ -9,12 +9,15 @@ ghost use Rattle.kr_model.specs.State.{idle};
 ghost use Rattle.kr_txn.specs.Standings.{active_of, entries, IsInOrder, IsPosition, IsPlace, AreOthers, without_txn};
 
 mod ended;
+mod log;
 #[cfg(test)]
 mod tests;
+mod unfinished;
 
 pub use ended::Ended;
 pub use kr_model::Txn;
 use kr_model::Txns;
+pub use log::Log;
 use std::alloc::{AllocError, Global};
 
 /// A growth was refused.

@@ -1,6 +1,8 @@
 //! Each call once, with answers worked out by hand.
 ghost use Rattle.kr_txn.specs.Standings.{IsInOrder};
 
+mod log;
+
 use super::*;
 use std::test::Fail;
 

@@ -1,0 +1,98 @@
+-- The log of a run with its room, as contracts see it.
+use Rattle.std.specs.Prelude.{◌≡◌, ◌≢◌, ℕ, ◌+◌, ◌<◌, ◌≤◌, Bool, true, false, ◌==◌, not, List, [], ◌∷◌, ◌++◌, Option, Some, None, map, filter, length, slice_index_or, is_some, IsTrue, IfSome, Vec, ◌⊎◌, if◌then◌else◌}
+use Rattle.std.specs.Vec.{vec_len, vec_capacity}
+use Rattle.std.specs.Ordering.{nat_cmp}
+use Rattle.std.specs.FinMap.{find, put, is_sorted}
+use Rattle.std.specs.declared.alloc.Global.{Global}
+use Rattle.kr_model.specs.declared.Event.{Event}
+use Rattle.kr_model.specs.declared.Program.{Program}
+use Rattle.kr_model.specs.declared.Reply.{Reply}
+use Rattle.kr_model.specs.declared.Reply.TheVariants as reply
+use Rattle.kr_model.specs.Run.{Answered}
+use Rattle.kr_model.specs.Log.{Log, step_logged, end_logged, operations_so_far}
+use Rattle.kr_txn.specs.declared.unfinished.Unfinished.{Unfinished}
+use Rattle.kr_txn.specs.declared.unfinished.Ready.{Ready}
+use Rattle.kr_txn.specs.declared.unfinished.Logging.{Logging}
+use Rattle.kr_txn.specs.declared.unfinished.Logging.TheVariants.{Operation, Committing, Aborting, Nothing}
+
+-- A log, and the transaction whose next operation and end have their memory.
+pub record LogWithRoom : Type 0 where
+  pub log : Log
+  pub ready : Option ℕ
+
+-- The number of an unfinished transaction, and its operations so far.
+abbrev pub entry : Unfinished → ℕ × List Answered
+entry u = (u.txn, u.operations.items)
+
+-- The unfinished transactions of a list, in its order.
+abbrev pub entries : List Unfinished → List (ℕ × List Answered)
+entries us = map entry us
+
+-- The numbers rise, so each transaction stands in the list once.
+abbrev pub IsInOrder : List Unfinished → Type 0
+IsInOrder us = IsTrue (is_sorted nat_cmp (entries us))
+
+-- The unfinished transactions without t.
+abbrev pub without_txn : ℕ → List (ℕ × List Answered) → List (ℕ × List Answered)
+without_txn t es = filter (λ e. not (e.0 == t)) es
+
+-- No transaction before place i is t.
+abbrev pub AreOthers : ℕ → List Unfinished → ℕ → Type 0
+AreOthers t us i = (j : ℕ) (d : Unfinished) → j < i → (slice_index_or us j d).txn ≢ t
+
+-- Place i is the first at which t stands.
+pub record IsPosition (t : ℕ) (us : List Unfinished) (i : ℕ) : Type 0 where
+  pub within : i < length us
+  pub others : AreOthers t us i
+  pub here : (d : Unfinished) → (slice_index_or us i d).txn ≡ t
+
+-- The transactions before place i have numbers below t, and the one there has a greater one.
+pub record IsPlace (t : ℕ) (us : List Unfinished) (i : ℕ) : Type 0 where
+  pub within : i ≤ length us
+  pub below : (j : ℕ) (d : Unfinished) → j < i → (slice_index_or us j d).txn < t
+  pub above : (d : Unfinished) → i < length us → t < (slice_index_or us i d).txn
+
+-- The unfinished transactions as contracts see them, where one that was there may be taken out.
+abbrev pub shown : Option Ready → List (ℕ × List Answered) → List (ℕ × List Answered)
+shown None es = es
+shown (Some r) es = if r.was_there then put nat_cmp r.unfinished.txn r.unfinished.operations.items es else es
+
+-- A transaction that is taken out is in the list no more.
+abbrev pub IsApart : List Unfinished → Ready → Type 0
+IsApart us r = find nat_cmp r.unfinished.txn (entries us) ≡ None
+
+-- A transaction that is taken out has room for one more operation, for itself in the list, and for its program.
+pub record IsReady (us : Vec Unfinished Global) (committed : Vec Program Global) (r : Ready) : Type 0 where
+  pub apart : IsApart us.items r
+  pub place : vec_len us < vec_capacity us
+  pub programs : vec_len us + vec_len committed + 2 ≤ vec_capacity committed
+  pub operation : vec_len r.unfinished.operations < vec_capacity r.unfinished.operations
+  pub anew : r.was_there ≡ false → r.unfinished.operations.items ≡ []
+
+-- What always holds of a log's parts: each unfinished transaction has room for its program.
+pub record HasRoom (us : Vec Unfinished Global) (committed : Vec Program Global) (ready : Option Ready) : Type 0 where
+  pub in_order : IsInOrder us.items
+  pub programs : vec_len us + vec_len committed ≤ vec_capacity committed
+  pub is_ready : IfSome ready (IsReady us committed)
+
+-- What an entry with this reply is to a log.
+abbrev pub logged_as : Logging → Log → Event → Reply → Log
+logged_as Operation l e a = step_logged l e.txn e.op a
+logged_as Committing l e a = end_logged l e.txn (l.committed ++ record { txn = e.txn; operations = operations_so_far l e.txn } ∷ [])
+logged_as Aborting l e a = end_logged l e.txn l.committed
+logged_as Nothing l e a = l
+
+-- A log may note this: a step has had room made for it, and the end of an unfinished transaction has room.
+abbrev pub MayNoteAs : Logging → LogWithRoom → Event → Type 0
+MayNoteAs Operation l e = l.ready ≡ Some e.txn
+MayNoteAs Committing l e = (l.ready ≡ Some e.txn) ⊎ IsTrue (is_some (find nat_cmp e.txn l.log.unfinished))
+MayNoteAs Aborting l e = Unit {0}
+MayNoteAs Nothing l e = Unit {0}
+
+-- The same, by the reply: of a step that is blocked or refused nothing is noted, and an abort needs no room.
+abbrev pub MayNote : LogWithRoom → Event → Reply → Type 0
+MayNote l e reply.Committed = MayNoteAs Committing l e
+MayNote l e reply.Aborted = Unit {0}
+MayNote l e (reply.Blocked us) = Unit {0}
+MayNote l e (reply.Refused r) = Unit {0}
+MayNote l e a = l.ready ≡ Some e.txn
