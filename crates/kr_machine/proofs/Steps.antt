@@ -7,7 +7,7 @@ use Rattle.std.specs.FinMap.{find, put}
 use Rattle.kr_model.specs.declared.Op.{Op}
 use Rattle.kr_model.specs.declared.Op.TheVariants as op
 use Rattle.kr_model.specs.declared.Refusal.{Refusal}
-use Rattle.kr_model.specs.declared.Refusal.TheVariants.{Ended, Full, Busy, NoScan, BadRange}
+use Rattle.kr_model.specs.declared.Refusal.TheVariants.{Ended, Full}
 use Rattle.kr_model.specs.declared.Reply.TheVariants as reply
 use Rattle.kr_model.specs.Protocol.{Protocol}
 use Rattle.kr_model.specs.declared.Plan.{Plan}
@@ -15,57 +15,67 @@ use Rattle.kr_model.specs.Map.{Map, get}
 use Rattle.kr_model.specs.Locks.{Locks, Request, blockers, kept}
 use Rattle.kr_model.specs.State.{State, Active, Scan, idle, standing}
 use Rattle.kr_model.specs.Plan.{requests, plan_of}
-use Rattle.kr_model.specs.Step.{Outcome, Effect, fetched, inserted, deleted, refusal_of, step, granted_or_blocked, unless_refused, after_effect, performed}
+use Rattle.kr_model.specs.declared.Name.{Name}
+use Rattle.kr_model.specs.declared.Name.TheVariants.{Key, End}
+use Rattle.kr_model.specs.declared.Step.{Step}
+use Rattle.kr_model.specs.Step.{Outcome, Effect, fetched, inserted, deleted, row_read, looked, name_to_look, is_full, refusal_of, step, granted_or_blocked, attempted_scan, unless_refused, after_effect, performed}
 use Rattle.std.specs.Option.{option_map}
 use Rattle.kr_txn.specs.declared.Scan as txn
 use Rattle.kr_txn.specs.Standings.{scan_of}
-use Rattle.kr_machine.specs.Pending.{IsHandled, IsAttempt, attempt_of, effect_of, after_op}
+use Rattle.kr_machine.specs.Pending.{IsAttempt, IsEnd, end_reply, begun, refusal_in, look_of, attempt_of, look_effect, effect_of, after_op}
 
--- The refusal of an operation that no scan allows, where its transaction has not ended.
-abbrev pub refused_by : Option Active → Bool → Option Refusal
-refused_by None full = cond full (Some Full) None
-refused_by (Some a) full = cond (is_some a.scan) (Some Busy) None
+-- The refusal of an operation whose transaction has not ended, by how it stands.
+abbrev pub refused_by : Option Active → Bool → Op → Option Refusal
+refused_by None full o = cond full (Some Full) (refusal_in false o)
+refused_by (Some a) full o = refusal_in (is_some a.scan) o
 
-chain : (x : Bool) (f : Option Active) (l : Bool) → cond x (Some Ended) (cond (not (is_some f) && l) (Some Full) (cond (is_some (unwrap_or f idle).scan && true) (Some Busy) (cond (not (is_some (unwrap_or f idle).scan) && false) (Some NoScan) (cond false (Some BadRange) None)))) ≡ cond x (Some Ended) (refused_by f l)
-chain true f l = refl
-chain false None true = refl
-chain false None false = refl
-chain false (Some a) l = by a.scan
-  where
-    by : (c : Option Scan) → cond (is_some c && true) (Some Busy) (cond (not (is_some c) && false) (Some NoScan) (cond false (Some BadRange) None)) ≡ cond (is_some c) (Some Busy) None
-    by None = refl
-    by (Some c) = refl
+chain : (x : Bool) (f : Option Active) (l : Bool) (o : Op) → cond x (Some Ended) (cond (not (is_some f) && l) (Some Full) (refusal_in (is_some (unwrap_or f idle).scan) o)) ≡ cond x (Some Ended) (refused_by f l o)
+chain true f l o = refl
+chain false None l o = refl
+chain false (Some a) l o = refl
 
--- The refusal of an operation, by whether its transaction has ended, how it stands and whether 64 are active.
-pub refusal_by : (m : Map) (h : Locks) (ended : List ℕ) (es : List (ℕ × Active)) (t : ℕ) (o : Op) → IsHandled o → refusal_of (record { map = m; locks = h; ended = ended; active = es }) t o ≡ cond (list_any (λ u. u == t) ended) (Some Ended) (refused_by (find nat_cmp t es) (nat_le 64 (length es)))
-refusal_by m h ended es t op.Commit is = chain _ _ _
-refusal_by m h ended es t (op.Fetch k) is = chain _ _ _
-refusal_by m h ended es t (op.Insert k v) is = chain _ _ _
-refusal_by m h ended es t (op.Delete k) is = chain _ _ _
-refusal_by m h ended es t op.Abort is = absurd is
-refusal_by m h ended es t op.Go is = absurd is
-refusal_by m h ended es t (op.Scan lo hi) is = absurd is
+-- The refusal of an operation, by what is known of its transaction.
+pub refusal_is : (m : Map) (h : Locks) (ended : List ℕ) (es : List (ℕ × Active)) (t : ℕ) (o : Op) → (x : Bool) → list_any (λ u. u == t) ended ≡ x → (f : Option Active) → find nat_cmp t es ≡ f → (l : Bool) → nat_le 64 (length es) ≡ l
+    → refusal_of (record { map = m; locks = h; ended = ended; active = es }) t o ≡ cond x (Some Ended) (refused_by f l o)
+refusal_is m h ended es t o x hx f hf l hl =
+    chain (list_any (λ u. u == t) ended) (find nat_cmp t es) (nat_le 64 (length es)) o ∙ ap (λ y. cond y (Some Ended) (refused_by (find nat_cmp t es) (nat_le 64 (length es)) o)) hx
+    ∙ ap (λ g. cond x (Some Ended) (refused_by g (nat_le 64 (length es)) o)) hf ∙ ap (λ k. cond x (Some Ended) (refused_by f k o)) hl
+
+-- To go on where no scan is in progress is refused.
+go_needs_scan : (x y : Bool) (c : Option Scan) → cond x (Some Ended) (cond y (Some Full) (refusal_in (is_some c) op.Go)) ≡ None → c ≡ None → ⊥
+go_needs_scan true y c h e = cc
+go_needs_scan false true c h e = cc
+go_needs_scan false false None h e = cc
+go_needs_scan false false (Some c) h e = cc
 
 module _ (p : Protocol) (s : State) (t : ℕ) (o : Op) (allowed : refusal_of s t o ≡ None) where
   performs : step p s t o ≡ performed p s t o
   performs = ap (unless_refused p s t o) allowed
 
-  by_attempt : (o : Op) → IsAttempt o → performed p s t o ≡ granted_or_blocked p s t (requests (plan_of p s.map s.locks t (attempt_of o))) (effect_of s.map (standing s t) o) (blockers p s.locks t (requests (plan_of p s.map s.locks t (attempt_of o))))
-  by_attempt (op.Fetch k) is = refl
-  by_attempt (op.Insert k v) is = refl
-  by_attempt (op.Delete k) is = refl
-  by_attempt op.Commit is = absurd is
-  by_attempt op.Abort is = absurd is
-  by_attempt op.Go is = absurd is
-  by_attempt (op.Scan lo hi) is = absurd is
+  -- The requests of an attempt.
+  abbrev asked : Step → List Request
+  asked a = requests (plan_of p s.map s.locks t a)
+
+  by_look : (c : Option Scan) → (c ≡ None → ⊥) → attempted_scan p s t c ≡ granted_or_blocked p s t (asked (look_of s.map c)) (look_effect s.map (standing s t) c) (blockers p s.locks t (asked (look_of s.map c)))
+  by_look None some = absurd (some refl)
+  by_look (Some c) some = refl
+
+  by_attempt : (o : Op) → IsAttempt o → refusal_of s t o ≡ None → performed p s t o ≡ granted_or_blocked p s t (asked (attempt_of s.map (standing s t).scan o)) (effect_of s.map (standing s t) o) (blockers p s.locks t (asked (attempt_of s.map (standing s t).scan o)))
+  by_attempt (op.Fetch k) is allowed = refl
+  by_attempt (op.Insert k v) is allowed = refl
+  by_attempt (op.Delete k) is allowed = refl
+  by_attempt (op.Scan lo hi) is allowed = refl
+  by_attempt op.Go is allowed = by_look (standing s t).scan (go_needs_scan (list_any (λ u. u == t) s.ended) (is_full s t) (standing s t).scan allowed)
+  by_attempt op.Commit is allowed = absurd is
+  by_attempt op.Abort is allowed = absurd is
 
   -- Where no refusal applies, an attempt is granted or blocked.
-  pub attempts : IsAttempt o → step p s t o ≡ granted_or_blocked p s t (requests (plan_of p s.map s.locks t (attempt_of o))) (effect_of s.map (standing s t) o) (blockers p s.locks t (requests (plan_of p s.map s.locks t (attempt_of o))))
-  attempts is = performs ∙ by_attempt o is
+  pub attempts : IsAttempt o → step p s t o ≡ granted_or_blocked p s t (asked (attempt_of s.map (standing s t).scan o)) (effect_of s.map (standing s t) o) (blockers p s.locks t (asked (attempt_of s.map (standing s t).scan o)))
+  attempts is = performs ∙ by_attempt o is allowed
 
   -- An attempt that nobody blocks has its effect.
-  pub granted_step : IsAttempt o → blockers p s.locks t (requests (plan_of p s.map s.locks t (attempt_of o))) ≡ [] → step p s t o ≡ after_effect p s t (requests (plan_of p s.map s.locks t (attempt_of o))) (effect_of s.map (standing s t) o)
-  granted_step is none = attempts is ∙ ap (granted_or_blocked p s t (requests (plan_of p s.map s.locks t (attempt_of o))) (effect_of s.map (standing s t) o)) none
+  pub granted_step : IsAttempt o → blockers p s.locks t (asked (attempt_of s.map (standing s t).scan o)) ≡ [] → step p s t o ≡ after_effect p s t (asked (attempt_of s.map (standing s t).scan o)) (effect_of s.map (standing s t) o)
+  granted_step is none = attempts is ∙ ap (granted_or_blocked p s t (asked (attempt_of s.map (standing s t).scan o)) (effect_of s.map (standing s t) o)) none
 
 fetch_reply : (m : Map) (a b : Active) (g : Option ℕ) → (fetched m a g).reply ≡ (fetched m b g).reply
 fetch_reply m a b None = refl
@@ -79,22 +89,38 @@ delete_reply : (m : Map) (a b : Active) (k : ℕ) (g : Option ℕ) → (deleted 
 delete_reply m a b k None = refl
 delete_reply m a b k (Some w) = refl
 
--- The reply doesn't depend on how the transaction stands.
-pub reply_same : (m : Map) (a b : Active) (o : Op) → (effect_of m a o).reply ≡ (effect_of m b o).reply
-reply_same m a b (op.Fetch k) = fetch_reply m a b (get m k)
-reply_same m a b (op.Insert k v) = insert_reply m a b k v (get m k)
-reply_same m a b (op.Delete k) = delete_reply m a b k (get m k)
-reply_same m a b op.Commit = refl
-reply_same m a b op.Abort = refl
-reply_same m a b op.Go = refl
-reply_same m a b (op.Scan lo hi) = refl
+read_reply : (m : Map) (a b : Active) (l n hi k v : ℕ) (rows : List (ℕ × ℕ)) (x : Bool) → k == hi ≡ x → (row_read m a (record { lo = l; hi = hi; rows = rows }) k v).reply ≡ (row_read m b (record { lo = n; hi = hi; rows = rows }) k v).reply
+read_reply m a b l n hi k v rows true e = rw e refl
+read_reply m a b l n hi k v rows false e = rw e refl
 
--- The refusal of an operation, by what is known of its transaction.
-pub refusal_is : (m : Map) (h : Locks) (ended : List ℕ) (es : List (ℕ × Active)) (t : ℕ) (o : Op) → IsHandled o → (x : Bool) → list_any (λ u. u == t) ended ≡ x → (f : Option Active) → find nat_cmp t es ≡ f → (l : Bool) → nat_le 64 (length es) ≡ l
-    → refusal_of (record { map = m; locks = h; ended = ended; active = es }) t o ≡ cond x (Some Ended) (refused_by f l)
-refusal_is m h ended es t o is x hx f hf l hl =
-    refusal_by m h ended es t o is ∙ ap (λ y. cond y (Some Ended) (refused_by (find nat_cmp t es) (nat_le 64 (length es)))) hx
-    ∙ ap (λ g. cond x (Some Ended) (refused_by g (nat_le 64 (length es)))) hf ∙ ap (λ k. cond x (Some Ended) (refused_by f k)) hl
+-- What a scan's step answers goes by its upper end and its rows alone.
+pub look_reply : (m : Map) (a b : Active) (l k hi : ℕ) (rows : List (ℕ × ℕ)) (n : Name) → (looked m a (record { lo = l; hi = hi; rows = rows }) n).reply ≡ (looked m b (record { lo = k; hi = hi; rows = rows }) n).reply
+look_reply m a b l j hi rows End = refl
+look_reply m a b l j hi rows (Key k) = by (nat_le k hi) refl
+  where
+    by : (x : Bool) → nat_le k hi ≡ x → (looked m a (record { lo = l; hi = hi; rows = rows }) (Key k)).reply ≡ (looked m b (record { lo = j; hi = hi; rows = rows }) (Key k)).reply
+    by true e = rw e (read_reply m a b l j hi k (unwrap_or (get m k) 0) rows (k == hi) refl)
+    by false e = rw e refl
+
+scan_reply : (m : Map) (a b : Active) (c : Option Scan) → (look_effect m a c).reply ≡ (look_effect m b c).reply
+scan_reply m a b None = refl
+scan_reply m a b (Some c) = look_reply m a b c.lo c.lo c.hi c.rows (name_to_look m c)
+
+-- The reply doesn't depend on how the transaction stands, but for its scan.
+pub reply_same : (m : Map) (a b : Active) (o : Op) → a.scan ≡ b.scan → (effect_of m a o).reply ≡ (effect_of m b o).reply
+reply_same m a b (op.Fetch k) e = fetch_reply m a b (get m k)
+reply_same m a b (op.Insert k v) e = insert_reply m a b k v (get m k)
+reply_same m a b (op.Delete k) e = delete_reply m a b k (get m k)
+reply_same m a b (op.Scan lo hi) e = scan_reply m a b (Some (begun lo hi))
+reply_same m a b op.Go e = scan_reply m a b a.scan ∙ ap (λ c. (look_effect m b c).reply) e
+reply_same m a b op.Commit e = refl
+reply_same m a b op.Abort e = refl
+
+-- The reply of a granted attempt, by the scan in progress.
+pub granted_reply : (p : Protocol) (s : State) (t : ℕ) (o : Op) (plan : Plan) (b : Active) → IsAttempt o → refusal_of s t o ≡ None → plan ≡ plan_of p s.map s.locks t (attempt_of s.map (standing s t).scan o) → blockers p s.locks t (requests plan) ≡ [] → b.scan ≡ (standing s t).scan → (effect_of s.map b o).reply ≡ (step p s t o).0
+granted_reply p s t o plan b is allowed is_plan none same =
+    reply_same s.map b (standing s t) o same
+    ∙ sym (ap (λ (x : Outcome). x.0) (granted_step p s t o allowed is (ap (λ pl. blockers p s.locks t (requests pl)) (sym is_plan) ∙ none)))
 
 after_attempt : (m : Map) (real : Locks) (ended : List ℕ) (es : List (ℕ × Active)) (t : ℕ) (a : Active) (o : Op) → IsAttempt o → after_op m real ended es t a o ≡ record { map = let e = effect_of m a o in e.map; locks = real; ended = ended; active = put nat_cmp t (let e = effect_of m a o in e.standing) es }
 after_attempt m real ended es t a (op.Fetch k) is = refl
@@ -102,13 +128,13 @@ after_attempt m real ended es t a (op.Insert k v) is = refl
 after_attempt m real ended es t a (op.Delete k) is = refl
 after_attempt m real ended es t a op.Commit is = absurd is
 after_attempt m real ended es t a op.Abort is = absurd is
-after_attempt m real ended es t a op.Go is = absurd is
-after_attempt m real ended es t a (op.Scan lo hi) is = absurd is
+after_attempt m real ended es t a op.Go is = refl
+after_attempt m real ended es t a (op.Scan lo hi) is = refl
 
 -- The state after a granted attempt, by what the machine has taken for it.
 pub stepped_attempt : (p : Protocol) (m : Map) (h real : Locks) (ended : List ℕ) (es rest : List (ℕ × Active)) (t : ℕ) (o : Op) (a : Active) (plan : Plan) → IsAttempt o
     → refusal_of (record { map = m; locks = h; ended = ended; active = es }) t o ≡ None
-    → plan ≡ plan_of p m h t (attempt_of o) → blockers p h t (requests plan) ≡ [] → real ≡ kept p h t (requests plan)
+    → plan ≡ plan_of p m h t (attempt_of m (unwrap_or (find nat_cmp t es) idle).scan o) → blockers p h t (requests plan) ≡ [] → real ≡ kept p h t (requests plan)
     → a ≡ unwrap_or (find nat_cmp t es) idle → ((x : Active) → put nat_cmp t x rest ≡ put nat_cmp t x es)
     → ◌≡◌ {A = State} (let o' = step p (record { map = m; locks = h; ended = ended; active = es }) t o in o'.1) (after_op m real ended rest t a o)
 stepped_attempt p m h real ended es rest t o a plan is allowed is_plan none is_real is_a put_same =
@@ -120,22 +146,39 @@ stepped_attempt p m h real ended es rest t o a plan is allowed is_plan none is_r
     ∙ ap (λ b. record { map = let f = effect_of m b o in f.map; locks = real; ended = ended; active = put nat_cmp t (let f = effect_of m b o in f.standing) rest }) (sym is_a)
     ∙ sym (after_attempt m real ended rest t a o is)
 
--- The state after a commit, by what the machine has taken for it.
-pub stepped_end : (p : Protocol) (m : Map) (h : Locks) (ended : List ℕ) (es : List (ℕ × Active)) (t : ℕ) (a : Active)
-    → refusal_of (record { map = m; locks = h; ended = ended; active = es }) t op.Commit ≡ None
-    → ◌≡◌ {A = State} (let o' = step p (record { map = m; locks = h; ended = ended; active = es }) t op.Commit in o'.1) (after_op m h ended (filter (λ e. not (e.0 == t)) es) t a op.Commit)
-stepped_end p m h ended es t a allowed = ap (λ (x : Outcome). x.1) (performs p (record { map = m; locks = h; ended = ended; active = es }) t op.Commit allowed)
+-- The state after the end of a transaction, by what the machine has taken for it.
+pub stepped_end : (p : Protocol) (m : Map) (h : Locks) (ended : List ℕ) (es : List (ℕ × Active)) (t : ℕ) (a : Active) (o : Op) → IsEnd o
+    → refusal_of (record { map = m; locks = h; ended = ended; active = es }) t o ≡ None → a ≡ unwrap_or (find nat_cmp t es) idle
+    → ◌≡◌ {A = State} (let o' = step p (record { map = m; locks = h; ended = ended; active = es }) t o in o'.1) (after_op m h ended (filter (λ e. not (e.0 == t)) es) t a o)
+stepped_end p m h ended es t a op.Commit is allowed is_a = ap (λ (x : Outcome). x.1) (performs p (record { map = m; locks = h; ended = ended; active = es }) t op.Commit allowed)
+stepped_end p m h ended es t a op.Abort is allowed is_a =
+    ap (λ (x : Outcome). x.1) (performs p (record { map = m; locks = h; ended = ended; active = es }) t op.Abort allowed) ∙ ap (λ b. after_op m h ended (filter (λ e. not (e.0 == t)) es) t b op.Abort) (sym is_a)
+stepped_end p m h ended es t a (op.Fetch k) is allowed is_a = absurd is
+stepped_end p m h ended es t a (op.Insert k v) is allowed is_a = absurd is
+stepped_end p m h ended es t a (op.Delete k) is allowed is_a = absurd is
+stepped_end p m h ended es t a op.Go is allowed is_a = absurd is
+stepped_end p m h ended es t a (op.Scan lo hi) is allowed is_a = absurd is
+
+-- What the end of a transaction answers.
+pub end_answers : (p : Protocol) (s : State) (t : ℕ) (o : Op) → IsEnd o → refusal_of s t o ≡ None → end_reply o ≡ (step p s t o).0
+end_answers p s t op.Commit is allowed = sym (ap (λ (x : Outcome). x.0) (performs p s t op.Commit allowed))
+end_answers p s t op.Abort is allowed = sym (ap (λ (x : Outcome). x.0) (performs p s t op.Abort allowed))
+end_answers p s t (op.Fetch k) is allowed = absurd is
+end_answers p s t (op.Insert k v) is allowed = absurd is
+end_answers p s t (op.Delete k) is allowed = absurd is
+end_answers p s t op.Go is allowed = absurd is
+end_answers p s t (op.Scan lo hi) is allowed = absurd is
 
 blocked_by : (p : Protocol) (s : State) (t : ℕ) (rs : List Request) (e : Effect) (us : List ℕ) → (us ≡ [] → ⊥) → granted_or_blocked p s t rs e us ≡ (reply.Blocked us, s)
 blocked_by p s t rs e [] h = absurd (h refl)
 blocked_by p s t rs e (u ∷ us) h = refl
 
 -- An attempt that somebody blocks answers who, and leaves the state.
-pub blocked_step : (p : Protocol) (s : State) (t : ℕ) (o : Op) (plan : Plan) (us : List ℕ) → IsAttempt o → refusal_of s t o ≡ None → plan ≡ plan_of p s.map s.locks t (attempt_of o) → us ≡ blockers p s.locks t (requests plan) → (blockers p s.locks t (requests plan) ≡ [] → ⊥) → ◌≡◌ {A = Outcome} (reply.Blocked us, s) (step p s t o)
+pub blocked_step : (p : Protocol) (s : State) (t : ℕ) (o : Op) (plan : Plan) (us : List ℕ) → IsAttempt o → refusal_of s t o ≡ None → plan ≡ plan_of p s.map s.locks t (attempt_of s.map (standing s t).scan o) → us ≡ blockers p s.locks t (requests plan) → (blockers p s.locks t (requests plan) ≡ [] → ⊥) → ◌≡◌ {A = Outcome} (reply.Blocked us, s) (step p s t o)
 blocked_step p s t o plan us is allowed is_plan is_us some =
     let here = ap (λ pl. blockers p s.locks t (requests pl)) is_plan in
     ap (λ l. (reply.Blocked l, s)) (is_us ∙ here)
-    ∙ sym (attempts p s t o allowed is ∙ blocked_by p s t (requests (plan_of p s.map s.locks t (attempt_of o))) (effect_of s.map (standing s t) o) (blockers p s.locks t (requests (plan_of p s.map s.locks t (attempt_of o)))) (λ none. some (here ∙ none)))
+    ∙ sym (attempts p s t o allowed is ∙ blocked_by p s t (requests (plan_of p s.map s.locks t (attempt_of s.map (standing s t).scan o))) (effect_of s.map (standing s t) o) (blockers p s.locks t (requests (plan_of p s.map s.locks t (attempt_of s.map (standing s t).scan o)))) (λ none. some (here ∙ none)))
 
 -- A scan in progress is one for the definitions too.
 pub scanning : (c : Option txn.Scan) → is_some (option_map scan_of c) ≡ is_some c

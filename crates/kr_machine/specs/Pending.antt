@@ -1,14 +1,14 @@
 -- What a step that has its memory keeps in the machine, and what contracts see of the state meanwhile.
-use Rattle.std.specs.Prelude.{◌≡◌, ◌≢◌, ℕ, ◌+◌, ◌<◌, ◌≤◌, List, Option, Some, None, IfSome, IsTrue, if◌then◌else◌, Vec}
+use Rattle.std.specs.Prelude.{◌≡◌, ◌≢◌, ℕ, ◌+◌, ◌<◌, ◌≤◌, List, [], Option, Some, None, IfSome, IsTrue, Bool, not, ◌&&◌, if◌then◌else◌, Vec}
 use Rattle.std.specs.Vec.{vec_len, vec_capacity}
 use Rattle.std.specs.declared.alloc.Global.{Global}
 use Rattle.std.specs.Ordering.{nat_cmp}
 use Rattle.std.specs.FinMap.{find, put}
 use Rattle.kr_model.specs.Protocol.{Protocol}
-use Rattle.kr_model.specs.Map.{Map, IsMap, get}
+use Rattle.kr_model.specs.Map.{Map, IsMap, get, restore_all}
 use Rattle.kr_model.specs.Locks.{Locks, Request, IsLocks, own, keep_or_drop, release, add_once, AreWithin, HasNoNone}
-use Rattle.kr_model.specs.State.{State, Active}
-use Rattle.kr_model.specs.Step.{Effect, effect, fetched, inserted, deleted, step}
+use Rattle.kr_model.specs.State.{State, Active, Scan}
+use Rattle.kr_model.specs.Step.{Effect, effect, fetched, inserted, deleted, looked, name_to_look, goes_on, is_go, is_bad_range, step}
 use Rattle.kr_model.specs.declared.Name.{Name}
 use Rattle.kr_model.specs.declared.Span.{Span}
 use Rattle.kr_model.specs.declared.Span.TheVariants as span
@@ -16,44 +16,87 @@ use Rattle.kr_model.specs.declared.Step.{Step}
 use Rattle.kr_model.specs.declared.Step.TheVariants as attempt
 use Rattle.kr_model.specs.declared.Op.{Op}
 use Rattle.kr_model.specs.declared.Op.TheVariants as op
+use Rattle.kr_model.specs.declared.Reply.{Reply}
 use Rattle.kr_model.specs.declared.Reply.TheVariants as reply
+use Rattle.kr_model.specs.declared.Refusal.{Refusal}
+use Rattle.kr_model.specs.declared.Refusal.TheVariants as refusal
 use Rattle.kr_txn.specs.declared.Standing.{Standing}
 use Rattle.kr_txn.specs.EndedNumbers.{EndedNumbers}
 use Rattle.kr_txn.specs.Standings.{active_of, entries, IsInOrder}
+use Rattle.kr_machine.specs.Pins.{changes_of, all_changes_of, taken_pins}
 use Rattle.kr_machine.specs.declared.pending.Pending.{Pending}
+
+-- The operations that read or change one key.
+abbrev pub IsOfOneKey : Op → Type 0
+IsOfOneKey (op.Fetch k) = Unit {0}
+IsOfOneKey (op.Insert k v) = Unit {0}
+IsOfOneKey (op.Delete k) = Unit {0}
+IsOfOneKey _ = ⊥
 
 -- The operations that make one attempt at the index.
 abbrev pub IsAttempt : Op → Type 0
 IsAttempt (op.Fetch k) = Unit {0}
 IsAttempt (op.Insert k v) = Unit {0}
 IsAttempt (op.Delete k) = Unit {0}
+IsAttempt (op.Scan lo hi) = Unit {0}
+IsAttempt op.Go = Unit {0}
 IsAttempt _ = ⊥
 
--- The operations that the machine does so far: fetch, insert, delete and commit. Scans and abort come later, and then this condition goes.
-abbrev pub IsHandled : Op → Type 0
-IsHandled op.Commit = Unit {0}
-IsHandled (op.Fetch k) = Unit {0}
-IsHandled (op.Insert k v) = Unit {0}
-IsHandled (op.Delete k) = Unit {0}
-IsHandled _ = ⊥
+-- The operations that end their transaction.
+abbrev pub IsEnd : Op → Type 0
+IsEnd op.Commit = Unit {0}
+IsEnd op.Abort = Unit {0}
+IsEnd _ = ⊥
 
--- The attempt of an operation that makes one.
-abbrev pub attempt_of : Op → Step
-attempt_of (op.Fetch k) = attempt.Fetch k
-attempt_of (op.Insert k v) = attempt.Insert k
-attempt_of (op.Delete k) = attempt.Delete k
-attempt_of _ = attempt.Fetch 0
+-- What an operation answers that ends its transaction.
+abbrev pub end_reply : Op → Reply
+end_reply op.Abort = reply.Aborted
+end_reply _ = reply.Committed
+
+-- The refusal of an operation whose transaction has not ended and may be active, by whether a scan is in progress.
+abbrev pub refusal_in : Bool → Op → Option Refusal
+refusal_in scanning o =
+    if scanning && not (goes_on o) then Some refusal.Busy
+    else if not scanning && is_go o then Some refusal.NoScan
+    else if is_bad_range o then Some refusal.BadRange
+    else None
+
+-- A scan that begins.
+abbrev pub begun : ℕ → ℕ → Scan
+begun lo hi = record { lo = lo; hi = hi; rows = [] }
+
+-- The attempt of a scan's step, where there is a scan.
+abbrev pub look_of : Map → Option Scan → Step
+look_of m None = attempt.Fetch 0
+look_of m (Some c) = attempt.Look (name_to_look m c) c.hi
+
+-- The attempt of an operation that makes one, by the scan in progress.
+abbrev pub attempt_of : Map → Option Scan → Op → Step
+attempt_of m c (op.Fetch k) = attempt.Fetch k
+attempt_of m c (op.Insert k v) = attempt.Insert k
+attempt_of m c (op.Delete k) = attempt.Delete k
+attempt_of m c (op.Scan lo hi) = look_of m (Some (begun lo hi))
+attempt_of m c op.Go = look_of m c
+attempt_of m c _ = attempt.Fetch 0
+
+-- What a granted step of a scan does, where there is a scan.
+abbrev pub look_effect : Map → Active → Option Scan → Effect
+look_effect m a None = effect reply.None m a
+look_effect m a (Some c) = looked m a c (name_to_look m c)
 
 -- What a granted operation does to the index and to its transaction, who stands as a says.
 abbrev pub effect_of : Map → Active → Op → Effect
 effect_of m a (op.Fetch k) = fetched m a (get m k)
 effect_of m a (op.Insert k v) = inserted m a k v (get m k)
 effect_of m a (op.Delete k) = deleted m a k (get m k)
+effect_of m a (op.Scan lo hi) = look_effect m a (Some (begun lo hi))
+effect_of m a op.Go = look_effect m a a.scan
 effect_of m a _ = effect reply.None m a
 
 -- The state after an operation of t, who stands as a says, where es are the other transactions.
 abbrev pub after_op : Map → Locks → List ℕ → List (ℕ × Active) → ℕ → Active → Op → State
 after_op m real ended es t a op.Commit = record { map = m; locks = release real t; ended = add_once t ended; active = es }
+after_op m real ended es t a op.Abort = record { map = restore_all m a.changes; locks = release real t; ended = add_once t ended; active = es }
 after_op m real ended es t a o = let e = effect_of m a o in record { map = e.map; locks = real; ended = ended; active = put nat_cmp t e.standing es }
 
 -- The locks before a mode of t was kept on n for this span, where t had the mode `was` there.
@@ -90,20 +133,25 @@ abbrev pub HoldsSide : Locks → ℕ → Option Request → Type 0
 HoldsSide locks t None = Unit {0}
 HoldsSide locks t (Some (n, q, s)) = HoldsMode locks t n s
 
--- The one pin is that of the key that an operation may change.
-abbrev pub HasPins : (ℕ → ℕ) → Op → Type 0
-HasPins pins (op.Insert k v) = (pins k ≡ 1) × ((q : ℕ) → q ≢ k → pins q ≡ 0)
-HasPins pins (op.Delete k) = (pins k ≡ 1) × ((q : ℕ) → q ≢ k → pins q ≡ 0)
-HasPins pins _ = (q : ℕ) → pins q ≡ 0
+-- There is room for what an operation adds to its transaction: one more row of the scan in progress, or a change.
+abbrev pub HasRoomIn : Standing → Op → Type 0
+HasRoomIn s op.Go = IfSome s.scan (λ c. vec_len c.rows < vec_capacity c.rows)
+HasRoomIn s (op.Scan lo hi) = Unit {0}
+HasRoomIn s o = vec_len s.changes < vec_capacity s.changes
 
--- There is room for what an operation adds: a change, and its transaction in the list.
-abbrev pub HasRoom : Vec Standing Global → Standing → Op → Type 0
-HasRoom active s op.Commit = Unit {0}
-HasRoom active s o = (vec_len active < vec_capacity active) × (vec_len s.changes < vec_capacity s.changes)
+-- A scan that begins has no rows yet, and room for the first.
+abbrev pub HasFirstRoom : Vec (ℕ × ℕ) Global → Op → Type 0
+HasFirstRoom rows (op.Scan lo hi) = (rows.items ≡ []) × (vec_len rows < vec_capacity rows)
+HasFirstRoom rows o = Unit {0}
+
+-- There is room for what an operation adds, and for its transaction in the list.
+abbrev pub HasRoom : Vec Standing Global → Standing → Vec (ℕ × ℕ) Global → Op → Type 0
+HasRoom active s rows op.Commit = Unit {0}
+HasRoom active s rows op.Abort = Unit {0}
+HasRoom active s rows o = (vec_len active < vec_capacity active) × (HasRoomIn s o × HasFirstRoom rows o)
 
 -- A pending step is granted, and has all its memory.
 pub record IsReserved (p : Protocol) (m : Map) (pins : ℕ → ℕ) (real : Locks) (ended : EndedNumbers) (active : Vec Standing Global) (d : Pending) : Type 0 where
-  pub handled : IsHandled d.event.op
   pub stepped : ◌≡◌ {A = State} (let o = step p (shown (Some d) m real ended.numbers (entries active.items)) d.event.txn d.event.op in o.1) (after_op m real ended.numbers (entries active.items) d.event.txn (active_of d.standing) d.event.op)
   pub itself : d.standing.txn ≡ d.event.txn
   pub apart : find nat_cmp d.event.txn (entries active.items) ≡ None
@@ -112,15 +160,15 @@ pub record IsReserved (p : Protocol) (m : Map) (pins : ℕ → ℕ) (real : Lock
   pub within : AreWithin p.count (shown_locks (Some d) real)
   pub no_none : HasNoNone (shown_locks (Some d) real)
   pub in_order : IsLocks (shown_locks (Some d) real)
-  pub has_pins : HasPins pins d.event.op
+  pub noted : (q : ℕ) → all_changes_of (shown_active (Some d) (entries active.items)) q ≡ all_changes_of (entries active.items) q + changes_of (active_of d.standing).changes q
   pub room_ended : vec_len active + 1 ≤ ended.room
   pub room_back : IsTrue d.was_active → vec_len active < vec_capacity active
-  pub room : HasRoom active d.standing d.event.op
+  pub room : HasRoom active d.standing d.first_rows d.event.op
 
--- With no pending step there are no pins.
-abbrev pub HasNoPins : Option Pending → (ℕ → ℕ) → Type 0
-HasNoPins None pins = (q : ℕ) → pins q ≡ 0
-HasNoPins (Some p) pins = Unit {0}
+-- Each change of an active transaction has a pin of its key, and a pending step has one of the key that it may change.
+abbrev pub HasPins : Option Pending → (ℕ → ℕ) → List (ℕ × Active) → Type 0
+HasPins None pins es = (q : ℕ) → pins q ≡ all_changes_of es q
+HasPins (Some p) pins es = (q : ℕ) → pins q ≡ all_changes_of es q + changes_of (active_of p.standing).changes q + taken_pins p.event.op q
 
 -- What always holds of a machine's parts.
 pub record IsMachine (p : Protocol) (m : Map) (pins : ℕ → ℕ) (real : Locks) (ended : EndedNumbers) (active : Vec Standing Global) (pending : Option Pending) : Type 0 where
@@ -130,5 +178,5 @@ pub record IsMachine (p : Protocol) (m : Map) (pins : ℕ → ℕ) (real : Locks
   pub no_none : HasNoNone real
   pub standing : IsInOrder active.items
   pub room : vec_len active ≤ ended.room
-  pub no_pins : HasNoPins pending pins
+  pub has_pins : HasPins pending pins (entries active.items)
   pub reserved : IfSome pending (IsReserved p m pins real ended active)

@@ -1,39 +1,47 @@
 //! What a granted operation does to the index and its transaction.
-ghost use Rattle.std.specs.Prelude.{◌≡◌, ℕ, ◌+◌, ◌-◌, ◌<◌, ◌≤◌, ◌^◌, Some, IsOk, OnOk, OnErr, IfOk, vec_len, vec_capacity};
-ghost use Rattle.kr_model.specs.State.{idle};
+ghost use Rattle.std.specs.Prelude.{◌≡◌, ℕ, ◌+◌, ◌-◌, ◌<◌, ◌≤◌, ◌^◌, Some, IsOk, OnOk, OnErr, IfOk, IsTrue, vec_len, vec_capacity, option_map, option_copied, []};
+ghost use Rattle.kr_model.specs.Map.{restore_all};
 ghost use Rattle.kr_model.specs.Step.{Effect};
-ghost use Rattle.kr_txn.specs.Standings.{active_of};
-ghost use Rattle.kr_machine.specs.Pending.{HasPins, IsAttempt, attempt_of, effect_of};
+ghost use Rattle.kr_txn.specs.Standings.{active_of, scan_of};
+ghost use Rattle.kr_machine.specs.Pending.{IsAttempt, IsOfOneKey, IsEnd, HasRoomIn, HasFirstRoom, end_reply, attempt_of, effect_of};
+ghost use Rattle.kr_machine.specs.Pins.{changes_of, taken_pins};
 
+use crate::scans;
 use kr_index::{Memory, Ordered};
 use kr_model::{Op, Reply, Step};
-use kr_txn::Standing;
+use kr_txn::{Scan, Standing};
+use std::alloc::{AllocError, Global};
 
-/// The attempt of an operation that makes one; of any other it doesn't matter.
-pub(crate) fn attempt_of(op: Op) -> Step
-    ensures { result ≡ attempt_of op }
+/// The attempt of an operation that makes one, by the scan in progress; of any other it doesn't matter.
+pub(crate) fn attempt_of<I: Ordered>(index: &I, scan: Option<&Scan>, op: Op) -> Step
+    ensures { result ≡ attempt_of (I.map index.now) (option_map scan_of (option_copied scan.entry)) op }
 {
     match op {
         Op::Fetch(key) => Step::Fetch(key),
         Op::Insert(key, _) => Step::Insert(key),
         Op::Delete(key) => Step::Delete(key),
-        Op::Scan(_, _) | Op::Go | Op::Commit | Op::Abort => Step::Fetch(0),
+        Op::Scan(lo, hi) => Step::Look(index.at(lo), hi),
+        Op::Go => match scan {
+            Some(scan) => Step::Look(scans::name_to_look(index, scan), scan.hi),
+            None => Step::Fetch(0),
+        },
+        Op::Commit | Op::Abort => Step::Fetch(0),
     }
 }
 
-/// Pins the key that an operation may change, or answers `Memory` and pins none.
-pub(crate) fn reserve<I: Ordered>(index: &mut I, op: Op) -> Result<(), Memory>
-    requires { (q : ℕ) → I.pins index.old q ≡ 0 }
+/// Pins the key that an operation may change. The answer is `Memory` where that key may have no more pins, or a growth is
+/// refused; then no pin changes.
+pub(crate) fn reserve<I: Ordered>(index: &mut I, op: Op, may_pin: bool) -> Result<(), Memory>
+    requires { IsTrue may_pin → (q : ℕ) → I.pins index.old q + 1 < 2 ^ 32 }
     ensures map { I.map index.new ≡ I.map index.old }
-    ensures ok { OnOk result (HasPins (I.pins index.new) op) }
-    ensures err { OnErr result ((q : ℕ) → I.pins index.new q ≡ 0) }
+    ensures ok { OnOk result ((q : ℕ) → I.pins index.new q ≡ I.pins index.old q + taken_pins op q) }
+    ensures err { OnErr result ((q : ℕ) → I.pins index.new q ≡ I.pins index.old q) }
 {
     match op {
-        Op::Insert(key, _) => {
-            index.pin(key)?;
-            Ok(())
-        }
-        Op::Delete(key) => {
+        Op::Insert(key, _) | Op::Delete(key) => {
+            if !may_pin {
+                return Err(AllocError);
+            }
             index.pin(key)?;
             Ok(())
         }
@@ -43,9 +51,9 @@ pub(crate) fn reserve<I: Ordered>(index: &mut I, op: Op) -> Result<(), Memory>
 
 /// Gives up that pin.
 pub(crate) fn give_up<I: Ordered>(index: &mut I, op: Op)
-    requires { HasPins (I.pins index.old) op }
+    requires { (q : ℕ) → taken_pins op q ≤ I.pins index.old q }
     ensures map { I.map index.new ≡ I.map index.old }
-    ensures pins { (q : ℕ) → I.pins index.new q ≡ 0 }
+    ensures pins { (q : ℕ) → I.pins index.new q + taken_pins op q ≡ I.pins index.old q }
 {
     match op {
         Op::Insert(key, _) => index.unpin(key),
@@ -54,13 +62,42 @@ pub(crate) fn give_up<I: Ordered>(index: &mut I, op: Op)
     }
 }
 
-/// Does a granted operation on the index, notes the change, and gives up the pin.
-pub(crate) fn change<I: Ordered>(index: &mut I, standing: Standing, op: Op) -> Standing
+/// Does a granted operation on the index, and notes the row that is read, or the change, whose pin stays; where nothing
+/// changes, the pin is given up.
+pub(crate) fn perform<I: Ordered>(
+    index: &mut I,
+    standing: Standing,
+    first_rows: Vec<(u64, u64)>,
+    op: Op,
+) -> Standing
     requires attempt { IsAttempt op }
-    requires pins { HasPins (I.pins index.old) op }
+    requires pins { (q : ℕ) → taken_pins op q ≤ I.pins index.old q }
+    requires room { HasRoomIn standing op }
+    requires first_room { HasFirstRoom first_rows op }
+    ensures map { I.map index.new ≡ (effect_of (I.map index.old) (active_of standing) op).map }
+    ensures pins { (q : ℕ) → I.pins index.new q + taken_pins op q + changes_of (active_of standing).changes q ≡ I.pins index.old q + changes_of (active_of result).changes q }
+    ensures txn { result.txn ≡ standing.txn }
+    ensures standing { active_of result ≡ (effect_of (I.map index.old) (active_of standing) op).standing }
+{
+    match op {
+        Op::Scan(lo, hi) => {
+            let rows = first_rows;
+            scans::begin(index, standing, Scan { lo, hi, rows })
+        }
+        Op::Go => scans::go_on(index, standing),
+        Op::Fetch(_) | Op::Insert(_, _) | Op::Delete(_) | Op::Commit | Op::Abort => {
+            change(index, standing, op)
+        }
+    }
+}
+
+/// The same of an operation that reads or changes one key.
+fn change<I: Ordered>(index: &mut I, standing: Standing, op: Op) -> Standing
+    requires one_key { IsOfOneKey op }
+    requires pins { (q : ℕ) → taken_pins op q ≤ I.pins index.old q }
     requires room { vec_len standing.changes < vec_capacity standing.changes }
     ensures map { I.map index.new ≡ (effect_of (I.map index.old) (active_of standing) op).map }
-    ensures pins { (q : ℕ) → I.pins index.new q ≡ 0 }
+    ensures pins { (q : ℕ) → I.pins index.new q + taken_pins op q + changes_of (active_of standing).changes q ≡ I.pins index.old q + changes_of (active_of result).changes q }
     ensures txn { result.txn ≡ standing.txn }
     ensures standing { active_of result ≡ (effect_of (I.map index.old) (active_of standing) op).standing }
 {
@@ -70,38 +107,97 @@ pub(crate) fn change<I: Ordered>(index: &mut I, standing: Standing, op: Op) -> S
             if index.get(key).is_none() {
                 index.put(key, value);
                 standing.changes.push_reserved((key, None));
+            } else {
+                index.unpin(key);
             }
-            index.unpin(key);
         }
         Op::Delete(key) => {
             if let Some(value) = index.get(key) {
                 let _ = index.take(key);
                 standing.changes.push_reserved((key, Some(value)));
+            } else {
+                index.unpin(key);
             }
-            index.unpin(key);
         }
         Op::Fetch(_) | Op::Scan(_, _) | Op::Go | Op::Commit | Op::Abort => {}
     }
     standing
 }
 
-/// What an operation answers where it is granted.
-pub(crate) fn reply_to<I: Ordered>(index: &I, op: Op) -> Reply
-    ensures { result ≡ (effect_of (I.map index.now) idle op).reply }
+/// Lets the changes of a transaction stand, and gives up their pins.
+pub(crate) fn settle<I: Ordered>(index: &mut I, standing: Standing)
+    requires { (q : ℕ) → changes_of (active_of standing).changes q ≤ I.pins index.old q }
+    ensures map { I.map index.new ≡ I.map index.old }
+    ensures pins { (q : ℕ) → I.pins index.new q + changes_of (active_of standing).changes q ≡ I.pins index.old q }
+{
+    let mut changes = standing.changes;
+    while let Some((key, _)) = changes.pop() {
+        index.unpin(key);
+    }
+}
+
+/// Takes the changes of a transaction back, newest first, and gives up their pins.
+pub(crate) fn undo<I: Ordered>(index: &mut I, standing: Standing)
+    requires { (q : ℕ) → changes_of (active_of standing).changes q ≤ I.pins index.old q }
+    ensures map { I.map index.new ≡ restore_all (I.map index.old) (active_of standing).changes }
+    ensures pins { (q : ℕ) → I.pins index.new q + changes_of (active_of standing).changes q ≡ I.pins index.old q }
+{
+    let mut changes = standing.changes;
+    while let Some((key, before)) = changes.pop() {
+        match before {
+            Some(value) => index.put(key, value),
+            None => {
+                let _ = index.take(key);
+            }
+        }
+        index.unpin(key);
+    }
+}
+
+/// What an operation answers where it is granted, by the scan in progress; or `Memory` where the rows of a scan that
+/// ends can't be copied.
+pub(crate) fn reply_to<I: Ordered>(
+    alloc: Global,
+    index: &I,
+    scan: Option<&Scan>,
+    op: Op,
+) -> Result<Reply, Memory>
+    ensures { IfOk result (λ r. r ≡ (effect_of (I.map index.now) (record { scan = option_map scan_of (option_copied scan.entry); changes = [] }) op).reply) }
 {
     match op {
         Op::Fetch(key) => match index.get(key) {
-            Some(value) => Reply::Found(value),
-            None => Reply::None,
+            Some(value) => Ok(Reply::Found(value)),
+            None => Ok(Reply::None),
         },
         Op::Insert(key, _) => match index.get(key) {
-            Some(_) => Reply::Duplicate,
-            None => Reply::Done,
+            Some(_) => Ok(Reply::Duplicate),
+            None => Ok(Reply::Done),
         },
         Op::Delete(key) => match index.get(key) {
-            Some(value) => Reply::Deleted(value),
-            None => Reply::Absent,
+            Some(value) => Ok(Reply::Deleted(value)),
+            None => Ok(Reply::Absent),
         },
-        Op::Scan(_, _) | Op::Go | Op::Commit | Op::Abort => Reply::None,
+        Op::Scan(lo, hi) => scans::answer(alloc, index, index.at(lo), hi, &[]),
+        Op::Go => match scan {
+            Some(scan) => {
+                let name = scans::name_to_look(index, scan);
+                scans::answer(alloc, index, name, scan.hi, scan.rows.as_slice())
+            }
+            None => Ok(Reply::None),
+        },
+        Op::Commit | Op::Abort => Ok(Reply::None),
+    }
+}
+
+/// What an operation answers that ends its transaction.
+pub(crate) fn end_reply(op: Op) -> Reply
+    requires { IsEnd op }
+    ensures { result ≡ end_reply op }
+{
+    match op {
+        Op::Abort => Reply::Aborted,
+        Op::Commit | Op::Fetch(_) | Op::Insert(_, _) | Op::Delete(_) | Op::Scan(_, _) | Op::Go => {
+            Reply::Committed
+        }
     }
 }

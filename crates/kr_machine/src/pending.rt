@@ -20,6 +20,8 @@ pub struct Pending {
     pub standing: Standing,
     /// Whether the transaction was active before the step.
     pub was_active: bool,
+    /// No rows yet, with room for the first, where the step begins a scan.
+    pub first_rows: Vec<(u64, u64)>,
 }
 
 /// A step that is ready, with its reply. The machine that gave it must do it or give it up: it can't be dropped.

@@ -1,17 +1,17 @@
 //! All memory of a granted step.
-ghost use Rattle.std.specs.Prelude.{None, Some, ◌≡◌, ◌≢◌, ℕ, ◌<◌, ◌≤◌, [], IfOk, IfErr, IsOk, OnErr, OnOk, true, false};
+ghost use Rattle.std.specs.Prelude.{None, Some, ◌≡◌, ◌≢◌, ℕ, ◌<◌, ◌≤◌, [], IfOk, IfErr, IsOk, OnErr, OnOk, true, false, unwrap_or};
 ghost use Rattle.std.specs.Ordering.{nat_cmp};
 ghost use Rattle.std.specs.FinMap.{find};
 ghost use Rattle.kr_model.specs.Locks.{blockers, AreWithin};
-ghost use Rattle.kr_model.specs.declared.Op.TheVariants as Op;
 ghost use Rattle.kr_model.specs.Plan.{requests, plan_of};
+ghost use Rattle.kr_model.specs.State.{idle};
 ghost use Rattle.kr_model.specs.Step.{refusal_of};
 ghost use Rattle.kr_plan.specs.Modes.{ArePlanModes};
 ghost use Rattle.kr_txn.specs.Standings.{entries};
-ghost use Rattle.kr_machine.specs.Pending.{IsMachine, IsAttempt, attempt_of, shown, shown_locks, shown_active};
+ghost use Rattle.kr_machine.specs.Pending.{IsMachine, IsAttempt, IsEnd, attempt_of, shown, shown_locks, shown_active};
 
 use crate::pending::Pending;
-use crate::{change, holds, room};
+use crate::{change, holds, room, scans};
 use kr_index::Ordered;
 use kr_locks::{Holdings, Memory};
 use kr_model::{Event, Op, Plan, Row, Txn};
@@ -33,7 +33,7 @@ pub(crate) fn reserve<P: Protocol, I: Ordered, L: Holdings>(
     requires at_rest { IsMachine (P.table protocol.now) (I.map index.old) (I.pins index.old) (L.locks locks.old) ended.old active.old None }
     requires attempt { IsAttempt op }
     requires allowed { refusal_of (shown None (I.map index.old) (L.locks locks.old) ended.old.numbers (entries active.old.items)) txn op ≡ None }
-    requires plan { plan ≡ plan_of (P.table protocol.now) (I.map index.old) (L.locks locks.old) txn (attempt_of op) }
+    requires plan { plan ≡ plan_of (P.table protocol.now) (I.map index.old) (L.locks locks.old) txn (attempt_of (I.map index.old) (unwrap_or (find nat_cmp txn (entries active.old.items)) idle).scan op) }
     requires modes { ArePlanModes (P.table protocol.now).count plan }
     requires granted { blockers (P.table protocol.now) (L.locks locks.old) txn (requests plan) ≡ [] }
     ensures map { I.map index.new ≡ I.map index.old }
@@ -47,8 +47,10 @@ pub(crate) fn reserve<P: Protocol, I: Ordered, L: Holdings>(
     ensures err { OnErr result (IsMachine (P.table protocol.now) (I.map index.new) (I.pins index.new) (L.locks locks.new) ended.new active.new None) }
 {
     room::make_room(ended, active)?;
-    let (standing, was_active) = room::stand(active, txn)?;
-    if let Err(refused) = change::reserve(index, op) {
+    let may_pin = room::may_change(active);
+    let first_rows = scans::first_rows(*active.allocator(), op)?;
+    let (standing, was_active) = room::stand(active, txn, op)?;
+    if let Err(refused) = change::reserve(index, op, may_pin) {
         room::put_down(active, txn, standing, was_active);
         return Err(refused);
     }
@@ -60,6 +62,7 @@ pub(crate) fn reserve<P: Protocol, I: Ordered, L: Holdings>(
             next_was,
             standing,
             was_active,
+            first_rows,
         }),
         Err(refused) => {
             change::give_up(index, op);
@@ -69,14 +72,14 @@ pub(crate) fn reserve<P: Protocol, I: Ordered, L: Holdings>(
     }
 }
 
-/// The plan of a commit, which asks for no lock; its row doesn't matter.
+/// The plan of a commit or an abort, which asks for no lock; its row doesn't matter.
 const NO_LOCKS: Plan = Plan {
     row: Row::FetchHit,
     current: None,
     next: None,
 };
 
-/// Takes the memory of a commit, which is none where the transaction is active, and takes it out of the list.
+/// Takes the memory of a commit or an abort, which is none where the transaction is active, and takes it out of the list.
 pub(crate) fn reserve_end<P: Protocol, I: Ordered, L: Holdings>(
     protocol: &P,
     index: &I,
@@ -84,22 +87,22 @@ pub(crate) fn reserve_end<P: Protocol, I: Ordered, L: Holdings>(
     ended: &mut Ended,
     active: &mut Vec<Standing>,
     txn: Txn,
+    op: Op,
 ) -> Result<Pending, Memory>
     requires at_rest { IsMachine (P.table protocol.now) (I.map index.now) (I.pins index.now) (L.locks locks.now) ended.old active.old None }
-    requires allowed { refusal_of (shown None (I.map index.now) (L.locks locks.now) ended.old.numbers (entries active.old.items)) txn Op.Commit ≡ None }
+    requires end { IsEnd op }
+    requires allowed { refusal_of (shown None (I.map index.now) (L.locks locks.now) ended.old.numbers (entries active.old.items)) txn op ≡ None }
     ensures ended { ended.new.numbers ≡ ended.old.numbers }
-    ensures event { IfOk result (λ p. p.event ≡ record { txn = txn; op = Op.Commit }) }
+    ensures event { IfOk result (λ p. p.event ≡ record { txn = txn; op = op }) }
     ensures seen_locks { IfOk result (λ p. shown_locks (Some p) (L.locks locks.now) ≡ L.locks locks.now) }
     ensures seen_active { IfOk result (λ p. shown_active (Some p) (entries active.new.items) ≡ entries active.old.items) }
     ensures ok { IfOk result (λ p. IsMachine (P.table protocol.now) (I.map index.now) (I.pins index.now) (L.locks locks.now) ended.new active.new (Some p)) }
     ensures active { OnErr result (entries active.new.items ≡ entries active.old.items) }
     ensures err { OnErr result (IsMachine (P.table protocol.now) (I.map index.now) (I.pins index.now) (L.locks locks.now) ended.new active.new None) }
-    ensures active_commits { find nat_cmp txn (entries active.old.items) ≢ None → IsOk result }
+    ensures active_ends { find nat_cmp txn (entries active.old.items) ≢ None → IsOk result }
 {
-    let event = Event {
-        txn,
-        op: Op::Commit,
-    };
+    let event = Event { txn, op };
+    let alloc = *active.allocator();
     match take_out(active, txn) {
         Some(standing) => Ok(Pending {
             event,
@@ -108,11 +111,12 @@ pub(crate) fn reserve_end<P: Protocol, I: Ordered, L: Holdings>(
             next_was: 0,
             standing,
             was_active: true,
+            first_rows: Vec::new(alloc),
         }),
         None => {
             let more = active.len() + 1;
             ended.make_room(more)?;
-            let standing = Standing::new(*active.allocator(), txn);
+            let standing = Standing::new(alloc, txn);
             Ok(Pending {
                 event,
                 plan: NO_LOCKS,
@@ -120,6 +124,7 @@ pub(crate) fn reserve_end<P: Protocol, I: Ordered, L: Holdings>(
                 next_was: 0,
                 standing,
                 was_active: false,
+                first_rows: Vec::new(alloc),
             })
         }
     }

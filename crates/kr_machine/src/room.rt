@@ -1,20 +1,52 @@
 //! The lists of ended and active transactions, and room in them.
-ghost use Rattle.std.specs.Prelude.{◌≡◌, ◌≢◌, ℕ, ◌+◌, ◌<◌, ◌≤◌, None, Some, OnOk, OnErr, IfOk, IfErr, IsOk, IsTrue, length, vec_len, vec_capacity, if◌then◌else◌, unwrap_or, [], false};
+ghost use Rattle.std.specs.Prelude.{◌≡◌, ◌≢◌, ℕ, ◌+◌, ◌<◌, ◌≤◌, ◌^◌, ◌↔◌, None, Some, OnOk, OnErr, IfOk, IfErr, IsOk, IsTrue, length, vec_len, vec_capacity, if◌then◌else◌, unwrap_or, [], false, option_map, option_copied};
 ghost use Rattle.std.specs.Ordering.{nat_cmp};
 ghost use Rattle.std.specs.FinMap.{find, put};
-ghost use Rattle.kr_model.specs.Locks.{add_once};
+ghost use Rattle.kr_model.specs.Locks.{add_once, release};
 ghost use Rattle.kr_model.specs.State.{State, idle, Active};
 ghost use Rattle.kr_model.specs.Step.{refusal_of};
-ghost use Rattle.kr_txn.specs.Standings.{active_of, entries, IsInOrder, without_txn};
-ghost use Rattle.kr_machine.specs.Pending.{IsHandled, shown};
+ghost use Rattle.kr_txn.specs.Standings.{active_of, scan_of, entries, IsInOrder, without_txn};
+ghost use Rattle.kr_machine.specs.Pending.{HasRoomIn, refusal_in, shown};
+ghost use Rattle.kr_machine.specs.Pins.{change_count, changes_of, all_changes_of};
 
+use kr_locks::Holdings;
 use kr_model::{Op, Refusal, Txn};
-use kr_txn::{Ended, Memory, Standing, position, put_in, take_out};
-use std::alloc::Global;
+use kr_txn::{Ended, Memory, Scan, Standing, position, put_in, take_out};
+
+/// The refusal of an operation by whether its transaction has a scan in progress.
+fn scan_refusal(is_scanning: bool, op: Op) -> Option<Refusal>
+    ensures { result ≡ refusal_in is_scanning op }
+{
+    match op {
+        Op::Go => {
+            if is_scanning {
+                None
+            } else {
+                Some(Refusal::NoScan)
+            }
+        }
+        Op::Abort => None,
+        Op::Scan(lo, hi) => {
+            if is_scanning {
+                Some(Refusal::Busy)
+            } else if hi < lo {
+                Some(Refusal::BadRange)
+            } else {
+                None
+            }
+        }
+        Op::Fetch(_) | Op::Insert(_, _) | Op::Delete(_) | Op::Commit => {
+            if is_scanning {
+                Some(Refusal::Busy)
+            } else {
+                None
+            }
+        }
+    }
+}
 
 /// The first refusal that applies, want of memory aside.
 pub(crate) fn refusal(ended: &Ended, active: &[Standing], txn: Txn, op: Op) -> Option<Refusal>
-    requires { IsHandled op }
     ensures { result ≡ refusal_of (shown None [] [] ended.now.numbers (entries active.now)) txn op }
 {
     if ended.has(txn) {
@@ -25,14 +57,19 @@ pub(crate) fn refusal(ended: &Ended, active: &[Standing], txn: Txn, op: Op) -> O
             if active.len() >= 64 {
                 return Some(Refusal::Full);
             }
-            None
+            scan_refusal(false, op)
         }
-        Some(i) => {
-            if active[i].scan.is_some() {
-                return Some(Refusal::Busy);
-            }
-            None
-        }
+        Some(i) => scan_refusal(active[i].scan.is_some(), op),
+    }
+}
+
+/// The scan in progress of a transaction, if there is one.
+pub(crate) fn scan_of(active: &[Standing], txn: Txn) -> Option<&Scan>
+    ensures { option_map scan_of (option_copied result) ≡ (unwrap_or (find nat_cmp txn (entries active.now)) idle).scan }
+{
+    match position(active, txn) {
+        Some(i) => active[i].scan.as_ref(),
+        None => None,
     }
 }
 
@@ -51,8 +88,49 @@ pub(crate) fn make_room(ended: &mut Ended, active: &mut Vec<Standing>) -> Result
     Ok(())
 }
 
-/// Takes a transaction out of the list, or makes a new one, with room for a change; and tells whether it was there.
-pub(crate) fn stand(active: &mut Vec<Standing>, txn: Txn) -> Result<(Standing, bool), Memory>
+/// Whether the transactions may have one more change: together they have at most 4,294,967,295, so that a key has no more
+/// pins than it may have.
+pub(crate) fn may_change(active: &[Standing]) -> bool
+    ensures { IsTrue result ↔ (change_count active.now + 1 < 2 ^ 32) }
+{
+    let mut left: usize = 4_294_967_294;
+    for standing in active {
+        let changes = standing.changes.len();
+        if changes > left {
+            return false;
+        }
+        left -= changes;
+    }
+    true
+}
+
+/// Takes room for what an operation adds to its transaction: a row of the scan in progress, or a change.
+fn make_room_in(standing: &mut Standing, op: Op) -> Result<(), Memory>
+    ensures txn { standing.new.txn ≡ standing.old.txn }
+    ensures same { active_of standing.new ≡ active_of standing.old }
+    ensures ok { OnOk result (HasRoomIn standing.new op) }
+{
+    match op {
+        Op::Scan(_, _) => {}
+        Op::Go => {
+            if let Some(scan) = &mut standing.scan {
+                scan.rows.reserve(1)?;
+            }
+        }
+        Op::Fetch(_) | Op::Insert(_, _) | Op::Delete(_) | Op::Commit | Op::Abort => {
+            standing.changes.reserve(1)?;
+        }
+    }
+    Ok(())
+}
+
+/// Takes a transaction out of the list, or makes a new one, with room for what an operation adds to it; and tells whether
+/// it was there.
+pub(crate) fn stand(
+    active: &mut Vec<Standing>,
+    txn: Txn,
+    op: Op,
+) -> Result<(Standing, bool), Memory>
     requires order { IsInOrder active.old.items }
     requires room { vec_len active.old < vec_capacity active.old }
     ensures apart { OnOk result (find nat_cmp txn (entries active.new.items) ≡ None) }
@@ -64,14 +142,15 @@ pub(crate) fn stand(active: &mut Vec<Standing>, txn: Txn) -> Result<(Standing, b
     ensures was_active { IfOk result (λ s. IsTrue s.1 → vec_len active.new + 1 ≡ vec_len active.old) }
     ensures txn { IfOk result (λ s. s.0.txn ≡ txn) }
     ensures fresh { IfOk result (λ s. active_of s.0 ≡ unwrap_or (find nat_cmp txn (entries active.old.items)) idle) }
-    ensures change { IfOk result (λ s. vec_len s.0.changes < vec_capacity s.0.changes) }
+    ensures noted { IfOk result (λ s. (q : ℕ) → all_changes_of (entries active.old.items) q ≡ all_changes_of (entries active.new.items) q + changes_of (active_of s.0).changes q) }
+    ensures change { IfOk result (λ s. HasRoomIn s.0 op) }
     ensures err { OnErr result (entries active.new.items ≡ entries active.old.items) }
     ensures err_len { OnErr result (vec_len active.new ≡ vec_len active.old) }
 {
     match take_out(active, txn) {
         Some(standing) => {
             let mut standing = standing;
-            match standing.changes.reserve(1) {
+            match make_room_in(&mut standing, op) {
                 Ok(()) => Ok((standing, true)),
                 Err(refused) => {
                     put_in(active, standing);
@@ -81,7 +160,7 @@ pub(crate) fn stand(active: &mut Vec<Standing>, txn: Txn) -> Result<(Standing, b
         }
         None => {
             let mut standing = Standing::new(*active.allocator(), txn);
-            standing.changes.reserve(1)?;
+            make_room_in(&mut standing, op)?;
             Ok((standing, false))
         }
     }
@@ -100,4 +179,15 @@ pub(crate) fn put_down(active: &mut Vec<Standing>, txn: Txn, standing: Standing,
     if was_active {
         put_in(active, standing);
     }
+}
+
+/// Lets a transaction go: it holds no lock any more, and has ended. Takes no memory.
+pub(crate) fn leave<L: Holdings>(locks: &mut L, ended: &mut Ended, txn: Txn)
+    requires { 0 < ended.old.room }
+    ensures locks { L.locks locks.new ≡ release (L.locks locks.old) txn }
+    ensures ended { ended.new.numbers ≡ add_once txn ended.old.numbers }
+    ensures room { ended.old.room ≤ ended.new.room + 1 }
+{
+    locks.release(txn);
+    ended.add(txn);
 }

@@ -2,10 +2,10 @@
 //!
 //! The modes of key-value locking: IS is 1, IX 2, S 3, SIX 4, X 5.
 ghost use Rattle.std.specs.Prelude.{◌≡◌, [], None, IfOk};
-ghost use Rattle.kr_machine.specs.Pending.{IsHandled};
 
 use super::*;
 
+mod scans;
 mod scarce;
 
 use kr_index::Sorted;
@@ -26,13 +26,16 @@ fn same(one: &Reply, other: &Reply) -> bool {
     match (one, other) {
         (Reply::Found(one), Reply::Found(other)) => one == other,
         (Reply::Deleted(one), Reply::Deleted(other)) => one == other,
+        (Reply::Going(one), Reply::Going(other)) => one == other,
+        (Reply::Rows(one), Reply::Rows(other)) => one.as_slice() == other.as_slice(),
         (Reply::Blocked(one), Reply::Blocked(other)) => one.as_slice() == other.as_slice(),
         (Reply::Refused(one), Reply::Refused(other)) => one == other,
         (Reply::None, Reply::None)
         | (Reply::Done, Reply::Done)
         | (Reply::Duplicate, Reply::Duplicate)
         | (Reply::Absent, Reply::Absent)
-        | (Reply::Committed, Reply::Committed) => true,
+        | (Reply::Committed, Reply::Committed)
+        | (Reply::Aborted, Reply::Aborted) => true,
         _ => false,
     }
 }
@@ -41,6 +44,12 @@ fn same(one: &Reply, other: &Reply) -> bool {
 fn blocked_by(alloc: Global, txn: Txn) -> Result<Reply, Memory> {
     let txns = vec![in alloc; txn]?;
     Ok(Reply::Blocked(Txns::from_vec(txns)))
+}
+
+/// The reply that a scan ends with these pairs.
+fn rows(alloc: Global, pairs: &[(u64, u64)]) -> Result<Reply, Memory> {
+    let list = Vec::from_slice(alloc, pairs)?;
+    Ok(Reply::Rows(Pairs::from_vec(list)))
 }
 
 /// A machine at the plain index and lock table.
@@ -117,8 +126,7 @@ fn expect<P: Protocol, I: Ordered, L: Holdings>(
     op: Op,
     want: Reply,
 )
-    requires handled { IsHandled op }
-    requires at_rest { machine.old.1.1 ≡ None }
+    requires { machine.old.1.1 ≡ None }
     ensures { machine.new.1.1 ≡ None }
 {
     let reply = machine.step(txn, op);
@@ -254,6 +262,95 @@ fn deletes_last<P: Protocol, I: Ordered, L: Holdings>(
     )
 }
 
+/// An insert of a present key reads it, so no other may delete it.
+fn reads_duplicate<P: Protocol, I: Ordered, L: Holdings>(
+    rt: &impl Abort,
+    alloc: Global,
+    mut machine: Machine<P, I, L>,
+) -> Result<(), Fail>
+    requires { machine.1.1 ≡ None }
+{
+    expect(rt, &mut machine, 1, Op::Insert(20, 9), Reply::Duplicate);
+    expect(rt, &mut machine, 2, Op::Delete(20), blocked_by(alloc, 1)?);
+    expect_view(
+        rt,
+        &machine,
+        &[(10, 1), (20, 2), (30, 3)],
+        &[((Name::Key(20), 1), S)],
+        &[1],
+    )
+}
+
+/// Two changes of one key are taken back, the newer one first.
+fn deletes_inserts_aborts<P: Protocol, I: Ordered, L: Holdings>(
+    rt: &impl Abort,
+    mut machine: Machine<P, I, L>,
+) -> Result<(), Fail>
+    requires { machine.1.1 ≡ None }
+{
+    expect(rt, &mut machine, 1, Op::Delete(20), Reply::Deleted(2));
+    expect(rt, &mut machine, 1, Op::Insert(20, 9), Reply::Done);
+    expect(rt, &mut machine, 1, Op::Abort, Reply::Aborted);
+    expect(rt, &mut machine, 2, Op::Fetch(20), Reply::Found(2));
+    let ended = Reply::Refused(Refusal::Ended);
+    expect(rt, &mut machine, 1, Op::Fetch(20), ended);
+    expect_view(
+        rt,
+        &machine,
+        &[(10, 1), (20, 2), (30, 3)],
+        &[((Name::Key(20), 2), S)],
+        &[2],
+    )
+}
+
+/// A delete widens a gap, and its undo narrows it again.
+fn widens_and_narrows<P: Protocol, I: Ordered, L: Holdings>(
+    rt: &impl Abort,
+    alloc: Global,
+    mut machine: Machine<P, I, L>,
+) -> Result<(), Fail>
+    requires { machine.1.1 ≡ None }
+{
+    expect(rt, &mut machine, 1, Op::Delete(30), Reply::Deleted(3));
+    expect(rt, &mut machine, 2, Op::Fetch(25), blocked_by(alloc, 1)?);
+    expect(rt, &mut machine, 1, Op::Abort, Reply::Aborted);
+    expect(rt, &mut machine, 2, Op::Fetch(25), Reply::None);
+    expect_view(
+        rt,
+        &machine,
+        &[(10, 1), (20, 2), (30, 3)],
+        &[((Name::Key(30), 2), S)],
+        &[2],
+    )
+}
+
+/// A transaction that isn't active may end, with nothing done.
+fn ends_unbegun<P: Protocol, I: Ordered, L: Holdings>(
+    rt: &impl Abort,
+    mut machine: Machine<P, I, L>,
+) -> Result<(), Fail>
+    requires { machine.1.1 ≡ None }
+{
+    expect(rt, &mut machine, 7, Op::Abort, Reply::Aborted);
+    expect(rt, &mut machine, 8, Op::Commit, Reply::Committed);
+    let ended = Reply::Refused(Refusal::Ended);
+    expect(rt, &mut machine, 7, Op::Abort, ended);
+    let ended = Reply::Refused(Refusal::Ended);
+    expect(rt, &mut machine, 8, Op::Fetch(10), ended);
+    expect_view(rt, &machine, &[(10, 1), (20, 2), (30, 3)], &[], &[])
+}
+
+#[test]
+fn aborts(rt: HostRuntime) -> Result<(), Fail> {
+    let alloc = rt.alloc();
+    deletes_inserts_aborts(&rt, plain(alloc, Kvl)?)?;
+    deletes_inserts_aborts(&rt, scant(alloc, &Kvl, None, None)?)?;
+    widens_and_narrows(&rt, alloc, plain(alloc, Kvl)?)?;
+    widens_and_narrows(&rt, alloc, scant(alloc, &Kvl, None, None)?)?;
+    ends_unbegun(&rt, plain(alloc, Im)?)?;
+    ends_unbegun(&rt, scant(alloc, Im, None, None)?)
+}
+
 #[test]
 fn key_value_locking_at_plain_parts(rt: HostRuntime) -> Result<(), Fail> {
     let alloc = rt.alloc();
@@ -261,6 +358,7 @@ fn key_value_locking_at_plain_parts(rt: HostRuntime) -> Result<(), Fail> {
     inserts_twice(&rt, plain(alloc, Kvl)?, Reply::Done);
     fills_up(&rt, plain(alloc, Kvl)?)?;
     shares_duplicates(&rt, plain(alloc, Kvl)?)?;
+    reads_duplicate(&rt, alloc, plain(alloc, Kvl)?)?;
     deletes_last(&rt, alloc, plain(alloc, Kvl)?)
 }
 
@@ -271,6 +369,7 @@ fn key_value_locking_at_other_parts(rt: HostRuntime) -> Result<(), Fail> {
     inserts_twice(&rt, scant(alloc, &Kvl, None, None)?, Reply::Done);
     fills_up(&rt, scant(alloc, &Kvl, None, None)?)?;
     shares_duplicates(&rt, scant(alloc, &Kvl, None, None)?)?;
+    reads_duplicate(&rt, alloc, scant(alloc, &Kvl, None, None)?)?;
     deletes_last(&rt, alloc, scant(alloc, &Kvl, None, None)?)
 }
 
@@ -290,49 +389,53 @@ fn ended_numbers(rt: HostRuntime) -> Result<(), Fail> {
     ends_once(&rt, Machine::new(alloc, Kvl, index, List::new(alloc)))
 }
 
-/// A step in two parts: given up it leaves nothing, and done it has the reply that was told.
+/// A step of transaction 1 in two parts: given up or done, it has the reply that was told.
 fn two_parts<P: Protocol, I: Ordered, L: Holdings>(
     rt: &impl Abort,
     machine: &mut Machine<P, I, L>,
+    op: Op,
+    want: Reply,
     is_done: bool,
-) -> Result<(), Fail>
+)
     requires { machine.old.1.1 ≡ None }
     ensures { machine.new.1.1 ≡ None }
 {
-    match machine.ready(1, Op::Insert(15, 5)) {
+    match machine.ready(1, op) {
         Ok(ready) => {
-            assert!(rt; same(ready.reply(), &Reply::Done));
+            assert!(rt; same(ready.reply(), &want));
             if is_done {
                 let reply = machine.finish(ready);
-                assert!(rt; same(&reply, &Reply::Done));
+                assert!(rt; same(&reply, &want));
             } else {
                 machine.cancel(ready);
             }
         }
         Err(reply) => panic!(rt; "{reply:?}"),
     }
-    Ok(())
 }
 
-/// Gives a step up, and then does it.
+/// Gives a step up, which leaves nothing, and then does it; an insert, and then an abort.
 fn gives_up_first<P: Protocol, I: Ordered, L: Holdings>(
     rt: &impl Abort,
     mut machine: Machine<P, I, L>,
 ) -> Result<(), Fail>
     requires { machine.1.1 ≡ None }
 {
-    two_parts(rt, &mut machine, false)?;
+    two_parts(rt, &mut machine, Op::Insert(15, 5), Reply::Done, false);
     assert!(rt; !machine.active(1));
     expect_view(rt, &machine, &[(10, 1), (20, 2), (30, 3)], &[], &[])?;
-    two_parts(rt, &mut machine, true)?;
+    two_parts(rt, &mut machine, Op::Insert(15, 5), Reply::Done, true);
     assert!(rt; machine.active(1));
-    expect_view(
-        rt,
-        &machine,
-        &[(10, 1), (15, 5), (20, 2), (30, 3)],
-        &[((Name::Key(15), 1), IX)],
-        &[1],
-    )
+    let index = [(10, 1), (15, 5), (20, 2), (30, 3)];
+    let locks = [((Name::Key(15), 1), IX)];
+    expect_view(rt, &machine, &index, &locks, &[1])?;
+
+    two_parts(rt, &mut machine, Op::Abort, Reply::Aborted, false);
+    assert!(rt; machine.active(1));
+    expect_view(rt, &machine, &index, &locks, &[1])?;
+    two_parts(rt, &mut machine, Op::Abort, Reply::Aborted, true);
+    assert!(rt; !machine.active(1));
+    expect_view(rt, &machine, &[(10, 1), (20, 2), (30, 3)], &[], &[])
 }
 
 /// Attempts an operation, and again where memory was refused, which changes nothing. Tells whether it was.
@@ -343,8 +446,7 @@ fn insist<P: Protocol, I: Ordered, L: Holdings>(
     op: Op,
     want: Reply,
 ) -> Result<bool, Fail>
-    requires handled { IsHandled op }
-    requires at_rest { machine.old.1.1 ≡ None }
+    requires { machine.old.1.1 ≡ None }
     ensures { machine.new.1.1 ≡ None }
 {
     let before = seen(machine)?;
@@ -387,13 +489,39 @@ fn insists<P: Protocol, I: Ordered, L: Holdings>(
     met |= insist(rt, &mut machine, 2, Op::Fetch(40), blocked_by(alloc, 1)?)?;
     met |= insist(rt, &mut machine, 1, Op::Commit, Reply::Committed)?;
     met |= insist(rt, &mut machine, 2, Op::Insert(12, 7), Reply::Done)?;
-    expect_view(
+    met |= insists_on_scans(rt, alloc, &mut machine)?;
+    met |= insist(rt, &mut machine, 2, Op::Delete(20), Reply::Deleted(2))?;
+    met |= insist(rt, &mut machine, 2, Op::Insert(20, 9), Reply::Done)?;
+    met |= insist(rt, &mut machine, 2, Op::Delete(12), Reply::Deleted(7))?;
+    met |= insist(rt, &mut machine, 2, Op::Abort, Reply::Aborted)?;
+    expect_view(rt, &machine, &[(10, 1), (15, 5), (20, 2)], &[], &[])?;
+    Ok(met)
+}
+
+/// Scans amid those steps: one that ends at once, some that are refused or blocked, and one that goes on to its end.
+fn insists_on_scans<P: Protocol, I: Ordered, L: Holdings>(
+    rt: &impl Abort,
+    alloc: Global,
+    machine: &mut Machine<P, I, L>,
+) -> Result<bool, Fail>
+    requires { machine.old.1.1 ≡ None }
+    ensures { machine.new.1.1 ≡ None }
+{
+    let mut met = insist(rt, machine, 3, Op::Scan(21, 30), rows(alloc, &[])?)?;
+    met |= insist(rt, machine, 3, Op::Scan(12, 15), blocked_by(alloc, 2)?)?;
+    met |= insist(rt, machine, 3, Op::Go, Reply::Refused(Refusal::NoScan))?;
+    met |= insist(
         rt,
-        &machine,
-        &[(10, 1), (12, 7), (15, 5), (20, 2)],
-        &[((Name::Key(10), 2), S), ((Name::Key(12), 2), IX)],
-        &[2],
+        machine,
+        3,
+        Op::Scan(20, 14),
+        Reply::Refused(Refusal::BadRange),
     )?;
+    met |= insist(rt, machine, 3, Op::Scan(13, 30), Reply::Going(15))?;
+    met |= insist(rt, machine, 3, Op::Fetch(10), Reply::Refused(Refusal::Busy))?;
+    met |= insist(rt, machine, 3, Op::Go, Reply::Going(20))?;
+    met |= insist(rt, machine, 3, Op::Go, rows(alloc, &[(15, 5), (20, 2)])?)?;
+    met |= insist(rt, machine, 3, Op::Commit, Reply::Committed)?;
     Ok(met)
 }
 
@@ -404,24 +532,19 @@ fn steps_in_two_parts(rt: HostRuntime) -> Result<(), Fail> {
     gives_up_first(&rt, scant(alloc, &Kvl, None, None)?)
 }
 
-/// Refuses the first call that may lack memory, then the second, and so on until there are no more.
+/// Refuses the first call that may lack memory, then the second, and so on: before each of the 22 steps the index and
+/// the locks are copied; 6 steps pin a key, 11 keep a new lock, and 4 that are blocked ask 6 times for blockers. A call
+/// after those isn't refused before the last look.
 #[test]
 fn refused_memory_changes_nothing(rt: HostRuntime) -> Result<(), Fail> {
     let alloc = rt.alloc();
-    let mut rounds = 0;
-    for calls in 0..100 {
-        if !insists(&rt, alloc, scant(alloc, Kvl, Some(calls), None)?)? {
-            break;
-        }
-        rounds = calls;
+    for calls in 0..29 {
+        let machine = scant(alloc, Kvl, Some(calls), None)?;
+        assert_eq!(rt; insists(&rt, alloc, machine)?, calls < 28, "{calls}");
     }
-    assert!(rt; rounds > 3 && rounds < 99, "{rounds}");
-    for calls in 0..100 {
-        if !insists(&rt, alloc, scant(alloc, &Kvl, None, Some(calls))?)? {
-            break;
-        }
-        rounds = calls;
+    for calls in 0..40 {
+        let machine = scant(alloc, &Kvl, None, Some(calls))?;
+        assert_eq!(rt; insists(&rt, alloc, machine)?, calls < 39, "{calls}");
     }
-    assert!(rt; rounds > 7 && rounds < 99, "{rounds}");
     Ok(())
 }

@@ -1,15 +1,17 @@
-use Rattle.std.proofs.Common.{ℕ, List, ap, sym, ◌∙◌, subst, arith}
+use Rattle.std.proofs.Common.{ℕ, ◌+◌, List, ap, sym, ◌∙◌, subst, arith}
 use Rattle.std.proofs.lemmas.Grind.{common_steps}
-use Rattle.std.specs.Prelude.{IsTrue}
+use Rattle.std.specs.Prelude.{IsTrue, unwrap_or, ◌≡◌}
 use Rattle.std.specs.Ordering.{nat_cmp}
-use Rattle.std.specs.FinMap.{put, is_sorted}
-use Rattle.kr_model.specs.declared.Op.TheVariants as op
-use Rattle.kr_model.specs.State.{Active}
+use Rattle.std.specs.FinMap.{find, put, is_sorted}
+use Rattle.kr_model.specs.State.{Active, idle}
 use Rattle.kr_model.specs.Step.{step}
 use Rattle.kr_txn.specs.Standings.{active_of, entries}
 use Rattle.kr_txn.proofs.Lists.{find-without, put_back, in_order-without}
 use Rattle.kr_machine.specs.Pending.{after_op}
+use Rattle.kr_machine.specs.Pins.{changes_of, all_changes_of}
 use Rattle.kr_machine.proofs.Steps.{stepped_end}
+use Rattle.kr_machine.proofs.Pins.{noted-without}
+use Rattle.kr_machine.proofs.Finish.{end_pins, room_end}
 use Rattle.kr_machine.proofs.reserve.reserve_end.Goals as goal
 
 pub returns-in-Some-clause-seen_active : goal.returns-in-Some-clause-seen_active
@@ -23,10 +25,13 @@ returns-in-Some-clause-ok g c =
     let h = g.L.Holdings.locks c.args.locks.now in
     let a = active_of c.in-Some.standing in
     let es = entries c.args.active.now.items in
+    let is_a : a ≡ unwrap_or (find nat_cmp c.args.txn es) idle = ap (λ o. unwrap_or o idle) c.in-Some.ensures.found in
     let seen = ap (λ xs. put nat_cmp c.args.txn a xs) c.take_out.ensures.rest ∙ put_back c.args.txn es rest.standing a (sym c.in-Some.ensures.found) in
-    let stepped = ap (λ (xs : List (ℕ × Active)). let o = step p (record { map = m; locks = h; ended = c.args.ended.now.numbers; active = xs }) c.args.txn op.Commit in o.1) seen
-    ∙ stepped_end p m h c.args.ended.now.numbers es c.args.txn a c.requires.allowed
-    ∙ ap (λ xs. after_op m h c.args.ended.now.numbers xs c.args.txn a op.Commit) (sym c.take_out.ensures.rest) in
+    let stepped = ap (λ (xs : List (ℕ × Active)). let o = step p (record { map = m; locks = h; ended = c.args.ended.now.numbers; active = xs }) c.args.txn c.args.op in o.1) seen
+    ∙ stepped_end p m h c.args.ended.now.numbers es c.args.txn a c.args.op c.requires.end c.requires.allowed is_a
+    ∙ ap (λ xs. after_op m h c.args.ended.now.numbers xs c.args.txn a c.args.op) (sym c.take_out.ensures.rest) in
+    let noted : (q : ℕ) → all_changes_of es q ≡ all_changes_of (entries c.take_out.new.list.items) q + changes_of a.changes q =
+    λ q. noted-without c.args.txn es a q rest.standing (sym c.in-Some.ensures.found) ∙ ap (λ xs. all_changes_of xs q + changes_of a.changes q) (sym c.take_out.ensures.rest) in
     let order = subst (λ xs. IsTrue (is_sorted nat_cmp xs)) (sym c.take_out.ensures.rest) (in_order-without c.args.txn es rest.standing) in
     record {
       is_map = rest.is_map;
@@ -35,9 +40,12 @@ returns-in-Some-clause-ok g c =
       no_none = rest.no_none;
       standing = order;
       room = omega (arith, rest.room, c.in-Some.ensures.some);
-      no_pins = tt;
+      has_pins = λ q.
+          let x = rest.has_pins q in
+          let y = noted q in
+          let z = end_pins c.args.op c.requires.end q in
+          omega (arith, x, y, z);
       reserved = record {
-        handled = tt;
         stepped = stepped;
         itself = c.in-Some.ensures.txn;
         apart = rw c.take_out.ensures.rest (find-without c.args.txn es);
@@ -46,9 +54,9 @@ returns-in-Some-clause-ok g c =
         within = rest.within;
         no_none = rest.no_none;
         in_order = rest.in_order;
-        has_pins = rest.no_pins;
+        noted = λ q. ap (λ xs. all_changes_of xs q) seen ∙ noted q;
         room_ended = omega (arith, rest.room, c.in-Some.ensures.some);
         room_back = λ _. grind (arith, common_steps, c.in-Some.ensures.some, c.take_out.ensures.capacity);
-        room = tt;
+        room = room_end c.take_out.new.list c.in-Some.standing c.new.result c.args.op c.requires.end;
       };
     }

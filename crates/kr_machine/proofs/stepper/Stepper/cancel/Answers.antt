@@ -4,13 +4,14 @@ use Rattle.kr_model.specs.Locks.{IsLocks, AreWithin, HasNoNone}
 use Rattle.kr_txn.specs.Standings.{active_of, entries}
 use Rattle.kr_machine.specs.Due.{Due}
 use Rattle.kr_machine.specs.Pending.{IsMachine, shown_locks}
-use Rattle.kr_machine.proofs.Finish.{reserved_now, event_of_pending, put_down_order}
-use Rattle.std.specs.Prelude.{IsTrue}
+use Rattle.kr_machine.proofs.Finish.{reserved_now, event_of_pending, put_down_order, pins_now}
+use Rattle.kr_machine.specs.Pins.{all_changes_of}
+use Rattle.std.specs.Prelude.{IsTrue, if◌then◌else◌}
 use Rattle.std.specs.Ordering.{nat_cmp}
-use Rattle.std.specs.FinMap.{is_sorted}
+use Rattle.std.specs.FinMap.{put, is_sorted}
 use Rattle.kr_model.specs.Locks.{Locks}
 use Rattle.kr_machine.specs.Pending.{put_back}
-use Rattle.kr_machine.proofs.Machine.cancel.Goals as goal
+use Rattle.kr_machine.proofs.stepper.Stepper.cancel.Goals as goal
 
 pub invariant_of-self : goal.invariant_of-self
 invariant_of-self g c =
@@ -28,6 +29,11 @@ invariant_of-self g c =
       no_none = subst HasNoNone (sym back) now.no_none;
       standing = subst (λ es. IsTrue (is_sorted nat_cmp es)) (sym c.put_down.ensures.items) (put_down_order c.in-Some.pending.was_active c.ready.inside.event.txn (active_of c.in-Some.pending.standing) (entries c.self.inside.active.items) inv.standing);
       room = omega (arith, now.room_ended, c.put_down.ensures.len);
-      no_pins = c.give_up.ensures.pins;
+      has_pins = λ q.
+          let x = pins_now (g.I.Ordered.pins c.self.inside.index) (entries c.self.inside.active.items) c.self.inside.pending c.in-Some.pending c.ready.inside.event was same inv.has_pins q in
+          let y = c.give_up.ensures.pins q in
+          let z = now.noted q in
+          let w = ap (λ es. all_changes_of es q) (c.put_down.ensures.items ∙ ap (λ e. if c.in-Some.pending.was_active then put nat_cmp e.txn (active_of c.in-Some.pending.standing) (entries c.self.inside.active.items) else entries c.self.inside.active.items) (sym same)) in
+          omega (arith, x, y, z, w);
       reserved = tt;
     })

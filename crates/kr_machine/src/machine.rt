@@ -1,0 +1,233 @@
+//! A machine: what does the steps, and the log of what they did.
+ghost use Rattle.std.specs.Prelude.{All, map, ◌≡◌, ℕ, ◌≤◌, [], None, Some, IfOk, IfErr, IfSome, OnOk, OnErr, IsOk, IsTrue, ◌⊎◌, false, is_some};
+ghost use Rattle.kr_model.specs.Map.{IsMap};
+ghost use Rattle.kr_model.specs.State.{start, active_of};
+ghost use Rattle.kr_model.specs.Step.{step, is_end, IsStep};
+ghost use Rattle.kr_model.specs.Log.{no_log, logged};
+ghost use Rattle.kr_model.specs.Run.{is_granted};
+ghost use Rattle.kr_txn.specs.Logs.{MayNote};
+ghost use Rattle.kr_machine.specs.Logged.{MayKeep};
+
+use crate::Ready;
+use crate::stepper::Stepper;
+use kr_index::Ordered;
+use kr_locks::{Holdings, Memory};
+use kr_model::{Event, Mode, Name, Op, Pairs, Programs, Refusal, Reply, Txn, Txns};
+use kr_protocol::Protocol;
+use kr_txn::Log;
+use std::alloc::Global;
+use std::marker::Model;
+
+/// An index under a lock protocol, with the locks of its transactions, how each stands, and what it has done.
+///
+/// Contracts see its protocol, its state between two steps, the log of the steps so far, and the event of a step that is
+/// ready and not yet done. While a step is ready the machine has taken what the step needs, and the state is seen as
+/// without it.
+#[derive(Drop)]
+pub struct Machine<P: Protocol, I: Ordered, L: Holdings> {
+    /// What does the steps.
+    stepper: Stepper<P, I, L>,
+    /// The programs so far, and the committed ones.
+    log: Log,
+    /// The reply of a step that is ready, for the log.
+    due: Option<Reply>,
+}
+
+impl<P: Protocol, I: Ordered, L: Holdings> Model for Machine<P, I, L> {
+    ghost use Rattle.kr_machine.specs.Logged.{Seen, IsLogged};
+
+    ghost Value = { Seen P };
+
+    ghost view = { λ m. record { protocol = m.stepper.0; state = m.stepper.1.0; log = m.log.log; pending = m.stepper.1.1 } };
+
+    ghost invariant = { λ m. IsLogged (P.table m.stepper.0) m.stepper.1.0 m.stepper.1.1 m.log m.due };
+}
+
+impl<P: Protocol, I: Ordered, L: Holdings> Machine<P, I, L> {
+    /// A machine with this opening index and no transactions. The index has no pins, and no locks are held. Takes no memory.
+    pub fn new(alloc: Global, protocol: P, index: I, locks: L) -> Self
+        requires is_map { IsMap (I.map index) }
+        requires no_pins { (q : ℕ) → I.pins index q ≡ 0 }
+        requires no_locks { L.locks locks ≡ [] }
+        ensures { result ≡ record { protocol = protocol; state = start (I.map index); log = no_log; pending = None } }
+    {
+        Machine {
+            stepper: Stepper::new(alloc, protocol, index, locks),
+            log: Log::new(alloc),
+            due: None,
+        }
+    }
+
+    /// Whether a transaction is active: some step of it was granted, and it has neither committed nor aborted.
+    pub fn active(&self, txn: Txn) -> bool
+        requires { self.now.pending ≡ None }
+        ensures { result ≡ is_some (active_of self.now.state txn) }
+    {
+        self.stepper.active(txn)
+    }
+
+    /// A copy of the pairs of the index, keys rising, or `Memory` where a growth is refused.
+    pub fn index(&self) -> Result<Pairs, Memory>
+        requires { self.now.pending ≡ None }
+        ensures { IfOk result (λ pairs. pairs ≡ self.now.state.map) }
+    {
+        self.stepper.index()
+    }
+
+    /// A copy of the locks that are held, each with its mode, by name, the end last, and then by transaction; or `Memory`
+    /// where a growth is refused.
+    pub fn locks(&self) -> Result<Vec<((Name, Txn), Mode)>, Memory>
+        requires { self.now.pending ≡ None }
+        ensures locks { IfOk result (λ list. list.items ≡ self.now.state.locks) }
+        ensures modes { IfOk result (λ list. All (λ l. l.1 ≤ (P.table self.now.protocol).count) list.items) }
+    {
+        self.stepper.locks()
+    }
+
+    /// The numbers of the active transactions, rising, or `Memory` where a growth is refused.
+    pub fn unfinished(&self) -> Result<Txns, Memory>
+        requires { self.now.pending ≡ None }
+        ensures { IfOk result (λ txns. txns ≡ map (λ a. a.0) self.now.state.active) }
+    {
+        self.stepper.unfinished()
+    }
+
+    /// A copy of the programs of the transactions that committed, in commit order, or `Memory` where a growth is refused.
+    /// Blocked and refused steps aren't in them, nor are the commit and the steps that go on with a scan; a scan has the
+    /// rows that it ended with as its answer.
+    pub fn programs(&self) -> Result<Programs, Memory>
+        ensures { IfOk result (λ programs. programs ≡ self.now.log.committed) }
+    {
+        self.log.programs()
+    }
+
+    /// Takes all memory of a step, and tells its reply without doing it.
+    ///
+    /// What it gives must be spent by `finish` or `cancel` before the next call. Until then the state is seen as before
+    /// the step. It answers `Err` with the reply that `step` would have where the step is refused or blocked; then
+    /// nothing has changed, and nothing is to be spent.
+    pub fn ready(&mut self, txn: Txn, op: Op) -> Result<Ready, Reply>
+        requires at_rest { self.old.pending ≡ None }
+        ensures event { IfOk result (λ r. r.event ≡ record { txn = txn; op = op }) }
+        ensures reply { IfOk result (λ r. r.reply ≡ (step (P.table self.old.protocol) self.old.state txn op).0) }
+        ensures waits { OnOk result (self.new ≡ record { protocol = self.old.protocol; state = self.old.state; log = self.old.log; pending = Some (record { txn = txn; op = op }) }) }
+        ensures refusal { IfErr result (λ r. IsStep (P.table self.old.protocol) self.old.state txn op r self.old.state) }
+        ensures not_granted { IfErr result (λ r. is_granted r ≡ false) }
+        ensures err { OnErr result (self.new ≡ self.old) }
+    {
+        let alloc = self.stepper.alloc();
+        let is_active = self.stepper.active(txn);
+        let ready = self.stepper.ready(txn, op)?;
+        match keep(alloc, &mut self.log, txn, op, is_active, ready.reply()) {
+            Ok(reply) => {
+                self.due = Some(reply);
+                Ok(ready)
+            }
+            Err(_) => {
+                self.stepper.cancel(ready);
+                Err(Reply::Refused(Refusal::Memory))
+            }
+        }
+    }
+
+    /// Attempts one operation of a transaction.
+    ///
+    /// A step that is refused or blocked changes nothing:
+    ///
+    /// - `Refused(Ended)`: the transaction has committed or aborted.
+    /// - `Refused(Full)`: 64 transactions are active, and this isn't one of them.
+    /// - `Refused(Busy)`: a scan of the transaction is in progress, and the operation neither goes on with it nor aborts.
+    /// - `Refused(NoScan)`: no scan is in progress to go on with.
+    /// - `Refused(BadRange)`: the lower end of the range to scan is above the upper end.
+    /// - `Refused(Memory)`: a growth was refused, and no other refusal applies. So it is for an insert or a delete where the
+    ///   active transactions have made 4,294,967,295 changes together. The commit or abort of an active transaction takes
+    ///   no memory.
+    /// - `Blocked`: these transactions hold locks that refuse a lock that the step asks for. A transaction that wasn't
+    ///   active isn't so after it.
+    ///
+    /// Any other reply says that the step is done. The transaction is then active and holds the locks that the protocol
+    /// asks for; or, after a commit or an abort, it has ended and holds none. After an abort each key that the transaction
+    /// changed is as before its first change of it.
+    ///
+    /// A scan takes one name a step: `Going` says that it read this key and goes on, `Rows` that it ended, with all that it
+    /// read. One that reads its upper end ends there.
+    pub fn step(&mut self, txn: Txn, op: Op) -> Reply
+        requires at_rest { self.old.pending ≡ None }
+        ensures step { IsStep (P.table self.old.protocol) self.old.state txn op result self.new.state }
+        ensures log { self.new.log ≡ logged self.old.log (record { txn = txn; op = op }, result) }
+        ensures protocol { self.new.protocol ≡ self.old.protocol }
+        ensures at_rest { self.new.pending ≡ None }
+    {
+        match self.ready(txn, op) {
+            Ok(ready) => self.finish(ready),
+            Err(reply) => reply,
+        }
+    }
+
+    /// Gives up the step that is ready: the machine is as before it was. Takes no memory.
+    pub fn cancel(&mut self, ready: Ready)
+        requires { self.old.pending ≡ Some ready.event }
+        ensures { self.new ≡ record { protocol = self.old.protocol; state = self.old.state; log = self.old.log; pending = None } }
+    {
+        self.due = None;
+        self.stepper.cancel(ready);
+    }
+
+    /// Does the step that is ready, and gives the reply that was told. Takes no memory.
+    pub fn finish(&mut self, ready: Ready) -> Reply
+        requires { self.old.pending ≡ Some ready.event }
+        ensures reply { result ≡ ready.reply }
+        ensures machine { self.new ≡ (let o = step (P.table self.old.protocol) self.old.state ready.event.txn ready.event.op in
+            record { protocol = self.old.protocol; state = o.1; log = logged self.old.log (ready.event, o.0); pending = None }) }
+    {
+        let reply = self.due.take();
+        note(&mut self.log, ready.event, reply);
+        self.stepper.finish(ready)
+    }
+}
+
+/// Notes a step with its reply, where there is one. Takes no memory.
+fn note(log: &mut Log, event: Event, reply: Option<Reply>)
+    requires { IfSome reply (MayNote log.old event) }
+    ensures { IfSome reply (λ a. log.new.log ≡ logged log.old.log (event, a)) }
+{
+    if let Some(reply) = reply {
+        log.note(event, reply);
+    }
+}
+
+/// Takes the memory of noting a step with this reply, and gives a copy of the reply. The end of an active transaction
+/// takes none; else the answer is `Memory` where a growth is refused. The log stays.
+fn keep(
+    alloc: Global,
+    log: &mut Log,
+    txn: Txn,
+    op: Op,
+    is_active: bool,
+    reply: &Reply,
+) -> Result<Reply, Memory>
+    requires { MayKeep log.old op is_active txn reply.now }
+    ensures log { log.new.log ≡ log.old.log }
+    ensures copy { IfOk result (λ copy. copy ≡ reply.now) }
+    ensures noted { OnOk result (MayNote log.new (record { txn = txn; op = op }) reply.now) }
+    ensures end { IsTrue (is_end op) → IsTrue is_active → IsOk result }
+{
+    match op {
+        Op::Commit => {
+            if !is_active {
+                log.make_room(txn)?;
+            }
+            Ok(Reply::Committed)
+        }
+        Op::Abort => {
+            if !is_active {
+                log.make_room(txn)?;
+            }
+            Ok(Reply::Aborted)
+        }
+        Op::Fetch(_) | Op::Scan(_, _) | Op::Go | Op::Insert(_, _) | Op::Delete(_) => {
+            log.make_room(txn)?;
+            reply.try_copy(alloc)
+        }
+    }
+}

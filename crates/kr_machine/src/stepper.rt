@@ -1,0 +1,274 @@
+//! What does the steps of a machine.
+ghost use Rattle.std.specs.Prelude.{All, map, ◌≡◌, ◌≢◌, ℕ, ◌<◌, ◌≤◌, ◌⊎◌, [], None, Some, IfOk, IfErr, OnOk, OnErr, IsTrue, IsOk, true, false, is_some};
+ghost use Rattle.kr_model.specs.Map.{IsMap};
+ghost use Rattle.kr_model.specs.State.{State, start, active_of};
+ghost use Rattle.kr_model.specs.Step.{step, IsStep, refusal_of};
+ghost use Rattle.kr_model.specs.Run.{is_granted};
+ghost use Rattle.kr_machine.specs.Pending.{IsAttempt, IsEnd};
+
+use crate::pending::{Pending, Ready};
+use crate::{change, holds, reserve, room};
+use kr_index::Ordered;
+use kr_locks::{Holdings, Memory};
+use kr_model::{Event, Mode, Name, Op, Pairs, Refusal, Reply, Txn, Txns};
+use kr_protocol::Protocol;
+use kr_txn::{Ended, Standing, put_in};
+use std::alloc::Global;
+use std::marker::Model;
+
+/// A machine without its log: an index under a lock protocol, with the locks of its transactions and how each stands.
+///
+/// Contracts see its protocol, its state between two steps, and the event of a step that is ready and not yet done.
+/// While a step is ready it has taken what the step needs, and the state is seen as without it.
+#[derive(Drop)]
+pub(crate) struct Stepper<P: Protocol, I: Ordered, L: Holdings> {
+    /// The lock table.
+    protocol: P,
+    /// The index, with a pin for each change of an active transaction, and one for that of a pending step.
+    index: I,
+    /// The locks that are held, with those that a pending step keeps.
+    locks: L,
+    /// The transactions that have ended, with room for each active one and for that of a pending step.
+    ended: Ended,
+    /// The active transactions, rising by number, without that of a pending step.
+    active: Vec<Standing>,
+    /// A step that has its memory and is neither done nor given up.
+    pending: Option<Pending>,
+}
+
+impl<P: Protocol, I: Ordered, L: Holdings> Model for Stepper<P, I, L> {
+    ghost use Rattle.std.specs.Prelude.{Option};
+    ghost use Rattle.std.specs.Option.{option_map};
+    ghost use Rattle.kr_model.specs.State.{State};
+    ghost use Rattle.kr_model.specs.declared.Event.{Event};
+    ghost use Rattle.kr_txn.specs.Standings.{entries};
+    ghost use Rattle.kr_machine.specs.Pending.{shown, IsMachine};
+
+    ghost Value = { P × (State × Option Event) };
+
+    ghost view = { λ m. (m.protocol, (shown m.pending (I.map m.index) (L.locks m.locks) m.ended.numbers (entries m.active.items), option_map (λ p. p.event) m.pending)) };
+
+    ghost invariant = { λ m. IsMachine (P.table m.protocol) (I.map m.index) (I.pins m.index) (L.locks m.locks) m.ended m.active m.pending };
+}
+
+impl<P: Protocol, I: Ordered, L: Holdings> Stepper<P, I, L> {
+    /// A machine with this opening index and no transactions. The index has no pins, and no locks are held. Takes no memory.
+    pub fn new(alloc: Global, protocol: P, index: I, locks: L) -> Self
+        requires is_map { IsMap (I.map index) }
+        requires no_pins { (q : ℕ) → I.pins index q ≡ 0 }
+        requires no_locks { L.locks locks ≡ [] }
+        ensures { result ≡ (protocol, (start (I.map index), None)) }
+    {
+        Stepper {
+            protocol,
+            index,
+            locks,
+            ended: Ended::new(alloc),
+            active: Vec::new(alloc),
+            pending: None,
+        }
+    }
+
+    /// Where its memory comes from.
+    pub fn alloc(&self) -> Global {
+        *self.active.allocator()
+    }
+
+    /// Whether a transaction is active: some step of it was granted, and it has neither committed nor aborted.
+    pub fn active(&self, txn: Txn) -> bool
+        requires { self.now.1.1 ≡ None }
+        ensures { result ≡ is_some (active_of self.now.1.0 txn) }
+    {
+        match kr_txn::position(&self.active, txn) {
+            Some(_) => true,
+            None => false,
+        }
+    }
+
+    /// A copy of the pairs of the index, keys rising, or `Memory` where a growth is refused.
+    pub fn index(&self) -> Result<Pairs, Memory>
+        requires { self.now.1.1 ≡ None }
+        ensures { IfOk result (λ pairs. pairs ≡ self.now.1.0.map) }
+    {
+        self.index.copy(*self.active.allocator())
+    }
+
+    /// A copy of the locks that are held, each with its mode, by name, the end last, and then by transaction; or `Memory`
+    /// where a growth is refused.
+    pub fn locks(&self) -> Result<Vec<((Name, Txn), Mode)>, Memory>
+        requires { self.now.1.1 ≡ None }
+        ensures locks { IfOk result (λ list. list.items ≡ self.now.1.0.locks) }
+        ensures modes { IfOk result (λ list. All (λ l. l.1 ≤ (P.table self.now.0).count) list.items) }
+    {
+        self.locks.copy(*self.active.allocator())
+    }
+
+    /// The numbers of the active transactions, rising, or `Memory` where a growth is refused.
+    pub fn unfinished(&self) -> Result<Txns, Memory>
+        requires { self.now.1.1 ≡ None }
+        ensures { IfOk result (λ txns. txns ≡ map (λ a. a.0) self.now.1.0.active) }
+    {
+        kr_txn::numbers(*self.active.allocator(), &self.active)
+    }
+
+    /// Takes all memory of a step, and tells its reply without doing it; at `Err` the step is refused or blocked, and
+    /// nothing has changed.
+    pub fn ready(&mut self, txn: Txn, op: Op) -> Result<Ready, Reply>
+        requires at_rest { self.old.1.1 ≡ None }
+        ensures event { IfOk result (λ r. r.event ≡ record { txn = txn; op = op }) }
+        ensures reply { IfOk result (λ r. r.reply ≡ (step (P.table self.old.0) self.old.1.0 txn op).0) }
+        ensures waits { OnOk result (self.new ≡ (self.old.0, (self.old.1.0, Some (record { txn = txn; op = op })))) }
+        ensures allowed { OnOk result (refusal_of self.old.1.0 txn op ≡ None) }
+        ensures refusal { IfErr result (λ r. IsStep (P.table self.old.0) self.old.1.0 txn op r self.old.1.0) }
+        ensures not_granted { IfErr result (λ r. is_granted r ≡ false) }
+        ensures err { OnErr result (self.new ≡ self.old) }
+    {
+        if let Some(refusal) = room::refusal(&self.ended, &self.active, txn, op) {
+            return Err(Reply::Refused(refusal));
+        }
+        match op {
+            Op::Commit | Op::Abort => self.end(txn, op),
+            Op::Fetch(_) | Op::Scan(_, _) | Op::Go | Op::Insert(_, _) | Op::Delete(_) => {
+                self.attempt(txn, op)
+            }
+        }
+    }
+
+    /// The same for an operation that ends its transaction, where no refusal applies.
+    fn end(&mut self, txn: Txn, op: Op) -> Result<Ready, Reply>
+        requires end { IsEnd op }
+        requires at_rest { self.old.1.1 ≡ None }
+        requires allowed { refusal_of self.old.1.0 txn op ≡ None }
+        ensures event { IfOk result (λ r. r.event ≡ record { txn = txn; op = op }) }
+        ensures reply { IfOk result (λ r. r.reply ≡ (step (P.table self.old.0) self.old.1.0 txn op).0) }
+        ensures waits { OnOk result (self.new ≡ (self.old.0, (self.old.1.0, Some (record { txn = txn; op = op })))) }
+        ensures refusal { IfErr result (λ r. IsStep (P.table self.old.0) self.old.1.0 txn op r self.old.1.0) }
+        ensures not_granted { IfErr result (λ r. is_granted r ≡ false) }
+        ensures err { OnErr result (self.new ≡ self.old) }
+    {
+        match reserve::reserve_end(
+            &self.protocol,
+            &self.index,
+            &self.locks,
+            &mut self.ended,
+            &mut self.active,
+            txn,
+            op,
+        ) {
+            Ok(pending) => {
+                self.pending = Some(pending);
+                Ok(Ready {
+                    event: Event { txn, op },
+                    reply: change::end_reply(op),
+                })
+            }
+            Err(_) => Err(Reply::Refused(Refusal::Memory)),
+        }
+    }
+
+    /// The same for an operation that asks for locks, where no refusal applies.
+    fn attempt(&mut self, txn: Txn, op: Op) -> Result<Ready, Reply>
+        requires attempt { IsAttempt op }
+        requires at_rest { self.old.1.1 ≡ None }
+        requires allowed { refusal_of self.old.1.0 txn op ≡ None }
+        ensures event { IfOk result (λ r. r.event ≡ record { txn = txn; op = op }) }
+        ensures reply { IfOk result (λ r. r.reply ≡ (step (P.table self.old.0) self.old.1.0 txn op).0) }
+        ensures waits { OnOk result (self.new ≡ (self.old.0, (self.old.1.0, Some (record { txn = txn; op = op })))) }
+        ensures refusal { IfErr result (λ r. IsStep (P.table self.old.0) self.old.1.0 txn op r self.old.1.0) }
+        ensures not_granted { IfErr result (λ r. is_granted r ≡ false) }
+        ensures err { OnErr result (self.new ≡ self.old) }
+    {
+        let scan = room::scan_of(&self.active, txn);
+        let attempt = change::attempt_of(&self.index, scan, op);
+        let plan = kr_plan::plan(&self.protocol, &self.index, &self.locks, txn, attempt);
+        let alloc = *self.active.allocator();
+        if !kr_plan::granted(&self.protocol, &self.locks, txn, &plan) {
+            match kr_plan::blockers(alloc, &self.protocol, &self.locks, txn, &plan) {
+                Ok(list) => return Err(Reply::Blocked(Txns::from_vec(list))),
+                Err(_) => return Err(Reply::Refused(Refusal::Memory)),
+            }
+        }
+        let reply = match change::reply_to(alloc, &self.index, scan, op) {
+            Ok(reply) => reply,
+            Err(_) => return Err(Reply::Refused(Refusal::Memory)),
+        };
+        match reserve::reserve(
+            &self.protocol,
+            &mut self.index,
+            &mut self.locks,
+            &mut self.ended,
+            &mut self.active,
+            txn,
+            op,
+            plan,
+        ) {
+            Ok(pending) => {
+                self.pending = Some(pending);
+                Ok(Ready {
+                    event: Event { txn, op },
+                    reply,
+                })
+            }
+            Err(_) => Err(Reply::Refused(Refusal::Memory)),
+        }
+    }
+
+    /// Gives up the step that is ready: the machine is as before it was. Takes no memory.
+    pub fn cancel(&mut self, ready: Ready)
+        requires { self.old.1.1 ≡ Some ready.event }
+        ensures { self.new ≡ (self.old.0, (self.old.1.0, None)) }
+    {
+        let Ready { event, reply: _ } = ready;
+        if let Some(pending) = self.pending.take() {
+            let Pending {
+                event: _,
+                plan,
+                current_was,
+                next_was,
+                standing,
+                was_active,
+                first_rows: _,
+            } = pending;
+            change::give_up(&mut self.index, event.op);
+            holds::give_back(&mut self.locks, event.txn, plan.next, next_was);
+            holds::give_back(&mut self.locks, event.txn, plan.current, current_was);
+            room::put_down(&mut self.active, event.txn, standing, was_active);
+        }
+    }
+
+    /// Does the step that is ready, and gives the reply that was told. Takes no memory.
+    pub fn finish(&mut self, ready: Ready) -> Reply
+        requires { self.old.1.1 ≡ Some ready.event }
+        ensures reply { result ≡ ready.reply }
+        ensures machine { self.new ≡ (self.old.0, ((step (P.table self.old.0) self.old.1.0 ready.event.txn ready.event.op).1, None)) }
+    {
+        let Ready { event, reply } = ready;
+        if let Some(pending) = self.pending.take() {
+            let Pending {
+                event: _,
+                plan: _,
+                current_was: _,
+                next_was: _,
+                standing,
+                was_active: _,
+                first_rows,
+            } = pending;
+            match event.op {
+                Op::Commit => {
+                    change::settle(&mut self.index, standing);
+                    room::leave(&mut self.locks, &mut self.ended, event.txn);
+                }
+                Op::Abort => {
+                    change::undo(&mut self.index, standing);
+                    room::leave(&mut self.locks, &mut self.ended, event.txn);
+                }
+                Op::Fetch(_) | Op::Scan(_, _) | Op::Go | Op::Insert(_, _) | Op::Delete(_) => {
+                    let op = event.op;
+                    let standing = change::perform(&mut self.index, standing, first_rows, op);
+                    put_in(&mut self.active, standing);
+                }
+            }
+        }
+        reply
+    }
+}
