@@ -1,6 +1,6 @@
 //! What a run leaves.
 
-use crate::{Pairs, Replies, Triples, Txns};
+use crate::{Pairs, Programs, Replies, Triples, Txns};
 
 /// A run at its end.
 #[derive(Debug, Drop)]
@@ -9,6 +9,8 @@ pub struct Ran {
     pub opening: Pairs,
     /// The reply to each step, in the order of the steps.
     pub replies: Replies,
+    /// What each transaction that committed did, in commit order.
+    pub programs: Programs,
     /// The index after the last step, keys rising.
     pub index: Pairs,
     /// The locks that are held after the last step: holders rise by name, then by transaction.

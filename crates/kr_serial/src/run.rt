@@ -2,8 +2,7 @@
 ghost use Rattle.std.specs.Prelude.{◌≡◌, ◌≤◌, None, IfOk, All, map};
 ghost use Rattle.kr_model.specs.Map.{IsMap};
 ghost use Rattle.kr_model.specs.State.{start};
-ghost use Rattle.kr_model.specs.Run.{run, replies_of};
-ghost use Rattle.kr_machine.specs.Pending.{IsHandled};
+ghost use Rattle.kr_model.specs.Run.{run, replies_of, programs};
 
 use crate::{Ran, Replies, Triples, replay};
 use kr_index::{Memory, Ordered, Sorted};
@@ -15,18 +14,19 @@ use std::alloc::Global;
 
 /// Runs the events under any protocol, from an opening map whose keys rise strictly. The only fault is `Memory`: a step
 /// that was refused memory ends the run, and nothing of it is shown.
+#[tactic(auto, using(crate::proofs::Replayed::programs_of_run))]
 pub fn run_any<P: Protocol>(
     alloc: Global,
     protocol: &P,
     opening: &[(u64, u64)],
     events: &[Event],
 ) -> Result<Ran, Memory>
-    requires opening { IsMap opening.now }
-    requires handled { All (λ e. IsHandled e.op) events.now }
+    requires { IsMap opening.now }
     ensures opening { IfOk result (λ ran. ran.opening ≡ opening.now) }
     ensures replies { IfOk result (λ ran. let r = run (P.table protocol.now) (start opening.now) events.now in ran.replies ≡ replies_of r.history) }
     ensures index { IfOk result (λ ran. let r = run (P.table protocol.now) (start opening.now) events.now in ran.index ≡ r.state.map) }
     ensures locks { IfOk result (λ ran. let r = run (P.table protocol.now) (start opening.now) events.now in ran.locks ≡ r.state.locks) }
+    ensures programs { IfOk result (λ ran. let r = run (P.table protocol.now) (start opening.now) events.now in ran.programs ≡ programs r.history) }
     ensures modes { IfOk result (λ ran. All (λ l. l.1 ≤ (P.table protocol.now).count) ran.locks) }
     ensures unfinished { IfOk result (λ ran. let r = run (P.table protocol.now) (start opening.now) events.now in ran.unfinished ≡ map (λ a. a.0) r.state.active) }
 {
@@ -43,20 +43,23 @@ fn show<P: Protocol, I: Ordered, L: Holdings>(
     opening: Pairs,
     replies: Replies,
 ) -> Result<Ran, Memory>
-    requires { machine.now.1.1 ≡ None }
+    requires { machine.now.pending ≡ None }
     ensures opening { IfOk result (λ ran. ran.opening ≡ opening) }
     ensures replies { IfOk result (λ ran. ran.replies ≡ replies) }
-    ensures index { IfOk result (λ ran. ran.index ≡ machine.now.1.0.map) }
-    ensures locks { IfOk result (λ ran. ran.locks ≡ machine.now.1.0.locks) }
-    ensures modes { IfOk result (λ ran. All (λ l. l.1 ≤ (P.table machine.now.0).count) ran.locks) }
-    ensures unfinished { IfOk result (λ ran. ran.unfinished ≡ map (λ a. a.0) machine.now.1.0.active) }
+    ensures index { IfOk result (λ ran. ran.index ≡ machine.now.state.map) }
+    ensures locks { IfOk result (λ ran. ran.locks ≡ machine.now.state.locks) }
+    ensures programs { IfOk result (λ ran. ran.programs ≡ machine.now.log.committed) }
+    ensures modes { IfOk result (λ ran. All (λ l. l.1 ≤ (P.table machine.now.protocol).count) ran.locks) }
+    ensures unfinished { IfOk result (λ ran. ran.unfinished ≡ map (λ a. a.0) machine.now.state.active) }
 {
     let index = machine.index()?;
     let locks = Triples::from_vec(machine.locks()?);
+    let programs = machine.programs()?;
     let unfinished = machine.unfinished()?;
     Ok(Ran {
         opening,
         replies,
+        programs,
         index,
         locks,
         unfinished,

@@ -3,7 +3,7 @@ ghost use Rattle.std.specs.Prelude.{◌≡◌, ◌↔◌, None, IfOk, OnOk, All,
 ghost use Rattle.kr_model.specs.declared.Reply.TheVariants as reply_is;
 ghost use Rattle.kr_model.specs.declared.Refusal.TheVariants as refusal_is;
 ghost use Rattle.kr_model.specs.Run.{run, replies_of};
-ghost use Rattle.kr_machine.specs.Pending.{IsHandled};
+ghost use Rattle.kr_model.specs.Log.{log_after};
 
 use crate::Replies;
 use kr_index::{Memory, Ordered};
@@ -20,12 +20,12 @@ pub fn replay<P: Protocol, I: Ordered, L: Holdings>(
     machine: &mut Machine<P, I, L>,
     events: &[Event],
 ) -> Result<Replies, Memory>
-    requires handled { All (λ e. IsHandled e.op) events.now }
-    requires at_rest { machine.old.1.1 ≡ None }
-    ensures at_rest { machine.new.1.1 ≡ None }
-    ensures protocol { machine.new.0 ≡ machine.old.0 }
-    ensures replies { IfOk result (λ replies. let r = run (P.table machine.old.0) machine.old.1.0 events.now in replies ≡ replies_of r.history) }
-    ensures state { OnOk result (let r = run (P.table machine.old.0) machine.old.1.0 events.now in machine.new.1.0 ≡ r.state) }
+    requires { machine.old.pending ≡ None }
+    ensures at_rest { machine.new.pending ≡ None }
+    ensures protocol { machine.new.protocol ≡ machine.old.protocol }
+    ensures replies { IfOk result (λ replies. let r = run (P.table machine.old.protocol) machine.old.state events.now in replies ≡ replies_of r.history) }
+    ensures state { OnOk result (let r = run (P.table machine.old.protocol) machine.old.state events.now in machine.new.state ≡ r.state) }
+    ensures log { OnOk result (let r = run (P.table machine.old.protocol) machine.old.state events.now in machine.new.log ≡ log_after machine.old.log r.history) }
 {
     let mut replies = Vec::with_capacity(alloc, events.len())?;
     for event in events {

@@ -1,4 +1,6 @@
-use crate::{Name, Pairs, Ran, Replies, Reply, Triples, Txns};
+mod judging;
+
+use crate::{Name, Pairs, Programs, Ran, Replies, Reply, Triples, Txns};
 use std::alloc::{AllocError, Global};
 
 fn ran(alloc: Global) -> Result<Ran, AllocError> {
@@ -12,6 +14,7 @@ fn ran(alloc: Global) -> Result<Ran, AllocError> {
         replies: Replies::from_vec(replies),
         index: Pairs::from_vec(vec![in alloc; (20, 2)]?),
         locks: Triples::from_vec(locks),
+        programs: Programs::from_vec(Vec::new(alloc)),
         unfinished: Txns::from_vec(vec![in alloc; 1, 2]?),
     })
 }

@@ -1,0 +1,72 @@
+//! Judging committed programs.
+ghost use Rattle.std.specs.Prelude.{◌≡◌, ◌↔◌, IfOk};
+ghost use Rattle.kr_model.specs.Map.{IsMap};
+ghost use Rattle.kr_model.specs.Serial.{AreSerial, map_left};
+ghost use Rattle.kr_model.specs.Difference.{difference_in, first_difference};
+ghost use Rattle.kr_serial.specs.declared.verdict.Verdict.TheVariants as verdict;
+ghost use Rattle.kr_serial.specs.Verdicts.{verdict_of};
+
+use crate::Verdict;
+use crate::whole::{answer, change, is_answer, map_of};
+use kr_index::Memory;
+use kr_model::Program;
+use std::alloc::Global;
+use std::collections::BTreeMap;
+
+/// Judges committed programs, in the order of the list, against an opening map whose keys rise strictly: their
+/// operations are run whole on it, one after another, and each answer is compared with the one given. The only fault is
+/// `Memory`. Each operation takes a logarithmic number of looks at the map, and a scan is compared in place.
+pub fn judge_programs(
+    alloc: Global,
+    opening: &[(u64, u64)],
+    programs: &[Program],
+) -> Result<Verdict, Memory>
+    requires opening { IsMap opening.now }
+    ensures verdict { IfOk result (λ v. v ≡ verdict_of (first_difference opening.now programs.now)) }
+    ensures serial { IfOk result (λ v. (v ≡ verdict.Serial) ↔ AreSerial opening.now programs.now) }
+{
+    judge_all(alloc, opening, programs)
+}
+
+/// The same, with the first difference alone.
+fn judge_all(alloc: Global, opening: &[(u64, u64)], programs: &[Program]) -> Result<Verdict, Memory>
+    requires { IsMap opening.now }
+    ensures { IfOk result (λ v. v ≡ verdict_of (first_difference opening.now programs.now)) }
+{
+    let mut map = map_of(alloc, opening)?;
+    for program in programs {
+        let verdict = judge_program(alloc, &mut map, program)?;
+        if !verdict.is_serial() {
+            return Ok(verdict);
+        }
+    }
+    Ok(Verdict::Serial)
+}
+
+/// Judges one program against the map that stands before it. Where it is serial, the map is then the one that the
+/// program leaves.
+fn judge_program(
+    alloc: Global,
+    map: &mut BTreeMap<u64, u64>,
+    program: &Program,
+) -> Result<Verdict, Memory>
+    requires { IsMap map.old.entries }
+    ensures is_map { IsMap map.new.entries }
+    ensures verdict { IfOk result (λ v. v ≡ verdict_of (difference_in program.now.txn map.old.entries 1 program.now.operations)) }
+    ensures left { IfOk result (λ v. v ≡ verdict.Serial → map.new.entries ≡ map_left map.old.entries program.now.operations) }
+{
+    let operations = program.operations.as_slice();
+    for i in 0..operations.len() {
+        let (op, given) = &operations[i];
+        if !is_answer(map, *op, given) {
+            return Ok(Verdict::NotSerial {
+                txn: program.txn,
+                operation: i as u64 + 1,
+                given: given.try_copy(alloc)?,
+                serial: answer(alloc, map, *op)?,
+            });
+        }
+        change(map, *op)?;
+    }
+    Ok(Verdict::Serial)
+}

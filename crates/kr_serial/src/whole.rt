@@ -1,0 +1,153 @@
+//! Whole operations on a map.
+ghost use Rattle.std.specs.Prelude.{◌≡◌, ℕ, IfOk, OnOk};
+ghost use Rattle.kr_model.specs.Map.{Map, IsMap, pairs_between};
+ghost use Rattle.kr_model.specs.Serial.{found_or_none, whole_insert, whole_delete, whole};
+ghost use Rattle.kr_model.specs.Difference.{same_pairs, same_reply};
+
+use kr_model::{Op, Pairs, Refusal, Reply};
+use std::alloc::{AllocError, Global};
+use std::collections::BTreeMap;
+
+/// A map of the pairs, whose keys rise strictly.
+pub fn map_of(alloc: Global, pairs: &[(u64, u64)]) -> Result<BTreeMap<u64, u64>, AllocError>
+    requires { IsMap pairs.now }
+    ensures { IfOk result (λ map. map.entries ≡ pairs.now) }
+{
+    let mut map = BTreeMap::new(alloc);
+    let mut left = pairs.len();
+    while left > 0 {
+        left -= 1;
+        let (key, value) = pairs[left];
+        map.insert(key, value)?;
+    }
+    Ok(map)
+}
+
+/// Whether this is the answer of the operation run whole. Rows are compared in place.
+pub fn is_answer(map: &BTreeMap<u64, u64>, op: Op, given: &Reply) -> bool
+    requires { IsMap map.now.entries }
+    ensures { result ≡ same_reply given.now (whole map.now.entries op).0 }
+{
+    match op {
+        Op::Fetch(key) => is_fetched(given, map.get(&key).copied()),
+        Op::Scan(lo, hi) => match given {
+            Reply::Rows(rows) => are_between(map, lo, hi, rows.as_slice()),
+            _ => false,
+        },
+        Op::Insert(key, _) => is_inserted(given, map.get(&key).copied()),
+        Op::Delete(key) => is_deleted(given, map.get(&key).copied()),
+        Op::Go => matches!(given, Reply::Refused(Refusal::NoScan)),
+        Op::Commit => matches!(given, Reply::Committed),
+        Op::Abort => matches!(given, Reply::Aborted),
+    }
+}
+
+/// Whether this is the answer of a fetch, by what stands at the key.
+fn is_fetched(given: &Reply, value: Option<u64>) -> bool
+    ensures { result ≡ same_reply given.now (found_or_none value) }
+{
+    match value {
+        Some(value) => matches!(given, Reply::Found(found) if *found == value),
+        None => matches!(given, Reply::None),
+    }
+}
+
+/// Whether this is the answer of an insert, by what stands at the key.
+fn is_inserted(given: &Reply, value: Option<u64>) -> bool
+    ensures { (m : Map) (k v : ℕ) → result ≡ same_reply given.now (whole_insert m k v value).0 }
+{
+    match value {
+        Some(_) => matches!(given, Reply::Duplicate),
+        None => matches!(given, Reply::Done),
+    }
+}
+
+/// Whether this is the answer of a delete, by what stands at the key.
+fn is_deleted(given: &Reply, value: Option<u64>) -> bool
+    ensures { (m : Map) (k : ℕ) → result ≡ same_reply given.now (whole_delete m k value).0 }
+{
+    match value {
+        Some(value) => matches!(given, Reply::Deleted(deleted) if *deleted == value),
+        None => matches!(given, Reply::Absent),
+    }
+}
+
+/// Whether the rows are the pairs of the map with keys from `lo` to `hi`. Looks at no more pairs than there are rows, and
+/// one.
+fn are_between(map: &BTreeMap<u64, u64>, lo: u64, hi: u64, rows: &[(u64, u64)]) -> bool
+    requires { IsMap map.now.entries }
+    ensures { result ≡ same_pairs rows.now (pairs_between map.now.entries lo hi) }
+{
+    let mut i = 0;
+    for (key, value) in map.range(lo..) {
+        if *key > hi {
+            return i == rows.len();
+        }
+        if i == rows.len() || rows[i] != (*key, *value) {
+            return false;
+        }
+        i += 1;
+    }
+    i == rows.len()
+}
+
+/// The pairs of the map with keys from `lo` to `hi`.
+fn between(alloc: Global, map: &BTreeMap<u64, u64>, lo: u64, hi: u64) -> Result<Pairs, AllocError>
+    requires { IsMap map.now.entries }
+    ensures { IfOk result (λ pairs. pairs ≡ pairs_between map.now.entries lo hi) }
+{
+    let mut list = Vec::new(alloc);
+    for (key, value) in map.range(lo..) {
+        if *key > hi {
+            return Ok(Pairs::from_vec(list));
+        }
+        list.push((*key, *value))?;
+    }
+    Ok(Pairs::from_vec(list))
+}
+
+/// The answer of the operation run whole.
+pub fn answer(alloc: Global, map: &BTreeMap<u64, u64>, op: Op) -> Result<Reply, AllocError>
+    requires { IsMap map.now.entries }
+    ensures { IfOk result (λ reply. reply ≡ (whole map.now.entries op).0) }
+{
+    match op {
+        Op::Fetch(key) => match map.get(&key) {
+            Some(value) => Ok(Reply::Found(*value)),
+            None => Ok(Reply::None),
+        },
+        Op::Scan(lo, hi) => Ok(Reply::Rows(between(alloc, map, lo, hi)?)),
+        Op::Insert(key, _) => match map.get(&key) {
+            Some(_) => Ok(Reply::Duplicate),
+            None => Ok(Reply::Done),
+        },
+        Op::Delete(key) => match map.get(&key) {
+            Some(value) => Ok(Reply::Deleted(*value)),
+            None => Ok(Reply::Absent),
+        },
+        Op::Go => Ok(Reply::Refused(Refusal::NoScan)),
+        Op::Commit => Ok(Reply::Committed),
+        Op::Abort => Ok(Reply::Aborted),
+    }
+}
+
+/// Does on the map what the operation does, run whole.
+pub fn change(map: &mut BTreeMap<u64, u64>, op: Op) -> Result<(), AllocError>
+    requires { IsMap map.old.entries }
+    ensures is_map { IsMap map.new.entries }
+    ensures map { OnOk result (map.new.entries ≡ (whole map.old.entries op).1) }
+{
+    match op {
+        Op::Insert(key, value) => {
+            if map.get(&key).is_none() {
+                map.insert(key, value)?;
+            }
+            Ok(())
+        }
+        Op::Delete(key) => {
+            let _ = map.remove(&key);
+            Ok(())
+        }
+        Op::Fetch(_) | Op::Scan(_, _) | Op::Go | Op::Commit | Op::Abort => Ok(()),
+    }
+}
