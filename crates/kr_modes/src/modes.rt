@@ -1,5 +1,5 @@
 //! Modes with their compatibility and their conversion.
-ghost use Rattle.std.specs.Prelude.{◌≡◌, ℕ, ◌+◌, ◌-◌, ◌*◌, ◌<◌, ◌≤◌, length, IfSome, IfNone};
+ghost use Rattle.std.specs.Prelude.{◌≡◌, ℕ, ◌+◌, ◌-◌, ◌*◌, ◌<◌, ◌≤◌, length, map, string_bytes, IfSome, IfNone};
 ghost use Rattle.kr_model.specs.ModeNames.{name_of};
 ghost use Rattle.kr_modes.specs.Matrix.{Matrix, IsMatrix, matrix_of, ok_of, convert_of, IsNamed};
 
@@ -89,6 +89,28 @@ impl Modes {
             return "none";
         }
         self.names[mode as usize - 1].as_str()
+    }
+
+    /// The names of all modes, that of mode 1 first.
+    pub fn names(&self) -> &[String]
+        ensures names { map string_bytes result.now ≡ self.now.names }
+        ensures one_each { length result.now ≡ length self.now.names }
+    {
+        &self.names
+    }
+
+    /// The square that `ok` goes by, row after row, as `new` takes it.
+    pub fn compatible(&self) -> &[bool]
+        ensures { result.now ≡ self.now.compatible }
+    {
+        &self.compatible
+    }
+
+    /// The square that `convert` goes by, row after row, as `new` takes it.
+    pub fn conversion(&self) -> &[Mode]
+        ensures { result.now ≡ self.now.conversion }
+    {
+        &self.conversion
     }
 
     /// The mode with exactly this name. `none` is the name of no mode.

@@ -71,3 +71,15 @@ fn bear_names(rt: HostRuntime) -> Result<(), Fail> {
     }
     Ok(())
 }
+
+#[test]
+fn are_given_back(rt: HostRuntime) -> Result<(), Fail> {
+    let modes = two_modes(rt.alloc())?;
+    assert_eq!(rt; modes.compatible(), [true, true, false, false].as_slice());
+    assert_eq!(rt; modes.conversion(), [1_u8, 2, 1, 2].as_slice());
+    let mut names = modes.names().iter();
+    assert!(rt; names.next().is_some_and(|name| name.as_str() == "A"));
+    assert!(rt; names.next().is_some_and(|name| name.as_str() == "B"));
+    assert!(rt; names.next().is_none());
+    Ok(())
+}

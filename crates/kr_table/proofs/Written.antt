@@ -1,0 +1,210 @@
+-- The document that is written for a table: what it reads as, how deep it is, and that it has no date.
+use Rattle.std.proofs.Common.{◌≡◌, ℕ, ◌≤◌, List, [], ◌∷◌, length, take, drop, Bool, true, Some, None, Ordering, Less, Equal, Greater, nat_cmp, refl, sym, ap, subst, ◌∙◌, arith, codes, Ok}
+use Rattle.std.specs.Ordering.{match_ordering}
+use Rattle.std.specs.Cmp.Lexicographic.{slice_cmp}
+use Rattle.std.proofs.lemmas.Bool.{and_parts}
+use Rattle.toml.specs.Data.{Data, string, array, table, Members, no_members, member, depth, members_depth, items_depth, has_valid_dates, members_have_valid_dates, items_have_valid_dates}
+use Rattle.kr_table.specs.Testing.{content_faults, row_faults, count_faults}
+use Rattle.kr_table.specs.Members.{items_len}
+use Rattle.kr_table.specs.Tables.{Request, TableData, IsTable}
+use Rattle.kr_table.specs.Reading.{square, stands, converts, asked, asked_each, clauses_of, table_of_parts, judged}
+use Rattle.kr_table.specs.Writing.{put, strings, chosen, with_compatible, with_pairs, with_conversion, plain_clauses, own_clauses, written_rules, written}
+use Rattle.kr_table.proofs.ReadBack.{Distinct, distinct_from, none_apart, names_of_strings, len_strings, good_strings, within_itself, compatible_back, compatible_good, none_missing}
+use Rattle.kr_table.proofs.ReadRest.{conversion_back, conversion_good, no_pair_missing, plain_back, plain_good, own_back, own_good, all_owns}
+use Rattle.kr_table.proofs.Whole.{judged_parts}
+
+-- the table that is read --
+
+same_table : (x : TableData) (b : List Bool) (cv : List ℕ) (fh fm sk ss : Request) (ic jn dc dn : List Request) → b ≡ x.modes.compatible → cv ≡ x.modes.conversion
+    → fh ≡ x.fetch_hit → fm ≡ x.fetch_miss → sk ≡ x.scan_key → ss ≡ x.scan_stop → ic ≡ x.insert_current → jn ≡ x.insert_next → dc ≡ x.delete_current → dn ≡ x.delete_next
+    → ◌≡◌ {A = TableData} (record { modes = record { names = x.modes.names; compatible = b; conversion = cv }; fetch_hit = fh; fetch_miss = fm; scan_key = sk; scan_stop = ss; insert_current = ic; insert_next = jn; delete_current = dc; delete_next = dn }) x
+same_table x b cv fh fm sk ss ic jn dc dn e1 e2 e3 e4 e5 e6 e7 e8 e9 e10 = rw (e1, e2, e3, e4, e5, e6, e7, e8, e9, e10)
+
+parts_back : (x : TableData) → IsTable x
+    → table_of_parts x.modes.names (table (with_compatible x.modes.names x.modes.names x.modes.compatible no_members)) (table (with_conversion x.modes.names x.modes.names x.modes.conversion no_members)) (table (written_rules x)) ≡ x
+parts_back x t =
+    let d : Distinct x.modes.names = distinct_from [] x.modes.names t.named in
+    let e : Distinct (codes "none" ∷ x.modes.names) = (none_apart [] x.modes.names t.named, d) in
+    let rules = table (written_rules x) in
+    same_table x (square (stands (table (with_compatible x.modes.names x.modes.names x.modes.compatible no_members))) x.modes.names x.modes.names)
+    (square (converts x.modes.names (table (with_conversion x.modes.names x.modes.names x.modes.conversion no_members))) x.modes.names x.modes.names)
+    (asked x.modes.names (clauses_of rules (codes "fetch-hit") (codes "current")) (codes "none"))
+    (asked x.modes.names (clauses_of rules (codes "fetch-miss") (codes "next")) (codes "none"))
+    (asked x.modes.names (clauses_of rules (codes "scan-key") (codes "current")) (codes "none"))
+    (asked x.modes.names (clauses_of rules (codes "scan-stop") (codes "next")) (codes "none"))
+    (asked_each x.modes.names (clauses_of rules (codes "insert") (codes "current")))
+    (asked_each x.modes.names (clauses_of rules (codes "insert") (codes "next")))
+    (asked_each x.modes.names (clauses_of rules (codes "delete") (codes "current")))
+    (asked_each x.modes.names (clauses_of rules (codes "delete") (codes "next")))
+    (compatible_back x.modes.names x.modes.names x.modes.compatible no_members d d t.compatible)
+    (conversion_back x.modes.names x.modes.names x.modes.conversion no_members d d t.conversion t.conversions)
+    (plain_back x.modes.names x.fetch_hit (codes "none") d t.fetch_hit)
+    (plain_back x.modes.names x.fetch_miss (codes "none") d t.fetch_miss)
+    (plain_back x.modes.names x.scan_key (codes "none") d t.scan_key)
+    (plain_back x.modes.names x.scan_stop (codes "none") d t.scan_stop)
+    (own_back x.modes.names (codes "none" ∷ x.modes.names) x.insert_current d e (t.insert_current.whole ∙ omega arith) t.insert_current.modes)
+    (own_back x.modes.names (codes "none" ∷ x.modes.names) x.insert_next d e (t.insert_next.whole ∙ omega arith) t.insert_next.modes)
+    (own_back x.modes.names (codes "none" ∷ x.modes.names) x.delete_current d e (t.delete_current.whole ∙ omega arith) t.delete_current.modes)
+    (own_back x.modes.names (codes "none" ∷ x.modes.names) x.delete_next d e (t.delete_next.whole ∙ omega arith) t.delete_next.modes)
+
+rules_good : (x : TableData) → IsTable x → row_faults x.modes.names (written_rules x) ≡ []
+rules_good x t =
+    let owns = codes "none" ∷ x.modes.names in
+    let w = all_owns x.modes.names in
+    rw (
+      own_good x.modes.names (codes "delete") (codes "current") 0 owns x.delete_current refl w t.delete_current.modes,
+      own_good x.modes.names (codes "delete") (codes "next") 0 owns x.delete_next refl w t.delete_next.modes,
+      plain_good x.modes.names (codes "fetch-hit") (codes "current") x.fetch_hit t.fetch_hit,
+      plain_good x.modes.names (codes "fetch-miss") (codes "next") x.fetch_miss t.fetch_miss,
+      own_good x.modes.names (codes "insert") (codes "current") 0 owns x.insert_current refl w t.insert_current.modes,
+      own_good x.modes.names (codes "insert") (codes "next") 0 owns x.insert_next refl w t.insert_next.modes,
+      plain_good x.modes.names (codes "scan-key") (codes "current") x.scan_key t.scan_key,
+      plain_good x.modes.names (codes "scan-stop") (codes "next") x.scan_stop t.scan_stop,
+    )
+
+content_good : (x : TableData) → IsTable x
+    → content_faults x.modes.names (table (with_compatible x.modes.names x.modes.names x.modes.compatible no_members)) (table (with_conversion x.modes.names x.modes.names x.modes.conversion no_members)) (table (written_rules x)) ≡ []
+content_good x t =
+    let d : Distinct x.modes.names = distinct_from [] x.modes.names t.named in
+    let w = within_itself x.modes.names in
+    rw (
+      compatible_good x.modes.names x.modes.names x.modes.compatible no_members w refl,
+      none_missing x.modes.names x.modes.names x.modes.compatible no_members d,
+      conversion_good x.modes.names x.modes.names x.modes.conversion no_members w t.conversions refl,
+      no_pair_missing x.modes.names x.modes.names x.modes.conversion no_members d d t.conversion,
+    )
+    (rules_good x t)
+
+pub written_reads_back : (x : TableData) → IsTable x → judged (table (written x)) ≡ Ok x
+written_reads_back x t =
+    let count : count_faults (items_len (strings x.modes.names)) ≡ [] = rw (len_strings x.modes.names, t.some, t.few) in
+    let same = names_of_strings x.modes.names in
+    let b = table (with_compatible x.modes.names x.modes.names x.modes.compatible no_members) in
+    let c = table (with_conversion x.modes.names x.modes.names x.modes.conversion no_members) in
+    let r = table (written_rules x) in
+    judged_parts (table (written x)) (strings x.modes.names) b c r refl refl refl refl refl refl refl refl refl count (good_strings 0 [] x.modes.names t.named)
+    (subst (λ l. content_faults l b c r ≡ []) (sym same) (content_good x t))
+    ∙ ap Ok (ap (λ l. table_of_parts l b c r) same ∙ parts_back x t)
+
+-- how deep it is --
+
+depth_put_at : (n : ℕ) (k l : List ℕ) (d e : Data) (ms : Members) (o : Ordering) → depth d ≤ n → members_depth (member l e ms) ≤ n → members_depth (put k d ms) ≤ n
+    → members_depth (match_ordering o (member k d (member l e ms)) (member l d ms) (member l e (put k d ms))) ≤ n
+depth_put_at n k l d e ms Less h m more = grind arith
+depth_put_at n k l d e ms Equal h m more = grind arith
+depth_put_at n k l d e ms Greater h m more = grind arith
+
+depth_put : (n : ℕ) (k : List ℕ) (d : Data) (ms : Members) → depth d ≤ n → members_depth ms ≤ n → members_depth (put k d ms) ≤ n
+depth_put n k d no_members h m = grind arith
+depth_put n k d (member l e ms) h m =
+    let rest : members_depth ms ≤ n = grind arith in
+    depth_put_at n k l d e ms (slice_cmp nat_cmp k l) h m (depth_put n k d ms h rest)
+
+depth_strings : (ns : List (List ℕ)) → items_depth (strings ns) ≤ 0
+depth_strings [] = omega arith
+depth_strings (n ∷ ns) = let more = depth_strings ns in grind arith
+
+depth_compatible : (names qs : List (List ℕ)) (bs : List Bool) (ms : Members) → members_depth ms ≤ 1 → members_depth (with_compatible names qs bs ms) ≤ 1
+depth_compatible names [] bs ms h = h
+depth_compatible names (q ∷ qs) bs ms h =
+    let c = chosen names (take (length names) bs) in
+    let s = depth_strings c in
+    depth_compatible names qs (drop (length names) bs) (put q (array (strings c)) ms) (depth_put 1 q (array (strings c)) ms (grind arith) h)
+
+depth_pairs : (names qs : List (List ℕ)) (cs : List ℕ) (ms : Members) → members_depth ms ≤ 0 → members_depth (with_pairs names qs cs ms) ≤ 0
+depth_pairs names [] cs ms h = h
+depth_pairs names (q ∷ qs) [] ms h = h
+depth_pairs names (q ∷ qs) (c ∷ cs) ms h = depth_pairs names qs cs _ (depth_put 0 q (string _) ms (omega arith) h)
+
+depth_conversion : (names hs : List (List ℕ)) (cs : List ℕ) (ms : Members) → members_depth ms ≤ 1 → members_depth (with_conversion names hs cs ms) ≤ 1
+depth_conversion names [] cs ms h = h
+depth_conversion names (k ∷ hs) cs ms h =
+    let ps = with_pairs names names (take (length names) cs) no_members in
+    let s = depth_pairs names names (take (length names) cs) no_members (omega arith) in
+    depth_conversion names hs (drop (length names) cs) (put k (table ps) ms) (depth_put 1 k (table ps) ms (grind arith) h)
+
+depth_plain : (names : List (List ℕ)) (r : Request) → items_depth (plain_clauses names r) ≤ 2
+depth_plain names None = omega arith
+depth_plain names (Some (q, s)) = omega arith
+
+depth_own : (names os : List (List ℕ)) (rs : List Request) → items_depth (own_clauses names os rs) ≤ 2
+depth_own names [] rs = omega arith
+depth_own names (o ∷ os) [] = omega arith
+depth_own names (o ∷ os) (None ∷ rs) = depth_own names os rs
+depth_own names (o ∷ os) (Some (q, s) ∷ rs) = let more = depth_own names os rs in grind arith
+
+pub written_depth : (x : TableData) → members_depth (written x) ≤ 80
+written_depth x =
+    let owns = codes "none" ∷ x.modes.names in
+    let a = depth_strings x.modes.names in
+    let b = depth_compatible x.modes.names x.modes.names x.modes.compatible no_members (omega arith) in
+    let c = depth_conversion x.modes.names x.modes.names x.modes.conversion no_members (omega arith) in
+    let d1 = depth_plain x.modes.names x.fetch_hit in
+    let d2 = depth_plain x.modes.names x.fetch_miss in
+    let d3 = depth_plain x.modes.names x.scan_key in
+    let d4 = depth_plain x.modes.names x.scan_stop in
+    let e1 = depth_own x.modes.names owns x.insert_current in
+    let e2 = depth_own x.modes.names owns x.insert_next in
+    let e3 = depth_own x.modes.names owns x.delete_current in
+    let e4 = depth_own x.modes.names owns x.delete_next in
+    grind arith
+
+-- no date --
+
+dates_put_at : (k l : List ℕ) (d e : Data) (ms : Members) (o : Ordering) → has_valid_dates d ≡ true → members_have_valid_dates (member l e ms) ≡ true → members_have_valid_dates (put k d ms) ≡ true
+    → members_have_valid_dates (match_ordering o (member k d (member l e ms)) (member l d ms) (member l e (put k d ms))) ≡ true
+dates_put_at k l d e ms Less h m more = rw (h, m)
+dates_put_at k l d e ms Equal h m more = rw (h, (and_parts (has_valid_dates e) (members_have_valid_dates ms) m).1)
+dates_put_at k l d e ms Greater h m more = rw ((and_parts (has_valid_dates e) (members_have_valid_dates ms) m).0, more)
+
+dates_put : (k : List ℕ) (d : Data) (ms : Members) → has_valid_dates d ≡ true → members_have_valid_dates ms ≡ true → members_have_valid_dates (put k d ms) ≡ true
+dates_put k d no_members h m = rw h
+dates_put k d (member l e ms) h m = dates_put_at k l d e ms (slice_cmp nat_cmp k l) h m (dates_put k d ms h (and_parts (has_valid_dates e) (members_have_valid_dates ms) m).1)
+
+dates_strings : (ns : List (List ℕ)) → items_have_valid_dates (strings ns) ≡ true
+dates_strings [] = refl
+dates_strings (n ∷ ns) = dates_strings ns
+
+dates_compatible : (names qs : List (List ℕ)) (bs : List Bool) (ms : Members) → members_have_valid_dates ms ≡ true → members_have_valid_dates (with_compatible names qs bs ms) ≡ true
+dates_compatible names [] bs ms h = h
+dates_compatible names (q ∷ qs) bs ms h =
+    let c = chosen names (take (length names) bs) in
+    dates_compatible names qs (drop (length names) bs) (put q (array (strings c)) ms) (dates_put q (array (strings c)) ms (dates_strings c) h)
+
+dates_pairs : (names qs : List (List ℕ)) (cs : List ℕ) (ms : Members) → members_have_valid_dates ms ≡ true → members_have_valid_dates (with_pairs names qs cs ms) ≡ true
+dates_pairs names [] cs ms h = h
+dates_pairs names (q ∷ qs) [] ms h = h
+dates_pairs names (q ∷ qs) (c ∷ cs) ms h = dates_pairs names qs cs _ (dates_put q (string _) ms refl h)
+
+dates_conversion : (names hs : List (List ℕ)) (cs : List ℕ) (ms : Members) → members_have_valid_dates ms ≡ true → members_have_valid_dates (with_conversion names hs cs ms) ≡ true
+dates_conversion names [] cs ms h = h
+dates_conversion names (k ∷ hs) cs ms h =
+    let ps = with_pairs names names (take (length names) cs) no_members in
+    dates_conversion names hs (drop (length names) cs) (put k (table ps) ms) (dates_put k (table ps) ms (dates_pairs names names (take (length names) cs) no_members refl) h)
+
+dates_plain : (names : List (List ℕ)) (r : Request) → items_have_valid_dates (plain_clauses names r) ≡ true
+dates_plain names None = refl
+dates_plain names (Some (q, s)) = refl
+
+dates_own : (names os : List (List ℕ)) (rs : List Request) → items_have_valid_dates (own_clauses names os rs) ≡ true
+dates_own names [] rs = refl
+dates_own names (o ∷ os) [] = refl
+dates_own names (o ∷ os) (None ∷ rs) = dates_own names os rs
+dates_own names (o ∷ os) (Some (q, s) ∷ rs) = dates_own names os rs
+
+pub written_dates : (x : TableData) → members_have_valid_dates (written x) ≡ true
+written_dates x =
+    let owns = codes "none" ∷ x.modes.names in
+    rw (
+      dates_strings x.modes.names,
+      dates_compatible x.modes.names x.modes.names x.modes.compatible no_members refl,
+      dates_conversion x.modes.names x.modes.names x.modes.conversion no_members refl,
+      dates_plain x.modes.names x.fetch_hit,
+      dates_plain x.modes.names x.fetch_miss,
+      dates_plain x.modes.names x.scan_key,
+      dates_plain x.modes.names x.scan_stop,
+      dates_own x.modes.names owns x.insert_current,
+      dates_own x.modes.names owns x.insert_next,
+      dates_own x.modes.names owns x.delete_current,
+      dates_own x.modes.names owns x.delete_next,
+    )

@@ -1,0 +1,19 @@
+use Rattle.std.proofs.Common.{◌≡◌, ◌≤◌, subst, sym, true, string_bytes}
+use Rattle.std.specs.Prelude.{IfOk}
+use Rattle.toml.specs.Data.{table, members_depth, members_have_valid_dates}
+use Rattle.kr_table.specs.Shown.{data_of}
+use Rattle.kr_table.specs.Reading.{judged, reading}
+use Rattle.kr_table.proofs.Written.{written_reads_back, written_depth, written_dates}
+use Rattle.kr_table.proofs.writing.write.Goals as goal
+
+pub printed-requires-clause-depth : goal.printed-requires-clause-depth
+printed-requires-clause-depth c = subst (λ ms. members_depth ms ≤ 80) (sym c.in-Ok.ensures) (written_depth (data_of c.args.table.now.parts))
+
+pub printed-requires-clause-dates : goal.printed-requires-clause-dates
+printed-requires-clause-dates c = subst (λ ms. members_have_valid_dates ms ≡ true) (sym c.in-Ok.ensures) (written_dates (data_of c.args.table.now.parts))
+
+pub returns-in-Ok-clause-reads_back : goal.returns-in-Ok-clause-reads_back
+returns-in-Ok-clause-reads_back c =
+    let back = written_reads_back (data_of c.args.table.now.parts) c.args.table.now.sound in
+    let seen = subst (λ ms. IfOk c.printed.result (λ s. reading (string_bytes s) ≡ judged (table ms))) c.in-Ok.ensures c.printed.ensures.reads_back in
+    subst (λ r. IfOk c.printed.result (λ s. reading (string_bytes s) ≡ r)) back seen

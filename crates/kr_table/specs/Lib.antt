@@ -1,0 +1,8 @@
+pub mod Faults
+pub mod Members
+pub mod Testing
+pub mod Tables
+pub mod Reading
+pub mod Shown
+pub mod Answer
+pub mod Writing

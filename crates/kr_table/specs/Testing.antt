@@ -1,0 +1,228 @@
+-- The faults of a document, in the order in which they are told.
+use Rattle.std.specs.Prelude.{ℕ, ℤ, pos, ◌+◌, ◌&&◌, ◌||◌, codes, decimal, List, [], ◌∷◌, ◌++◌, length, Bool, true, false, not, nat_lt, bytes_eq, Option, Some, None, is_some}
+use Rattle.std.specs.Ordering.{int_eq}
+use Rattle.toml.specs.Data.{Data, Items, no_items, item, Members, no_members, member, get, as_str, as_array, as_table}
+use Rattle.kr_table.specs.Faults.{Fault, format, field, mode_count, mode_name, compatible, convert, rule, own_not_allowed, unless}
+use Rattle.kr_table.specs.Members.{integer_in, list_in, table_in, text_in, items_in, data_in, pair_in, members_of, items_within, items_len, with_some, modes_in}
+
+-- The document --
+
+-- The faults of the member `format`, as a whole number if it is one.
+abbrev pub format_faults : Option ℤ → List Fault
+format_faults None = field (codes "format") ∷ []
+format_faults (Some z) = unless (int_eq z (pos 1)) format
+
+-- Whether a table has a member of this name.
+abbrev pub is_member_name : List ℕ → Bool
+is_member_name k = bytes_eq k (codes "format") || bytes_eq k (codes "modes") || bytes_eq k (codes "compatible") || bytes_eq k (codes "convert") || bytes_eq k (codes "rules")
+
+-- Each member whose name is unknown; the members of a document rise in the order of their bytes.
+abbrev pub name_faults : Members → List Fault
+name_faults no_members = []
+name_faults (member k d ms) = unless (is_member_name k) (field k) ++ name_faults ms
+
+-- A member that is no array.
+abbrev pub list_faults : List ℕ → Data → List Fault
+list_faults name d = unless (is_some (list_in name d)) (field name)
+
+-- A member that is no table.
+abbrev pub table_faults : List ℕ → Data → List Fault
+table_faults name d = unless (is_some (table_in name d)) (field name)
+
+-- The names of the modes --
+
+-- A number of modes that isn't 1 to 15.
+abbrev pub count_faults : ℕ → List Fault
+count_faults n = unless (nat_lt 0 n && nat_lt n 16) mode_count
+
+-- Whether one of these modes has the name.
+abbrev pub is_mode : List (List ℕ) → List ℕ → Bool
+is_mode [] name = false
+is_mode (mode ∷ modes) name = bytes_eq mode name || is_mode modes name
+
+-- Whether all bytes are from space to tilde.
+abbrev pub is_printable : List ℕ → Bool
+is_printable [] = true
+is_printable (b ∷ bs) = (nat_lt 31 b && nat_lt b 127) && is_printable bs
+
+-- Whether a mode may have the name: 1 to 24 bytes from space to tilde, not `none`, and none of the names before it.
+abbrev pub is_good : List (List ℕ) → List ℕ → Bool
+is_good before name = nat_lt 0 (length name) && nat_lt (length name) 25 && is_printable name && not (bytes_eq name (codes "none")) && not (is_mode before name)
+
+-- Whether an element is text that a mode may have for its name.
+abbrev pub is_good_text : List (List ℕ) → Option (List ℕ) → Bool
+is_good_text before None = false
+is_good_text before (Some name) = is_good before name
+
+-- Each element of `modes`, from an index on, that is no name of a mode after the names before it.
+abbrev pub mode_faults : ℕ → List (List ℕ) → Items → List Fault
+mode_faults i before no_items = []
+mode_faults i before (item d ds) = unless (is_good_text before (as_str d)) (mode_name i) ++ mode_faults (i + 1) (before ++ with_some (as_str d)) ds
+
+-- Whether what was read is the name of a mode.
+abbrev pub is_mode_text : List (List ℕ) → Option (List ℕ) → Bool
+is_mode_text modes None = false
+is_mode_text modes (Some name) = is_mode modes name
+
+-- Which modes stand together --
+
+-- Whether each element is the name of a mode.
+abbrev pub all_modes : List (List ℕ) → Items → Bool
+all_modes modes no_items = true
+all_modes modes (item d ds) = is_mode_text modes (as_str d) && all_modes modes ds
+
+-- Whether an entry is an array of names of modes, at the name of a mode.
+abbrev pub is_entry : List (List ℕ) → List ℕ → Option Items → Bool
+is_entry modes name None = false
+is_entry modes name (Some ds) = is_mode modes name && all_modes modes ds
+
+-- Each entry of `compatible` that is none.
+abbrev pub entry_faults : List (List ℕ) → Members → List Fault
+entry_faults modes no_members = []
+entry_faults modes (member k d ms) = unless (is_entry modes k (as_array d)) (compatible (codes "compatible." ++ k)) ++ entry_faults modes ms
+
+-- Each mode that has no entry in `compatible`.
+abbrev pub missing_faults : List (List ℕ) → Data → List Fault
+missing_faults [] d = []
+missing_faults (mode ∷ modes) d = unless (is_some (get mode d)) (compatible (codes "compatible." ++ mode)) ++ missing_faults modes d
+
+-- Conversions --
+
+-- The path of a pair of a held mode and a requested one.
+abbrev pub pair_path : List ℕ → List ℕ → List ℕ
+pair_path h q = codes "convert." ++ h ++ codes "." ++ q
+
+-- Each pair of held mode h whose requested mode is no mode, or whose value isn't the name of one.
+abbrev pub pair_faults : List (List ℕ) → List ℕ → Members → List Fault
+pair_faults modes h no_members = []
+pair_faults modes h (member q d ms) = unless (is_mode modes q && is_mode_text modes (as_str d)) (convert (pair_path h q)) ++ pair_faults modes h ms
+
+-- Each entry of `convert` that is no table at the name of a mode, and the pairs in it, before the next entry.
+abbrev pub held_faults : List (List ℕ) → Members → List Fault
+held_faults modes no_members = []
+held_faults modes (member h d ms) =
+    unless (is_mode modes h && is_some (as_table d)) (convert (codes "convert." ++ h))
+    ++ (pair_faults modes h (members_of d) ++ held_faults modes ms)
+
+-- Each of the requested modes that h has no pair for.
+abbrev pub missing_of : List ℕ → List (List ℕ) → Data → List Fault
+missing_of h [] d = []
+missing_of h (q ∷ qs) d = unless (is_some (pair_in d h q)) (convert (pair_path h q)) ++ missing_of h qs d
+
+-- Each pair that isn't there, by held modes and then by requested ones.
+abbrev pub missing_pairs : List (List ℕ) → List (List ℕ) → Data → List Fault
+missing_pairs [] modes d = []
+missing_pairs (h ∷ hs) modes d = missing_of h modes d ++ missing_pairs hs modes d
+
+-- Rules --
+
+-- Whether the row is of an operation that changes the index; such a row has both sides, and clauses with `own`.
+abbrev pub is_changing : List ℕ → Bool
+is_changing row = bytes_eq row (codes "insert") || bytes_eq row (codes "delete")
+
+-- Whether the row asks at the current name.
+abbrev pub has_current : List ℕ → Bool
+has_current row = bytes_eq row (codes "fetch-hit") || bytes_eq row (codes "scan-key") || is_changing row
+
+-- Whether the row asks at the next name.
+abbrev pub has_next : List ℕ → Bool
+has_next row = bytes_eq row (codes "fetch-miss") || bytes_eq row (codes "scan-stop") || is_changing row
+
+-- Whether there is a row of this name.
+abbrev pub is_row : List ℕ → Bool
+is_row row = has_current row || has_next row
+
+-- Whether the row has a side of this name.
+abbrev pub is_side : List ℕ → List ℕ → Bool
+is_side row side = (bytes_eq side (codes "current") && has_current row) || (bytes_eq side (codes "next") && has_next row)
+
+-- Whether a clause may have a member of this name.
+abbrev pub is_clause_word : List ℕ → Bool
+is_clause_word k = bytes_eq k (codes "own") || bytes_eq k (codes "mode") || bytes_eq k (codes "span")
+
+-- Whether a clause may have members of all these names.
+abbrev pub are_clause_words : Members → Bool
+are_clause_words no_members = true
+are_clause_words (member k d ms) = is_clause_word k && are_clause_words ms
+
+-- Whether what was read is one of the two spans.
+abbrev pub is_span : Option (List ℕ) → Bool
+is_span None = false
+is_span (Some word) = bytes_eq word (codes "instant") || bytes_eq word (codes "commit")
+
+-- Whether it is a clause, but for its `own`: a table of known members, with a mode and a span.
+abbrev pub is_clause : List (List ℕ) → Data → Bool
+is_clause modes d = is_some (as_table d) && are_clause_words (members_of d) && is_mode_text modes (text_in (codes "mode") d) && is_span (text_in (codes "span") d)
+
+-- Whether an element is the name of a mode, or `none`.
+abbrev pub is_own_text : List (List ℕ) → Option (List ℕ) → Bool
+is_own_text modes None = false
+is_own_text modes (Some name) = bytes_eq name (codes "none") || is_mode modes name
+
+-- Whether each element is the name of a mode, or `none`.
+abbrev pub all_own : List (List ℕ) → Items → Bool
+all_own modes no_items = true
+all_own modes (item d ds) = is_own_text modes (as_str d) && all_own modes ds
+
+-- Whether the `own` of a clause is an array of names of modes and of `none`.
+abbrev pub is_own : List (List ℕ) → Option Items → Bool
+is_own modes None = false
+is_own modes (Some ds) = all_own modes ds
+
+-- The path of the clause at an index.
+abbrev pub clause_path : List ℕ → List ℕ → ℕ → List ℕ
+clause_path row side i = codes "rules." ++ row ++ codes "." ++ side ++ codes "." ++ decimal i
+
+-- The faults of the `own` of a clause, if it has one: it may stand in a row that changes the index alone.
+abbrev pub own_faults : List (List ℕ) → List ℕ → List ℕ → ℕ → Option Data → List Fault
+own_faults modes row side i None = []
+own_faults modes row side i (Some d) =
+    unless (is_changing row) (own_not_allowed (clause_path row side i))
+    ++ unless (is_own modes (as_array d)) (rule (clause_path row side i))
+
+-- The faults of a clause.
+abbrev pub clause_faults : List (List ℕ) → List ℕ → List ℕ → ℕ → Data → List Fault
+clause_faults modes row side i d = unless (is_clause modes d) (rule (clause_path row side i)) ++ own_faults modes row side i (get (codes "own") d)
+
+-- The faults of each clause of a side, from an index on.
+abbrev pub clauses_faults : List (List ℕ) → List ℕ → List ℕ → ℕ → Items → List Fault
+clauses_faults modes row side i no_items = []
+clauses_faults modes row side i (item d ds) = clause_faults modes row side i d ++ clauses_faults modes row side (i + 1) ds
+
+-- Each side that is no array or that the row hasn't, and the faults of its clauses, before the next side.
+abbrev pub side_faults : List (List ℕ) → List ℕ → Members → List Fault
+side_faults modes row no_members = []
+side_faults modes row (member side d ms) =
+    unless (is_side row side && is_some (as_array d)) (rule (codes "rules." ++ row ++ codes "." ++ side))
+    ++ (clauses_faults modes row side 0 (items_within d) ++ side_faults modes row ms)
+
+-- Each row that is no table or unknown, and the faults of its sides, before the next row.
+abbrev pub row_faults : List (List ℕ) → Members → List Fault
+row_faults modes no_members = []
+row_faults modes (member row d ms) =
+    unless (is_row row && is_some (as_table d)) (rule (codes "rules." ++ row))
+    ++ (side_faults modes row (members_of d) ++ row_faults modes ms)
+
+-- The whole --
+
+-- The faults of `compatible`, `convert` and `rules`, given the names of the modes.
+abbrev pub content_faults : List (List ℕ) → Data → Data → Data → List Fault
+content_faults modes entries conversions rules =
+    entry_faults modes (members_of entries)
+    ++ (missing_faults modes entries
+    ++ (held_faults modes (members_of conversions)
+    ++ (missing_pairs modes modes conversions
+    ++ row_faults modes (members_of rules))))
+
+-- All faults of a document, each kind without regard to the others.
+abbrev pub faults : Data → List Fault
+faults d =
+    format_faults (integer_in (codes "format") d)
+    ++ (name_faults (members_of d)
+    ++ (list_faults (codes "modes") d
+    ++ (table_faults (codes "compatible") d
+    ++ (table_faults (codes "convert") d
+    ++ (table_faults (codes "rules") d
+    ++ (count_faults (items_len (items_in (codes "modes") d))
+    ++ (mode_faults 0 [] (items_in (codes "modes") d)
+    ++ content_faults (modes_in d) (data_in (codes "compatible") d) (data_in (codes "convert") d) (data_in (codes "rules") d))))))))

@@ -1,0 +1,18 @@
+//! Lock tables as text: read from TOML, with the first of all faults where the text is no table, and written as TOML.
+#![tactic(auto)]
+
+mod faults;
+mod making;
+mod reading;
+mod table;
+mod testing;
+pub mod texts;
+mod writing;
+
+pub use faults::TableFault;
+pub use reading::read;
+pub use table::Table;
+pub use writing::{WriteFault, write};
+
+#[cfg(test)]
+mod tests;
