@@ -1,0 +1,4 @@
+pub mod Counted
+pub mod Firsts
+pub mod Listed
+pub mod Within

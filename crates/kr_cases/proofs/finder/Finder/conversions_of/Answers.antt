@@ -1,0 +1,26 @@
+use Rattle.std.proofs.Common.{◌≡◌, ◌≢◌, ◌+◌, ◌-◌, [], ◌∷◌, ◌++◌, Some, None, map, take, get_or, suc, rules, sym, subst, arith}
+use Rattle.std.specs.List.{flat_map}
+use Rattle.std.specs.Option.{option_to_list}
+use Rattle.std.proofs.lemmas.List.{take_more}
+use Rattle.kr_model.specs.declared.Rule.TheVariants as rule
+use Rattle.kr_model.specs.declared.Row.TheVariants as row
+use Rattle.kr_model.specs.declared.Side.TheVariants.{Current, Next}
+use Rattle.kr_model.specs.declared.Cover.TheVariants.{ReadKey, ReadGap, InsertedKey, DeletedGap}
+use Rattle.kr_model.specs.declared.Origin.TheVariants.{One, Two}
+use Rattle.kr_model.specs.Covers.{count_up, modes, modes_or_none, all_covers, case, mode_after, failure}
+use Rattle.kr_model.proofs.Guarantees.{in_modes, in_modes_or_none}
+use Rattle.kr_cases.specs.Cases.{failures, conversions_from, conversions_of, row_cover, inserts_at, splits_of}
+use Rattle.kr_cases.proofs.Counted.{before-more, below-more, all_modes, all_modes_or_none}
+use Rattle.kr_cases.proofs.Listed.{in_listed, list_more, list_gives}
+use Rattle.kr_cases.proofs.finder.Finder.conversions_of.Goals as goal
+
+pub returns-in_err-conversions_from-clause-err : goal.returns-in_err-conversions_from-clause-err
+returns-in_err-conversions_from-clause-err g c =
+    let p = g.P.Protocol.table c.args.self.now.protocol.now in
+    let some : failures p (flat_map (conversions_from p c.args.cover) (modes p)) ≢ [] = list_gives (failure p) (conversions_from p c.args.cover) (modes p) c.loop-held.held (in_modes p c.loop-held.held (record { some = omega arith; in_range = omega arith })) c.in_err-conversions_from.ensures.err in
+    search (rules, some)
+
+pub loop-held-preserved : goal.loop-held-preserved
+loop-held-preserved g c =
+    let p = g.P.Protocol.table c.args.self.now.protocol.now in
+    list_more (failure p) (conversions_from p c.args.cover) c.args.failed.now.items c.loop-held.failed.items c.conversions_from.new.failed.items (count_up 1 (c.loop-held.held - 1)) (count_up 1 (c.loop-held.held + 1 - 1)) c.loop-held.held (below-more c.loop-held.held (omega arith)) c.loop-held.invariant c.in_ok-conversions_from.ensures.ok

@@ -1,0 +1,156 @@
+//! The first place that each mode leaves open of each cover.
+ghost use Rattle.std.specs.Prelude.{◌≡◌, ◌≤◌, filter, map};
+ghost use Rattle.kr_model.specs.declared.Side.TheVariants as side;
+ghost use Rattle.kr_model.specs.Covers.{must_refuse, place, places_of, modes_or_none, is_open};
+ghost use Rattle.kr_cases.specs.Holes.{first, first_open, AreFirst, AreHoles};
+
+use kr_model::{Cover, Mode, Place, Row, Side};
+use kr_protocol::Protocol;
+
+/// What no other transaction may be granted beside a lock that has the cover, in order.
+fn must_refuse(cover: Cover) -> &'static [(Row, Side)]
+    ensures { result.now ≡ must_refuse cover }
+{
+    match cover {
+        Cover::ReadKey => &[(Row::Delete, Side::Current)],
+        Cover::ReadGap => &[(Row::Insert, Side::Next), (Row::Delete, Side::Current)],
+        Cover::InsertedKey => &[
+            (Row::FetchHit, Side::Current),
+            (Row::FetchMiss, Side::Next),
+            (Row::ScanKey, Side::Current),
+            (Row::ScanStop, Side::Next),
+            (Row::Delete, Side::Current),
+            (Row::Delete, Side::Next),
+        ],
+        Cover::DeletedGap => &[
+            (Row::FetchMiss, Side::Next),
+            (Row::ScanKey, Side::Current),
+            (Row::ScanStop, Side::Next),
+            (Row::Insert, Side::Next),
+            (Row::Delete, Side::Current),
+            (Row::Delete, Side::Next),
+        ],
+    }
+}
+
+/// Whether a lock in mode `held` lets the place through: nothing is asked there, or what is asked may stand beside it.
+fn is_open<P: Protocol>(protocol: &P, held: Mode, place: Place) -> bool
+    requires held { held ≤ (P.table protocol.now).count }
+    requires own { place.own ≤ (P.table protocol.now).count }
+    requires own_next { place.own_next ≤ (P.table protocol.now).count }
+    ensures { result ≡ is_open (P.table protocol.now) held place }
+{
+    match protocol.ask(place.row, place.side, place.own_next) {
+        Some((mode, _)) => protocol.ok(protocol.convert(place.own, mode), held),
+        None => true,
+    }
+}
+
+/// The first open place of an asker on the next name, by its own mode there.
+fn first_next<P: Protocol>(protocol: &P, held: Mode, row: Row) -> Option<Place>
+    requires { held ≤ (P.table protocol.now).count }
+    ensures { result ≡ first (filter (is_open (P.table protocol.now) held) (places_of (P.table protocol.now) (row, side.Next))) }
+{
+    for own in 0..protocol.count() + 1 {
+        let place = Place {
+            row,
+            side: Side::Next,
+            own,
+            own_next: own,
+        };
+        if is_open(protocol, held, place) {
+            return Some(place);
+        }
+    }
+    None
+}
+
+/// The first open place of an asker on the current name who holds `own` there, by its own mode on the next name.
+fn first_holding<P: Protocol>(protocol: &P, held: Mode, row: Row, own: Mode) -> Option<Place>
+    requires held { held ≤ (P.table protocol.now).count }
+    requires own { own ≤ (P.table protocol.now).count }
+    ensures { result ≡ first (filter (is_open (P.table protocol.now) held)
+        (map (λ n. place (row, side.Current) own n) (modes_or_none (P.table protocol.now)))) }
+{
+    for own_next in 0..protocol.count() + 1 {
+        let place = Place {
+            row,
+            side: Side::Current,
+            own,
+            own_next,
+        };
+        if is_open(protocol, held, place) {
+            return Some(place);
+        }
+    }
+    None
+}
+
+/// The first open place of an asker on the current name, by its own modes there and on the next name.
+fn first_current<P: Protocol>(protocol: &P, held: Mode, row: Row) -> Option<Place>
+    requires { held ≤ (P.table protocol.now).count }
+    ensures { result ≡ first (filter (is_open (P.table protocol.now) held) (places_of (P.table protocol.now) (row, side.Current))) }
+{
+    for own in 0..protocol.count() + 1 {
+        if let Some(place) = first_holding(protocol, held, row, own) {
+            return Some(place);
+        }
+    }
+    None
+}
+
+/// The first open place of an asker at a row and side, by its own modes.
+fn first_at<P: Protocol>(protocol: &P, held: Mode, ask: (Row, Side)) -> Option<Place>
+    requires { held ≤ (P.table protocol.now).count }
+    ensures { result ≡ first (filter (is_open (P.table protocol.now) held) (places_of (P.table protocol.now) ask)) }
+{
+    match ask {
+        (row, Side::Current) => first_current(protocol, held, row),
+        (row, Side::Next) => first_next(protocol, held, row),
+    }
+}
+
+/// The first place that a lock in mode `held` leaves open, of those that the cover must refuse.
+fn first_open<P: Protocol>(protocol: &P, cover: Cover, held: Mode) -> Option<Place>
+    requires { held ≤ (P.table protocol.now).count }
+    ensures { result ≡ first_open (P.table protocol.now) cover held }
+{
+    for ask in must_refuse(cover) {
+        if let Some(place) = first_at(protocol, held, *ask) {
+            return Some(place);
+        }
+    }
+    None
+}
+
+/// The first place that each mode leaves open of a cover, by mode, from none on.
+fn row_of<P: Protocol>(protocol: &P, cover: Cover) -> [Option<Place>; 16]
+    ensures { AreFirst (P.table protocol.now) cover result }
+{
+    let mut row = [None; 16];
+    for held in 0..protocol.count() + 1 {
+        row[held as usize] = first_open(protocol, cover, held);
+    }
+    row
+}
+
+/// The first place that each mode leaves open of each cover, by mode, from none on.
+#[derive(Drop)]
+pub(crate) struct Holes {
+    pub(crate) read_key: [Option<Place>; 16],
+    pub(crate) read_gap: [Option<Place>; 16],
+    pub(crate) inserted_key: [Option<Place>; 16],
+    pub(crate) deleted_gap: [Option<Place>; 16],
+}
+
+/// What the modes of a protocol leave open. Takes no memory.
+pub(crate) fn holes_of<P: Protocol>(protocol: &P) -> Holes
+    ensures { AreHoles (P.table protocol.now) result }
+{
+    Holes {
+        read_key: row_of(protocol, Cover::ReadKey),
+        read_gap: row_of(protocol, Cover::ReadGap),
+        inserted_key: row_of(protocol, Cover::InsertedKey),
+        deleted_gap: row_of(protocol, Cover::DeletedGap),
+    }
+}

@@ -1,0 +1,11 @@
+//! The case checker: accepts a lock protocol of which every case holds, and lists all cases that fail of any other.
+#![tactic(auto)]
+
+mod checker;
+mod finder;
+mod holes;
+#[cfg(test)]
+mod tests;
+
+pub use checker::{Cause, Checked, Memory, Rejected, cases, check};
+pub use kr_model::FailedCase;
