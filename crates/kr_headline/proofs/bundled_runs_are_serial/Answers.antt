@@ -1,0 +1,15 @@
+use Rattle.kr_model.specs.Kvl.{kvl}
+use Rattle.kr_model.specs.Im.{im}
+use Rattle.kr_model.specs.RangeKey.{range_key}
+use Rattle.kr_model.proofs.Bundled.{kvl_lawful, kvl_covered, im_lawful, im_covered, range_key_lawful, range_key_covered}
+use Rattle.kr_headline.proofs.Runs.{runs_are_serial}
+use Rattle.kr_headline.proofs.bundled_runs_are_serial.Goals as goal
+
+pub returns-clause-kvl : goal.returns-clause-kvl
+returns-clause-kvl c = runs_are_serial kvl kvl_lawful kvl_covered
+
+pub returns-clause-im : goal.returns-clause-im
+returns-clause-im c = runs_are_serial im im_lawful im_covered
+
+pub returns-clause-range_key : goal.returns-clause-range_key
+returns-clause-range_key c = runs_are_serial range_key range_key_lawful range_key_covered
