@@ -7,10 +7,17 @@ use Rattle.kr_model.specs.declared.Name.{Name}
 use Rattle.kr_model.specs.declared.Name.TheVariants.{Key, End}
 use Rattle.kr_model.specs.declared.Reply.{Reply}
 use Rattle.kr_model.specs.declared.Reply.TheVariants as reply
+use Rattle.kr_model.specs.declared.Origin.{Origin}
+use Rattle.kr_model.specs.declared.Origin.TheVariants.{One, Two}
+use Rattle.kr_model.specs.declared.FailedCase.{FailedCase}
+use Rattle.kr_model.specs.Protocol.{Protocol}
 use Rattle.kr_model.specs.Map.{Map}
 use Rattle.kr_model.specs.Locks.{Locks}
 use Rattle.kr_script.specs.Json.{whole}
-use Rattle.kr_script.specs.Report.{pair_data, reply_data, name_data, lock_data, run_data}
+use Rattle.kr_script.specs.CheckReport.{from_data, failed_data, check_data}
+use Rattle.kr_script.specs.Report.{pair_data, reply_data, name_data, lock_data, run_data, named_verdict_data}
+use Rattle.kr_serial.specs.declared.verdict.Verdict.{Verdict}
+use Rattle.kr_serial.specs.declared.verdict.Verdict.TheVariants as verdict
 
 -- a list of values that have none has none
 no_float_in : {A : Type 0} (f : A → Data) → ((a : A) → has_float (f a) ≡ false) → (xs : List A) → items_have_float (items_of (map f xs)) ≡ false
@@ -48,3 +55,20 @@ no_float_in_run names index locks replies unfinished =
       no_float_in reply_data no_float_in_reply replies,
       no_float_in whole (λ n. refl) unfinished,
     )
+
+no_float_in_from : (names : List (List ℕ)) (o : Origin) → has_float (from_data names o) ≡ false
+no_float_in_from names (One a) = refl
+no_float_in_from names (Two a b) = refl
+
+no_float_in_failed : (names : List (List ℕ)) (f : FailedCase) → has_float (failed_data names f) ≡ false
+no_float_in_failed names f = rw (no_float_in_from names f.from)
+
+-- no value of a check is a float
+pub no_float_in_check : (p : Protocol) (names : List (List ℕ)) (failed : List FailedCase) → has_float (check_data p names failed) ≡ false
+no_float_in_check p names [] = refl
+no_float_in_check p names (f ∷ fs) = rw (no_float_in (failed_data names) (no_float_in_failed names) (f ∷ fs))
+
+-- no value of a verdict is a float
+pub no_float_in_verdict : (script : List ℕ) (v : Verdict) → has_float (named_verdict_data script v) ≡ false
+no_float_in_verdict script verdict.Serial = refl
+no_float_in_verdict script (verdict.NotSerial t operation given serial) = rw (no_float_in_reply given, no_float_in_reply serial)

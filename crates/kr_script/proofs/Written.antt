@@ -10,7 +10,7 @@ use Rattle.kr_model.specs.declared.Op.{Op}
 use Rattle.kr_model.specs.declared.Op.TheVariants.{Fetch, Scan, Go, Insert, Delete, Commit, Abort}
 use Rattle.kr_model.specs.declared.Event.{Event}
 use Rattle.kr_script.specs.Json.{whole, number_at, word_at, both}
-use Rattle.kr_script.specs.Steps.{one_number, two_numbers, op_of, as_event, event_of, items_of_op, step_of}
+use Rattle.kr_script.specs.Steps.{one_number, two_numbers, alone, op_of, as_event, event_of, items_of_op, step_of}
 
 -- what a number and a text are
 number_is : (o : Option Data) (n : ℕ) → option_and_then as_u64 (option_and_then as_number o) ≡ Some n → o ≡ Some (whole n)
@@ -85,71 +85,80 @@ named ds word name e h = rw (← (bytes_eq-Decides word name).0 e) h
 
 -- the items of a list are its first and those of an operation
 abbrev AreItems : Items → Data → Op → Type 0
-AreItems ds a op = (rest : Items) × (items_of_op op ≡ Some rest) × (ds ≡ item a rest)
+AreItems ds a op = ds ≡ item a (items_of_op op)
 
-fetch_items : (ds : Items) (op : Op) (a : Data) → get_item 0 ds ≡ Some a → get_item 1 ds ≡ Some (string (codes "fetch"))
-    → option_map Fetch (one_number (items_len ds) (array ds)) ≡ Some op → AreItems ds a op
-fetch_items ds op a g h o =
-    let (k, at, is) = mapped Fetch (one_number (items_len ds) (array ds)) op o in
-    let (len, at_k) = tested (items_len ds == 3) (number_at 2 (array ds)) k at in (
-      item (string (codes "fetch")) (item (whole k) no_items),
-      ap items_of_op is,
-      three ds a (string (codes "fetch")) (whole k) ((Decides-eqb (items_len ds) 3).0 len) g h (number_is _ k at_k),
-    )
+-- an operation with one number
+one_items : (f : ℕ → Op) (name : List ℕ) (form : (k : ℕ) → items_of_op (f k) ≡ item (string name) (item (whole k) no_items))
+    (ds : Items) (op : Op) (a : Data) → get_item 0 ds ≡ Some a → get_item 1 ds ≡ Some (string name)
+    → option_map f (one_number (items_len ds) (array ds)) ≡ Some op → AreItems ds a op
+one_items f name form ds op a g h o =
+    let (k, at, is) = mapped f (one_number (items_len ds) (array ds)) op o in
+    let (len, at_k) = tested (items_len ds == 3) (number_at 2 (array ds)) k at in
+    rw (is, form k) (three ds a (string name) (whole k) ((Decides-eqb (items_len ds) 3).0 len) g h (number_is _ k at_k))
 
-insert_items : (ds : Items) (op : Op) (a : Data) → get_item 0 ds ≡ Some a → get_item 1 ds ≡ Some (string (codes "insert"))
-    → option_map (λ p. Insert p.0 p.1) (two_numbers (items_len ds) (array ds)) ≡ Some op → AreItems ds a op
-insert_items ds op a g h o =
-    let (p, at, is) = mapped (λ p. Insert p.0 p.1) (two_numbers (items_len ds) (array ds)) op o in
+-- an operation with two numbers
+two_items : (f : ℕ × ℕ → Op) (name : List ℕ) (form : (p : ℕ × ℕ) → items_of_op (f p) ≡ item (string name) (item (whole p.0) (item (whole p.1) no_items)))
+    (ds : Items) (op : Op) (a : Data) → get_item 0 ds ≡ Some a → get_item 1 ds ≡ Some (string name)
+    → option_map f (two_numbers (items_len ds) (array ds)) ≡ Some op → AreItems ds a op
+two_items f name form ds op a g h o =
+    let (p, at, is) = mapped f (two_numbers (items_len ds) (array ds)) op o in
     let (len, numbers) = tested (items_len ds == 4) (both (number_at 2 (array ds)) (number_at 3 (array ds))) p at in
-    let (at_k, at_v) = both_are (number_at 2 (array ds)) (number_at 3 (array ds)) p numbers in (
-      item (string (codes "insert")) (item (whole p.0) (item (whole p.1) no_items)),
-      ap items_of_op is,
-      four ds a (string (codes "insert")) (whole p.0) (whole p.1) ((Decides-eqb (items_len ds) 4).0 len) g h (number_is _ p.0 at_k) (number_is _ p.1 at_v),
-    )
+    let (at_0, at_1) = both_are (number_at 2 (array ds)) (number_at 3 (array ds)) p numbers in
+    rw (is, form p) (four ds a (string name) (whole p.0) (whole p.1) ((Decides-eqb (items_len ds) 4).0 len) g h (number_is _ p.0 at_0) (number_is _ p.1 at_1))
 
-commit_items : (ds : Items) (op : Op) (a : Data) → get_item 0 ds ≡ Some a → get_item 1 ds ≡ Some (string (codes "commit"))
-    → cond (items_len ds == 2) (Some Commit) None ≡ Some op → AreItems ds a op
-commit_items ds op a g h o =
-    let (len, made) = tested (items_len ds == 2) (Some Commit) op o in
-    let is : op ≡ Commit = cc in (
-      item (string (codes "commit")) no_items,
-      ap items_of_op is,
-      two ds a (string (codes "commit")) ((Decides-eqb (items_len ds) 2).0 len) g h,
-    )
+-- an operation with no number
+alone_items : (o : Op) (name : List ℕ) (form : items_of_op o ≡ item (string name) no_items)
+    (ds : Items) (op : Op) (a : Data) → get_item 0 ds ≡ Some a → get_item 1 ds ≡ Some (string name)
+    → alone (items_len ds) o ≡ Some op → AreItems ds a op
+alone_items o name form ds op a g h made =
+    let (len, same) = tested (items_len ds == 2) (Some o) op made in
+    let is : op ≡ o = cc in
+    rw (is, form) (two ds a (string name) ((Decides-eqb (items_len ds) 2).0 len) g h)
 
 -- the items of a list whose word and length are those of an operation
 op_items : (ds : Items) (word : List ℕ) (op : Op) (a : Data) → get_item 0 ds ≡ Some a → get_item 1 ds ≡ Some (string word)
     → op_of word (items_len ds) (array ds) ≡ Some op → AreItems ds a op
 op_items ds word op a g h o =
     elim (chosen (bytes_eq word (codes "fetch")) _ _ _ o) [
-      | inl f ↦ fetch_items ds op a g (named ds word (codes "fetch") f.0 h) f.1
-      | inr f ↦ elim (chosen (bytes_eq word (codes "insert")) _ _ _ f.1) [
-        | inl i ↦ insert_items ds op a g (named ds word (codes "insert") i.0 h) i.1
-        | inr i ↦ elim (chosen (bytes_eq word (codes "commit")) _ _ _ i.1) [
-          | inl m ↦ commit_items ds op a g (named ds word (codes "commit") m.0 h) m.1
-          | inr m ↦ cc
+      | inl y ↦ one_items Fetch (codes "fetch") (λ k. refl) ds op a g (named ds word (codes "fetch") y.0 h) y.1
+      | inr n ↦ elim (chosen (bytes_eq word (codes "scan")) _ _ _ n.1) [
+        | inl y ↦ two_items (λ p. Scan p.0 p.1) (codes "scan") (λ p. refl) ds op a g (named ds word (codes "scan") y.0 h) y.1
+        | inr n ↦ elim (chosen (bytes_eq word (codes "go")) _ _ _ n.1) [
+          | inl y ↦ alone_items Go (codes "go") refl ds op a g (named ds word (codes "go") y.0 h) y.1
+          | inr n ↦ elim (chosen (bytes_eq word (codes "insert")) _ _ _ n.1) [
+            | inl y ↦ two_items (λ p. Insert p.0 p.1) (codes "insert") (λ p. refl) ds op a g (named ds word (codes "insert") y.0 h) y.1
+            | inr n ↦ elim (chosen (bytes_eq word (codes "delete")) _ _ _ n.1) [
+              | inl y ↦ one_items Delete (codes "delete") (λ k. refl) ds op a g (named ds word (codes "delete") y.0 h) y.1
+              | inr n ↦ elim (chosen (bytes_eq word (codes "commit")) _ _ _ n.1) [
+                | inl y ↦ alone_items Commit (codes "commit") refl ds op a g (named ds word (codes "commit") y.0 h) y.1
+                | inr n ↦ elim (chosen (bytes_eq word (codes "abort")) _ _ _ n.1) [
+                  | inl y ↦ alone_items Abort (codes "abort") refl ds op a g (named ds word (codes "abort") y.0 h) y.1
+                  | inr n ↦ cc
+                ]
+              ]
+            ]
+          ]
         ]
       ]
     ]
 
-finished : (ds rest : Items) (txn : ℕ) (op : Op) (e : Event) → e ≡ record { txn = txn; op = op } → items_of_op op ≡ Some rest → ds ≡ item (whole txn) rest → txn < 2 ^ 32
-    → (step_of e ≡ Some (array ds)) × (e.txn < 2 ^ 32)
-finished ds rest txn op e is at items lt = rw (is, at, items) (refl, lt)
+finished : (ds : Items) (txn : ℕ) (op : Op) (e : Event) → e ≡ record { txn = txn; op = op } → ds ≡ item (whole txn) (items_of_op op) → txn < 2 ^ 32
+    → (array ds ≡ step_of e) × (e.txn < 2 ^ 32)
+finished ds txn op e is items lt = rw (is, items) (refl, lt)
 
 -- what reads as an event is its step
-is_step_of_list : (ds : Items) (e : Event) → event_of (array ds) ≡ Some e → (step_of e ≡ Some (array ds)) × (e.txn < 2 ^ 32)
+is_step_of_list : (ds : Items) (e : Event) → event_of (array ds) ≡ Some e → (array ds ≡ step_of e) × (e.txn < 2 ^ 32)
 is_step_of_list ds e h =
     let (txn, at_txn, more) = some_of _ (number_at 0 (array ds)) e h in
     let (word, at_word, tail) = some_of _ (word_at 1 (array ds)) e more in
     let (op, at_op, made) = some_of (as_event txn) (op_of word (items_len ds) (array ds)) e tail in
-    let (rest, at, items) = op_items ds word op (whole txn) (number_is _ txn at_txn) (word_is _ word at_word) at_op in
+    let items = op_items ds word op (whole txn) (number_is _ txn at_txn) (word_is _ word at_word) at_op in
     let (fits, event) = tested (nat_lt txn (2 ^ 32)) (Some (record { txn = txn; op = op })) e made in
     let is : e ≡ record { txn = txn; op = op } = cc in
-    finished ds rest txn op e is at items ((Decides-ltb txn (2 ^ 32)).0 fits)
+    finished ds txn op e is items ((Decides-ltb txn (2 ^ 32)).0 fits)
 
 -- a value that reads as an event is the step that the event is written as
-pub is_step : (d : Data) (e : Event) → event_of d ≡ Some e → (step_of e ≡ Some d) × (e.txn < 2 ^ 32)
+pub is_step : (d : Data) (e : Event) → event_of d ≡ Some e → (d ≡ step_of e) × (e.txn < 2 ^ 32)
 is_step null e h = cc
 is_step (boolean b) e h = cc
 is_step (number n) e h = cc
@@ -160,24 +169,15 @@ is_step (object ms) e h = cc
 fits : (t : ℕ) → t < 2 ^ 32 → nat_lt t (2 ^ 32) ≡ true
 fits t h = grind (arith, nat_tests)
 
-read_items : (t : ℕ) (op : Op) (items : Items) → items_of_op op ≡ Some items → t < 2 ^ 32
-    → event_of (array (item (whole t) items)) ≡ Some (record { txn = t; op = op })
-read_items t (Fetch k) items at h =
-    let e : items ≡ item (string (codes "fetch")) (item (whole k) no_items) = cc in
-    rw (e, fits t h)
-read_items t (Insert k v) items at h =
-    let e : items ≡ item (string (codes "insert")) (item (whole k) (item (whole v) no_items)) = cc in
-    rw (e, fits t h)
-read_items t Commit items at h =
-    let e : items ≡ item (string (codes "commit")) no_items = cc in
-    rw (e, fits t h)
-read_items t (Scan lo hi) items at h = cc
-read_items t Go items at h = cc
-read_items t (Delete k) items at h = cc
-read_items t Abort items at h = cc
+read_items : (t : ℕ) (op : Op) → t < 2 ^ 32 → event_of (array (item (whole t) (items_of_op op))) ≡ Some (record { txn = t; op = op })
+read_items t (Fetch k) h = rw (fits t h) refl
+read_items t (Scan lo hi) h = rw (fits t h) refl
+read_items t Go h = rw (fits t h) refl
+read_items t (Insert k v) h = rw (fits t h) refl
+read_items t (Delete k) h = rw (fits t h) refl
+read_items t Commit h = rw (fits t h) refl
+read_items t Abort h = rw (fits t h) refl
 
 -- an event reads back from its step
-pub reads_back : (d : Data) (e : Event) → step_of e ≡ Some d → e.txn < 2 ^ 32 → event_of d ≡ Some e
-reads_back d e s h =
-    let (items, at, is) = mapped (λ items. array (item (whole e.txn) items)) (items_of_op e.op) d s in
-    ap event_of is ∙ read_items e.txn e.op items at h
+pub reads_back : (d : Data) (e : Event) → d ≡ step_of e → e.txn < 2 ^ 32 → event_of d ≡ Some e
+reads_back d e is h = ap event_of is ∙ read_items e.txn e.op h

@@ -5,3 +5,4 @@ pub mod Script
 pub mod Steps
 pub mod Faults
 pub mod Reading
+pub mod CheckReport

@@ -13,6 +13,8 @@ use Rattle.kr_model.specs.Map.{Map}
 use Rattle.kr_model.specs.Locks.{Locks}
 use Rattle.kr_model.specs.ModeNames.{name_of}
 use Rattle.kr_model.specs.Difference.{refusal_number}
+use Rattle.kr_serial.specs.declared.verdict.Verdict.{Verdict}
+use Rattle.kr_serial.specs.declared.verdict.Verdict.TheVariants as verdict
 use Rattle.kr_script.specs.Json.{whole, after_word}
 
 -- Whole numbers, in their order.
@@ -79,3 +81,17 @@ run_data names index locks replies unfinished =
 -- The text of a run's report.
 abbrev pub run_text : List (List ℕ) → Map → Locks → List Reply → List ℕ → List ℕ
 run_text names index locks replies unfinished = compact_text (run_data names index locks replies unfinished)
+
+-- A verdict: that the programs are serial, or the first answer that isn't: whose, the number of the operation, the answer given and the serial one.
+abbrev pub verdict_data : Verdict → Data
+verdict_data verdict.Serial = after_word (codes "serial") no_items
+verdict_data (verdict.NotSerial t operation given serial) =
+    after_word (codes "not-serial") (item (whole t) (item (whole operation) (item (reply_data given) (item (reply_data serial) no_items))))
+
+-- A verdict on the script of this name.
+abbrev pub named_verdict_data : List ℕ → Verdict → Data
+named_verdict_data script v = object (member (codes "script") (string script) (member (codes "verdict") (verdict_data v) no_members))
+
+-- The text of a verdict's report.
+abbrev pub verdict_text : List ℕ → Verdict → List ℕ
+verdict_text script v = compact_text (named_verdict_data script v)

@@ -2,7 +2,7 @@
 use Rattle.std.specs.Prelude.{ℕ, ◌^◌, ◌==◌, codes, List, nat_lt, bytes_eq, if◌then◌else◌, Option, Some, None, option_map, option_and_then}
 use Rattle.serde_json.specs.Data.{Data, string, array, Items, no_items, item}
 use Rattle.kr_model.specs.declared.Op.{Op}
-use Rattle.kr_model.specs.declared.Op.TheVariants.{Fetch, Insert, Commit}
+use Rattle.kr_model.specs.declared.Op.TheVariants.{Fetch, Scan, Go, Insert, Delete, Commit, Abort}
 use Rattle.kr_model.specs.declared.Event.{Event}
 use Rattle.kr_script.specs.Json.{whole, length_of, number_at, word_at, both}
 
@@ -16,12 +16,20 @@ one_number len d = if len == 3 then number_at 2 d else None
 abbrev pub two_numbers : ℕ → Data → Option (ℕ × ℕ)
 two_numbers len d = if len == 4 then both (number_at 2 d) (number_at 3 d) else None
 
+-- The operation, where nothing is behind the word.
+abbrev pub alone : ℕ → Op → Option Op
+alone len o = if len == 2 then Some o else None
+
 -- The operation of a step with this word and so many elements: a line for each form.
 abbrev pub op_of : List ℕ → ℕ → Data → Option Op
 op_of word len d =
     if bytes_eq word (codes "fetch") then option_map Fetch (one_number len d)
+    else if bytes_eq word (codes "scan") then option_map (λ p. Scan p.0 p.1) (two_numbers len d)
+    else if bytes_eq word (codes "go") then alone len Go
     else if bytes_eq word (codes "insert") then option_map (λ p. Insert p.0 p.1) (two_numbers len d)
-    else if bytes_eq word (codes "commit") then (if len == 2 then Some Commit else None)
+    else if bytes_eq word (codes "delete") then option_map Delete (one_number len d)
+    else if bytes_eq word (codes "commit") then alone len Commit
+    else if bytes_eq word (codes "abort") then alone len Abort
     else None
 
 -- An operation with the transaction that attempts it, whose number has 32 bits.
@@ -36,13 +44,16 @@ event_of d =
 
 -- From event to value --
 
--- The word and the numbers of an operation, where it has a form: a line for each.
-abbrev pub items_of_op : Op → Option Items
-items_of_op (Fetch k) = Some (item (string (codes "fetch")) (item (whole k) no_items))
-items_of_op (Insert k v) = Some (item (string (codes "insert")) (item (whole k) (item (whole v) no_items)))
-items_of_op Commit = Some (item (string (codes "commit")) no_items)
-items_of_op _ = None
+-- The word and the numbers of an operation: a line for each form.
+abbrev pub items_of_op : Op → Items
+items_of_op (Fetch k) = item (string (codes "fetch")) (item (whole k) no_items)
+items_of_op (Scan lo hi) = item (string (codes "scan")) (item (whole lo) (item (whole hi) no_items))
+items_of_op Go = item (string (codes "go")) no_items
+items_of_op (Insert k v) = item (string (codes "insert")) (item (whole k) (item (whole v) no_items))
+items_of_op (Delete k) = item (string (codes "delete")) (item (whole k) no_items)
+items_of_op Commit = item (string (codes "commit")) no_items
+items_of_op Abort = item (string (codes "abort")) no_items
 
--- The step that an event is written as, where its operation has a form.
-abbrev pub step_of : Event → Option Data
-step_of e = option_map (λ items. array (item (whole e.txn) items)) (items_of_op e.op)
+-- The step that an event is written as.
+abbrev pub step_of : Event → Data
+step_of e = array (item (whole e.txn) (items_of_op e.op))

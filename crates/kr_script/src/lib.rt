@@ -1,6 +1,7 @@
-//! Scripts of transactions' steps: read from JSON, and the report of their run, printed on a sink.
+//! Scripts of transactions' steps: read from JSON, and the reports of their run and of checks, printed on a sink.
 #![tactic(auto)]
 
+mod check_reports;
 mod faults;
 mod json;
 mod reading;
@@ -9,9 +10,10 @@ mod script;
 mod sink;
 mod steps;
 
+pub use check_reports::report_check;
 pub use faults::ScriptFault;
 pub use reading::read_script;
-pub use reports::report_run;
+pub use reports::{report_run, report_verdict};
 pub use script::Script;
 pub use sink::{Failed, Io, PrintFault, Sink, print};
 pub use steps::one_step_for_each_event;

@@ -1,15 +1,15 @@
-//! The report of a run, as JSON on one line.
+//! The reports of runs and of verdicts, as JSON on one line.
 ghost use Rattle.std.specs.Prelude.{◌≡◌, ◌≤◌, All, IfOk, string_bytes};
 ghost use Rattle.serde_json.specs.Data.{item, no_items};
 ghost use Rattle.serde_json.specs.View.{view};
 ghost use Rattle.kr_model.specs.declared.Reply.TheVariants as reply;
 ghost use Rattle.kr_model.specs.Difference.{refusal_number};
 ghost use Rattle.kr_script.specs.Json.{after_word};
-ghost use Rattle.kr_script.specs.Report.{numbers_data, pair_data, pairs_data, refusal_name, reply_data, replies_data, name_data, lock_data, locks_data, run_data, run_text};
+ghost use Rattle.kr_script.specs.Report.{numbers_data, pair_data, pairs_data, refusal_name, reply_data, replies_data, name_data, lock_data, locks_data, run_data, run_text, verdict_data, named_verdict_data, verdict_text};
 
 use kr_model::{Mode, Name, Refusal, Reply, Txn};
 use kr_protocol::Protocol;
-use kr_serial::Ran;
+use kr_serial::{Ran, Verdict};
 use serde_json::{Value, json};
 use std::alloc::{AllocError, Global};
 
@@ -177,4 +177,37 @@ pub fn report_run<P: Protocol>(alloc: Global, protocol: &P, ran: &Ran) -> Result
         ≡ run_text (P.names protocol.now) ran.now.index ran.now.locks ran.now.replies ran.now.unfinished) }
 {
     run_value(alloc, protocol, ran)?.to_string(alloc)
+}
+
+fn verdict_value(alloc: Global, verdict: &Verdict) -> Result<Value, AllocError>
+    ensures { IfOk result (λ v. view v ≡ verdict_data verdict.now) }
+{
+    match verdict {
+        Verdict::Serial => word(alloc, "serial"),
+        Verdict::NotSerial {
+            txn,
+            operation,
+            given,
+            serial,
+        } => {
+            let given = reply_value(alloc, given)?;
+            let serial = reply_value(alloc, serial)?;
+            json!(in alloc; ["not-serial", *txn, *operation, given, serial])
+        }
+    }
+}
+
+fn named_verdict_value(alloc: Global, script: &str, verdict: &Verdict) -> Result<Value, AllocError>
+    ensures { IfOk result (λ v. view v ≡ named_verdict_data script.now verdict.now) }
+{
+    let verdict = verdict_value(alloc, verdict)?;
+    json!(in alloc; {"script": script, "verdict": verdict})
+}
+
+/// The report of a verdict on the script of this name: compact JSON on one line, with no line feed. Its members are the
+/// name as it is given, and the verdict. The error is memory alone.
+pub fn report_verdict(alloc: Global, script: &str, verdict: &Verdict) -> Result<String, AllocError>
+    ensures text { IfOk result (λ text. string_bytes text ≡ verdict_text script.now verdict.now) }
+{
+    named_verdict_value(alloc, script, verdict)?.to_string(alloc)
 }

@@ -30,8 +30,12 @@ fn op_of(word: &str, value: &Value, len: usize) -> Option<Op>
 {
     match word {
         "fetch" => one_number(value, len).map(Op::Fetch),
+        "scan" => two_numbers(value, len).map(|(lo, hi)| Op::Scan(lo, hi)),
+        "go" if len == 2 => Some(Op::Go),
         "insert" => two_numbers(value, len).map(|(key, number)| Op::Insert(key, number)),
+        "delete" => one_number(value, len).map(Op::Delete),
         "commit" if len == 2 => Some(Op::Commit),
+        "abort" if len == 2 => Some(Op::Abort),
         _ => None,
     }
 }
@@ -51,5 +55,5 @@ pub fn event_of(value: &Value) -> Option<Event>
 /// A value reads as an event exactly where it is the step that the event is written as, of a
 /// transaction whose number has 32 bits: each event is written in one way.
 pub fn one_step_for_each_event()
-    ensures { (d : Data) (e : Event) → (spec.event_of d ≡ Some e) ↔ ((spec.step_of e ≡ Some d) × (e.txn < 2 ^ 32)) }
+    ensures { (d : Data) (e : Event) → (spec.event_of d ≡ Some e) ↔ ((d ≡ spec.step_of e) × (e.txn < 2 ^ 32)) }
 {}

@@ -46,6 +46,27 @@ fn reads_the_greatest_numbers(rt: HostRuntime) -> Result<(), Fail> {
     Ok(())
 }
 
+#[test]
+fn reads_each_form_of_a_step(rt: HostRuntime) -> Result<(), Fail> {
+    let text =
+        "{\"format\":1,\"opening\":[],\"steps\":[[7,\"fetch\",1],[7,\"scan\",2,3],[7,\"go\"],[7,\"insert\",4,5],[7,\"delete\",6],[7,\"commit\"],[7,\"abort\"]]}";
+    let script = read_script(rt.alloc(), text.as_bytes())?;
+    let ops = [
+        Op::Fetch(1),
+        Op::Scan(2, 3),
+        Op::Go,
+        Op::Insert(4, 5),
+        Op::Delete(6),
+        Op::Commit,
+        Op::Abort,
+    ];
+    assert_eq!(rt; script.steps().len(), ops.len());
+    for (event, op) in script.steps().iter().zip(ops) {
+        assert!(rt; *event == Event { txn: 7, op });
+    }
+    Ok(())
+}
+
 // The fault that is told of the bytes, as it is shown, or `none`.
 fn told(alloc: Global, bytes: &[u8]) -> Result<String, AllocError> {
     match read_script(alloc, bytes) {
@@ -63,7 +84,7 @@ fn told(alloc: Global, bytes: &[u8]) -> Result<String, AllocError> {
     }
 }
 
-const DOCUMENTS: [(&str, &str); 27] = [
+const DOCUMENTS: [(&str, &str); 32] = [
     ("", "fault 2 NotJson"),
     (
         "{\"format\":1,\"opening\":[],\"steps\":[]} 1",
@@ -131,6 +152,26 @@ const DOCUMENTS: [(&str, &str); 27] = [
     ),
     (
         "{\"format\":1,\"opening\":[],\"steps\":[[1,\"commit\",1]]}",
+        "fault 6 Step at 0",
+    ),
+    (
+        "{\"format\":1,\"opening\":[],\"steps\":[[1,\"scan\",1]]}",
+        "fault 6 Step at 0",
+    ),
+    (
+        "{\"format\":1,\"opening\":[],\"steps\":[[1,\"go\",1]]}",
+        "fault 6 Step at 0",
+    ),
+    (
+        "{\"format\":1,\"opening\":[],\"steps\":[[1,\"delete\"]]}",
+        "fault 6 Step at 0",
+    ),
+    (
+        "{\"format\":1,\"opening\":[],\"steps\":[[1,\"abort\",1]]}",
+        "fault 6 Step at 0",
+    ),
+    (
+        "{\"format\":1,\"opening\":[],\"steps\":[[1,\"update\",1,2]]}",
         "fault 6 Step at 0",
     ),
     (

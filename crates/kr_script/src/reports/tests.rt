@@ -2,10 +2,10 @@ ghost use Rattle.std.specs.Prelude.{max, List, [], ◌∷◌, None, true, codes,
 ghost use Rattle.std.proofs.Common.{rules};
 ghost use Rattle.kr_model.proofs.Tested.{lawful_by_test};
 
-use crate::report_run;
+use crate::{report_run, report_verdict};
 use kr_model::{Mode, Name, Pairs, Refusal, Reply, Row, Side, Span, Txns};
 use kr_protocol::Protocol;
-use kr_serial::{Ran, Replies, Triples};
+use kr_serial::{Ran, Replies, Triples, Verdict};
 use std::alloc::{AllocError, Global};
 
 // Two modes, which stand beside each other and are never asked for.
@@ -59,6 +59,7 @@ fn reports_the_phantom(rt: HostRuntime) -> Result<(), AllocError> {
         replies: Replies::from_vec(replies),
         index: Pairs::from_vec(vec![in alloc; (10, 1), (20, 2), (30, 3)]?),
         locks: Triples::from_vec(locks),
+        programs: Programs::from_vec(Vec::new(alloc)),
         unfinished: Txns::from_vec(vec![in alloc; 1]?),
     };
     let text = report_run(alloc, &Sample, &ran)?;
@@ -104,9 +105,32 @@ fn reports_each_reply(rt: HostRuntime) -> Result<(), AllocError> {
         replies: Replies::from_vec(each_reply(alloc)?),
         index: Pairs::from_vec(Vec::new(alloc)),
         locks: Triples::from_vec(locks),
+        programs: Programs::from_vec(Vec::new(alloc)),
         unfinished: Txns::from_vec(Vec::new(alloc)),
     };
     let text = report_run(alloc, &&Sample, &ran)?;
     assert_eq!(rt; text.as_str(), EACH_REPLY);
+    Ok(())
+}
+
+#[test]
+fn reports_verdicts(rt: HostRuntime) -> Result<(), AllocError> {
+    let alloc = rt.alloc();
+    let text = report_verdict(alloc, "a \"b\".json", &Verdict::Serial)?;
+    assert_eq!(rt;
+        text.as_str(),
+        "{\"script\":\"a \\\"b\\\".json\",\"verdict\":[\"serial\"]}"
+    );
+    let verdict = Verdict::NotSerial {
+        txn: 1,
+        operation: 2,
+        given: Reply::Rows(Pairs::from_vec(vec![in alloc; (10, 1), (20, 2)]?)),
+        serial: Reply::Rows(Pairs::from_vec(vec![in alloc; (20, 2)]?)),
+    };
+    let text = report_verdict(alloc, "scan.json", &verdict)?;
+    assert_eq!(rt;
+        text.as_str(),
+        "{\"script\":\"scan.json\",\"verdict\":[\"not-serial\",1,2,[\"rows\",[[10,1],[20,2]]],[\"rows\",[[20,2]]]]}"
+    );
     Ok(())
 }
