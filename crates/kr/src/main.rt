@@ -1,6 +1,7 @@
-//! Replays interleaved transactions on an index under a lock table.
+//! Checks lock tables of an index, and replays interleaved transactions under them.
 #![tactic(auto)]
 
+mod checks;
 mod files;
 mod over;
 mod program;

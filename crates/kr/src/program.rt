@@ -1,9 +1,11 @@
 //! The program over its words, files and streams.
+use crate::checks::check_over;
 use crate::files::{FileFault, Files};
 use crate::over::{OverFault, run_over};
 use crate::words::{Asked, WordsFault, read_words};
 use kr_protocol::{Im, Kvl, Protocol, RangeKey};
 use kr_script::{ScriptFault, Sink, print};
+use kr_table::TableFault;
 use std::alloc::{AllocError, Global};
 
 /// The line for want of memory.
@@ -35,51 +37,128 @@ fn unreadable(alloc: Global, word: &str) -> Result<Ending, AllocError> {
     Ok(Ending::Line(format!(in alloc; "kr: {word}: cannot be read")?))
 }
 
-/// Runs the script that a word names under a protocol. A word that begins with `@` is never a file.
-fn run_under<R: std::rt::Files + AllocGlobal, P: Protocol, F: Files, W: Sink>(
+/// The bytes of the file that a word names, or how the program ends. A word that begins with `@` is never a file.
+fn whole<R: std::rt::Files + AllocGlobal, F: Files>(
     rt: &R,
-    protocol: &P,
-    script: &str,
+    word: &str,
     files: &F,
-    out: &mut W,
-) -> Result<Ending, AllocError> {
+) -> Result<Vec<u8>, Ending> {
     let alloc = rt.alloc();
-    if script.starts_with('@') {
-        return unreadable(alloc, script);
+    if word.starts_with('@') {
+        return Err(unreadable(alloc, word)?);
     }
-    let bytes = match files.whole(rt, script) {
-        Ok(bytes) => bytes,
-        Err(FileFault::Memory) => return Ok(Ending::Memory),
-        Err(FileFault::Unreadable) => return unreadable(alloc, script),
-    };
-    match run_over(alloc, protocol, bytes.as_slice(), out) {
-        Ok(()) => Ok(Ending::Status(0)),
-        Err(OverFault::Script(ScriptFault::Memory)) | Err(OverFault::Memory) => Ok(Ending::Memory),
-        Err(OverFault::Script(fault)) => Ok(Ending::Line(format!(in alloc;
-            "kr: {script}: {fault}"
-        )?)),
-        Err(OverFault::Print) => Ok(Ending::Output),
+    match files.whole(rt, word) {
+        Ok(bytes) => Ok(bytes),
+        Err(FileFault::Memory) => Err(Ending::Memory),
+        Err(FileFault::Unreadable) => Err(unreadable(alloc, word)?),
     }
 }
 
-/// Runs a script under the table that a word names: one of the bundled tables.
-fn run<R: std::rt::Files + AllocGlobal, F: Files, W: Sink>(
+/// A command that is done under a table.
+trait Command {
+    /// Does it under this protocol.
+    fn under<R: std::rt::Files + AllocGlobal, P: Protocol, F: Files, W: Sink>(
+        &self,
+        rt: &R,
+        protocol: P,
+        files: &F,
+        out: &mut W,
+    ) -> Result<Ending, AllocError>;
+}
+
+/// Checks the table: status 0 where it is accepted, and 1 where it is refused.
+#[derive(Drop)]
+struct Check;
+
+impl Command for Check {
+    fn under<R: std::rt::Files + AllocGlobal, P: Protocol, F: Files, W: Sink>(
+        &self,
+        rt: &R,
+        protocol: P,
+        _files: &F,
+        out: &mut W,
+    ) -> Result<Ending, AllocError> {
+        match check_over(rt.alloc(), protocol, out) {
+            Ok(true) => Ok(Ending::Status(0)),
+            Ok(false) => Ok(Ending::Status(1)),
+            Err(OverFault::Print) => Ok(Ending::Output),
+            Err(_) => Ok(Ending::Memory),
+        }
+    }
+}
+
+/// Runs the script that a word names.
+#[derive(Drop)]
+struct Run<'a> {
+    script: &'a str,
+}
+
+impl Command for Run<'_> {
+    fn under<R: std::rt::Files + AllocGlobal, P: Protocol, F: Files, W: Sink>(
+        &self,
+        rt: &R,
+        protocol: P,
+        files: &F,
+        out: &mut W,
+    ) -> Result<Ending, AllocError> {
+        let alloc = rt.alloc();
+        let script = self.script;
+        let bytes = match whole(rt, script, files) {
+            Ok(bytes) => bytes,
+            Err(ending) => return Ok(ending),
+        };
+        match run_over(alloc, &protocol, bytes.as_slice(), out) {
+            Ok(()) => Ok(Ending::Status(0)),
+            Err(OverFault::Script(ScriptFault::Memory)) | Err(OverFault::Memory) => {
+                Ok(Ending::Memory)
+            }
+            Err(OverFault::Script(fault)) => Ok(Ending::Line(format!(in alloc;
+                "kr: {script}: {fault}"
+            )?)),
+            Err(OverFault::Print) => Ok(Ending::Output),
+        }
+    }
+}
+
+/// Does a command under the table that a word names: one of the bundled tables, or a file. Scripts are read only where
+/// the table is one.
+fn with_table<R: std::rt::Files + AllocGlobal, C: Command, F: Files, W: Sink>(
     rt: &R,
     table: &str,
-    script: &str,
+    command: &C,
     files: &F,
     out: &mut W,
 ) -> Result<Ending, AllocError> {
     match table {
-        "@kvl" => run_under(rt, &Kvl, script, files, out),
-        "@im" => run_under(rt, &Im, script, files, out),
-        "@range-key" => run_under(rt, &RangeKey, script, files, out),
-        _ => unreadable(rt.alloc(), table),
+        "@kvl" => command.under(rt, Kvl, files, out),
+        "@im" => command.under(rt, Im, files, out),
+        "@range-key" => command.under(rt, RangeKey, files, out),
+        _ => with_file(rt, table, command, files, out),
     }
 }
 
-/// Runs the program on words without its own name, and answers its status: 0 where it reported a run, and 2 where it
-/// told a fault on `err`. At a fault of words, files, scripts or memory nothing is written on `out`.
+/// Does a command under the table in the file that a word names.
+fn with_file<R: std::rt::Files + AllocGlobal, C: Command, F: Files, W: Sink>(
+    rt: &R,
+    table: &str,
+    command: &C,
+    files: &F,
+    out: &mut W,
+) -> Result<Ending, AllocError> {
+    let alloc = rt.alloc();
+    let bytes = match whole(rt, table, files) {
+        Ok(bytes) => bytes,
+        Err(ending) => return Ok(ending),
+    };
+    match kr_table::read(alloc, bytes.as_slice()) {
+        Ok(protocol) => command.under(rt, protocol, files, out),
+        Err(TableFault::Memory) => Ok(Ending::Memory),
+        Err(fault) => Ok(Ending::Line(format!(in alloc; "kr: {table}: {fault}")?)),
+    }
+}
+
+/// Runs the program on words without its own name, and answers its status: 0 where it reported a run or accepted a table,
+/// 1 where it refused a table, and 2 where it told a fault on `err`. At a fault of words, files, tables, scripts or memory nothing is written on `out`.
 pub fn execute<R: std::rt::Files + AllocGlobal, F: Files, W: Sink, E: Sink>(
     rt: &R,
     words: &[String],
@@ -88,8 +167,11 @@ pub fn execute<R: std::rt::Files + AllocGlobal, F: Files, W: Sink, E: Sink>(
     err: &mut E,
 ) -> u8 {
     let ending = match read_words(rt.alloc(), words) {
+        Ok(Asked::Check { table }) => {
+            with_table(rt, table, &Check, files, out).unwrap_or(Ending::Memory)
+        }
         Ok(Asked::Run { table, script }) => {
-            run(rt, table, script, files, out).unwrap_or(Ending::Memory)
+            with_table(rt, table, &Run { script }, files, out).unwrap_or(Ending::Memory)
         }
         Err(WordsFault::NotUnderstood) => {
             let _ = print(err, NOT_UNDERSTOOD);

@@ -5,11 +5,21 @@ use std::alloc::{AllocError, Global};
 use std::process::Abort;
 use std::test::Fail;
 
-/// One file, named `s`.
-#[derive(Drop)]
-struct One<'a>(&'a str);
+mod checks;
+mod deletes;
+mod faults;
+mod inserts;
+mod scans;
+mod tables;
 
-impl Files for One<'_> {
+/// Two files: a table named `table` and a script named `s`.
+#[derive(Drop)]
+struct Texts<'a> {
+    table: &'a str,
+    script: &'a str,
+}
+
+impl Files for Texts<'_> {
     fn whole<R: std::rt::Files + AllocGlobal>(
         &self,
         rt: &R,
@@ -18,10 +28,12 @@ impl Files for One<'_> {
         if word == "big" {
             return Err(FileFault::Memory);
         }
-        if word != "s" {
-            return Err(FileFault::Unreadable);
-        }
-        match self.0.as_bytes().to_vec(rt.alloc()) {
+        let text = match word {
+            "table" => self.table,
+            "s" => self.script,
+            _ => return Err(FileFault::Unreadable),
+        };
+        match text.as_bytes().to_vec(rt.alloc()) {
             Ok(bytes) => Ok(bytes),
             Err(_) => Err(FileFault::Memory),
         }
@@ -46,6 +58,10 @@ impl Sink for Broken {
 
 const OPENING: &str = "[[10,1],[20,2],[30,3]]";
 
+/// A script that reads a gap and then inserts into it, by two transactions.
+const PHANTOM: &str =
+    r#"{"format":1,"opening":[[10,1],[20,2],[30,3]],"steps":[[1,"fetch",15],[2,"insert",17,5]]}"#;
+
 fn owned(alloc: Global, words: &[&str]) -> Result<Vec<String>, AllocError> {
     let mut all = Vec::new(alloc);
     for word in words {
@@ -54,7 +70,7 @@ fn owned(alloc: Global, words: &[&str]) -> Result<Vec<String>, AllocError> {
     Ok(all)
 }
 
-/// What the program writes on its two streams, and its status.
+/// What the program writes on its two streams, and its status, where there is no table.
 fn told<R: std::rt::Files + AllocGlobal + Abort>(
     rt: &R,
     words: &[&str],
@@ -63,21 +79,49 @@ fn told<R: std::rt::Files + AllocGlobal + Abort>(
     err: &str,
     status: u8,
 ) -> Result<(), Fail> {
+    told_over(rt, words, &Texts { table: "", script }, out, err, status)
+}
+
+/// What the program writes on its two streams, and its status.
+fn told_over<R: std::rt::Files + AllocGlobal + Abort>(
+    rt: &R,
+    words: &[&str],
+    files: &Texts,
+    out: &str,
+    err: &str,
+    status: u8,
+) -> Result<(), Fail> {
+    let script = files.script;
+    let ran = run_program(rt, words, files)?;
+    assert_eq!(rt; ran.status, status, "{script}");
+    assert_eq!(rt; ran.out.as_slice(), out.as_bytes(), "{script}");
+    assert_eq!(rt; ran.err.as_slice(), err.as_bytes(), "{script}");
+    Ok(())
+}
+
+/// What a run of the program left.
+#[derive(Drop)]
+struct Program {
+    status: u8,
+    out: Vec<u8>,
+    err: Vec<u8>,
+}
+
+fn run_program<R: std::rt::Files + AllocGlobal>(
+    rt: &R,
+    words: &[&str],
+    files: &Texts,
+) -> Result<Program, AllocError> {
     let alloc = rt.alloc();
     let words = owned(alloc, words)?;
-    let mut given_out = Io::new(Vec::new(alloc));
-    let mut given_err = Io::new(Vec::new(alloc));
-    let ended = execute(
-        rt,
-        words.as_slice(),
-        &One(script),
-        &mut given_out,
-        &mut given_err,
-    );
-    assert_eq!(rt; ended, status, "{script}");
-    assert_eq!(rt; given_out.writer().as_slice(), out.as_bytes(), "{script}");
-    assert_eq!(rt; given_err.writer().as_slice(), err.as_bytes(), "{script}");
-    Ok(())
+    let mut out = Io::new(Vec::new(alloc));
+    let mut err = Io::new(Vec::new(alloc));
+    let status = execute(rt, words.as_slice(), files, &mut out, &mut err);
+    Ok(Program {
+        status,
+        out: out.writer().to_vec(alloc)?,
+        err: err.writer().to_vec(alloc)?,
+    })
 }
 
 /// Runs steps on an opening map under a table, and compares the report.
@@ -101,177 +145,36 @@ fn reports<R: std::rt::Files + AllocGlobal + Abort>(
     )
 }
 
-#[test]
-fn first_report(rt: HostRuntime) -> Result<(), Fail> {
-    reports(
-        &rt,
-        "@kvl",
-        OPENING,
-        "[[1,\"fetch\",15],[2,\"insert\",17,5]]",
-        "{\"index\":[[10,1],[20,2],[30,3]],\"locks\":[[20,1,\"S\"]],\"replies\":[[\"none\"],[\"blocked\",[1]]],\"unfinished\":[1]}",
-    )
+/// What a script leaves under each of the bundled tables, where only the modes of the locks differ.
+#[derive(Clone, Copy)]
+struct Expected<'a> {
+    opening: &'a str,
+    steps: &'a str,
+    index: &'a str,
+    /// Under key-value locking, index-specific locking, and key-range locking by parts.
+    locks: [&'a str; 3],
+    replies: &'a str,
+    unfinished: &'a str,
 }
 
-#[test]
-fn ended_number(rt: HostRuntime) -> Result<(), Fail> {
-    reports(
-        &rt,
-        "@kvl",
-        "[]",
-        "[[1,\"insert\",5,1],[1,\"commit\"],[1,\"fetch\",5]]",
-        "{\"index\":[[5,1]],\"locks\":[],\"replies\":[[\"done\"],[\"committed\"],[\"refused\",1,\"Ended\"]],\"unfinished\":[]}",
-    )
-}
-
-#[test]
-fn shared_duplicates(rt: HostRuntime) -> Result<(), Fail> {
-    reports(
-        &rt,
-        "@kvl",
-        OPENING,
-        "[[1,\"insert\",10,5],[2,\"insert\",10,6],[2,\"insert\",40,1]]",
-        "{\"index\":[[10,1],[20,2],[30,3],[40,1]],\"locks\":[[10,1,\"S\"],[10,2,\"S\"],[40,2,\"IX\"]],\"replies\":[[\"duplicate\"],[\"duplicate\"],[\"done\"]],\"unfinished\":[1,2]}",
-    )
-}
-
-#[test]
-fn the_own_split(rt: HostRuntime) -> Result<(), Fail> {
-    reports(
-        &rt,
-        "@kvl",
-        OPENING,
-        "[[1,\"fetch\",12],[1,\"insert\",15,5],[2,\"insert\",12,7]]",
-        "{\"index\":[[10,1],[15,5],[20,2],[30,3]],\"locks\":[[15,1,\"X\"],[20,1,\"S\"]],\"replies\":[[\"none\"],[\"done\"],[\"blocked\",[1]]],\"unfinished\":[1]}",
-    )
-}
-
-#[test]
-fn two_inserts_in_one_gap(rt: HostRuntime) -> Result<(), Fail> {
-    let steps = "[[1,\"insert\",15,5],[2,\"insert\",12,7]]";
-    reports(
-        &rt,
-        "@kvl",
-        OPENING,
+/// Runs steps under each of the bundled tables, and compares the reports.
+fn under_each<R: std::rt::Files + AllocGlobal + Abort>(
+    rt: &R,
+    expected: Expected<'_>,
+) -> Result<(), Fail> {
+    let Expected {
+        opening,
         steps,
-        "{\"index\":[[10,1],[12,7],[15,5],[20,2],[30,3]],\"locks\":[[12,2,\"IX\"],[15,1,\"IX\"]],\"replies\":[[\"done\"],[\"done\"]],\"unfinished\":[1,2]}",
-    )?;
-    reports(
-        &rt,
-        "@im",
-        OPENING,
-        steps,
-        "{\"index\":[[10,1],[15,5],[20,2],[30,3]],\"locks\":[[15,1,\"X\"]],\"replies\":[[\"done\"],[\"blocked\",[1]]],\"unfinished\":[1]}",
-    )?;
-    reports(
-        &rt,
-        "@range-key",
-        OPENING,
-        steps,
-        "{\"index\":[[10,1],[12,7],[15,5],[20,2],[30,3]],\"locks\":[[12,2,\"I-X\"],[15,1,\"I-X\"]],\"replies\":[[\"done\"],[\"done\"]],\"unfinished\":[1,2]}",
-    )
-}
-
-#[test]
-fn the_65th_transaction(rt: HostRuntime) -> Result<(), Fail> {
-    let alloc = rt.alloc();
-    let mut steps = String::from_str(alloc, "[[1,\"fetch\",10]")?;
-    let mut locks = String::from_str(alloc, "[[10,1,\"S\"]")?;
-    let mut replies = String::from_str(alloc, "[[\"found\",1]")?;
-    let mut unfinished = String::from_str(alloc, "[1")?;
-    for txn in 2..65_u32 {
-        steps.push_str(format!(in alloc; ",[{txn},\"fetch\",10]")?.as_str())?;
-        locks.push_str(format!(in alloc; ",[10,{txn},\"S\"]")?.as_str())?;
-        replies.push_str(",[\"found\",1]")?;
-        unfinished.push_str(format!(in alloc; ",{txn}")?.as_str())?;
+        index,
+        locks,
+        replies,
+        unfinished,
+    } = expected;
+    for (table, locks) in ["@kvl", "@im", "@range-key"].into_iter().zip(locks) {
+        let report = format!(in rt.alloc();
+            "{{\"index\":{index},\"locks\":{locks},\"replies\":{replies},\"unfinished\":{unfinished}}}"
+        )?;
+        reports(rt, table, opening, steps, report.as_str())?;
     }
-    steps.push_str(",[65,\"fetch\",10]]")?;
-    let report = format!(in alloc;
-        "{{\"index\":{OPENING},\"locks\":{locks}],\"replies\":{replies},[\"refused\",5,\"Full\"]],\"unfinished\":{unfinished}]}}"
-    )?;
-    reports(&rt, "@kvl", OPENING, steps.as_str(), report.as_str())
-}
-
-#[test]
-fn faults_of_input(rt: HostRuntime) -> Result<(), Fail> {
-    let run = ["run", "@kvl", "s"];
-    let words = run.as_slice();
-    told(
-        &rt,
-        words,
-        "{\"format\":1,\"opening\":[],\"steps\":[[1,\"go\"]]}",
-        "",
-        "kr: s: fault 6 Step at 0\n",
-        2,
-    )?;
-    told(&rt, words, "{", "", "kr: s: fault 2 NotJson\n", 2)?;
-    told(&rt, words, "[]", "", "kr: s: fault 4 Field at \n", 2)?;
-    told(
-        &rt,
-        ["run", "@kvl", "t"].as_slice(),
-        "",
-        "",
-        "kr: t: cannot be read\n",
-        2,
-    )?;
-    told(
-        &rt,
-        ["run", "@kvl", "@kvl"].as_slice(),
-        "",
-        "",
-        "kr: @kvl: cannot be read\n",
-        2,
-    )?;
-    told(
-        &rt,
-        ["run", "kvl", "s"].as_slice(),
-        "",
-        "",
-        "kr: kvl: cannot be read\n",
-        2,
-    )?;
-    told(
-        &rt,
-        ["run", "@kvl2", "s"].as_slice(),
-        "",
-        "",
-        "kr: @kvl2: cannot be read\n",
-        2,
-    )?;
-    told(
-        &rt,
-        ["run", "@kvl", "big"].as_slice(),
-        "",
-        "",
-        "kr: out of memory\n",
-        2,
-    )
-}
-
-#[test]
-fn words_of_no_form(rt: HostRuntime) -> Result<(), Fail> {
-    let line = "kr: words not understood\n";
-    told(&rt, [].as_slice(), "", "", line, 2)?;
-    told(&rt, ["run"].as_slice(), "", "", line, 2)?;
-    told(&rt, ["run", "@kvl"].as_slice(), "", "", line, 2)?;
-    told(&rt, ["run", "@kvl", "s", "s"].as_slice(), "", "", line, 2)?;
-    told(&rt, ["run", "@kvl", "--help"].as_slice(), "", "", line, 2)?;
-    told(&rt, ["--version"].as_slice(), "", "", line, 2)?;
-    told(&rt, ["run", "@kvl", "-"].as_slice(), "", "", line, 2)?;
-    told(&rt, ["help"].as_slice(), "", "", line, 2)?;
-    told(&rt, ["jump", "@kvl", "s"].as_slice(), "", "", line, 2)
-}
-
-#[test]
-fn output_that_fails(rt: HostRuntime) -> Result<(), Fail> {
-    let alloc = rt.alloc();
-    let words = owned(alloc, ["run", "@kvl", "s"].as_slice())?;
-    let mut err = Io::new(Vec::new(alloc));
-    let script = "{\"format\":1,\"opening\":[],\"steps\":[]}";
-    let ended = execute(&rt, words.as_slice(), &One(script), &mut Broken, &mut err);
-    assert_eq!(rt; ended, 2);
-    assert_eq!(rt;
-        err.writer().as_slice(),
-        b"kr: output: cannot be written\n".as_slice()
-    );
     Ok(())
 }

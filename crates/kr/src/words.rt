@@ -6,6 +6,8 @@ use std::alloc::{AllocError, Global};
 /// What is asked.
 #[derive(Drop)]
 pub enum Asked<'a> {
+    /// To check a table, named by its word.
+    Check { table: &'a str },
     /// To run a script under a table, each named by its word.
     Run { table: &'a str, script: &'a str },
 }
@@ -30,6 +32,7 @@ fn positional<'a>(alloc: Global, id: &'a str) -> Arg<'a> {
 }
 
 fn command<'a>(alloc: Global) -> Result<Command<'a>, AllocError> {
+    let check = Command::new(alloc, "check").arg(positional(alloc, "table"))?;
     let run = Command::new(alloc, "run")
         .arg(positional(alloc, "table"))?
         .arg(positional(alloc, "script"))?;
@@ -38,6 +41,7 @@ fn command<'a>(alloc: Global) -> Result<Command<'a>, AllocError> {
         .disable_help_flag(true)
         .disable_help_subcommand(true)
         .subcommand_required(true)
+        .subcommand(check)?
         .subcommand(run)
 }
 
@@ -46,7 +50,7 @@ fn has_form(words: &[String]) -> bool {
     words.iter().all(|word| !word.as_str().starts_with('-'))
 }
 
-/// What the words ask, the program's name left out: `run TABLE SCRIPT`.
+/// What the words ask, the program's name left out: `check TABLE` or `run TABLE SCRIPT`.
 pub fn read_words<'a>(alloc: Global, words: &'a [String]) -> Result<Asked<'a>, WordsFault> {
     if !has_form(words) {
         return Err(WordsFault::NotUnderstood);
@@ -56,11 +60,17 @@ pub fn read_words<'a>(alloc: Global, words: &'a [String]) -> Result<Asked<'a>, W
         Err(e) if e.kind() == ErrorKind::OutOfMemory => return Err(WordsFault::Memory),
         Err(_) => return Err(WordsFault::NotUnderstood),
     };
-    let Some((_run, given)) = matches.subcommand() else {
+    let Some((name, given)) = matches.subcommand() else {
         return Err(WordsFault::NotUnderstood);
     };
-    match (given.get_str("table"), given.get_str("script")) {
-        (Some(table), Some(script)) => Ok(Asked::Run { table, script }),
-        _ => Err(WordsFault::NotUnderstood),
+    let Some(table) = given.get_str("table") else {
+        return Err(WordsFault::NotUnderstood);
+    };
+    if name == "check" {
+        return Ok(Asked::Check { table });
+    }
+    match given.get_str("script") {
+        Some(script) => Ok(Asked::Run { table, script }),
+        None => Err(WordsFault::NotUnderstood),
     }
 }

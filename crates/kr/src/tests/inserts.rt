@@ -1,0 +1,93 @@
+//! Fetches, inserts and commits.
+use super::{OPENING, reports};
+use std::test::Fail;
+
+#[test]
+fn first_report(rt: HostRuntime) -> Result<(), Fail> {
+    reports(
+        &rt,
+        "@kvl",
+        OPENING,
+        "[[1,\"fetch\",15],[2,\"insert\",17,5]]",
+        "{\"index\":[[10,1],[20,2],[30,3]],\"locks\":[[20,1,\"S\"]],\"replies\":[[\"none\"],[\"blocked\",[1]]],\"unfinished\":[1]}",
+    )
+}
+
+#[test]
+fn ended_number(rt: HostRuntime) -> Result<(), Fail> {
+    reports(
+        &rt,
+        "@kvl",
+        "[]",
+        "[[1,\"insert\",5,1],[1,\"commit\"],[1,\"fetch\",5]]",
+        "{\"index\":[[5,1]],\"locks\":[],\"replies\":[[\"done\"],[\"committed\"],[\"refused\",1,\"Ended\"]],\"unfinished\":[]}",
+    )
+}
+
+#[test]
+fn shared_duplicates(rt: HostRuntime) -> Result<(), Fail> {
+    reports(
+        &rt,
+        "@kvl",
+        OPENING,
+        "[[1,\"insert\",10,5],[2,\"insert\",10,6],[2,\"insert\",40,1]]",
+        "{\"index\":[[10,1],[20,2],[30,3],[40,1]],\"locks\":[[10,1,\"S\"],[10,2,\"S\"],[40,2,\"IX\"]],\"replies\":[[\"duplicate\"],[\"duplicate\"],[\"done\"]],\"unfinished\":[1,2]}",
+    )
+}
+
+#[test]
+fn the_own_split(rt: HostRuntime) -> Result<(), Fail> {
+    reports(
+        &rt,
+        "@kvl",
+        OPENING,
+        "[[1,\"fetch\",12],[1,\"insert\",15,5],[2,\"insert\",12,7]]",
+        "{\"index\":[[10,1],[15,5],[20,2],[30,3]],\"locks\":[[15,1,\"X\"],[20,1,\"S\"]],\"replies\":[[\"none\"],[\"done\"],[\"blocked\",[1]]],\"unfinished\":[1]}",
+    )
+}
+
+#[test]
+fn two_inserts_in_one_gap(rt: HostRuntime) -> Result<(), Fail> {
+    let steps = "[[1,\"insert\",15,5],[2,\"insert\",12,7]]";
+    reports(
+        &rt,
+        "@kvl",
+        OPENING,
+        steps,
+        "{\"index\":[[10,1],[12,7],[15,5],[20,2],[30,3]],\"locks\":[[12,2,\"IX\"],[15,1,\"IX\"]],\"replies\":[[\"done\"],[\"done\"]],\"unfinished\":[1,2]}",
+    )?;
+    reports(
+        &rt,
+        "@im",
+        OPENING,
+        steps,
+        "{\"index\":[[10,1],[15,5],[20,2],[30,3]],\"locks\":[[15,1,\"X\"]],\"replies\":[[\"done\"],[\"blocked\",[1]]],\"unfinished\":[1]}",
+    )?;
+    reports(
+        &rt,
+        "@range-key",
+        OPENING,
+        steps,
+        "{\"index\":[[10,1],[12,7],[15,5],[20,2],[30,3]],\"locks\":[[12,2,\"I-X\"],[15,1,\"I-X\"]],\"replies\":[[\"done\"],[\"done\"]],\"unfinished\":[1,2]}",
+    )
+}
+
+#[test]
+fn the_65th_transaction(rt: HostRuntime) -> Result<(), Fail> {
+    let alloc = rt.alloc();
+    let mut steps = String::from_str(alloc, "[[1,\"fetch\",10]")?;
+    let mut locks = String::from_str(alloc, "[[10,1,\"S\"]")?;
+    let mut replies = String::from_str(alloc, "[[\"found\",1]")?;
+    let mut unfinished = String::from_str(alloc, "[1")?;
+    for txn in 2..65_u32 {
+        steps.push_str(format!(in alloc; ",[{txn},\"fetch\",10]")?.as_str())?;
+        locks.push_str(format!(in alloc; ",[10,{txn},\"S\"]")?.as_str())?;
+        replies.push_str(",[\"found\",1]")?;
+        unfinished.push_str(format!(in alloc; ",{txn}")?.as_str())?;
+    }
+    steps.push_str(",[65,\"fetch\",10]]")?;
+    let report = format!(in alloc;
+        "{{\"index\":{OPENING},\"locks\":{locks}],\"replies\":{replies},[\"refused\",5,\"Full\"]],\"unfinished\":{unfinished}]}}"
+    )?;
+    reports(&rt, "@kvl", OPENING, steps.as_str(), report.as_str())
+}
