@@ -3,15 +3,17 @@
 //! The modes of key-value locking: IS is 1, IX 2, S 3, SIX 4, X 5.
 ghost use Rattle.std.specs.Prelude.{◌≡◌, [], None, IfOk};
 
-use super::*;
+use super::{Machine, Mode, Name, Txn};
 
 mod scans;
 mod scarce;
 
-use kr_index::Sorted;
-use kr_locks::List;
-use kr_protocol::{Im, Kvl};
+use kr_index::{Ordered, Sorted};
+use kr_locks::{Holdings, List, Memory};
+use kr_model::{Op, Pairs, Refusal, Reply, Txns};
+use kr_protocol::{Im, Kvl, Protocol};
 use scarce::{Countdown, ScarceIndex, ScarceLocks};
+use std::alloc::Global;
 use std::process::Abort;
 use std::test::Fail;
 
@@ -54,7 +56,7 @@ fn rows(alloc: Global, pairs: &[(u64, u64)]) -> Result<Reply, Memory> {
 
 /// A machine at the plain index and lock table.
 fn plain<P: Protocol>(alloc: Global, protocol: P) -> Result<Machine<P, Sorted, List>, Memory>
-    ensures { IfOk result (λ machine. machine.1.1 ≡ None) }
+    ensures { IfOk result (λ machine. machine.pending ≡ None) }
 {
     let index = Sorted::from_pairs(&[(10, 1), (20, 2), (30, 3)], alloc)?;
     Ok(Machine::new(alloc, protocol, index, List::new(alloc)))
@@ -67,7 +69,7 @@ fn scant<P: Protocol>(
     index_calls: Option<u32>,
     locks_calls: Option<u32>,
 ) -> Result<Machine<P, ScarceIndex, ScarceLocks>, Memory>
-    ensures { IfOk result (λ machine. machine.1.1 ≡ None) }
+    ensures { IfOk result (λ machine. machine.pending ≡ None) }
 {
     let index = ScarceIndex {
         index: Sorted::from_pairs(&[(10, 1), (20, 2), (30, 3)], alloc)?,
@@ -92,7 +94,7 @@ struct View {
 
 /// Looks at a machine; what is refused is asked for again.
 fn seen<P: Protocol, I: Ordered, L: Holdings>(machine: &Machine<P, I, L>) -> Result<View, Memory>
-    requires { machine.now.1.1 ≡ None }
+    requires { machine.now.pending ≡ None }
 {
     let mut met_refusal = false;
     let index = match machine.index() {
@@ -126,8 +128,8 @@ fn expect<P: Protocol, I: Ordered, L: Holdings>(
     op: Op,
     want: Reply,
 )
-    requires { machine.old.1.1 ≡ None }
-    ensures { machine.new.1.1 ≡ None }
+    requires { machine.old.pending ≡ None }
+    ensures { machine.new.pending ≡ None }
 {
     let reply = machine.step(txn, op);
     assert!(rt; same(&reply, &want), "{txn} {op:?}: {reply:?}");
@@ -141,7 +143,7 @@ fn expect_view<P: Protocol, I: Ordered, L: Holdings>(
     locks: &[((Name, Txn), Mode)],
     unfinished: &[Txn],
 ) -> Result<(), Fail>
-    requires { machine.now.1.1 ≡ None }
+    requires { machine.now.pending ≡ None }
 {
     let view = seen(machine)?;
     assert_eq!(rt; view.index.as_slice(), index);
@@ -156,7 +158,7 @@ fn splits_own_gap<P: Protocol, I: Ordered, L: Holdings>(
     alloc: Global,
     mut machine: Machine<P, I, L>,
 ) -> Result<(), Fail>
-    requires { machine.1.1 ≡ None }
+    requires { machine.pending ≡ None }
 {
     expect(rt, &mut machine, 1, Op::Fetch(12), Reply::None);
     expect(rt, &mut machine, 1, Op::Insert(15, 5), Reply::Done);
@@ -182,7 +184,7 @@ fn inserts_twice<P: Protocol, I: Ordered, L: Holdings>(
     mut machine: Machine<P, I, L>,
     second: Reply,
 )
-    requires { machine.1.1 ≡ None }
+    requires { machine.pending ≡ None }
 {
     expect(rt, &mut machine, 1, Op::Insert(15, 5), Reply::Done);
     expect(rt, &mut machine, 2, Op::Insert(12, 7), second);
@@ -193,7 +195,7 @@ fn fills_up<P: Protocol, I: Ordered, L: Holdings>(
     rt: &impl Abort,
     mut machine: Machine<P, I, L>,
 ) -> Result<(), Fail>
-    requires { machine.1.1 ≡ None }
+    requires { machine.pending ≡ None }
 {
     for txn in 1..65 {
         expect(rt, &mut machine, txn, Op::Fetch(10), Reply::Found(1));
@@ -211,7 +213,7 @@ fn ends_once<P: Protocol, I: Ordered, L: Holdings>(
     rt: &impl Abort,
     mut machine: Machine<P, I, L>,
 ) -> Result<(), Fail>
-    requires { machine.1.1 ≡ None }
+    requires { machine.pending ≡ None }
 {
     expect(rt, &mut machine, 1, Op::Insert(5, 1), Reply::Done);
     expect(rt, &mut machine, 1, Op::Commit, Reply::Committed);
@@ -225,7 +227,7 @@ fn shares_duplicates<P: Protocol, I: Ordered, L: Holdings>(
     rt: &impl Abort,
     mut machine: Machine<P, I, L>,
 ) -> Result<(), Fail>
-    requires { machine.1.1 ≡ None }
+    requires { machine.pending ≡ None }
 {
     expect(rt, &mut machine, 1, Op::Insert(10, 5), Reply::Duplicate);
     expect(rt, &mut machine, 2, Op::Insert(10, 6), Reply::Duplicate);
@@ -249,7 +251,7 @@ fn deletes_last<P: Protocol, I: Ordered, L: Holdings>(
     alloc: Global,
     mut machine: Machine<P, I, L>,
 ) -> Result<(), Fail>
-    requires { machine.1.1 ≡ None }
+    requires { machine.pending ≡ None }
 {
     expect(rt, &mut machine, 1, Op::Delete(30), Reply::Deleted(3));
     expect(rt, &mut machine, 2, Op::Fetch(40), blocked_by(alloc, 1)?);
@@ -268,7 +270,7 @@ fn reads_duplicate<P: Protocol, I: Ordered, L: Holdings>(
     alloc: Global,
     mut machine: Machine<P, I, L>,
 ) -> Result<(), Fail>
-    requires { machine.1.1 ≡ None }
+    requires { machine.pending ≡ None }
 {
     expect(rt, &mut machine, 1, Op::Insert(20, 9), Reply::Duplicate);
     expect(rt, &mut machine, 2, Op::Delete(20), blocked_by(alloc, 1)?);
@@ -286,7 +288,7 @@ fn deletes_inserts_aborts<P: Protocol, I: Ordered, L: Holdings>(
     rt: &impl Abort,
     mut machine: Machine<P, I, L>,
 ) -> Result<(), Fail>
-    requires { machine.1.1 ≡ None }
+    requires { machine.pending ≡ None }
 {
     expect(rt, &mut machine, 1, Op::Delete(20), Reply::Deleted(2));
     expect(rt, &mut machine, 1, Op::Insert(20, 9), Reply::Done);
@@ -309,7 +311,7 @@ fn widens_and_narrows<P: Protocol, I: Ordered, L: Holdings>(
     alloc: Global,
     mut machine: Machine<P, I, L>,
 ) -> Result<(), Fail>
-    requires { machine.1.1 ≡ None }
+    requires { machine.pending ≡ None }
 {
     expect(rt, &mut machine, 1, Op::Delete(30), Reply::Deleted(3));
     expect(rt, &mut machine, 2, Op::Fetch(25), blocked_by(alloc, 1)?);
@@ -329,7 +331,7 @@ fn ends_unbegun<P: Protocol, I: Ordered, L: Holdings>(
     rt: &impl Abort,
     mut machine: Machine<P, I, L>,
 ) -> Result<(), Fail>
-    requires { machine.1.1 ≡ None }
+    requires { machine.pending ≡ None }
 {
     expect(rt, &mut machine, 7, Op::Abort, Reply::Aborted);
     expect(rt, &mut machine, 8, Op::Commit, Reply::Committed);
@@ -397,8 +399,8 @@ fn two_parts<P: Protocol, I: Ordered, L: Holdings>(
     want: Reply,
     is_done: bool,
 )
-    requires { machine.old.1.1 ≡ None }
-    ensures { machine.new.1.1 ≡ None }
+    requires { machine.old.pending ≡ None }
+    ensures { machine.new.pending ≡ None }
 {
     match machine.ready(1, op) {
         Ok(ready) => {
@@ -419,7 +421,7 @@ fn gives_up_first<P: Protocol, I: Ordered, L: Holdings>(
     rt: &impl Abort,
     mut machine: Machine<P, I, L>,
 ) -> Result<(), Fail>
-    requires { machine.1.1 ≡ None }
+    requires { machine.pending ≡ None }
 {
     two_parts(rt, &mut machine, Op::Insert(15, 5), Reply::Done, false);
     assert!(rt; !machine.active(1));
@@ -446,8 +448,8 @@ fn insist<P: Protocol, I: Ordered, L: Holdings>(
     op: Op,
     want: Reply,
 ) -> Result<bool, Fail>
-    requires { machine.old.1.1 ≡ None }
-    ensures { machine.new.1.1 ≡ None }
+    requires { machine.old.pending ≡ None }
+    ensures { machine.new.pending ≡ None }
 {
     let before = seen(machine)?;
     let reply = machine.step(txn, op);
@@ -472,7 +474,7 @@ fn insists<P: Protocol, I: Ordered, L: Holdings>(
     alloc: Global,
     mut machine: Machine<P, I, L>,
 ) -> Result<bool, Fail>
-    requires { machine.1.1 ≡ None }
+    requires { machine.pending ≡ None }
 {
     let mut met = insist(rt, &mut machine, 1, Op::Fetch(12), Reply::None)?;
     met |= insist(rt, &mut machine, 1, Op::Insert(15, 5), Reply::Done)?;
@@ -504,8 +506,8 @@ fn insists_on_scans<P: Protocol, I: Ordered, L: Holdings>(
     alloc: Global,
     machine: &mut Machine<P, I, L>,
 ) -> Result<bool, Fail>
-    requires { machine.old.1.1 ≡ None }
-    ensures { machine.new.1.1 ≡ None }
+    requires { machine.old.pending ≡ None }
+    ensures { machine.new.pending ≡ None }
 {
     let mut met = insist(rt, machine, 3, Op::Scan(21, 30), rows(alloc, &[])?)?;
     met |= insist(rt, machine, 3, Op::Scan(12, 15), blocked_by(alloc, 2)?)?;

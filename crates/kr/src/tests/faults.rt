@@ -25,7 +25,8 @@ fn faulty<R: std::rt::Files + AllocGlobal + Abort>(
 #[test]
 fn fronts_of_a_script(rt: HostRuntime) -> Result<(), Fail> {
     for len in 0..PHANTOM.len() {
-        faulty(&rt, &PHANTOM[..len], "2 NotJson")?;
+        let front = PHANTOM.get(..len).ok_or("no front")?;
+        faulty(&rt, front, "2 NotJson")?;
     }
     Ok(())
 }

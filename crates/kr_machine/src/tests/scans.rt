@@ -49,7 +49,7 @@ fn opened<P: Protocol>(
     pairs: &[(u64, u64)],
 ) -> Result<Machine<P, Sorted, List>, Memory>
     requires { IsMap pairs.now }
-    ensures { IfOk result (λ machine. machine.1.1 ≡ None) }
+    ensures { IfOk result (λ machine. machine.pending ≡ None) }
 {
     let index = Sorted::from_pairs(pairs, alloc)?;
     Ok(Machine::new(alloc, protocol, index, List::new(alloc)))

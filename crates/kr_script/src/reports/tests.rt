@@ -3,7 +3,7 @@ ghost use Rattle.std.proofs.Common.{rules};
 ghost use Rattle.kr_model.proofs.Tested.{lawful_by_test};
 
 use crate::{report_run, report_verdict};
-use kr_model::{Mode, Name, Pairs, Refusal, Reply, Row, Side, Span, Txns};
+use kr_model::{Mode, Name, Pairs, Programs, Refusal, Reply, Row, Side, Span, Txns};
 use kr_protocol::Protocol;
 use kr_serial::{Ran, Replies, Triples, Verdict};
 use std::alloc::{AllocError, Global};
