@@ -1,2 +1,3 @@
 pub mod Replayed
 pub mod Wholes
+pub mod SerialRuns

@@ -1,20 +1,22 @@
 //! Runs: lists of events attempted one after another on a machine; and judging the programs that committed.
 #![tactic(auto)]
 
+mod covered;
 mod judge;
 mod lists;
 mod ran;
-mod run;
+mod runs;
 mod steps;
 #[cfg(test)]
 mod tests;
 mod verdict;
 mod whole;
 
+pub use covered::run;
 pub use judge::judge_programs;
 pub use kr_model::{Mode, Name, Pairs, Program, Programs, Reply, Txn, Txns};
 pub use lists::{Replies, Triples};
 pub use ran::Ran;
-pub use run::run_any;
+pub use runs::run_any;
 pub use steps::replay;
 pub use verdict::Verdict;

@@ -1,4 +1,5 @@
 mod judging;
+mod running;
 
 use crate::{Name, Pairs, Programs, Ran, Replies, Reply, Triples, Txns};
 use std::alloc::{AllocError, Global};

@@ -1,0 +1,64 @@
+//! Runs, with what they leave worked out by hand.
+
+use crate::{Reply, judge_programs, run, run_any};
+use kr_model::{Event, Op};
+use kr_protocol::Kvl;
+use std::alloc::AllocError;
+
+const OPENING: [(u64, u64); 3] = [(10, 1), (20, 2), (30, 3)];
+
+// An insert into a gap that its own transaction has read keeps another's insert out until the commit.
+const OWN_SPLIT: [Event; 5] = [
+    Event {
+        txn: 1,
+        op: Op::Fetch(12),
+    },
+    Event {
+        txn: 1,
+        op: Op::Insert(15, 5),
+    },
+    Event {
+        txn: 2,
+        op: Op::Insert(12, 7),
+    },
+    Event {
+        txn: 1,
+        op: Op::Commit,
+    },
+    Event {
+        txn: 2,
+        op: Op::Insert(12, 7),
+    },
+];
+
+#[test]
+fn a_covered_run_is_serial(rt: HostRuntime) -> Result<(), AllocError> {
+    let alloc = rt.alloc();
+    let ran = run(alloc, &Kvl, &OPENING, &OWN_SPLIT)?;
+    assert_eq!(rt; ran.opening.as_slice(), OPENING.as_slice());
+    assert_eq!(rt;
+        ran.index.as_slice(),
+        [(10, 1), (12, 7), (15, 5), (20, 2), (30, 3)].as_slice()
+    );
+    assert_eq!(rt; ran.unfinished.as_slice(), [2].as_slice());
+    let programs = ran.programs.as_slice();
+    assert_eq!(rt; programs.len(), 1);
+    assert_eq!(rt; programs[0].txn, 1);
+    assert_eq!(rt; programs[0].operations.as_slice().len(), 2);
+    let verdict = judge_programs(alloc, &OPENING, programs)?;
+    assert!(rt; verdict.is_serial());
+    Ok(())
+}
+
+#[test]
+fn any_run_shows_the_same(rt: HostRuntime) -> Result<(), AllocError> {
+    let alloc = rt.alloc();
+    let ran = run_any(alloc, &Kvl, &OPENING, &OWN_SPLIT)?;
+    let replies = ran.replies.as_slice();
+    assert_eq!(rt; replies.len(), 5);
+    assert!(rt; matches!(&replies[2], Reply::Blocked(_)));
+    assert!(rt; matches!(&replies[4], Reply::Done));
+    assert_eq!(rt; ran.locks.as_slice().len(), 1);
+    assert_eq!(rt; ran.programs.as_slice().len(), 1);
+    Ok(())
+}
