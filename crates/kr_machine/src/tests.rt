@@ -476,27 +476,71 @@ fn insists<P: Protocol, I: Ordered, L: Holdings>(
 ) -> Result<bool, Fail>
     requires { machine.pending ≡ None }
 {
-    let mut met = insist(rt, &mut machine, 1, Op::Fetch(12), Reply::None)?;
-    met |= insist(rt, &mut machine, 1, Op::Insert(15, 5), Reply::Done)?;
-    met |= insist(
-        rt,
-        &mut machine,
-        2,
-        Op::Insert(12, 7),
-        blocked_by(alloc, 1)?,
-    )?;
-    met |= insist(rt, &mut machine, 2, Op::Fetch(10), Reply::Found(1))?;
-    met |= insist(rt, &mut machine, 1, Op::Delete(10), blocked_by(alloc, 2)?)?;
-    met |= insist(rt, &mut machine, 1, Op::Delete(30), Reply::Deleted(3))?;
-    met |= insist(rt, &mut machine, 2, Op::Fetch(40), blocked_by(alloc, 1)?)?;
-    met |= insist(rt, &mut machine, 1, Op::Commit, Reply::Committed)?;
-    met |= insist(rt, &mut machine, 2, Op::Insert(12, 7), Reply::Done)?;
-    met |= insists_on_scans(rt, alloc, &mut machine)?;
-    met |= insist(rt, &mut machine, 2, Op::Delete(20), Reply::Deleted(2))?;
-    met |= insist(rt, &mut machine, 2, Op::Insert(20, 9), Reply::Done)?;
-    met |= insist(rt, &mut machine, 2, Op::Delete(12), Reply::Deleted(7))?;
-    met |= insist(rt, &mut machine, 2, Op::Abort, Reply::Aborted)?;
-    expect_view(rt, &machine, &[(10, 1), (15, 5), (20, 2)], &[], &[])?;
+    insists_on_all(rt, alloc, &mut machine)
+}
+
+/// Those steps, on a machine that is lent.
+fn insists_on_all<P: Protocol, I: Ordered, L: Holdings>(
+    rt: &impl Abort,
+    alloc: Global,
+    machine: &mut Machine<P, I, L>,
+) -> Result<bool, Fail>
+    requires { machine.old.pending ≡ None }
+    ensures { machine.new.pending ≡ None }
+{
+    let mut met = insists_on_splits(rt, alloc, machine)?;
+    met |= insists_on_ends(rt, alloc, machine)?;
+    met |= insists_on_scans(rt, alloc, machine)?;
+    met |= insists_on_undo(rt, machine)?;
+    expect_view(rt, machine, &[(10, 1), (15, 5), (20, 2)], &[], &[])?;
+    Ok(met)
+}
+
+/// The first of those steps: a gap is read and split by its reader, and others are blocked.
+fn insists_on_splits<P: Protocol, I: Ordered, L: Holdings>(
+    rt: &impl Abort,
+    alloc: Global,
+    machine: &mut Machine<P, I, L>,
+) -> Result<bool, Fail>
+    requires { machine.old.pending ≡ None }
+    ensures { machine.new.pending ≡ None }
+{
+    let mut met = insist(rt, machine, 1, Op::Fetch(12), Reply::None)?;
+    met |= insist(rt, machine, 1, Op::Insert(15, 5), Reply::Done)?;
+    met |= insist(rt, machine, 2, Op::Insert(12, 7), blocked_by(alloc, 1)?)?;
+    met |= insist(rt, machine, 2, Op::Fetch(10), Reply::Found(1))?;
+    met |= insist(rt, machine, 1, Op::Delete(10), blocked_by(alloc, 2)?)?;
+    Ok(met)
+}
+
+/// Then a delete at the end of the index, a commit, and what it lets in.
+fn insists_on_ends<P: Protocol, I: Ordered, L: Holdings>(
+    rt: &impl Abort,
+    alloc: Global,
+    machine: &mut Machine<P, I, L>,
+) -> Result<bool, Fail>
+    requires { machine.old.pending ≡ None }
+    ensures { machine.new.pending ≡ None }
+{
+    let mut met = insist(rt, machine, 1, Op::Delete(30), Reply::Deleted(3))?;
+    met |= insist(rt, machine, 2, Op::Fetch(40), blocked_by(alloc, 1)?)?;
+    met |= insist(rt, machine, 1, Op::Commit, Reply::Committed)?;
+    met |= insist(rt, machine, 2, Op::Insert(12, 7), Reply::Done)?;
+    Ok(met)
+}
+
+/// At last changes of two keys, and an abort that takes them back.
+fn insists_on_undo<P: Protocol, I: Ordered, L: Holdings>(
+    rt: &impl Abort,
+    machine: &mut Machine<P, I, L>,
+) -> Result<bool, Fail>
+    requires { machine.old.pending ≡ None }
+    ensures { machine.new.pending ≡ None }
+{
+    let mut met = insist(rt, machine, 2, Op::Delete(20), Reply::Deleted(2))?;
+    met |= insist(rt, machine, 2, Op::Insert(20, 9), Reply::Done)?;
+    met |= insist(rt, machine, 2, Op::Delete(12), Reply::Deleted(7))?;
+    met |= insist(rt, machine, 2, Op::Abort, Reply::Aborted)?;
     Ok(met)
 }
 

@@ -3,4 +3,4 @@ use Rattle.kr_machine.proofs.tests.fills_up.Given as goal
 
 -- No step is pending.
 abbrev pub invariant-loop-txn : goal.invariant-loop-txn
-invariant-loop-txn g l = l.machine.1.1 ≡ None
+invariant-loop-txn g l = l.machine.pending ≡ None
