@@ -3,6 +3,7 @@
 
 mod checks;
 mod files;
+mod judges;
 mod over;
 mod program;
 #[cfg(test)]

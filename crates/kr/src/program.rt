@@ -1,10 +1,12 @@
 //! The program over its words, files and streams.
 use crate::checks::check_over;
 use crate::files::{FileFault, Files};
+use crate::judges::{lines_of, verdicts_of};
 use crate::over::{OverFault, run_over};
 use crate::words::{Asked, WordsFault, read_words};
 use kr_protocol::{Im, Kvl, Protocol, RangeKey};
-use kr_script::{ScriptFault, Sink, print};
+use kr_script::{Script, ScriptFault, Sink, print, read_script};
+use kr_serial::Verdict;
 use kr_table::TableFault;
 use std::alloc::{AllocError, Global};
 
@@ -87,7 +89,15 @@ impl Command for Check {
     }
 }
 
-/// Runs the script that a word names.
+/// How the program ends at a fault of the script that a word names.
+fn at_fault(alloc: Global, word: &str, fault: ScriptFault) -> Result<Ending, AllocError> {
+    match fault {
+        ScriptFault::Memory => Ok(Ending::Memory),
+        _ => Ok(Ending::Line(format!(in alloc; "kr: {word}: {fault}")?)),
+    }
+}
+
+/// Runs the script that a word names: status 0 where the run is serial, and 1 where it isn't.
 #[derive(Drop)]
 struct Run<'a> {
     script: &'a str,
@@ -108,14 +118,64 @@ impl Command for Run<'_> {
             Err(ending) => return Ok(ending),
         };
         match run_over(alloc, &protocol, bytes.as_slice(), out) {
-            Ok(()) => Ok(Ending::Status(0)),
-            Err(OverFault::Script(ScriptFault::Memory)) | Err(OverFault::Memory) => {
-                Ok(Ending::Memory)
-            }
-            Err(OverFault::Script(fault)) => Ok(Ending::Line(format!(in alloc;
-                "kr: {script}: {fault}"
-            )?)),
+            Ok(true) => Ok(Ending::Status(0)),
+            Ok(false) => Ok(Ending::Status(1)),
+            Err(OverFault::Script(fault)) => at_fault(alloc, script, fault),
+            Err(OverFault::Memory) => Ok(Ending::Memory),
             Err(OverFault::Print) => Ok(Ending::Output),
+        }
+    }
+}
+
+/// Judges the scripts that words name, where all are read first: status 0 where each run is serial, and 1 where one isn't.
+#[derive(Drop)]
+struct Judge<'a> {
+    scripts: &'a [&'a str],
+}
+
+impl Judge<'_> {
+    /// The scripts, or how the program ends at the first that has a fault.
+    fn read<R: std::rt::Files + AllocGlobal, F: Files>(
+        &self,
+        rt: &R,
+        files: &F,
+    ) -> Result<Vec<Script>, Ending> {
+        let alloc = rt.alloc();
+        let mut read = Vec::new(alloc);
+        for word in self.scripts {
+            let bytes = whole(rt, word, files)?;
+            match read_script(alloc, bytes.as_slice()) {
+                Ok(script) => {
+                    if read.push(script).is_err() {
+                        return Err(Ending::Memory);
+                    }
+                }
+                Err(fault) => return Err(at_fault(alloc, word, fault)?),
+            }
+        }
+        Ok(read)
+    }
+}
+
+impl Command for Judge<'_> {
+    fn under<R: std::rt::Files + AllocGlobal, P: Protocol, F: Files, W: Sink>(
+        &self,
+        rt: &R,
+        protocol: P,
+        files: &F,
+        out: &mut W,
+    ) -> Result<Ending, AllocError> {
+        let alloc = rt.alloc();
+        let scripts = match self.read(rt, files) {
+            Ok(scripts) => scripts,
+            Err(ending) => return Ok(ending),
+        };
+        let verdicts = verdicts_of(alloc, &protocol, scripts.as_slice())?;
+        let text = lines_of(alloc, self.scripts, verdicts.as_slice())?;
+        match print(out, text.as_str()) {
+            Ok(()) if verdicts.iter().all(Verdict::is_serial) => Ok(Ending::Status(0)),
+            Ok(()) => Ok(Ending::Status(1)),
+            Err(_) => Ok(Ending::Output),
         }
     }
 }
@@ -157,8 +217,9 @@ fn with_file<R: std::rt::Files + AllocGlobal, C: Command, F: Files, W: Sink>(
     }
 }
 
-/// Runs the program on words without its own name, and answers its status: 0 where it reported a run or accepted a table,
-/// 1 where it refused a table, and 2 where it told a fault on `err`. At a fault of words, files, tables, scripts or memory nothing is written on `out`.
+/// Runs the program on words without its own name, and answers its status: 0 where it accepted a table or each run was
+/// serial, 1 where it refused a table or a run wasn't serial, and 2 where it told a fault on `err`. At a fault of words,
+/// files, tables, scripts or memory nothing is written on `out`.
 pub fn execute<R: std::rt::Files + AllocGlobal, F: Files, W: Sink, E: Sink>(
     rt: &R,
     words: &[String],
@@ -172,6 +233,10 @@ pub fn execute<R: std::rt::Files + AllocGlobal, F: Files, W: Sink, E: Sink>(
         }
         Ok(Asked::Run { table, script }) => {
             with_table(rt, table, &Run { script }, files, out).unwrap_or(Ending::Memory)
+        }
+        Ok(Asked::Judge { table, scripts }) => {
+            let scripts = scripts.as_slice();
+            with_table(rt, table, &Judge { scripts }, files, out).unwrap_or(Ending::Memory)
         }
         Err(WordsFault::NotUnderstood) => {
             let _ = print(err, NOT_UNDERSTOOD);

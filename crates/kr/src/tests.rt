@@ -1,3 +1,4 @@
+use self::covered::serial_under_each;
 use crate::files::{FileFault, Files};
 use crate::program::execute;
 use kr_script::{Failed, Io, Sink};
@@ -6,13 +7,15 @@ use std::process::Abort;
 use std::test::Fail;
 
 mod checks;
+mod covered;
 mod deletes;
 mod faults;
 mod inserts;
 mod scans;
 mod tables;
+mod verdicts;
 
-/// Two files: a table named `table` and a script named `s`.
+/// A table named `table`, a script named `s`, and two scripts that are always there.
 #[derive(Drop)]
 struct Texts<'a> {
     table: &'a str,
@@ -31,6 +34,8 @@ impl Files for Texts<'_> {
         let text = match word {
             "table" => self.table,
             "s" => self.script,
+            "a.json" => PHANTOM,
+            "b.json" => SPLIT,
             _ => return Err(FileFault::Unreadable),
         };
         match text.as_bytes().to_vec(rt.alloc()) {
@@ -61,6 +66,10 @@ const OPENING: &str = "[[10,1],[20,2],[30,3]]";
 /// A script that reads a gap and then inserts into it, by two transactions.
 const PHANTOM: &str =
     r#"{"format":1,"opening":[[10,1],[20,2],[30,3]],"steps":[[1,"fetch",15],[2,"insert",17,5]]}"#;
+
+/// A script whose first transaction reads a gap and splits it, and whose second inserts into the part that was read.
+const SPLIT: &str =
+    r#"{"format":1,"opening":[[10,1],[20,2],[30,3]],"steps":[[1,"fetch",12],[1,"insert",15,5],[2,"insert",12,7],[2,"commit"],[1,"commit"]]}"#;
 
 fn owned(alloc: Global, words: &[&str]) -> Result<Vec<String>, AllocError> {
     let mut all = Vec::new(alloc);
@@ -124,7 +133,12 @@ fn run_program<R: std::rt::Files + AllocGlobal>(
     })
 }
 
-/// Runs steps on an opening map under a table, and compares the report.
+/// The text of a script.
+fn script_of(alloc: Global, opening: &str, steps: &str) -> Result<String, AllocError> {
+    format!(in alloc; "{{\"format\":1,\"opening\":{opening},\"steps\":{steps}}}")
+}
+
+/// Runs steps on an opening map under a bundled table, and compares the report; they are serial under each.
 fn reports<R: std::rt::Files + AllocGlobal + Abort>(
     rt: &R,
     table: &str,
@@ -133,7 +147,8 @@ fn reports<R: std::rt::Files + AllocGlobal + Abort>(
     report: &str,
 ) -> Result<(), Fail> {
     let alloc = rt.alloc();
-    let script = format!(in alloc; "{{\"format\":1,\"opening\":{opening},\"steps\":{steps}}}")?;
+    let script = script_of(alloc, opening, steps)?;
+    serial_under_each(rt, script.as_str())?;
     let line = format!(in alloc; "{report}\n")?;
     told(
         rt,
@@ -172,7 +187,7 @@ fn under_each<R: std::rt::Files + AllocGlobal + Abort>(
     } = expected;
     for (table, locks) in ["@kvl", "@im", "@range-key"].into_iter().zip(locks) {
         let report = format!(in rt.alloc();
-            "{{\"index\":{index},\"locks\":{locks},\"replies\":{replies},\"unfinished\":{unfinished}}}"
+            "{{\"index\":{index},\"locks\":{locks},\"replies\":{replies},\"unfinished\":{unfinished},\"verdict\":[\"serial\"]}}"
         )?;
         reports(rt, table, opening, steps, report.as_str())?;
     }

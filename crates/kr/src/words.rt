@@ -7,9 +7,19 @@ use std::alloc::{AllocError, Global};
 #[derive(Drop)]
 pub enum Asked<'a> {
     /// To check a table, named by its word.
-    Check { table: &'a str },
+    Check {
+        table: &'a str,
+    },
     /// To run a script under a table, each named by its word.
-    Run { table: &'a str, script: &'a str },
+    Run {
+        table: &'a str,
+        script: &'a str,
+    },
+    /// To judge scripts under a table, each named by its word.
+    Judge {
+        table: &'a str,
+        scripts: Vec<&'a str>,
+    },
 }
 
 /// Why nothing is asked.
@@ -36,13 +46,21 @@ fn command<'a>(alloc: Global) -> Result<Command<'a>, AllocError> {
     let run = Command::new(alloc, "run")
         .arg(positional(alloc, "table"))?
         .arg(positional(alloc, "script"))?;
+    let scripts = Arg::new(alloc, "scripts")
+        .required(true)
+        .action(ArgAction::Append)
+        .num_args(1..);
+    let judge = Command::new(alloc, "judge")
+        .arg(positional(alloc, "table"))?
+        .arg(scripts)?;
     Command::new(alloc, "kr")
         .no_binary_name(true)
         .disable_help_flag(true)
         .disable_help_subcommand(true)
         .subcommand_required(true)
         .subcommand(check)?
-        .subcommand(run)
+        .subcommand(run)?
+        .subcommand(judge)
 }
 
 /// Whether no word begins with a hyphen: none of the forms has such a word.
@@ -50,7 +68,8 @@ fn has_form(words: &[String]) -> bool {
     words.iter().all(|word| !word.as_str().starts_with('-'))
 }
 
-/// What the words ask, the program's name left out: `check TABLE` or `run TABLE SCRIPT`.
+/// What the words ask, the program's name left out: `check TABLE`, `run TABLE SCRIPT`, or `judge TABLE SCRIPT..` with one script
+/// or more.
 pub fn read_words<'a>(alloc: Global, words: &'a [String]) -> Result<Asked<'a>, WordsFault> {
     if !has_form(words) {
         return Err(WordsFault::NotUnderstood);
@@ -68,6 +87,15 @@ pub fn read_words<'a>(alloc: Global, words: &'a [String]) -> Result<Asked<'a>, W
     };
     if name == "check" {
         return Ok(Asked::Check { table });
+    }
+    if name == "judge" {
+        return match given.get_strs("scripts") {
+            Some(scripts) => Ok(Asked::Judge {
+                table,
+                scripts: scripts.to_vec(alloc)?,
+            }),
+            None => Err(WordsFault::NotUnderstood),
+        };
     }
     match given.get_str("script") {
         Some(script) => Ok(Asked::Run { table, script }),

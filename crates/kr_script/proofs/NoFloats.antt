@@ -15,7 +15,7 @@ use Rattle.kr_model.specs.Map.{Map}
 use Rattle.kr_model.specs.Locks.{Locks}
 use Rattle.kr_script.specs.Json.{whole}
 use Rattle.kr_script.specs.CheckReport.{from_data, failed_data, check_data}
-use Rattle.kr_script.specs.Report.{pair_data, reply_data, name_data, lock_data, run_data, named_verdict_data}
+use Rattle.kr_script.specs.Report.{pair_data, reply_data, name_data, lock_data, verdict_data, run_data, named_verdict_data}
 use Rattle.kr_serial.specs.declared.verdict.Verdict.{Verdict}
 use Rattle.kr_serial.specs.declared.verdict.Verdict.TheVariants as verdict
 
@@ -45,15 +45,20 @@ no_float_in_name End = refl
 no_float_in_lock : (names : List (List ℕ)) (l : (Name × ℕ) × ℕ) → has_float (lock_data names l) ≡ false
 no_float_in_lock names l = rw (no_float_in_name l.0.0)
 
+no_float_in_told : (v : Verdict) → has_float (verdict_data v) ≡ false
+no_float_in_told verdict.Serial = refl
+no_float_in_told (verdict.NotSerial t operation given serial) = rw (no_float_in_reply given, no_float_in_reply serial)
+
 -- no value of a run is a float
-pub no_float_in_run : (names : List (List ℕ)) (index : Map) (locks : Locks) (replies : List Reply) (unfinished : List ℕ)
-    → has_float (run_data names index locks replies unfinished) ≡ false
-no_float_in_run names index locks replies unfinished =
+pub no_float_in_run : (names : List (List ℕ)) (index : Map) (locks : Locks) (replies : List Reply) (unfinished : List ℕ) (v : Verdict)
+    → has_float (run_data names index locks replies unfinished v) ≡ false
+no_float_in_run names index locks replies unfinished v =
     rw (
       no_float_in pair_data (λ p. refl) index,
       no_float_in (lock_data names) (no_float_in_lock names) locks,
       no_float_in reply_data no_float_in_reply replies,
       no_float_in whole (λ n. refl) unfinished,
+      no_float_in_told v,
     )
 
 no_float_in_from : (names : List (List ℕ)) (o : Origin) → has_float (from_data names o) ≡ false
@@ -70,5 +75,4 @@ no_float_in_check p names (f ∷ fs) = rw (no_float_in (failed_data names) (no_f
 
 -- no value of a verdict is a float
 pub no_float_in_verdict : (script : List ℕ) (v : Verdict) → has_float (named_verdict_data script v) ≡ false
-no_float_in_verdict script verdict.Serial = refl
-no_float_in_verdict script (verdict.NotSerial t operation given serial) = rw (no_float_in_reply given, no_float_in_reply serial)
+no_float_in_verdict script v = rw (no_float_in_told v)

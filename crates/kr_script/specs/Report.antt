@@ -1,4 +1,4 @@
--- The report of a run: the value that it is, and its text.
+-- The reports of a run and of a verdict: the value that each is, and its text.
 use Rattle.std.specs.Prelude.{ℕ, List, codes, map}
 use Rattle.serde_json.specs.Data.{Data, string, array, object, item, no_items, member, no_members}
 use Rattle.serde_json.specs.View.{items_of}
@@ -70,23 +70,24 @@ lock_data names l = array (item (name_data l.0.0) (item (whole l.0.1) (item (str
 abbrev pub locks_data : List (List ℕ) → Locks → Data
 locks_data names ls = array (items_of (map (lock_data names) ls))
 
--- A run, where the modes have these names: the index and the locks at its end, the replies, and the transactions that are unfinished.
-abbrev pub run_data : List (List ℕ) → Map → Locks → List Reply → List ℕ → Data
-run_data names index locks replies unfinished =
-    object (member (codes "index") (pairs_data index)
-    (member (codes "locks") (locks_data names locks)
-    (member (codes "replies") (replies_data replies)
-    (member (codes "unfinished") (numbers_data unfinished) no_members))))
-
--- The text of a run's report.
-abbrev pub run_text : List (List ℕ) → Map → Locks → List Reply → List ℕ → List ℕ
-run_text names index locks replies unfinished = compact_text (run_data names index locks replies unfinished)
-
 -- A verdict: that the programs are serial, or the first answer that isn't: whose, the number of the operation, the answer given and the serial one.
 abbrev pub verdict_data : Verdict → Data
 verdict_data verdict.Serial = after_word (codes "serial") no_items
 verdict_data (verdict.NotSerial t operation given serial) =
     after_word (codes "not-serial") (item (whole t) (item (whole operation) (item (reply_data given) (item (reply_data serial) no_items))))
+
+-- A run, where the modes have these names: the index and the locks at its end, the replies, the transactions that are unfinished, and the verdict on it.
+abbrev pub run_data : List (List ℕ) → Map → Locks → List Reply → List ℕ → Verdict → Data
+run_data names index locks replies unfinished v =
+    object (member (codes "index") (pairs_data index)
+    (member (codes "locks") (locks_data names locks)
+    (member (codes "replies") (replies_data replies)
+    (member (codes "unfinished") (numbers_data unfinished)
+    (member (codes "verdict") (verdict_data v) no_members)))))
+
+-- The text of a run's report.
+abbrev pub run_text : List (List ℕ) → Map → Locks → List Reply → List ℕ → Verdict → List ℕ
+run_text names index locks replies unfinished v = compact_text (run_data names index locks replies unfinished v)
 
 -- A verdict on the script of this name.
 abbrev pub named_verdict_data : List ℕ → Verdict → Data

@@ -155,30 +155,6 @@ fn locks_value<P: Protocol>(
     Ok(Value::Array(list))
 }
 
-fn run_value<P: Protocol>(alloc: Global, protocol: &P, ran: &Ran) -> Result<Value, AllocError>
-    requires { All (λ l. l.1 ≤ (P.table protocol.now).count) ran.now.locks }
-    ensures { IfOk result (λ v. view v
-        ≡ run_data (P.names protocol.now) ran.now.index ran.now.locks ran.now.replies ran.now.unfinished) }
-{
-    let index = pairs_value(alloc, ran.index.as_slice())?;
-    let locks = locks_value(alloc, protocol, ran.locks.as_slice())?;
-    let replies = replies_value(alloc, ran.replies.as_slice())?;
-    let unfinished = numbers_value(alloc, ran.unfinished.as_slice())?;
-    json!(in alloc; {"index": index, "locks": locks, "replies": replies, "unfinished": unfinished})
-}
-
-/// The report of a run: compact JSON on one line, with no line feed. Its members are the index and
-/// the locks at the end of the run, the replies, and the transactions that are unfinished. The
-/// error is memory alone.
-#[tactic(auto, using(crate::proofs::NoFloats::no_float_in_run))]
-pub fn report_run<P: Protocol>(alloc: Global, protocol: &P, ran: &Ran) -> Result<String, AllocError>
-    requires modes { All (λ l. l.1 ≤ (P.table protocol.now).count) ran.now.locks }
-    ensures text { IfOk result (λ text. string_bytes text
-        ≡ run_text (P.names protocol.now) ran.now.index ran.now.locks ran.now.replies ran.now.unfinished) }
-{
-    run_value(alloc, protocol, ran)?.to_string(alloc)
-}
-
 fn verdict_value(alloc: Global, verdict: &Verdict) -> Result<Value, AllocError>
     ensures { IfOk result (λ v. view v ≡ verdict_data verdict.now) }
 {
@@ -195,6 +171,41 @@ fn verdict_value(alloc: Global, verdict: &Verdict) -> Result<Value, AllocError>
             json!(in alloc; ["not-serial", *txn, *operation, given, serial])
         }
     }
+}
+
+fn run_value<P: Protocol>(
+    alloc: Global,
+    protocol: &P,
+    ran: &Ran,
+    verdict: &Verdict,
+) -> Result<Value, AllocError>
+    requires { All (λ l. l.1 ≤ (P.table protocol.now).count) ran.now.locks }
+    ensures { IfOk result (λ v. view v
+        ≡ run_data (P.names protocol.now) ran.now.index ran.now.locks ran.now.replies ran.now.unfinished verdict.now) }
+{
+    let index = pairs_value(alloc, ran.index.as_slice())?;
+    let locks = locks_value(alloc, protocol, ran.locks.as_slice())?;
+    let replies = replies_value(alloc, ran.replies.as_slice())?;
+    let unfinished = numbers_value(alloc, ran.unfinished.as_slice())?;
+    let verdict = verdict_value(alloc, verdict)?;
+    json!(in alloc; {"index": index, "locks": locks, "replies": replies, "unfinished": unfinished, "verdict": verdict})
+}
+
+/// The report of a run with the verdict on it: compact JSON on one line, with no line feed. Its members are the index and
+/// the locks at the end of the run, the replies, the transactions that are unfinished, and the verdict as it is given. The
+/// error is memory alone.
+#[tactic(auto, using(crate::proofs::NoFloats::no_float_in_run))]
+pub fn report_run<P: Protocol>(
+    alloc: Global,
+    protocol: &P,
+    ran: &Ran,
+    verdict: &Verdict,
+) -> Result<String, AllocError>
+    requires modes { All (λ l. l.1 ≤ (P.table protocol.now).count) ran.now.locks }
+    ensures text { IfOk result (λ text. string_bytes text
+        ≡ run_text (P.names protocol.now) ran.now.index ran.now.locks ran.now.replies ran.now.unfinished verdict.now) }
+{
+    run_value(alloc, protocol, ran, verdict)?.to_string(alloc)
 }
 
 fn named_verdict_value(alloc: Global, script: &str, verdict: &Verdict) -> Result<Value, AllocError>

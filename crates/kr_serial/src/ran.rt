@@ -1,12 +1,12 @@
 //! What a run leaves.
 
-use crate::{Pairs, Programs, Replies, Triples, Txns};
+use crate::{Opening, Pairs, Programs, Replies, Triples, Txns};
 
 /// A run at its end.
 #[derive(Debug, Drop)]
 pub struct Ran {
     /// The index before the first step, keys rising.
-    pub opening: Pairs,
+    pub opening: Opening,
     /// The reply to each step, in the order of the steps.
     pub replies: Replies,
     /// What each transaction that committed did, in commit order.

@@ -4,11 +4,11 @@ ghost use Rattle.kr_model.specs.Map.{IsMap};
 ghost use Rattle.kr_model.specs.State.{start};
 ghost use Rattle.kr_model.specs.Run.{run, replies_of, programs};
 
-use crate::{Ran, Replies, Triples, replay};
+use crate::{Opening, Ran, Replies, Triples, replay};
 use kr_index::{Memory, Ordered, Sorted};
 use kr_locks::{Holdings, List};
 use kr_machine::Machine;
-use kr_model::{Event, Pairs};
+use kr_model::Event;
 use kr_protocol::Protocol;
 use std::alloc::Global;
 
@@ -30,7 +30,7 @@ pub fn run_any<P: Protocol>(
     ensures modes { IfOk result (λ ran. All (λ l. l.1 ≤ (P.table protocol.now).count) ran.locks) }
     ensures unfinished { IfOk result (λ ran. let r = run (P.table protocol.now) (start opening.now) events.now in ran.unfinished ≡ map (λ a. a.0) r.state.active) }
 {
-    let first = Pairs::from_vec(opening.to_vec(alloc)?);
+    let first = Opening::copy_of(alloc, opening)?;
     let index = Sorted::from_pairs(opening, alloc)?;
     let mut machine = Machine::new(alloc, protocol, index, List::new(alloc));
     let replies = replay(alloc, &mut machine, events)?;
@@ -40,7 +40,7 @@ pub fn run_any<P: Protocol>(
 /// What a machine shows after a run with these replies from this opening map.
 fn show<P: Protocol, I: Ordered, L: Holdings>(
     machine: &Machine<P, I, L>,
-    opening: Pairs,
+    opening: Opening,
     replies: Replies,
 ) -> Result<Ran, Memory>
     requires { machine.now.pending ≡ None }

@@ -1,7 +1,7 @@
 mod judging;
 mod running;
 
-use crate::{Name, Pairs, Programs, Ran, Replies, Reply, Triples, Txns};
+use crate::{Name, Opening, Pairs, Programs, Ran, Replies, Reply, Triples, Txns};
 use std::alloc::{AllocError, Global};
 
 fn ran(alloc: Global) -> Result<Ran, AllocError> {
@@ -11,7 +11,7 @@ fn ran(alloc: Global) -> Result<Ran, AllocError> {
     ]?;
     let locks = vec![in alloc; ((Name::Key(20), 1), 3), ((Name::End, 2), 5)]?;
     Ok(Ran {
-        opening: Pairs::from_vec(vec![in alloc; (20, 2)]?),
+        opening: Opening::copy_of(alloc, &[(20, 2)])?,
         replies: Replies::from_vec(replies),
         index: Pairs::from_vec(vec![in alloc; (20, 2)]?),
         locks: Triples::from_vec(locks),

@@ -9,7 +9,7 @@ fn first_report(rt: HostRuntime) -> Result<(), Fail> {
         "@kvl",
         OPENING,
         "[[1,\"fetch\",15],[2,\"insert\",17,5]]",
-        "{\"index\":[[10,1],[20,2],[30,3]],\"locks\":[[20,1,\"S\"]],\"replies\":[[\"none\"],[\"blocked\",[1]]],\"unfinished\":[1]}",
+        "{\"index\":[[10,1],[20,2],[30,3]],\"locks\":[[20,1,\"S\"]],\"replies\":[[\"none\"],[\"blocked\",[1]]],\"unfinished\":[1],\"verdict\":[\"serial\"]}",
     )
 }
 
@@ -20,7 +20,7 @@ fn ended_number(rt: HostRuntime) -> Result<(), Fail> {
         "@kvl",
         "[]",
         "[[1,\"insert\",5,1],[1,\"commit\"],[1,\"fetch\",5]]",
-        "{\"index\":[[5,1]],\"locks\":[],\"replies\":[[\"done\"],[\"committed\"],[\"refused\",1,\"Ended\"]],\"unfinished\":[]}",
+        "{\"index\":[[5,1]],\"locks\":[],\"replies\":[[\"done\"],[\"committed\"],[\"refused\",1,\"Ended\"]],\"unfinished\":[],\"verdict\":[\"serial\"]}",
     )
 }
 
@@ -31,7 +31,7 @@ fn shared_duplicates(rt: HostRuntime) -> Result<(), Fail> {
         "@kvl",
         OPENING,
         "[[1,\"insert\",10,5],[2,\"insert\",10,6],[2,\"insert\",40,1]]",
-        "{\"index\":[[10,1],[20,2],[30,3],[40,1]],\"locks\":[[10,1,\"S\"],[10,2,\"S\"],[40,2,\"IX\"]],\"replies\":[[\"duplicate\"],[\"duplicate\"],[\"done\"]],\"unfinished\":[1,2]}",
+        "{\"index\":[[10,1],[20,2],[30,3],[40,1]],\"locks\":[[10,1,\"S\"],[10,2,\"S\"],[40,2,\"IX\"]],\"replies\":[[\"duplicate\"],[\"duplicate\"],[\"done\"]],\"unfinished\":[1,2],\"verdict\":[\"serial\"]}",
     )
 }
 
@@ -42,7 +42,7 @@ fn the_own_split(rt: HostRuntime) -> Result<(), Fail> {
         "@kvl",
         OPENING,
         "[[1,\"fetch\",12],[1,\"insert\",15,5],[2,\"insert\",12,7]]",
-        "{\"index\":[[10,1],[15,5],[20,2],[30,3]],\"locks\":[[15,1,\"X\"],[20,1,\"S\"]],\"replies\":[[\"none\"],[\"done\"],[\"blocked\",[1]]],\"unfinished\":[1]}",
+        "{\"index\":[[10,1],[15,5],[20,2],[30,3]],\"locks\":[[15,1,\"X\"],[20,1,\"S\"]],\"replies\":[[\"none\"],[\"done\"],[\"blocked\",[1]]],\"unfinished\":[1],\"verdict\":[\"serial\"]}",
     )
 }
 
@@ -54,21 +54,21 @@ fn two_inserts_in_one_gap(rt: HostRuntime) -> Result<(), Fail> {
         "@kvl",
         OPENING,
         steps,
-        "{\"index\":[[10,1],[12,7],[15,5],[20,2],[30,3]],\"locks\":[[12,2,\"IX\"],[15,1,\"IX\"]],\"replies\":[[\"done\"],[\"done\"]],\"unfinished\":[1,2]}",
+        "{\"index\":[[10,1],[12,7],[15,5],[20,2],[30,3]],\"locks\":[[12,2,\"IX\"],[15,1,\"IX\"]],\"replies\":[[\"done\"],[\"done\"]],\"unfinished\":[1,2],\"verdict\":[\"serial\"]}",
     )?;
     reports(
         &rt,
         "@im",
         OPENING,
         steps,
-        "{\"index\":[[10,1],[15,5],[20,2],[30,3]],\"locks\":[[15,1,\"X\"]],\"replies\":[[\"done\"],[\"blocked\",[1]]],\"unfinished\":[1]}",
+        "{\"index\":[[10,1],[15,5],[20,2],[30,3]],\"locks\":[[15,1,\"X\"]],\"replies\":[[\"done\"],[\"blocked\",[1]]],\"unfinished\":[1],\"verdict\":[\"serial\"]}",
     )?;
     reports(
         &rt,
         "@range-key",
         OPENING,
         steps,
-        "{\"index\":[[10,1],[12,7],[15,5],[20,2],[30,3]],\"locks\":[[12,2,\"I-X\"],[15,1,\"I-X\"]],\"replies\":[[\"done\"],[\"done\"]],\"unfinished\":[1,2]}",
+        "{\"index\":[[10,1],[12,7],[15,5],[20,2],[30,3]],\"locks\":[[12,2,\"I-X\"],[15,1,\"I-X\"]],\"replies\":[[\"done\"],[\"done\"]],\"unfinished\":[1,2],\"verdict\":[\"serial\"]}",
     )
 }
 
@@ -87,7 +87,7 @@ fn the_65th_transaction(rt: HostRuntime) -> Result<(), Fail> {
     }
     steps.push_str(",[65,\"fetch\",10]]")?;
     let report = format!(in alloc;
-        "{{\"index\":{OPENING},\"locks\":{locks}],\"replies\":{replies},[\"refused\",5,\"Full\"]],\"unfinished\":{unfinished}]}}"
+        "{{\"index\":{OPENING},\"locks\":{locks}],\"replies\":{replies},[\"refused\",5,\"Full\"]],\"unfinished\":{unfinished}],\"verdict\":[\"serial\"]}}"
     )?;
     reports(&rt, "@kvl", OPENING, steps.as_str(), report.as_str())
 }

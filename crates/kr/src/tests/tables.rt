@@ -140,7 +140,7 @@ fn phantom_under<R: std::rt::Files + AllocGlobal + Abort>(
         script: PHANTOM,
     };
     let report = format!(in alloc;
-        "{{\"index\":{OPENING},\"locks\":[[20,1,\"{mode}\"]],\"replies\":[[\"none\"],[\"blocked\",[1]]],\"unfinished\":[1]}}\n"
+        "{{\"index\":{OPENING},\"locks\":[[20,1,\"{mode}\"]],\"replies\":[[\"none\"],[\"blocked\",[1]]],\"unfinished\":[1],\"verdict\":[\"serial\"]}}\n"
     )?;
     let said = report.as_str();
     told_over(rt, ["run", "table", "s"].as_slice(), &files, said, "", 0)?;
@@ -165,7 +165,7 @@ fn a_table_that_asks_for_nothing(rt: HostRuntime) -> Result<(), Fail> {
         &rt,
         ["run", "table", "s"].as_slice(),
         &files,
-        "{\"index\":[[10,1],[17,5],[20,2],[30,3]],\"locks\":[],\"replies\":[[\"none\"],[\"done\"]],\"unfinished\":[1,2]}\n",
+        "{\"index\":[[10,1],[17,5],[20,2],[30,3]],\"locks\":[],\"replies\":[[\"none\"],[\"done\"]],\"unfinished\":[1,2],\"verdict\":[\"serial\"]}\n",
         "",
         0,
     )?;

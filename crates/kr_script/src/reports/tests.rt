@@ -5,7 +5,7 @@ ghost use Rattle.kr_model.proofs.Tested.{lawful_by_test};
 use crate::{report_run, report_verdict};
 use kr_model::{Mode, Name, Pairs, Programs, Refusal, Reply, Row, Side, Span, Txns};
 use kr_protocol::Protocol;
-use kr_serial::{Ran, Replies, Triples, Verdict};
+use kr_serial::{Opening, Ran, Replies, Triples, Verdict};
 use std::alloc::{AllocError, Global};
 
 // Two modes, which stand beside each other and are never asked for.
@@ -55,17 +55,17 @@ fn reports_the_phantom(rt: HostRuntime) -> Result<(), AllocError> {
     ]?;
     let locks = vec![in alloc; ((Name::Key(20), 1), 1)]?;
     let ran = Ran {
-        opening: Pairs::from_vec(vec![in alloc; (10, 1), (20, 2), (30, 3)]?),
+        opening: Opening::copy_of(alloc, &[(10, 1), (20, 2), (30, 3)])?,
         replies: Replies::from_vec(replies),
         index: Pairs::from_vec(vec![in alloc; (10, 1), (20, 2), (30, 3)]?),
         locks: Triples::from_vec(locks),
         programs: Programs::from_vec(Vec::new(alloc)),
         unfinished: Txns::from_vec(vec![in alloc; 1]?),
     };
-    let text = report_run(alloc, &Sample, &ran)?;
+    let text = report_run(alloc, &Sample, &ran, &Verdict::Serial)?;
     assert_eq!(rt;
         text.as_str(),
-        "{\"index\":[[10,1],[20,2],[30,3]],\"locks\":[[20,1,\"S\"]],\"replies\":[[\"none\"],[\"blocked\",[1]]],\"unfinished\":[1]}"
+        "{\"index\":[[10,1],[20,2],[30,3]],\"locks\":[[20,1,\"S\"]],\"replies\":[[\"none\"],[\"blocked\",[1]]],\"unfinished\":[1],\"verdict\":[\"serial\"]}"
     );
     Ok(())
 }
@@ -94,23 +94,33 @@ fn each_reply(alloc: Global) -> Result<Vec<Reply>, AllocError> {
 }
 
 const EACH_REPLY: &str =
-    "{\"index\":[],\"locks\":[[0,0,\"none\"],[\"End\",4294967295,\"X\\\"\\\\\"]],\"replies\":[[\"found\",5],[\"none\"],[\"going\",7],[\"rows\",[[1,2],[3,4]]],[\"done\"],[\"duplicate\"],[\"deleted\",18446744073709551615],[\"absent\"],[\"committed\"],[\"aborted\"],[\"blocked\",[1,2]],[\"refused\",1,\"Ended\"],[\"refused\",2,\"Busy\"],[\"refused\",3,\"NoScan\"],[\"refused\",4,\"BadRange\"],[\"refused\",5,\"Full\"],[\"refused\",6,\"Memory\"]],\"unfinished\":[]}";
+    "{\"index\":[],\"locks\":[[0,0,\"none\"],[\"End\",4294967295,\"X\\\"\\\\\"]],\"replies\":[[\"found\",5],[\"none\"],[\"going\",7],[\"rows\",[[1,2],[3,4]]],[\"done\"],[\"duplicate\"],[\"deleted\",18446744073709551615],[\"absent\"],[\"committed\"],[\"aborted\"],[\"blocked\",[1,2]],[\"refused\",1,\"Ended\"],[\"refused\",2,\"Busy\"],[\"refused\",3,\"NoScan\"],[\"refused\",4,\"BadRange\"],[\"refused\",5,\"Full\"],[\"refused\",6,\"Memory\"]],\"unfinished\":[],\"verdict\":[\"not-serial\",1,2,[\"rows\",[[10,1],[20,2]]],[\"rows\",[[20,2]]]]}";
 
 #[test]
 fn reports_each_reply(rt: HostRuntime) -> Result<(), AllocError> {
     let alloc = rt.alloc();
     let locks = vec![in alloc; ((Name::Key(0), 0), 0), ((Name::End, 4_294_967_295), 2)]?;
     let ran = Ran {
-        opening: Pairs::from_vec(Vec::new(alloc)),
+        opening: Opening::copy_of(alloc, &[])?,
         replies: Replies::from_vec(each_reply(alloc)?),
         index: Pairs::from_vec(Vec::new(alloc)),
         locks: Triples::from_vec(locks),
         programs: Programs::from_vec(Vec::new(alloc)),
         unfinished: Txns::from_vec(Vec::new(alloc)),
     };
-    let text = report_run(alloc, &&Sample, &ran)?;
+    let text = report_run(alloc, &&Sample, &ran, &not_serial(alloc)?)?;
     assert_eq!(rt; text.as_str(), EACH_REPLY);
     Ok(())
+}
+
+// A scan that was given a key which it has not when it is run whole.
+fn not_serial(alloc: Global) -> Result<Verdict, AllocError> {
+    Ok(Verdict::NotSerial {
+        txn: 1,
+        operation: 2,
+        given: Reply::Rows(Pairs::from_vec(vec![in alloc; (10, 1), (20, 2)]?)),
+        serial: Reply::Rows(Pairs::from_vec(vec![in alloc; (20, 2)]?)),
+    })
 }
 
 #[test]
@@ -121,12 +131,7 @@ fn reports_verdicts(rt: HostRuntime) -> Result<(), AllocError> {
         text.as_str(),
         "{\"script\":\"a \\\"b\\\".json\",\"verdict\":[\"serial\"]}"
     );
-    let verdict = Verdict::NotSerial {
-        txn: 1,
-        operation: 2,
-        given: Reply::Rows(Pairs::from_vec(vec![in alloc; (10, 1), (20, 2)]?)),
-        serial: Reply::Rows(Pairs::from_vec(vec![in alloc; (20, 2)]?)),
-    };
+    let verdict = not_serial(alloc)?;
     let text = report_verdict(alloc, "scan.json", &verdict)?;
     assert_eq!(rt;
         text.as_str(),

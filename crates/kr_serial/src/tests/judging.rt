@@ -1,6 +1,7 @@
 //! Verdicts on programs, worked out by hand over an opening index of three keys.
 
-use crate::{Pairs, Program, Reply, Txn, Verdict, judge_programs};
+use crate::judging::judge_programs;
+use crate::{Pairs, Program, Reply, Txn, Verdict};
 use kr_model::{Answers, Op};
 use std::alloc::{AllocError, Global};
 

@@ -1,6 +1,6 @@
 //! Runs, with what they leave worked out by hand.
 
-use crate::{Reply, judge_programs, run, run_any};
+use crate::{Reply, judge, run, run_any};
 use kr_model::{Event, Op};
 use kr_protocol::Kvl;
 use std::alloc::AllocError;
@@ -45,7 +45,7 @@ fn a_covered_run_is_serial(rt: HostRuntime) -> Result<(), AllocError> {
     assert_eq!(rt; programs.len(), 1);
     assert_eq!(rt; programs[0].txn, 1);
     assert_eq!(rt; programs[0].operations.as_slice().len(), 2);
-    let verdict = judge_programs(alloc, &OPENING, programs)?;
+    let verdict = judge(alloc, &ran)?;
     assert!(rt; verdict.is_serial());
     Ok(())
 }

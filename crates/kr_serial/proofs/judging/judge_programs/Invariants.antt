@@ -1,7 +1,7 @@
 use Rattle.std.proofs.Common.{◌≡◌, drop}
 use Rattle.kr_model.specs.Map.{IsMap}
 use Rattle.kr_model.specs.Difference.{first_difference}
-use Rattle.kr_serial.proofs.judge.judge_all.Given as goal
+use Rattle.kr_serial.proofs.judging.judge_programs.Given as goal
 
 -- The programs that are left differ first as all of them do.
 abbrev pub invariant-loop-program : goal.invariant-loop-program

@@ -2,7 +2,7 @@ use Rattle.std.proofs.Common.{◌≡◌, suc, drop}
 use Rattle.kr_model.specs.Map.{IsMap}
 use Rattle.kr_model.specs.Serial.{map_left}
 use Rattle.kr_model.specs.Difference.{difference_in}
-use Rattle.kr_serial.proofs.judge.judge_program.Given as goal
+use Rattle.kr_serial.proofs.judging.judge_program.Given as goal
 
 -- What is left of the program differs first, and leaves a map, as the whole program does.
 abbrev pub invariant-loop-i : goal.invariant-loop-i

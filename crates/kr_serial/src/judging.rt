@@ -6,30 +6,30 @@ ghost use Rattle.kr_model.specs.Difference.{difference_in, first_difference};
 ghost use Rattle.kr_serial.specs.declared.verdict.Verdict.TheVariants as verdict;
 ghost use Rattle.kr_serial.specs.Verdicts.{verdict_of};
 
-use crate::Verdict;
 use crate::whole::{answer, change, is_answer, map_of};
+use crate::{Ran, Verdict};
 use kr_index::Memory;
 use kr_model::Program;
 use std::alloc::Global;
 use std::collections::BTreeMap;
 
-/// Judges committed programs, in the order of the list, against an opening map whose keys rise strictly: their
-/// operations are run whole on it, one after another, and each answer is compared with the one given. The only fault is
-/// `Memory`. Each operation takes a logarithmic number of looks at the map, and a scan is compared in place.
+/// Judges a run: the operations of its committed programs are run whole on the opening map, one after another in commit
+/// order, and each answer is compared with the one given. It tells that they are serial, or the first answer that differs.
+/// The only fault is `Memory`. Each operation takes a logarithmic number of looks at the map, and a scan is compared in
+/// place.
+pub fn judge(alloc: Global, ran: &Ran) -> Result<Verdict, Memory>
+    ensures verdict { IfOk result (λ v. v ≡ verdict_of (first_difference ran.now.opening ran.now.programs)) }
+    ensures serial { IfOk result (λ v. (v ≡ verdict.Serial) ↔ AreSerial ran.now.opening ran.now.programs) }
+{
+    judge_programs(alloc, ran.opening.as_slice(), ran.programs.as_slice())
+}
+
+/// Judges committed programs, in the order of the list, against an opening map.
 pub fn judge_programs(
     alloc: Global,
     opening: &[(u64, u64)],
     programs: &[Program],
 ) -> Result<Verdict, Memory>
-    requires opening { IsMap opening.now }
-    ensures verdict { IfOk result (λ v. v ≡ verdict_of (first_difference opening.now programs.now)) }
-    ensures serial { IfOk result (λ v. (v ≡ verdict.Serial) ↔ AreSerial opening.now programs.now) }
-{
-    judge_all(alloc, opening, programs)
-}
-
-/// The same, with the first difference alone.
-fn judge_all(alloc: Global, opening: &[(u64, u64)], programs: &[Program]) -> Result<Verdict, Memory>
     requires { IsMap opening.now }
     ensures { IfOk result (λ v. v ≡ verdict_of (first_difference opening.now programs.now)) }
 {
