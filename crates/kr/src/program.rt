@@ -1,4 +1,7 @@
 //! The program over its words, files and streams.
+ghost use Rattle.std.specs.Prelude.{◌≡◌};
+ghost use Rattle.kr.specs.declared.program.Ending.TheVariants as ending;
+
 use crate::checks::check_over;
 use crate::files::{FileFault, Files};
 use crate::judges::{lines_of, verdicts_of};
@@ -30,6 +33,8 @@ enum Ending {
 }
 
 impl From<AllocError> for Ending {
+    ghost from_gives = { λ _ e. e ≡ ending.Memory };
+
     fn from(_e: AllocError) -> Ending {
         Ending::Memory
     }

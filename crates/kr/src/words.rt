@@ -1,4 +1,7 @@
 //! What the words ask.
+ghost use Rattle.std.specs.Prelude.{◌≡◌};
+ghost use Rattle.kr.specs.declared.words.WordsFault.TheVariants as fault;
+
 use clap::error::ErrorKind;
 use clap::{Arg, ArgAction, Command};
 use std::alloc::{AllocError, Global};
@@ -32,6 +35,8 @@ pub enum WordsFault {
 }
 
 impl From<AllocError> for WordsFault {
+    ghost from_gives = { λ _ e. e ≡ fault.Memory };
+
     fn from(_e: AllocError) -> WordsFault {
         WordsFault::Memory
     }
