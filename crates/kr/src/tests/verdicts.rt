@@ -1,5 +1,6 @@
 //! Verdicts on runs.
-use super::{OPENING, SPLIT, Texts, reports, told, told_over};
+use super::covered::serial_under_each;
+use super::{OPENING, SPLIT, Texts, reports, script_of, told, told_over};
 use kr_table::texts::KVL;
 use std::alloc::{AllocError, Global};
 use std::process::Abort;
@@ -83,7 +84,7 @@ fn faults_before_any_verdict(rt: HostRuntime) -> Result<(), Fail> {
 const PLAIN: &str =
     "format = 1\nmodes = [\"A\"]\ncompatible = { A = [] }\nconvert = { A = { A = \"A\" } }\nrules = {}\n";
 
-/// The verdict on steps under that table.
+/// The verdict on steps under that table; under each bundled table they are serial.
 fn judged<R: std::rt::Files + AllocGlobal + Abort>(
     rt: &R,
     steps: &str,
@@ -91,7 +92,8 @@ fn judged<R: std::rt::Files + AllocGlobal + Abort>(
     status: u8,
 ) -> Result<(), Fail> {
     let alloc = rt.alloc();
-    let script = format!(in alloc; "{{\"format\":1,\"opening\":{OPENING},\"steps\":{steps}}}")?;
+    let script = script_of(alloc, OPENING, steps)?;
+    serial_under_each(rt, script.as_str())?;
     let line = format!(in alloc; "{{\"script\":\"s\",\"verdict\":{verdict}}}\n")?;
     let files = Texts {
         table: PLAIN,
