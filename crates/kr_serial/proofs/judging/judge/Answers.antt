@@ -10,5 +10,5 @@ pub returns-clause-serial : goal.returns-clause-serial
 returns-clause-serial c =
     let ran = c.args.ran.now in
     let same = ap (λ m. verdict_of (first_difference m c.as_slice-2.result.now)) c.as_slice.ensures.pairs
-        ∙ ap (λ ps. verdict_of (first_difference ran.opening ps)) c.as_slice-2.ensures in
+    ∙ ap (λ ps. verdict_of (first_difference ran.opening ps)) c.as_slice-2.ensures in
     IfOk-weaker c.judge_programs.result _ _ (λ v told. serial_exactly v ran.opening ran.programs (told ∙ same)) c.judge_programs.ensures
