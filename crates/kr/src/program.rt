@@ -4,14 +4,16 @@ ghost use Rattle.kr.specs.declared.program.Ending.TheVariants as ending;
 
 use crate::checks::check_over;
 use crate::files::{FileFault, Files};
-use crate::judges::{lines_of, verdicts_of};
+use crate::judges::lines_of;
 use crate::over::{OverFault, run_over};
 use crate::words::{Asked, WordsFault, read_words};
+use kr_batch::judge_all;
 use kr_protocol::{Im, Kvl, Protocol, RangeKey};
 use kr_script::{Script, ScriptFault, Sink, print, read_script};
 use kr_serial::Verdict;
 use kr_table::TableFault;
 use std::alloc::{AllocError, Global};
+use std::thread::Threads;
 
 /// The line for want of memory.
 pub const OUT_OF_MEMORY: &str = "kr: out of memory";
@@ -61,36 +63,43 @@ fn whole<R: std::rt::Files + AllocGlobal, F: Files>(
     }
 }
 
-/// A command that is done under a table.
-trait Command {
-    /// Does it under this protocol.
-    fn under<R: std::rt::Files + AllocGlobal, P: Protocol, F: Files, W: Sink>(
-        &self,
-        rt: &R,
-        protocol: P,
-        files: &F,
-        out: &mut W,
-    ) -> Result<Ending, AllocError>;
+/// What is done under a table.
+#[derive(Clone, Copy)]
+enum Command<'a> {
+    /// The table is checked: status 0 where it is accepted, and 1 where it is refused.
+    Check,
+    /// The script that a word names is run: status 0 where the run is serial, and 1 where it isn't.
+    Run { script: &'a str },
+    /// The scripts that words name are judged, where all are read first: status 0 where each run is serial, and 1 where
+    /// one isn't.
+    Judge { scripts: &'a [&'a str] },
 }
 
-/// Checks the table: status 0 where it is accepted, and 1 where it is refused.
-#[derive(Drop)]
-struct Check;
+/// Does a command under a protocol.
+fn under<R: std::rt::Files + AllocGlobal + Threads + Sync, P: Protocol + Sync, F: Files, W: Sink>(
+    rt: &R,
+    protocol: P,
+    command: Command,
+    files: &F,
+    out: &mut W,
+) -> Result<Ending, AllocError> {
+    match command {
+        Command::Check => check_table(rt.alloc(), protocol, out),
+        Command::Run { script } => run_script(rt, &protocol, script, files, out),
+        Command::Judge { scripts } => judge_scripts(rt, &protocol, scripts, files, out),
+    }
+}
 
-impl Command for Check {
-    fn under<R: std::rt::Files + AllocGlobal, P: Protocol, F: Files, W: Sink>(
-        &self,
-        rt: &R,
-        protocol: P,
-        _files: &F,
-        out: &mut W,
-    ) -> Result<Ending, AllocError> {
-        match check_over(rt.alloc(), protocol, out) {
-            Ok(true) => Ok(Ending::Status(0)),
-            Ok(false) => Ok(Ending::Status(1)),
-            Err(OverFault::Print) => Ok(Ending::Output),
-            Err(_) => Ok(Ending::Memory),
-        }
+fn check_table<P: Protocol, W: Sink>(
+    alloc: Global,
+    protocol: P,
+    out: &mut W,
+) -> Result<Ending, AllocError> {
+    match check_over(alloc, protocol, out) {
+        Ok(true) => Ok(Ending::Status(0)),
+        Ok(false) => Ok(Ending::Status(1)),
+        Err(OverFault::Print) => Ok(Ending::Output),
+        Err(_) => Ok(Ending::Memory),
     }
 }
 
@@ -102,111 +111,91 @@ fn at_fault(alloc: Global, word: &str, fault: ScriptFault) -> Result<Ending, All
     }
 }
 
-/// Runs the script that a word names: status 0 where the run is serial, and 1 where it isn't.
-#[derive(Drop)]
-struct Run<'a> {
-    script: &'a str,
-}
-
-impl Command for Run<'_> {
-    fn under<R: std::rt::Files + AllocGlobal, P: Protocol, F: Files, W: Sink>(
-        &self,
-        rt: &R,
-        protocol: P,
-        files: &F,
-        out: &mut W,
-    ) -> Result<Ending, AllocError> {
-        let alloc = rt.alloc();
-        let script = self.script;
-        let bytes = match whole(rt, script, files) {
-            Ok(bytes) => bytes,
-            Err(ending) => return Ok(ending),
-        };
-        match run_over(alloc, &protocol, bytes.as_slice(), out) {
-            Ok(true) => Ok(Ending::Status(0)),
-            Ok(false) => Ok(Ending::Status(1)),
-            Err(OverFault::Script(fault)) => at_fault(alloc, script, fault),
-            Err(OverFault::Memory) => Ok(Ending::Memory),
-            Err(OverFault::Print) => Ok(Ending::Output),
-        }
+fn run_script<R: std::rt::Files + AllocGlobal, P: Protocol, F: Files, W: Sink>(
+    rt: &R,
+    protocol: &P,
+    script: &str,
+    files: &F,
+    out: &mut W,
+) -> Result<Ending, AllocError> {
+    let alloc = rt.alloc();
+    let bytes = match whole(rt, script, files) {
+        Ok(bytes) => bytes,
+        Err(ending) => return Ok(ending),
+    };
+    match run_over(alloc, protocol, bytes.as_slice(), out) {
+        Ok(true) => Ok(Ending::Status(0)),
+        Ok(false) => Ok(Ending::Status(1)),
+        Err(OverFault::Script(fault)) => at_fault(alloc, script, fault),
+        Err(OverFault::Memory) => Ok(Ending::Memory),
+        Err(OverFault::Print) => Ok(Ending::Output),
     }
 }
 
-/// Judges the scripts that words name, where all are read first: status 0 where each run is serial, and 1 where one isn't.
-#[derive(Drop)]
-struct Judge<'a> {
-    scripts: &'a [&'a str],
-}
-
-impl Judge<'_> {
-    /// The scripts, or how the program ends at the first that has a fault.
-    fn read<R: std::rt::Files + AllocGlobal, F: Files>(
-        &self,
-        rt: &R,
-        files: &F,
-    ) -> Result<Vec<Script>, Ending> {
-        let alloc = rt.alloc();
-        let mut read = Vec::new(alloc);
-        for word in self.scripts {
-            let bytes = whole(rt, word, files)?;
-            match read_script(alloc, bytes.as_slice()) {
-                Ok(script) => {
-                    if read.push(script).is_err() {
-                        return Err(Ending::Memory);
-                    }
+/// The scripts that words name, or how the program ends at the first that has a fault.
+fn read_scripts<R: std::rt::Files + AllocGlobal, F: Files>(
+    rt: &R,
+    words: &[&str],
+    files: &F,
+) -> Result<Vec<Script>, Ending> {
+    let alloc = rt.alloc();
+    let mut read = Vec::new(alloc);
+    for word in words {
+        let bytes = whole(rt, word, files)?;
+        match read_script(alloc, bytes.as_slice()) {
+            Ok(script) => {
+                if read.push(script).is_err() {
+                    return Err(Ending::Memory);
                 }
-                Err(fault) => return Err(at_fault(alloc, word, fault)?),
             }
+            Err(fault) => return Err(at_fault(alloc, word, fault)?),
         }
-        Ok(read)
     }
+    Ok(read)
 }
 
-impl Command for Judge<'_> {
-    fn under<R: std::rt::Files + AllocGlobal, P: Protocol, F: Files, W: Sink>(
-        &self,
-        rt: &R,
-        protocol: P,
-        files: &F,
-        out: &mut W,
-    ) -> Result<Ending, AllocError> {
-        let alloc = rt.alloc();
-        let scripts = match self.read(rt, files) {
-            Ok(scripts) => scripts,
-            Err(ending) => return Ok(ending),
-        };
-        let verdicts = verdicts_of(alloc, &protocol, scripts.as_slice())?;
-        let text = lines_of(alloc, self.scripts, verdicts.as_slice())?;
-        match print(out, text.as_str()) {
-            Ok(()) if verdicts.iter().all(Verdict::is_serial) => Ok(Ending::Status(0)),
-            Ok(()) => Ok(Ending::Status(1)),
-            Err(_) => Ok(Ending::Output),
-        }
+fn judge_scripts<
+    R: std::rt::Files + AllocGlobal + Threads + Sync,
+    P: Protocol + Sync,
+    F: Files,
+    W: Sink,
+>(rt: &R, protocol: &P, words: &[&str], files: &F, out: &mut W) -> Result<Ending, AllocError> {
+    let alloc = rt.alloc();
+    let scripts = match read_scripts(rt, words, files) {
+        Ok(scripts) => scripts,
+        Err(ending) => return Ok(ending),
+    };
+    let verdicts = judge_all(rt, alloc, protocol, scripts.as_slice())?;
+    let text = lines_of(alloc, words, verdicts.as_slice())?;
+    match print(out, text.as_str()) {
+        Ok(()) if verdicts.iter().all(Verdict::is_serial) => Ok(Ending::Status(0)),
+        Ok(()) => Ok(Ending::Status(1)),
+        Err(_) => Ok(Ending::Output),
     }
 }
 
 /// Does a command under the table that a word names: one of the bundled tables, or a file. Scripts are read only where
 /// the table is one.
-fn with_table<R: std::rt::Files + AllocGlobal, C: Command, F: Files, W: Sink>(
+fn with_table<R: std::rt::Files + AllocGlobal + Threads + Sync, F: Files, W: Sink>(
     rt: &R,
     table: &str,
-    command: &C,
+    command: Command,
     files: &F,
     out: &mut W,
 ) -> Result<Ending, AllocError> {
     match table {
-        "@kvl" => command.under(rt, Kvl, files, out),
-        "@im" => command.under(rt, Im, files, out),
-        "@range-key" => command.under(rt, RangeKey, files, out),
+        "@kvl" => under(rt, Kvl, command, files, out),
+        "@im" => under(rt, Im, command, files, out),
+        "@range-key" => under(rt, RangeKey, command, files, out),
         _ => with_file(rt, table, command, files, out),
     }
 }
 
 /// Does a command under the table in the file that a word names.
-fn with_file<R: std::rt::Files + AllocGlobal, C: Command, F: Files, W: Sink>(
+fn with_file<R: std::rt::Files + AllocGlobal + Threads + Sync, F: Files, W: Sink>(
     rt: &R,
     table: &str,
-    command: &C,
+    command: Command,
     files: &F,
     out: &mut W,
 ) -> Result<Ending, AllocError> {
@@ -216,7 +205,7 @@ fn with_file<R: std::rt::Files + AllocGlobal, C: Command, F: Files, W: Sink>(
         Err(ending) => return Ok(ending),
     };
     match kr_table::read(alloc, bytes.as_slice()) {
-        Ok(protocol) => command.under(rt, protocol, files, out),
+        Ok(protocol) => under(rt, protocol, command, files, out),
         Err(TableFault::Memory) => Ok(Ending::Memory),
         Err(fault) => Ok(Ending::Line(format!(in alloc; "kr: {table}: {fault}")?)),
     }
@@ -225,7 +214,7 @@ fn with_file<R: std::rt::Files + AllocGlobal, C: Command, F: Files, W: Sink>(
 /// Runs the program on words without its own name, and answers its status: 0 where it accepted a table or each run was
 /// serial, 1 where it refused a table or a run wasn't serial, and 2 where it told a fault on `err`. At a fault of words,
 /// files, tables, scripts or memory nothing is written on `out`.
-pub fn execute<R: std::rt::Files + AllocGlobal, F: Files, W: Sink, E: Sink>(
+pub fn execute<R: std::rt::Files + AllocGlobal + Threads + Sync, F: Files, W: Sink, E: Sink>(
     rt: &R,
     words: &[String],
     files: &F,
@@ -234,14 +223,14 @@ pub fn execute<R: std::rt::Files + AllocGlobal, F: Files, W: Sink, E: Sink>(
 ) -> u8 {
     let ending = match read_words(rt.alloc(), words) {
         Ok(Asked::Check { table }) => {
-            with_table(rt, table, &Check, files, out).unwrap_or(Ending::Memory)
+            with_table(rt, table, Command::Check, files, out).unwrap_or(Ending::Memory)
         }
         Ok(Asked::Run { table, script }) => {
-            with_table(rt, table, &Run { script }, files, out).unwrap_or(Ending::Memory)
+            with_table(rt, table, Command::Run { script }, files, out).unwrap_or(Ending::Memory)
         }
         Ok(Asked::Judge { table, scripts }) => {
             let scripts = scripts.as_slice();
-            with_table(rt, table, &Judge { scripts }, files, out).unwrap_or(Ending::Memory)
+            with_table(rt, table, Command::Judge { scripts }, files, out).unwrap_or(Ending::Memory)
         }
         Err(WordsFault::NotUnderstood) => {
             let _ = print(err, NOT_UNDERSTOOD);

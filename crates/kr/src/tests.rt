@@ -5,6 +5,7 @@ use kr_script::{Failed, Io, Sink};
 use std::alloc::{AllocError, Global};
 use std::process::Abort;
 use std::test::Fail;
+use std::thread::Threads;
 
 mod checks;
 mod covered;
@@ -80,7 +81,7 @@ fn owned(alloc: Global, words: &[&str]) -> Result<Vec<String>, AllocError> {
 }
 
 /// What the program writes on its two streams, and its status, where there is no table.
-fn told<R: std::rt::Files + AllocGlobal + Abort>(
+fn told<R: std::rt::Files + AllocGlobal + Threads + Sync + Abort>(
     rt: &R,
     words: &[&str],
     script: &str,
@@ -92,7 +93,7 @@ fn told<R: std::rt::Files + AllocGlobal + Abort>(
 }
 
 /// What the program writes on its two streams, and its status.
-fn told_over<R: std::rt::Files + AllocGlobal + Abort>(
+fn told_over<R: std::rt::Files + AllocGlobal + Threads + Sync + Abort>(
     rt: &R,
     words: &[&str],
     files: &Texts,
@@ -116,7 +117,7 @@ struct Program {
     err: Vec<u8>,
 }
 
-fn run_program<R: std::rt::Files + AllocGlobal>(
+fn run_program<R: std::rt::Files + AllocGlobal + Threads + Sync>(
     rt: &R,
     words: &[&str],
     files: &Texts,
@@ -139,7 +140,7 @@ fn script_of(alloc: Global, opening: &str, steps: &str) -> Result<String, AllocE
 }
 
 /// Runs steps on an opening map under a bundled table, and compares the report; they are serial under each.
-fn reports<R: std::rt::Files + AllocGlobal + Abort>(
+fn reports<R: std::rt::Files + AllocGlobal + Threads + Sync + Abort>(
     rt: &R,
     table: &str,
     opening: &str,
@@ -173,7 +174,7 @@ struct Expected<'a> {
 }
 
 /// Runs steps under each of the bundled tables, and compares the reports.
-fn under_each<R: std::rt::Files + AllocGlobal + Abort>(
+fn under_each<R: std::rt::Files + AllocGlobal + Threads + Sync + Abort>(
     rt: &R,
     expected: Expected<'_>,
 ) -> Result<(), Fail> {

@@ -4,9 +4,10 @@ use kr_table::texts::{IM, KVL, RANGE_KEY};
 use std::alloc::{AllocError, Global};
 use std::process::Abort;
 use std::test::Fail;
+use std::thread::Threads;
 
 /// Checks a table in a file, and compares the report.
-fn checks<R: std::rt::Files + AllocGlobal + Abort>(
+fn checks<R: std::rt::Files + AllocGlobal + Threads + Sync + Abort>(
     rt: &R,
     table: &str,
     report: &str,
@@ -24,7 +25,7 @@ fn checks<R: std::rt::Files + AllocGlobal + Abort>(
 }
 
 /// Checks a bundled table, by its word and from its file, and compares the report.
-fn accepts<R: std::rt::Files + AllocGlobal + Abort>(
+fn accepts<R: std::rt::Files + AllocGlobal + Threads + Sync + Abort>(
     rt: &R,
     word: &str,
     table: &str,
@@ -69,7 +70,7 @@ fn count(text: &str, part: &str) -> usize {
 }
 
 /// Checks a table that is refused: the report begins with the first failed case, and this many fail.
-fn refuses<R: std::rt::Files + AllocGlobal + Abort>(
+fn refuses<R: std::rt::Files + AllocGlobal + Threads + Sync + Abort>(
     rt: &R,
     table: &str,
     beginning: &str,

@@ -4,9 +4,10 @@ use crate::program::execute;
 use kr_script::Io;
 use std::process::Abort;
 use std::test::Fail;
+use std::thread::Threads;
 
 /// Runs a script that has a fault, and compares what is told of it.
-fn faulty<R: std::rt::Files + AllocGlobal + Abort>(
+fn faulty<R: std::rt::Files + AllocGlobal + Threads + Sync + Abort>(
     rt: &R,
     script: &str,
     fault: &str,

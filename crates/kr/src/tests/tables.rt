@@ -4,6 +4,7 @@ use kr_table::texts::{IM, KVL, RANGE_KEY};
 use std::alloc::{AllocError, Global};
 use std::process::Abort;
 use std::test::Fail;
+use std::thread::Threads;
 
 /// The lines of a table of one mode that asks for nothing.
 const PLAIN: [&str; 5] = [
@@ -25,7 +26,7 @@ fn changed(alloc: Global, at: usize, changed: &str) -> Result<String, AllocError
 }
 
 /// Whether the program says this of that table with the line at an index changed, before it looks at the script.
-fn tells<R: std::rt::Files + AllocGlobal + Abort>(
+fn tells<R: std::rt::Files + AllocGlobal + Threads + Sync + Abort>(
     rt: &R,
     at: usize,
     line: &str,
@@ -91,7 +92,7 @@ fn faults_of_matrices_and_rules(rt: HostRuntime) -> Result<(), Fail> {
 }
 
 /// What the program says of a table, with a script that is one.
-fn says_of_table<R: std::rt::Files + AllocGlobal + Abort>(
+fn says_of_table<R: std::rt::Files + AllocGlobal + Threads + Sync + Abort>(
     rt: &R,
     table: &str,
     said: &str,
@@ -128,7 +129,7 @@ fn a_long_table(rt: HostRuntime) -> Result<(), Fail> {
 }
 
 /// Compares the reports of the phantom under a table in a file and under a bundled one, with the mode that is held on 20.
-fn phantom_under<R: std::rt::Files + AllocGlobal + Abort>(
+fn phantom_under<R: std::rt::Files + AllocGlobal + Threads + Sync + Abort>(
     rt: &R,
     table: &str,
     word: &str,

@@ -5,6 +5,7 @@ use kr_table::texts::KVL;
 use std::alloc::{AllocError, Global};
 use std::process::Abort;
 use std::test::Fail;
+use std::thread::Threads;
 
 /// Key-value locking whose inserts always ask for IX on the new key, also where their transaction has read the gap.
 fn always_ix(alloc: Global) -> Result<String, Fail> {
@@ -58,6 +59,42 @@ fn two_scripts(rt: HostRuntime) -> Result<(), Fail> {
     )
 }
 
+/// The words that judge a serial script and one that isn't in turn, this many times each.
+fn words_in_turn(alloc: Global, times: usize) -> Result<Vec<&'static str>, AllocError> {
+    let mut words = vec![in alloc; "judge", "table"]?;
+    for _ in 0..times {
+        words.push("a.json")?;
+        words.push("b.json")?;
+    }
+    Ok(words)
+}
+
+/// The lines that tell their verdicts, in turn.
+fn lines_in_turn(alloc: Global, times: usize) -> Result<String, AllocError> {
+    let mut lines = String::new(alloc);
+    for _ in 0..times {
+        lines.push_str("{\"script\":\"a.json\",\"verdict\":[\"serial\"]}\n")?;
+        lines.push_str(
+            "{\"script\":\"b.json\",\"verdict\":[\"not-serial\",1,1,[\"none\"],[\"found\",7]]}\n",
+        )?;
+    }
+    Ok(lines)
+}
+
+/// So many scripts that several threads judge them.
+#[test]
+fn verdicts_keep_their_places(rt: HostRuntime) -> Result<(), Fail> {
+    let alloc = rt.alloc();
+    let table = always_ix(alloc)?;
+    let files = Texts {
+        table: table.as_str(),
+        script: "",
+    };
+    let words = words_in_turn(alloc, 2048)?;
+    let lines = lines_in_turn(alloc, 2048)?;
+    told_over(&rt, words.as_slice(), &files, lines.as_str(), "", 1)
+}
+
 #[test]
 fn one_script_twice(rt: HostRuntime) -> Result<(), Fail> {
     let line = "{\"script\":\"a.json\",\"verdict\":[\"serial\"]}\n";
@@ -85,7 +122,7 @@ const PLAIN: &str =
     "format = 1\nmodes = [\"A\"]\ncompatible = { A = [] }\nconvert = { A = { A = \"A\" } }\nrules = {}\n";
 
 /// The verdict on steps under that table; under each bundled table they are serial.
-fn judged<R: std::rt::Files + AllocGlobal + Abort>(
+fn judged<R: std::rt::Files + AllocGlobal + Threads + Sync + Abort>(
     rt: &R,
     steps: &str,
     verdict: &str,
