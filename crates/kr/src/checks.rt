@@ -1,8 +1,7 @@
 //! From a lock protocol to the report of its check on a sink.
-ghost use Rattle.std.specs.Prelude.{◌≡◌, ◌⊎◌, ◌↔◌, [], All, IfOk, IfErr, IsTrue};
+ghost use Rattle.std.specs.Prelude.{◌≡◌, ◌⊎◌, ◌↔◌, [], IfOk, IfErr, IsTrue};
 ghost use Rattle.std.specs.Io.KnownBytes.{Appends};
 ghost use Rattle.kr_model.specs.Covers.{IsCovered};
-ghost use Rattle.kr_cases.specs.Cases.{IsWithin};
 ghost use Rattle.kr.specs.Checks.{line_of, check_line, ExplainsLine};
 ghost use Rattle.kr.specs.declared.over.OverFault.TheVariants as fault;
 
@@ -19,7 +18,6 @@ fn write_check<P: Protocol, W: Sink>(
     failed: &[FailedCase],
     out: &mut W,
 ) -> Result<bool, OverFault>
-    requires { All (IsWithin (P.table protocol.now).count) failed.now }
     ensures ok { IfOk result (λ _. Appends (W.taken out.old) (W.taken out.new)
         (line_of (P.table protocol.now) (P.names protocol.now) failed.now)) }
     ensures accepted { IfOk result (λ accepted. IsTrue accepted ↔ (failed.now ≡ [])) }

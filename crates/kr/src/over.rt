@@ -1,5 +1,5 @@
 //! From the bytes of a script to its report on a sink.
-ghost use Rattle.std.specs.Prelude.{◌≡◌, ◌⊎◌, ◌↔◌, ◌≤◌, All, IfOk, IfErr, IsTrue, Ok, string_bytes};
+ghost use Rattle.std.specs.Prelude.{◌≡◌, ◌⊎◌, ◌↔◌, IfOk, IfErr, IsTrue, Ok, string_bytes};
 ghost use Rattle.std.specs.Io.KnownBytes.{Appends};
 ghost use Rattle.kr_model.specs.Difference.{first_difference};
 ghost use Rattle.kr_model.specs.Serial.{AreSerial};
@@ -60,7 +60,6 @@ fn report_of<P: Protocol>(
     protocol: &P,
     ran: &Ran,
 ) -> Result<(String, bool), AllocError>
-    requires { All (λ l. l.1 ≤ (P.table protocol.now).count) ran.now.locks }
     ensures text { IfOk result (λ told. string_bytes told.0 ≡ run_text (P.names protocol.now) ran.now.index ran.now.locks
         ran.now.replies ran.now.unfinished (verdict_of (first_difference ran.now.opening ran.now.programs))) }
     ensures serial { IfOk result (λ told. IsTrue told.1 ↔ AreSerial ran.now.opening ran.now.programs) }

@@ -1,4 +1,3 @@
 pub mod Counted
 pub mod Firsts
 pub mod Listed
-pub mod Within

@@ -1,12 +1,12 @@
 -- What a list of cases gives, while it is gone over.
-use Rattle.std.proofs.Common.{◌≡◌, ◌≢◌, ℕ, zero, suc, ◌+◌, ◌<◌, Bool, true, List, [], ◌∷◌, ◌++◌, Option, Some, None, map, take, get_or, length, refl, ap, sym, ◌∙◌, subst, append_assoc, inl, inr, arith}
+use Rattle.std.proofs.Common.{◌≡◌, ◌≢◌, ℕ, zero, suc, ◌<◌, List, [], ◌∷◌, ◌++◌, Option, Some, None, map, get_or, length, refl, ap, sym, ◌∙◌, subst, append_assoc, inl, inr, arith}
 use Rattle.std.specs.List.{filter_map, flat_map, cons_option}
 use Rattle.std.specs.Option.{option_to_list}
 use Rattle.std.proofs.lemmas.List.{map-append, append-nil}
 use Rattle.std.proofs.lemmas.List.Elements.{filter_map-append}
 use Rattle.std.proofs.lemmas.Grind.{flat_map-append}
 use Rattle.kr_model.specs.Covers.{is_empty}
-use Rattle.kr_model.proofs.Guarantees.{In, in_map, in_flat_map, each_none}
+use Rattle.kr_model.proofs.Guarantees.{In, in_map, each_none}
 
 -- an element of a list stands in it
 pub in_listed : {A : Type 0} (xs : List A) (i : ℕ) (d : A) → i < length xs → In (get_or xs i d) xs

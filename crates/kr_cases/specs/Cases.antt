@@ -1,7 +1,6 @@
 -- What a checker lists and tells.
-use Rattle.std.specs.Prelude.{◌≡◌, ◌≢◌, ℕ, ◌≤◌, List, [], Option, Some, None, All, map}
+use Rattle.std.specs.Prelude.{ℕ, List, Option, Some, None, map}
 use Rattle.std.specs.List.{filter_map, flat_map}
-use Rattle.kr_model.specs.declared.Origin.{Origin}
 use Rattle.kr_model.specs.declared.Origin.TheVariants.{One, Two}
 use Rattle.kr_model.specs.declared.Rule.{Rule}
 use Rattle.kr_model.specs.declared.Rule.TheVariants as rule
@@ -17,18 +16,6 @@ use Rattle.kr_model.specs.Covers.{Case, case, failure, modes, modes_or_none, mod
 -- The cases that don't hold, of those listed, in order.
 abbrev pub failures : Protocol → List Case → List FailedCase
 failures p cs = filter_map (failure p) cs
-
--- The modes that a case is taken at are at most the count.
-abbrev pub IsOriginWithin : ℕ → Origin → Type 0
-IsOriginWithin count (One a) = a ≤ count
-IsOriginWithin count (Two a b) = (a ≤ count) × (b ≤ count)
-
--- All modes that a failed case names are at most the count.
-pub record IsWithin (count : ℕ) (f : FailedCase) : Type 0 where
-  pub from : IsOriginWithin count f.from
-  pub mode : f.mode ≤ count
-  pub own : f.hole.own ≤ count
-  pub own_next : f.hole.own_next ≤ count
 
 -- Parts of the cases of a rule --
 

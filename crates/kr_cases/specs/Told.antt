@@ -1,12 +1,11 @@
 -- What a refusal tells.
-use Rattle.std.specs.Prelude.{◌≡◌, All}
+use Rattle.std.specs.Prelude.{◌≡◌}
 use Rattle.kr_model.specs.Protocol.{Protocol}
 use Rattle.kr_model.specs.Covers.{failed_cases}
-use Rattle.kr_cases.specs.Cases.{IsWithin}
 use Rattle.kr_cases.specs.declared.checker.Cause.{Cause}
 use Rattle.kr_cases.specs.declared.checker.Cause.TheVariants.{Failed, Memory}
 
--- All failed cases of the protocol, in order, and each is told in its modes; or want of memory.
+-- All failed cases of the protocol, in order; or want of memory.
 abbrev pub Tells : Protocol → Cause → Type 0
-Tells p (Failed list) = (list.items ≡ failed_cases p) × All (IsWithin p.count) list.items
+Tells p (Failed list) = list.items ≡ failed_cases p
 Tells p Memory = Unit {0}

@@ -114,9 +114,8 @@ pub fn check<P: Protocol>(alloc: Global, protocol: P) -> Result<Checked<P>, Reje
     }
 }
 
-/// The number of cases of a protocol of so many modes, at most 15.
+/// The number of cases of a protocol of so many modes.
 pub fn cases(count: Mode) -> usize
-    requires { count ≤ 15 }
     ensures { (p : model.Protocol) → p.count ≡ count → length (cases p) ≡ result }
 {
     let modes = count as usize;

@@ -1,9 +1,9 @@
 //! The report of a check, as JSON on one line.
-ghost use Rattle.std.specs.Prelude.{◌≡◌, ◌≤◌, All, IfOk, string_bytes};
+ghost use Rattle.std.specs.Prelude.{◌≡◌, IfOk, string_bytes};
 ghost use Rattle.serde_json.specs.View.{view};
-ghost use Rattle.kr_cases.specs.Cases.{IsOriginWithin, IsWithin};
 ghost use Rattle.kr_script.specs.CheckReport.{rule_name, cover_name, row_name, side_name, from_data, place_data, failed_data, failed_list, check_data, check_text};
 
+use crate::reports::mode_name;
 use kr_cases::{FailedCase, cases};
 use kr_model::{Cover, Origin, Place, Row, Rule, Side};
 use kr_protocol::Protocol;
@@ -62,31 +62,28 @@ fn side_name(side: Side) -> &'static str
 }
 
 fn from_value<P: Protocol>(alloc: Global, protocol: &P, from: Origin) -> Result<Value, AllocError>
-    requires { IsOriginWithin (P.table protocol.now).count from }
     ensures { IfOk result (λ v. view v ≡ from_data (P.names protocol.now) from) }
 {
     match from {
         Origin::One(a) => {
-            let a = protocol.name(a);
+            let a = mode_name(protocol, a);
             json!(in alloc; [a])
         }
         Origin::Two(a, b) => {
-            let a = protocol.name(a);
-            let b = protocol.name(b);
+            let a = mode_name(protocol, a);
+            let b = mode_name(protocol, b);
             json!(in alloc; [a, b])
         }
     }
 }
 
 fn place_value<P: Protocol>(alloc: Global, protocol: &P, place: Place) -> Result<Value, AllocError>
-    requires own { place.own ≤ (P.table protocol.now).count }
-    requires own_next { place.own_next ≤ (P.table protocol.now).count }
     ensures { IfOk result (λ v. view v ≡ place_data (P.names protocol.now) place) }
 {
     let row = row_name(place.row);
     let side = side_name(place.side);
-    let own = protocol.name(place.own);
-    let own_next = protocol.name(place.own_next);
+    let own = mode_name(protocol, place.own);
+    let own_next = mode_name(protocol, place.own_next);
     json!(in alloc; [row, side, own, own_next])
 }
 
@@ -95,13 +92,12 @@ fn failed_value<P: Protocol>(
     protocol: &P,
     failed: FailedCase,
 ) -> Result<Value, AllocError>
-    requires { IsWithin (P.table protocol.now).count failed }
     ensures { IfOk result (λ v. view v ≡ failed_data (P.names protocol.now) failed) }
 {
     let case = rule_name(failed.case);
     let cover = cover_name(failed.cover);
     let from = from_value(alloc, protocol, failed.from)?;
-    let mode = protocol.name(failed.mode);
+    let mode = mode_name(protocol, failed.mode);
     let open = place_value(alloc, protocol, failed.hole)?;
     json!(in alloc; {"case": case, "cover": cover, "from": from, "mode": mode, "open": open})
 }
@@ -111,7 +107,6 @@ fn failed_values<P: Protocol>(
     protocol: &P,
     failed: &[FailedCase],
 ) -> Result<Value, AllocError>
-    requires { All (IsWithin (P.table protocol.now).count) failed.now }
     ensures { IfOk result (λ v. view v ≡ failed_list (P.names protocol.now) failed.now) }
 {
     let mut list = Vec::new(alloc);
@@ -126,7 +121,6 @@ fn check_value<P: Protocol>(
     protocol: &P,
     failed: &[FailedCase],
 ) -> Result<Value, AllocError>
-    requires { All (IsWithin (P.table protocol.now).count) failed.now }
     ensures { IfOk result (λ v. view v ≡ check_data (P.table protocol.now) (P.names protocol.now) failed.now) }
 {
     let modes = protocol.count();
@@ -139,15 +133,13 @@ fn check_value<P: Protocol>(
 }
 
 /// The report of a check that found these failed cases of a protocol, in their order; none is the report of a protocol
-/// that is accepted. Compact JSON on one line, with no line feed. The modes that the cases name are the protocol's. The
-/// error is memory alone.
+/// that is accepted. Compact JSON on one line, with no line feed. The error is memory alone.
 #[tactic(auto, using(crate::proofs::NoFloats::no_float_in_check))]
 pub fn report_check<P: Protocol>(
     alloc: Global,
     protocol: &P,
     failed: &[FailedCase],
 ) -> Result<String, AllocError>
-    requires modes { All (IsWithin (P.table protocol.now).count) failed.now }
     ensures text { IfOk result (λ text. string_bytes text
         ≡ check_text (P.table protocol.now) (P.names protocol.now) failed.now) }
 {

@@ -1,8 +1,9 @@
 //! The reports of runs and of verdicts, as JSON on one line.
-ghost use Rattle.std.specs.Prelude.{◌≡◌, ◌≤◌, All, IfOk, string_bytes};
+ghost use Rattle.std.specs.Prelude.{◌≡◌, IfOk, string_bytes};
 ghost use Rattle.serde_json.specs.Data.{item, no_items};
 ghost use Rattle.serde_json.specs.View.{view};
 ghost use Rattle.kr_model.specs.declared.Reply.TheVariants as reply;
+ghost use Rattle.kr_model.specs.ModeNames.{name_of};
 ghost use Rattle.kr_model.specs.Difference.{refusal_number};
 ghost use Rattle.kr_script.specs.Json.{after_word};
 ghost use Rattle.kr_script.specs.Report.{numbers_data, pair_data, pairs_data, refusal_name, reply_data, replies_data, name_data, lock_data, locks_data, run_data, run_text, verdict_data, named_verdict_data, verdict_text};
@@ -126,17 +127,27 @@ fn name_value(alloc: Global, name: Name) -> Result<Value, AllocError>
     }
 }
 
+/// The name of a mode; a number beyond the modes has none, which is the empty text.
+pub fn mode_name<P: Protocol>(protocol: &P, mode: Mode) -> &str
+    ensures { result.now ≡ name_of (P.names protocol.now) mode }
+{
+    if mode <= protocol.count() {
+        protocol.name(mode)
+    } else {
+        ""
+    }
+}
+
 fn lock_value<P: Protocol>(
     alloc: Global,
     protocol: &P,
     lock: ((Name, Txn), Mode),
 ) -> Result<Value, AllocError>
-    requires { lock.1 ≤ (P.table protocol.now).count }
     ensures { IfOk result (λ v. view v ≡ lock_data (P.names protocol.now) lock) }
 {
     let ((name, holder), mode) = lock;
     let name = name_value(alloc, name)?;
-    let mode = protocol.name(mode);
+    let mode = mode_name(protocol, mode);
     json!(in alloc; [name, holder, mode])
 }
 
@@ -145,7 +156,6 @@ fn locks_value<P: Protocol>(
     protocol: &P,
     locks: &[((Name, Txn), Mode)],
 ) -> Result<Value, AllocError>
-    requires { All (λ l. l.1 ≤ (P.table protocol.now).count) locks.now }
     ensures { IfOk result (λ v. view v ≡ locks_data (P.names protocol.now) locks.now) }
 {
     let mut list = Vec::new(alloc);
@@ -179,7 +189,6 @@ fn run_value<P: Protocol>(
     ran: &Ran,
     verdict: &Verdict,
 ) -> Result<Value, AllocError>
-    requires { All (λ l. l.1 ≤ (P.table protocol.now).count) ran.now.locks }
     ensures { IfOk result (λ v. view v
         ≡ run_data (P.names protocol.now) ran.now.index ran.now.locks ran.now.replies ran.now.unfinished verdict.now) }
 {
@@ -201,7 +210,6 @@ pub fn report_run<P: Protocol>(
     ran: &Ran,
     verdict: &Verdict,
 ) -> Result<String, AllocError>
-    requires modes { All (λ l. l.1 ≤ (P.table protocol.now).count) ran.now.locks }
     ensures text { IfOk result (λ text. string_bytes text
         ≡ run_text (P.names protocol.now) ran.now.index ran.now.locks ran.now.replies ran.now.unfinished verdict.now) }
 {

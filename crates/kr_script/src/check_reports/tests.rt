@@ -1,5 +1,4 @@
 ghost use Rattle.std.specs.Prelude.{◌≡◌};
-ghost use Rattle.kr_cases.specs.Cases.{IsWithin};
 
 use crate::report_check;
 use kr_cases::FailedCase;
@@ -42,9 +41,7 @@ fn open_at(row: Row, side: Side, own: Mode, own_next: Mode) -> Place
 }
 
 /// Reports one failed case of key-value locking, and compares its text.
-fn reports<R: AllocGlobal + Abort>(rt: &R, failed: FailedCase, case: &str) -> Result<(), Fail>
-    requires { IsWithin 5 failed }
-{
+fn reports<R: AllocGlobal + Abort>(rt: &R, failed: FailedCase, case: &str) -> Result<(), Fail> {
     let alloc = rt.alloc();
     let text = report_check(alloc, &Kvl, &[failed])?;
     let wanted = format!(in alloc;

@@ -94,12 +94,16 @@ fn each_reply(alloc: Global) -> Result<Vec<Reply>, AllocError> {
 }
 
 const EACH_REPLY: &str =
-    "{\"index\":[],\"locks\":[[0,0,\"none\"],[\"End\",4294967295,\"X\\\"\\\\\"]],\"replies\":[[\"found\",5],[\"none\"],[\"going\",7],[\"rows\",[[1,2],[3,4]]],[\"done\"],[\"duplicate\"],[\"deleted\",18446744073709551615],[\"absent\"],[\"committed\"],[\"aborted\"],[\"blocked\",[1,2]],[\"refused\",1,\"Ended\"],[\"refused\",2,\"Busy\"],[\"refused\",3,\"NoScan\"],[\"refused\",4,\"BadRange\"],[\"refused\",5,\"Full\"],[\"refused\",6,\"Memory\"]],\"unfinished\":[],\"verdict\":[\"not-serial\",1,2,[\"rows\",[[10,1],[20,2]]],[\"rows\",[[20,2]]]]}";
+    "{\"index\":[],\"locks\":[[0,0,\"none\"],[0,1,\"\"],[\"End\",4294967295,\"X\\\"\\\\\"]],\"replies\":[[\"found\",5],[\"none\"],[\"going\",7],[\"rows\",[[1,2],[3,4]]],[\"done\"],[\"duplicate\"],[\"deleted\",18446744073709551615],[\"absent\"],[\"committed\"],[\"aborted\"],[\"blocked\",[1,2]],[\"refused\",1,\"Ended\"],[\"refused\",2,\"Busy\"],[\"refused\",3,\"NoScan\"],[\"refused\",4,\"BadRange\"],[\"refused\",5,\"Full\"],[\"refused\",6,\"Memory\"]],\"unfinished\":[],\"verdict\":[\"not-serial\",1,2,[\"rows\",[[10,1],[20,2]]],[\"rows\",[[20,2]]]]}";
 
 #[test]
 fn reports_each_reply(rt: HostRuntime) -> Result<(), AllocError> {
     let alloc = rt.alloc();
-    let locks = vec![in alloc; ((Name::Key(0), 0), 0), ((Name::End, 4_294_967_295), 2)]?;
+    let locks = vec![in alloc;
+        ((Name::Key(0), 0), 0),
+        ((Name::Key(0), 1), 3),
+        ((Name::End, 4_294_967_295), 2),
+    ]?;
     let ran = Ran {
         opening: Opening::copy_of(alloc, &[])?,
         replies: Replies::from_vec(each_reply(alloc)?),

@@ -1,5 +1,4 @@
-use Rattle.std.proofs.Common.{◌≡◌, ◌≢◌, ◌+◌, [], take, get_or, rules}
-use Rattle.std.specs.List.{flat_map}
+use Rattle.std.proofs.Common.{◌≢◌, ◌+◌, [], take, get_or, rules}
 use Rattle.std.proofs.lemmas.List.{take_more}
 use Rattle.kr_model.specs.declared.Rule.TheVariants.{Conversion}
 use Rattle.kr_model.specs.Covers.{cases_of, all_rules, failure, failed_cases}

@@ -1,4 +1,4 @@
-use Rattle.std.proofs.Common.{◌+◌, suc, map, sym, ◌∙◌, arith}
+use Rattle.std.proofs.Common.{suc, map, sym, ◌∙◌, arith}
 use Rattle.std.specs.List.{flat_map}
 use Rattle.kr_model.specs.Covers.{place, is_open, modes_or_none}
 use Rattle.kr_model.specs.declared.Side.TheVariants.{Current}

@@ -1,4 +1,4 @@
-use Rattle.std.proofs.Common.{◌+◌, suc, map, sym, ◌∙◌, arith}
+use Rattle.std.proofs.Common.{suc, map, sym, ◌∙◌, arith}
 use Rattle.kr_model.specs.Covers.{place, is_open}
 use Rattle.kr_model.specs.declared.Side.TheVariants.{Next}
 use Rattle.kr_cases.proofs.Firsts.{element_found, element_none, none_of_all}
