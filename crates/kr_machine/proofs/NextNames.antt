@@ -1,5 +1,5 @@
 -- A scan's step, by what the code finds.
-use Rattle.std.proofs.Common.{◌≡◌, ℕ, suc, ◌-◌, Bool, true, false, cond, Option, Some, None, List, [], ◌∷◌, ap, sym, ◌∙◌, refl, length, arith, slice_get}
+use Rattle.std.proofs.Common.{◌≡◌, ℕ, suc, ◌-◌, Some, None, List, [], ◌∷◌, ap, refl, length, arith, slice_get}
 use Rattle.kr_model.specs.Map.{Map, at, after}
 use Rattle.kr_model.specs.Step.{name_after}
 

@@ -1,7 +1,7 @@
 -- The log of a run has the operations so far of each active transaction, and the committed programs.
-use Rattle.std.specs.Prelude.{◌≡◌, ℕ, Bool, true, false, not, ◌==◌, ◌&&◌, ◌||◌, cond, nat_le, IsTrue, List, [], ◌∷◌, ◌++◌, Option, Some, None, is_some, unwrap_or, filter, map, refl, if◌then◌else◌, T, ◌⊎◌}
-use Rattle.std.specs.List.{list_any, filter_map, cons_option}
-use Rattle.std.specs.Ordering.{nat_cmp, eq_by_cmp, is_lt, is_eq}
+use Rattle.std.specs.Prelude.{◌≡◌, ℕ, Bool, true, false, not, ◌==◌, ◌&&◌, ◌||◌, cond, nat_le, List, [], ◌∷◌, ◌++◌, Option, Some, None, is_some, unwrap_or, filter, map, refl, if◌then◌else◌, T, ◌⊎◌}
+use Rattle.std.specs.List.{list_any, cons_option}
+use Rattle.std.specs.Ordering.{nat_cmp, eq_by_cmp, is_lt}
 use Rattle.std.specs.declared.cmp.Ordering.{Ordering}
 use Rattle.std.specs.declared.cmp.Ordering.TheVariants.{Less, Equal, Greater}
 use Rattle.std.specs.Cmp.{nat_cmp_total}
@@ -26,8 +26,8 @@ use Rattle.kr_model.specs.Locks.{Request, add_once, blockers}
 use Rattle.kr_model.specs.Plan.{plan_of, requests}
 use Rattle.kr_model.specs.declared.Step.TheVariants as attempt
 use Rattle.kr_model.specs.State.{State, Active, Scan, start, idle, active_of, standing, has_ended, is_scanning}
-use Rattle.kr_model.specs.Step.{Effect, Outcome, step, IsStep, refusal_of, unless_refused, performed, granted_or_blocked, looked, row_read, fetched, inserted, deleted, attempted_scan, name_to_look, ended_with, is_full, goes_on, is_go, is_bad_range}
-use Rattle.kr_model.specs.Run.{Entry, Answered, Program, Trace, run, operations_of, answer_of, first_rows, committed, programs, is_rows, is_committed, is_operation, is_granted, AreSteps}
+use Rattle.kr_model.specs.Step.{Effect, Outcome, IsStep, refusal_of, unless_refused, performed, granted_or_blocked, looked, row_read, fetched, inserted, deleted, attempted_scan, name_to_look, is_full, goes_on}
+use Rattle.kr_model.specs.Run.{Entry, Answered, Program, run, operations_of, answer_of, first_rows, committed, programs, is_rows, is_committed, is_operation, is_granted, AreSteps}
 use Rattle.kr_model.specs.Log.{Log, no_log, operations_so_far, last_answered, with_step, step_logged, end_logged, logged, log_after}
 use Rattle.kr_model.proofs.MapLaws.{keys_apart, key_tie, equal_of_test}
 use Rattle.kr_model.proofs.RunLaws.{steps_of_run}

@@ -1,15 +1,15 @@
 -- A map in a tree: what its calls do to its pairs, and how a range of it compares with rows.
-use Rattle.std.specs.Prelude.{◌≡◌, ℕ, zero, suc, ◌+◌, ◌<◌, ◌≤◌, Bool, true, false, not, ◌&&◌, ◌==◌, cond, nat_le, List, [], ◌∷◌, ◌++◌, Option, Some, None, filter, refl, if◌then◌else◌, T, length, get_or, drop}
+use Rattle.std.specs.Prelude.{◌≡◌, ℕ, zero, suc, ◌<◌, ◌≤◌, Bool, true, false, not, ◌&&◌, ◌==◌, cond, nat_le, List, [], ◌∷◌, Option, Some, None, filter, refl, T, length, get_or, drop}
 use Rattle.std.specs.Ordering.{nat_cmp, is_eq, is_lt, is_le, match_ordering}
 use Rattle.std.specs.declared.cmp.Ordering.{Ordering}
 use Rattle.std.specs.declared.cmp.Ordering.TheVariants.{Less, Equal, Greater}
 use Rattle.std.specs.Cmp.{nat_cmp_total}
-use Rattle.std.specs.FinMap.{put, is_sorted}
+use Rattle.std.specs.FinMap.{is_sorted}
 use Rattle.std.specs.FinMap.Entries.{below_all, by_order, is_sorted-put, is_sorted-where_key}
 use Rattle.std.specs.BTreeMap.{insert_entry, is_at}
 use Rattle.std.specs.Map.{lookup, remove_entry}
 use Rattle.std.proofs.lemmas.Bool.Decides.{nat_tests}
-use Rattle.std.proofs.Common.{sym, ◌∙◌, ap, ap₂, subst, arith, drop-cons}
+use Rattle.std.proofs.Common.{sym, ◌∙◌, ap, subst, arith, drop-cons}
 use Rattle.kr_model.specs.Map.{Map, IsMap, get, set, without, pairs_between}
 use Rattle.kr_model.specs.Run.{Program}
 use Rattle.kr_model.specs.Serial.{AreSerial, whole_delete}

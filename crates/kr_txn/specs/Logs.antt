@@ -1,5 +1,5 @@
 -- The log of a run with its room, as contracts see it.
-use Rattle.std.specs.Prelude.{◌≡◌, ◌≢◌, ℕ, ◌+◌, ◌<◌, ◌≤◌, Bool, true, false, ◌==◌, not, List, [], ◌∷◌, ◌++◌, Option, Some, None, map, filter, length, slice_index_or, is_some, IsTrue, IfSome, Vec, ◌⊎◌, if◌then◌else◌}
+use Rattle.std.specs.Prelude.{◌≡◌, ◌≢◌, ℕ, ◌+◌, ◌<◌, ◌≤◌, false, ◌==◌, not, List, [], ◌∷◌, ◌++◌, Option, Some, None, map, filter, length, slice_index_or, is_some, IsTrue, IfSome, Vec, ◌⊎◌, if◌then◌else◌}
 use Rattle.std.specs.Vec.{vec_len, vec_capacity}
 use Rattle.std.specs.Ordering.{nat_cmp}
 use Rattle.std.specs.FinMap.{find, put, is_sorted}

@@ -1,6 +1,6 @@
-use Rattle.std.proofs.Common.{◌≡◌, Some, None, get_or, sym, ap, ◌∙◌, unwrap_or, option_map}
-use Rattle.kr_model.specs.State.{Active, idle}
-use Rattle.kr_txn.specs.Standings.{active_of, scan_of}
+use Rattle.std.proofs.Common.{sym, ap, ◌∙◌, unwrap_or, option_map}
+use Rattle.kr_model.specs.State.{idle}
+use Rattle.kr_txn.specs.Standings.{scan_of}
 use Rattle.kr_txn.proofs.Lists.{found, not_found}
 use Rattle.kr_machine.proofs.room.scan_of.Goals as goal
 

@@ -1,4 +1,4 @@
-use Rattle.std.proofs.Common.{◌≡◌, ◌-◌, Some, None, Option, ℕ, List, length, slice_get, sym, ap, ◌∙◌, subst, option_copied}
+use Rattle.std.proofs.Common.{◌≡◌, ◌-◌, Some, ℕ, List, length, slice_get, sym, ◌∙◌, subst}
 use Rattle.kr_machine.proofs.NextNames.{name_after_last}
 use Rattle.kr_machine.proofs.scans.name_to_look.Goals as goal
 

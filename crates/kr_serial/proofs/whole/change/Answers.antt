@@ -1,8 +1,7 @@
 use Rattle.std.proofs.Common.{◌≡◌, None, Some, Option, ap, sym, ◌∙◌, subst, refl}
 use Rattle.std.specs.Prelude.{ℕ}
-use Rattle.kr_model.specs.declared.Op.TheVariants.{Insert, Delete}
-use Rattle.kr_model.specs.Map.{Map, IsMap, get, set, without}
-use Rattle.kr_model.specs.Serial.{whole, whole_insert, whole_delete}
+use Rattle.kr_model.specs.Map.{IsMap, get}
+use Rattle.kr_model.specs.Serial.{whole, whole_insert}
 use Rattle.kr_serial.proofs.Wholes.{lookup_is_get, inserted_is_set, is_map-set, is_map-without, removed_is_without, deleted_map}
 use Rattle.std.specs.Borrow.{Bor}
 use Rattle.std.specs.Prelude.{Bool, true, not, is_some}

@@ -1,4 +1,4 @@
-use Rattle.std.proofs.Common.{◌≡◌, ◌-◌, ◌<◌, ◌∙◌, suc, length, drop, arith, subst, sym}
+use Rattle.std.proofs.Common.{◌≡◌, ◌-◌, ◌<◌, ◌∙◌, suc, length, drop, arith, subst}
 use Rattle.kr_serial.proofs.Wholes.{inserted_before}
 use Rattle.kr_serial.proofs.whole.map_of.Goals as goal
 

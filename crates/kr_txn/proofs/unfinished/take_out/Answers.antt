@@ -2,7 +2,6 @@ use Rattle.std.proofs.Common.{sym, ap, ◌∙◌, subst, length, Some}
 use Rattle.std.specs.Prelude.{T}
 use Rattle.kr_txn.specs.Logs.{entries, AreOthers, IsPosition}
 use Rattle.kr_txn.proofs.LogLists.{left, found, not_found, all_left}
-use Rattle.kr_txn.specs.Logs.{without_txn, IsInOrder}
 use Rattle.kr_txn.proofs.LogLists.{in_order-without, find-without}
 use Rattle.std.specs.Ordering.{nat_cmp}
 use Rattle.std.specs.FinMap.{find, is_sorted}

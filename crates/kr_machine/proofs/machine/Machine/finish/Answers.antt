@@ -1,4 +1,4 @@
-use Rattle.std.proofs.Common.{◌≡◌, sym, ap, subst, ◌∙◌, None, Some, IfSome}
+use Rattle.std.proofs.Common.{◌≡◌, sym, ap, subst, ◌∙◌, Some, IfSome}
 use Rattle.kr_model.specs.Step.{step}
 use Rattle.kr_model.specs.Log.{logged}
 use Rattle.kr_machine.specs.Logged.{IsLogged, IsDue}

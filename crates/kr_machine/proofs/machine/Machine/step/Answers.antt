@@ -1,4 +1,4 @@
-use Rattle.std.proofs.Common.{◌≡◌, sym, ap, ◌∙◌}
+use Rattle.std.proofs.Common.{sym, ap, ◌∙◌}
 use Rattle.kr_model.proofs.LogLaws.{logged_silent}
 use Rattle.kr_machine.proofs.machine.Machine.step.Goals as goal
 
