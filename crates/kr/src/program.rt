@@ -4,13 +4,11 @@ ghost use Rattle.kr.specs.declared.program.Ending.TheVariants as ending;
 
 use crate::checks::check_over;
 use crate::files::{FileFault, Files};
-use crate::judges::lines_of;
+use crate::judges::judge_over;
 use crate::over::{OverFault, run_over};
 use crate::words::{Asked, WordsFault, read_words};
-use kr_batch::judge_all;
 use kr_protocol::{Im, Kvl, Protocol, RangeKey};
 use kr_script::{Script, ScriptFault, Sink, print, read_script};
-use kr_serial::Verdict;
 use kr_table::TableFault;
 use std::alloc::{AllocError, Global};
 use std::thread::Threads;
@@ -165,12 +163,11 @@ fn judge_scripts<
         Ok(scripts) => scripts,
         Err(ending) => return Ok(ending),
     };
-    let verdicts = judge_all(rt, alloc, protocol, scripts.as_slice())?;
-    let text = lines_of(alloc, words, verdicts.as_slice())?;
-    match print(out, text.as_str()) {
-        Ok(()) if verdicts.iter().all(Verdict::is_serial) => Ok(Ending::Status(0)),
-        Ok(()) => Ok(Ending::Status(1)),
-        Err(_) => Ok(Ending::Output),
+    match judge_over(rt, alloc, protocol, words, scripts.as_slice(), out) {
+        Ok(true) => Ok(Ending::Status(0)),
+        Ok(false) => Ok(Ending::Status(1)),
+        Err(OverFault::Print) => Ok(Ending::Output),
+        Err(_) => Ok(Ending::Memory),
     }
 }
 

@@ -1,6 +1,6 @@
 ghost use Rattle.std.specs.Prelude.{None};
 
-use crate::{Failed, Io, PrintFault, Sink, print};
+use crate::{Failed, Io, PrintFault, Sink, print, print_lines};
 use std::alloc::{AllocError, Global};
 use std::io;
 use std::io::{ErrorKind, Write};
@@ -98,5 +98,21 @@ fn shows_its_faults(rt: HostRuntime) -> Result<(), AllocError> {
         format!(in alloc; "{}", PrintFault)?.as_str(),
         "a text was not printed whole"
     );
+    Ok(())
+}
+
+#[test]
+fn prints_lines_and_stops_within_one(rt: HostRuntime) -> Result<(), AllocError> {
+    let alloc = rt.alloc();
+    let lines = vec![in alloc;
+        String::from_str(alloc, "ab")?,
+        String::from_str(alloc, "c")?,
+    ]?;
+    let mut whole = slow_sink(alloc, 0);
+    assert!(rt; print_lines(&mut whole, lines.as_slice()).is_ok());
+    assert_eq!(rt; whole.writer().taken.as_slice(), b"ab\nc\n".as_slice());
+    let mut cut = slow_sink(alloc, 4);
+    assert!(rt; print_lines(&mut cut, lines.as_slice()).is_err());
+    assert_eq!(rt; cut.writer().taken.as_slice(), b"ab\n".as_slice());
     Ok(())
 }
