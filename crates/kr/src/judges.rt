@@ -43,8 +43,9 @@ fn are_serial(verdicts: &[Verdict]) -> bool
 }
 
 /// Judges the runs of scripts under a protocol, on several threads, writes for each script in their order the report of
-/// its verdict with its name and a line feed, and answers whether all runs are serial. Where a growth was refused, nothing
-/// is written; where printing fails, a beginning of the lines was.
+/// its verdict with its name and a line feed, and answers whether all runs are serial. Names and scripts are paired in
+/// their order: a script beyond the names has no line, but counts in the answer. Where a growth was refused, nothing is
+/// written; where printing fails, a beginning of the lines was.
 pub fn judge_over<P: Protocol + Sync, W: Sink>(
     rt: &(impl Threads + Sync),
     alloc: Global,
