@@ -6,7 +6,7 @@ use crate::checks::check_over;
 use crate::files::{FileFault, Files};
 use crate::judges::judge_over;
 use crate::over::{OverFault, run_over};
-use crate::words::{Asked, WordsFault, read_words};
+use crate::words::{Task, WordsFault, read_words};
 use kr_protocol::{Im, Kvl, Protocol, RangeKey};
 use kr_script::{Script, ScriptFault, Sink, print, read_script};
 use kr_table::TableFault;
@@ -61,30 +61,18 @@ fn whole<R: std::rt::Files + AllocGlobal, F: Files>(
     }
 }
 
-/// What is done under a table.
-#[derive(Clone, Copy)]
-enum Command<'a> {
-    /// The table is checked: status 0 where it is accepted, and 1 where it is refused.
-    Check,
-    /// The script that a word names is run: status 0 where the run is serial, and 1 where it isn't.
-    Run { script: &'a str },
-    /// The scripts that words name are judged, where all are read first: status 0 where each run is serial, and 1 where
-    /// one isn't.
-    Judge { scripts: &'a [&'a str] },
-}
-
-/// Does a command under a protocol.
+/// Does a task under a protocol.
 fn under<R: std::rt::Files + AllocGlobal + Threads + Sync, P: Protocol + Sync, F: Files, W: Sink>(
     rt: &R,
     protocol: P,
-    command: Command,
+    task: &Task,
     files: &F,
     out: &mut W,
 ) -> Result<Ending, AllocError> {
-    match command {
-        Command::Check => check_table(rt.alloc(), protocol, out),
-        Command::Run { script } => run_script(rt, &protocol, script, files, out),
-        Command::Judge { scripts } => judge_scripts(rt, &protocol, scripts, files, out),
+    match task {
+        Task::Check => check_table(rt.alloc(), protocol, out),
+        Task::Run(script) => run_script(rt, &protocol, script, files, out),
+        Task::Judge(scripts) => judge_scripts(rt, &protocol, scripts.as_slice(), files, out),
     }
 }
 
@@ -171,28 +159,28 @@ fn judge_scripts<
     }
 }
 
-/// Does a command under the table that a word names: one of the bundled tables, or a file. Scripts are read only where
+/// Does a task under the table that a word names: one of the bundled tables, or a file. Scripts are read only where
 /// the table is one.
 fn with_table<R: std::rt::Files + AllocGlobal + Threads + Sync, F: Files, W: Sink>(
     rt: &R,
     table: &str,
-    command: Command,
+    task: &Task,
     files: &F,
     out: &mut W,
 ) -> Result<Ending, AllocError> {
     match table {
-        "@kvl" => under(rt, Kvl, command, files, out),
-        "@im" => under(rt, Im, command, files, out),
-        "@range-key" => under(rt, RangeKey, command, files, out),
-        _ => with_file(rt, table, command, files, out),
+        "@kvl" => under(rt, Kvl, task, files, out),
+        "@im" => under(rt, Im, task, files, out),
+        "@range-key" => under(rt, RangeKey, task, files, out),
+        _ => with_file(rt, table, task, files, out),
     }
 }
 
-/// Does a command under the table in the file that a word names.
+/// Does a task under the table in the file that a word names.
 fn with_file<R: std::rt::Files + AllocGlobal + Threads + Sync, F: Files, W: Sink>(
     rt: &R,
     table: &str,
-    command: Command,
+    task: &Task,
     files: &F,
     out: &mut W,
 ) -> Result<Ending, AllocError> {
@@ -202,7 +190,7 @@ fn with_file<R: std::rt::Files + AllocGlobal + Threads + Sync, F: Files, W: Sink
         Err(ending) => return Ok(ending),
     };
     match kr_table::read(alloc, bytes.as_slice()) {
-        Ok(protocol) => under(rt, protocol, command, files, out),
+        Ok(protocol) => under(rt, protocol, task, files, out),
         Err(TableFault::Memory) => Ok(Ending::Memory),
         Err(fault) => Ok(Ending::Line(format!(in alloc; "kr: {table}: {fault}")?)),
     }
@@ -219,15 +207,8 @@ pub fn execute<R: std::rt::Files + AllocGlobal + Threads + Sync, F: Files, W: Si
     err: &mut E,
 ) -> u8 {
     let ending = match read_words(rt.alloc(), words) {
-        Ok(Asked::Check { table }) => {
-            with_table(rt, table, Command::Check, files, out).unwrap_or(Ending::Memory)
-        }
-        Ok(Asked::Run { table, script }) => {
-            with_table(rt, table, Command::Run { script }, files, out).unwrap_or(Ending::Memory)
-        }
-        Ok(Asked::Judge { table, scripts }) => {
-            let scripts = scripts.as_slice();
-            with_table(rt, table, Command::Judge { scripts }, files, out).unwrap_or(Ending::Memory)
+        Ok(asked) => {
+            with_table(rt, asked.table, &asked.task, files, out).unwrap_or(Ending::Memory)
         }
         Err(WordsFault::NotUnderstood) => {
             let _ = print(err, NOT_UNDERSTOOD);

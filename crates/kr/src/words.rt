@@ -8,21 +8,23 @@ use std::alloc::{AllocError, Global};
 
 /// What is asked.
 #[derive(Drop)]
-pub enum Asked<'a> {
-    /// To check a table, named by its word.
-    Check {
-        table: &'a str,
-    },
-    /// To run a script under a table, each named by its word.
-    Run {
-        table: &'a str,
-        script: &'a str,
-    },
-    /// To judge scripts under a table, each named by its word.
-    Judge {
-        table: &'a str,
-        scripts: Vec<&'a str>,
-    },
+pub struct Asked<'a> {
+    /// The word that names the table.
+    pub table: &'a str,
+    /// What is done under it.
+    pub task: Task<'a>,
+}
+
+/// What is done under a table.
+#[derive(Drop)]
+pub enum Task<'a> {
+    /// The table is checked: status 0 where it is accepted, and 1 where it is refused.
+    Check,
+    /// The script that a word names is run: status 0 where the run is serial, and 1 where it isn't.
+    Run(&'a str),
+    /// The scripts that words name are judged, where all are read first: status 0 where each run is serial, and 1 where
+    /// one isn't.
+    Judge(Vec<&'a str>),
 }
 
 /// Why nothing is asked.
@@ -91,19 +93,23 @@ pub fn read_words<'a>(alloc: Global, words: &'a [String]) -> Result<Asked<'a>, W
         return Err(WordsFault::NotUnderstood);
     };
     if name == "check" {
-        return Ok(Asked::Check { table });
+        return Ok(Asked {
+            table,
+            task: Task::Check,
+        });
     }
     if name == "judge" {
-        return match given.get_strs("scripts") {
-            Some(scripts) => Ok(Asked::Judge {
-                table,
-                scripts: scripts.to_vec(alloc)?,
-            }),
-            None => Err(WordsFault::NotUnderstood),
+        let Some(scripts) = given.get_strs("scripts") else {
+            return Err(WordsFault::NotUnderstood);
         };
+        let task = Task::Judge(scripts.to_vec(alloc)?);
+        return Ok(Asked { table, task });
     }
     match given.get_str("script") {
-        Some(script) => Ok(Asked::Run { table, script }),
+        Some(script) => Ok(Asked {
+            table,
+            task: Task::Run(script),
+        }),
         None => Err(WordsFault::NotUnderstood),
     }
 }

@@ -87,14 +87,15 @@ fn refuses<R: std::rt::Files + AllocGlobal + Threads + Sync + Abort>(
     Ok(report)
 }
 
+/// Key-value locking whose inserts always ask for IX on the new key, also where their transaction has read the gap.
+pub fn always_ix(alloc: Global) -> Result<String, Fail> {
+    let exclusive = r#"{ own = ["S", "SIX", "X"], mode = "X", span = "commit" }, "#;
+    with(alloc, KVL, exclusive, "")
+}
+
 #[test]
 fn insert_always_ix(rt: HostRuntime) -> Result<(), Fail> {
-    let table = with(
-        rt.alloc(),
-        KVL,
-        r#"{ own = ["S", "SIX", "X"], mode = "X", span = "commit" }, "#,
-        "",
-    )?;
+    let table = always_ix(rt.alloc())?;
     let report = refuses(
         &rt,
         table.as_str(),

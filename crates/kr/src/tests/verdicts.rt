@@ -1,18 +1,11 @@
 //! Verdicts on runs.
+use super::checks::always_ix;
 use super::covered::serial_under_each;
 use super::{OPENING, SPLIT, Texts, reports, script_of, told, told_over};
-use kr_table::texts::KVL;
 use std::alloc::{AllocError, Global};
 use std::process::Abort;
 use std::test::Fail;
 use std::thread::Threads;
-
-/// Key-value locking whose inserts always ask for IX on the new key, also where their transaction has read the gap.
-fn always_ix(alloc: Global) -> Result<String, Fail> {
-    let exclusive = r#"{ own = ["S", "SIX", "X"], mode = "X", span = "commit" }, "#;
-    let (before, after) = KVL.split_once(exclusive).ok_or("no such clause")?;
-    Ok(format!(in alloc; "{before}{after}")?)
-}
 
 #[test]
 fn a_split_that_is_not_serial(rt: HostRuntime) -> Result<(), Fail> {
