@@ -1,13 +1,15 @@
 -- All verdicts are serial exactly where each run is.
 use Rattle.std.proofs.Common.{◌≡◌, ℕ, zero, suc, Bool, true, false, ◌&&◌, All, List, [], ◌∷◌, refl, arith}
 use Rattle.std.specs.List.{list_all}
-use Rattle.kr_model.specs.Protocol.{Protocol}
+use Rattle.kr_model.specs.Protocol.{Protocol, IsLawful}
+use Rattle.kr_model.specs.Covers.{IsCovered}
 use Rattle.kr_model.specs.Run.{programs}
 use Rattle.kr_serial.specs.declared.verdict.Verdict.{Verdict}
 use Rattle.kr_serial.specs.declared.verdict.Verdict.TheVariants.{Serial, NotSerial}
 use Rattle.kr_serial.specs.Verdicts.{verdict_of_run}
 use Rattle.kr_serial.proofs.Wholes.{serial_exactly}
-use Rattle.kr_script.specs.Script.{Script}
+use Rattle.kr_serial.proofs.SerialRuns.{covered_programs}
+use Rattle.kr_script.specs.Script.{Script, IsScript}
 use Rattle.kr.specs.Over.{run_of, IsSerialScript}
 use Rattle.kr.specs.Judges.{is_serial, verdicts_on}
 
@@ -39,3 +41,9 @@ module _ (p : Protocol) where
   pub all_told : (ss : List Script) → All (IsSerialScript p) ss → list_all is_serial (verdicts_on p ss) ≡ true
   all_told [] h = refl
   all_told (s ∷ ss) h = rw (told_where_serial s (h zero s (omega arith)), all_told ss (λ k d low. h (suc k) d (omega arith)))
+
+  -- under a covered protocol each run is serial
+  pub all_covered : IsLawful p → IsCovered p → (ss : List Script) → All IsScript ss → All (IsSerialScript p) ss
+  all_covered laws covered [] are k d low = absurd (omega arith)
+  all_covered laws covered (s ∷ ss) are zero d low = let is : IsScript s = are zero d low in covered_programs p laws covered s.opening s.steps is.rising
+  all_covered laws covered (s ∷ ss) are (suc k) d low = all_covered laws covered ss (λ j e l. are (suc j) e (omega arith)) k d (omega arith)

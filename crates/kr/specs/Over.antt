@@ -1,12 +1,14 @@
 -- What a script's bytes become, and when each fault comes.
-use Rattle.std.specs.Prelude.{◌≡◌, ℕ, List, ◌++◌, [], ◌∷◌, Option, IfSome, Ok, Err, map}
+use Rattle.std.specs.Prelude.{◌≡◌, ℕ, List, ◌++◌, [], ◌∷◌, Option, Some, Ok, Err, map}
 use Rattle.kr_model.specs.Protocol.{Protocol}
 use Rattle.kr_model.specs.State.{start}
 use Rattle.kr_model.specs.Run.{Trace, run, replies_of, programs}
 use Rattle.kr_model.specs.Serial.{AreSerial}
 use Rattle.kr_serial.specs.Verdicts.{verdict_of_run}
 use Rattle.kr_script.specs.Script.{Script}
-use Rattle.kr_script.specs.Faults.{fault_of}
+use Rattle.kr_script.specs.declared.faults.ScriptFault.{ScriptFault}
+use Rattle.kr_script.specs.declared.faults.ScriptFault.TheVariants as told_as
+use Rattle.kr_script.specs.Faults.{Fault, fault_of}
 use Rattle.kr_script.specs.Reading.{reading}
 use Rattle.kr_script.specs.Report.{run_text}
 use Rattle.kr_script.specs.Puts.{AppendsFront, HasCause}
@@ -27,8 +29,13 @@ report_line p names s =
 abbrev pub IsSerialScript : Protocol → Script → Type 0
 IsSerialScript p s = AreSerial s.opening (programs (run_of p s).history)
 
+-- The fault of a script as one of the whole way: want of memory is one fault, wherever it comes.
+abbrev pub over_fault : ScriptFault → OverFault
+over_fault told_as.Memory = fault.Memory
+over_fault f = fault.Script f
+
 -- A fault of the script is that of its bytes, and a fault of printing has its cause in the sink, which took a beginning of the report.
 abbrev pub Explains : Protocol → List (List ℕ) → List ℕ → Option (List ℕ) → Option (List ℕ) → ℕ → ℕ → OverFault → Type 0
-Explains p names bytes old new before after (fault.Script f) = IfSome (fault_of f) (λ x. reading bytes ≡ Err x)
+Explains p names bytes old new before after (fault.Script f) = (x : Fault) × ((fault_of f ≡ Some x) × (reading bytes ≡ Err x))
 Explains p names bytes old new before after fault.Memory = Unit {0}
 Explains p names bytes old new before after fault.Print = HasCause before after × ((s : Script) × ((reading bytes ≡ Ok s) × AppendsFront old new (report_line p names s)))

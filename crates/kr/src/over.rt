@@ -1,13 +1,14 @@
 //! From the bytes of a script to its report on a sink.
 ghost use Rattle.std.specs.Prelude.{◌≡◌, ◌⊎◌, ◌↔◌, IfOk, IfErr, IsTrue, Ok, string_bytes};
 ghost use Rattle.std.specs.Io.KnownBytes.{Appends};
+ghost use Rattle.kr_model.specs.Covers.{IsCovered};
 ghost use Rattle.kr_model.specs.Difference.{first_difference};
 ghost use Rattle.kr_model.specs.Serial.{AreSerial};
 ghost use Rattle.kr_serial.specs.Verdicts.{verdict_of};
 ghost use Rattle.kr_script.specs.Script.{Script};
 ghost use Rattle.kr_script.specs.Reading.{reading};
 ghost use Rattle.kr_script.specs.Report.{run_text};
-ghost use Rattle.kr.specs.Over.{report_line, IsSerialScript, Explains};
+ghost use Rattle.kr.specs.Over.{report_line, IsSerialScript, over_fault, Explains};
 ghost use Rattle.kr.specs.declared.over.OverFault.TheVariants as fault;
 
 use kr_protocol::Protocol;
@@ -19,7 +20,7 @@ use thiserror::Error;
 /// Why nothing, or not all, was written.
 #[derive(Debug, Drop, Error)]
 pub enum OverFault {
-    /// The bytes are no script.
+    /// The bytes are no script. The fault is never `Memory`.
     #[error("{0}")]
     Script(ScriptFault),
     /// A growth was refused.
@@ -47,10 +48,13 @@ impl From<PrintFault> for OverFault {
 }
 
 impl From<ScriptFault> for OverFault {
-    ghost from_gives = { λ f e. e ≡ fault.Script f };
+    ghost from_gives = { λ f e. e ≡ over_fault f };
 
     fn from(f: ScriptFault) -> OverFault {
-        OverFault::Script(f)
+        match f {
+            ScriptFault::Memory => OverFault::Memory,
+            f => OverFault::Script(f),
+        }
     }
 }
 
@@ -70,8 +74,8 @@ fn report_of<P: Protocol>(
 }
 
 /// Runs the script that the bytes are under a protocol, writes the report of the run with its verdict and a line feed, and
-/// answers whether the run is serial. Where the bytes are no script, or a growth was refused, nothing is written; where
-/// printing fails, a beginning of the report was.
+/// answers whether the run is serial; under a covered protocol it is. Where the bytes are no script, or a growth was
+/// refused, nothing is written; where printing fails, a beginning of the report was.
 pub fn run_over<P: Protocol, W: Sink>(
     alloc: Global,
     protocol: &P,
@@ -82,6 +86,7 @@ pub fn run_over<P: Protocol, W: Sink>(
         × Appends (W.taken out.old) (W.taken out.new) (report_line (P.table protocol.now) (P.names protocol.now) s))) }
     ensures serial { IfOk result (λ serial. IfOk (reading script.now)
         (λ s. IsTrue serial ↔ IsSerialScript (P.table protocol.now) s)) }
+    ensures covered { IsCovered (P.table protocol.now) → IfOk result (λ serial. IsTrue serial) }
     ensures err { IfErr result (Explains (P.table protocol.now) (P.names protocol.now) script.now
         (W.taken out.old) (W.taken out.new) (W.failures out.old) (W.failures out.new)) }
     ensures nothing { IfErr result (λ e. (e ≡ fault.Print) ⊎ (out.new ≡ out.old)) }

@@ -1,6 +1,8 @@
 //! The program over its words, files and streams.
-ghost use Rattle.std.specs.Prelude.{◌≡◌};
+ghost use Rattle.std.specs.Prelude.{◌≡◌, ◌↔◌, ◌≤◌, true, IfOk, length, vec_len, if◌then◌else◌};
+ghost use Rattle.kr_model.specs.Covers.{IsCovered};
 ghost use Rattle.kr.specs.declared.program.Ending.TheVariants as ending;
+ghost use Rattle.kr.specs.declared.over.OverFault.TheVariants as fault;
 
 use crate::checks::check_over;
 use crate::files::{FileFault, Files};
@@ -19,11 +21,9 @@ pub const OUT_OF_MEMORY: &str = "kr: out of memory";
 /// The line for words of no form.
 pub const NOT_UNDERSTOOD: &str = "kr: words not understood";
 
-/// How the program ends.
+/// Why the program ends without a report, or with a beginning of it.
 #[derive(Drop)]
 enum Ending {
-    /// With a report, and this status.
-    Status(u8),
     /// With this line on standard error.
     Line(String),
     /// With the line for want of memory.
@@ -38,6 +38,25 @@ impl From<AllocError> for Ending {
     fn from(_e: AllocError) -> Ending {
         Ending::Memory
     }
+}
+
+/// A script's fault is told with the word that names the script, so none comes here.
+impl From<OverFault> for Ending {
+    ghost from_gives = { λ f e. (e ≡ ending.Output) ↔ (f ≡ fault.Print) };
+
+    fn from(fault: OverFault) -> Ending {
+        match fault {
+            OverFault::Print => Ending::Output,
+            OverFault::Script(_) | OverFault::Memory => Ending::Memory,
+        }
+    }
+}
+
+/// The status of a report: 0 where a table was accepted or each run was serial, and 1 where not.
+fn status(is_well: bool) -> u8
+    ensures { result ≡ (if is_well then 0 else 1) }
+{
+    if is_well { 0 } else { 1 }
 }
 
 fn unreadable(alloc: Global, word: &str) -> Result<Ending, AllocError> {
@@ -61,34 +80,6 @@ fn whole<R: std::rt::Files + AllocGlobal, F: Files>(
     }
 }
 
-/// Does a task under a protocol.
-fn under<R: std::rt::Files + AllocGlobal + Threads + Sync, P: Protocol + Sync, F: Files, W: Sink>(
-    rt: &R,
-    protocol: P,
-    task: &Task,
-    files: &F,
-    out: &mut W,
-) -> Result<Ending, AllocError> {
-    match task {
-        Task::Check => check_table(rt.alloc(), protocol, out),
-        Task::Run(script) => run_script(rt, &protocol, script, files, out),
-        Task::Judge(scripts) => judge_scripts(rt, &protocol, scripts.as_slice(), files, out),
-    }
-}
-
-fn check_table<P: Protocol, W: Sink>(
-    alloc: Global,
-    protocol: P,
-    out: &mut W,
-) -> Result<Ending, AllocError> {
-    match check_over(alloc, protocol, out) {
-        Ok(true) => Ok(Ending::Status(0)),
-        Ok(false) => Ok(Ending::Status(1)),
-        Err(OverFault::Print) => Ok(Ending::Output),
-        Err(_) => Ok(Ending::Memory),
-    }
-}
-
 /// How the program ends at a fault of the script that a word names.
 fn at_fault(alloc: Global, word: &str, fault: ScriptFault) -> Result<Ending, AllocError> {
     match fault {
@@ -103,18 +94,15 @@ fn run_script<R: std::rt::Files + AllocGlobal, P: Protocol, F: Files, W: Sink>(
     script: &str,
     files: &F,
     out: &mut W,
-) -> Result<Ending, AllocError> {
+) -> Result<bool, Ending>
+    ensures covered { IsCovered (P.table protocol.now) → IfOk result (λ serial. serial ≡ true) }
+{
     let alloc = rt.alloc();
-    let bytes = match whole(rt, script, files) {
-        Ok(bytes) => bytes,
-        Err(ending) => return Ok(ending),
-    };
+    let bytes = whole(rt, script, files)?;
     match run_over(alloc, protocol, bytes.as_slice(), out) {
-        Ok(true) => Ok(Ending::Status(0)),
-        Ok(false) => Ok(Ending::Status(1)),
-        Err(OverFault::Script(fault)) => at_fault(alloc, script, fault),
-        Err(OverFault::Memory) => Ok(Ending::Memory),
-        Err(OverFault::Print) => Ok(Ending::Output),
+        Ok(is_serial) => Ok(is_serial),
+        Err(OverFault::Script(fault)) => Err(at_fault(alloc, script, fault)?),
+        Err(fault) => Err(Ending::from(fault)),
     }
 }
 
@@ -123,7 +111,9 @@ fn read_scripts<R: std::rt::Files + AllocGlobal, F: Files>(
     rt: &R,
     words: &[&str],
     files: &F,
-) -> Result<Vec<Script>, Ending> {
+) -> Result<Vec<Script>, Ending>
+    ensures { IfOk result (λ scripts. vec_len scripts ≡ length words.now) }
+{
     let alloc = rt.alloc();
     let mut read = Vec::new(alloc);
     for word in words {
@@ -140,22 +130,33 @@ fn read_scripts<R: std::rt::Files + AllocGlobal, F: Files>(
     Ok(read)
 }
 
-fn judge_scripts<
-    R: std::rt::Files + AllocGlobal + Threads + Sync,
-    P: Protocol + Sync,
-    F: Files,
-    W: Sink,
->(rt: &R, protocol: &P, words: &[&str], files: &F, out: &mut W) -> Result<Ending, AllocError> {
+/// Does a task under a protocol, and answers its status; under a covered protocol that is 0, whatever the task.
+fn under<R: std::rt::Files + AllocGlobal + Threads + Sync, P: Protocol + Sync, F: Files, W: Sink>(
+    rt: &R,
+    protocol: P,
+    task: &Task,
+    files: &F,
+    out: &mut W,
+) -> Result<u8, Ending>
+    ensures within { IfOk result (λ status. status ≤ 1) }
+    ensures covered { IsCovered (P.table protocol) → IfOk result (λ status. status ≡ 0) }
+{
     let alloc = rt.alloc();
-    let scripts = match read_scripts(rt, words, files) {
-        Ok(scripts) => scripts,
-        Err(ending) => return Ok(ending),
-    };
-    match judge_over(rt, alloc, protocol, words, scripts.as_slice(), out) {
-        Ok(true) => Ok(Ending::Status(0)),
-        Ok(false) => Ok(Ending::Status(1)),
-        Err(OverFault::Print) => Ok(Ending::Output),
-        Err(_) => Ok(Ending::Memory),
+    match task {
+        Task::Check => Ok(status(check_over(alloc, protocol, out)?)),
+        Task::Run(script) => Ok(status(run_script(rt, &protocol, script, files, out)?)),
+        Task::Judge(names) => {
+            let scripts = read_scripts(rt, names.as_slice(), files)?;
+            let serial = judge_over(
+                rt,
+                alloc,
+                &protocol,
+                names.as_slice(),
+                scripts.as_slice(),
+                out,
+            )?;
+            Ok(status(serial))
+        }
     }
 }
 
@@ -167,7 +168,9 @@ fn with_table<R: std::rt::Files + AllocGlobal + Threads + Sync, F: Files, W: Sin
     task: &Task,
     files: &F,
     out: &mut W,
-) -> Result<Ending, AllocError> {
+) -> Result<u8, Ending>
+    ensures { IfOk result (λ status. status ≤ 1) }
+{
     match table {
         "@kvl" => under(rt, Kvl, task, files, out),
         "@im" => under(rt, Im, task, files, out),
@@ -183,16 +186,15 @@ fn with_file<R: std::rt::Files + AllocGlobal + Threads + Sync, F: Files, W: Sink
     task: &Task,
     files: &F,
     out: &mut W,
-) -> Result<Ending, AllocError> {
+) -> Result<u8, Ending>
+    ensures { IfOk result (λ status. status ≤ 1) }
+{
     let alloc = rt.alloc();
-    let bytes = match whole(rt, table, files) {
-        Ok(bytes) => bytes,
-        Err(ending) => return Ok(ending),
-    };
+    let bytes = whole(rt, table, files)?;
     match kr_table::read(alloc, bytes.as_slice()) {
         Ok(protocol) => under(rt, protocol, task, files, out),
-        Err(TableFault::Memory) => Ok(Ending::Memory),
-        Err(fault) => Ok(Ending::Line(format!(in alloc; "kr: {table}: {fault}")?)),
+        Err(TableFault::Memory) => Err(Ending::Memory),
+        Err(fault) => Err(Ending::Line(format!(in alloc; "kr: {table}: {fault}")?)),
     }
 }
 
@@ -205,23 +207,23 @@ pub fn execute<R: std::rt::Files + AllocGlobal + Threads + Sync, F: Files, W: Si
     files: &F,
     out: &mut W,
     err: &mut E,
-) -> u8 {
-    let ending = match read_words(rt.alloc(), words) {
-        Ok(asked) => {
-            with_table(rt, asked.table, &asked.task, files, out).unwrap_or(Ending::Memory)
-        }
+) -> u8
+    ensures { result ≤ 2 }
+{
+    let done = match read_words(rt.alloc(), words) {
+        Ok(asked) => with_table(rt, asked.table, &asked.task, files, out),
         Err(WordsFault::NotUnderstood) => {
             let _ = print(err, NOT_UNDERSTOOD);
             return 2;
         }
-        Err(WordsFault::Memory) => Ending::Memory,
+        Err(WordsFault::Memory) => Err(Ending::Memory),
     };
-    let told = match &ending {
-        Ending::Status(status) => return *status,
-        Ending::Line(line) => print(err, line.as_str()),
-        Ending::Memory => print(err, OUT_OF_MEMORY),
-        Ending::Output => print(err, "kr: output: cannot be written"),
+    let line = match &done {
+        Ok(status) => return *status,
+        Err(Ending::Line(line)) => line.as_str(),
+        Err(Ending::Memory) => OUT_OF_MEMORY,
+        Err(Ending::Output) => "kr: output: cannot be written",
     };
-    let _ = told;
+    let _ = print(err, line);
     2
 }

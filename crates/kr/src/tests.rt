@@ -7,6 +7,7 @@ use std::process::Abort;
 use std::test::Fail;
 use std::thread::Threads;
 
+mod asymmetric;
 mod checks;
 mod covered;
 mod deletes;

@@ -2,6 +2,8 @@ ghost use Rattle.std.specs.Prelude.{max, [], ◌∷◌, None, true, codes, refl}
 ghost use Rattle.std.proofs.Common.{rules};
 ghost use Rattle.kr_model.proofs.Tested.{lawful_by_test};
 
+mod ample;
+
 use crate::judge_all;
 use kr_model::{Mode, Row, Side, Span};
 use kr_protocol::Protocol;

@@ -8,6 +8,8 @@ ghost use Rattle.kr_model.proofs.Bundled.{kvl_named};
 ghost use Rattle.kr_model.proofs.Tested.{lawful_by_test};
 ghost use Rattle.kr_model.proofs.WorkedCovers.{insert_always_ix, deletes_next_instant};
 
+mod ample;
+
 use super::*;
 use kr_model::{Cover, Mode, Origin, Place, Row, Rule, Side, Span};
 use kr_protocol::{Covered, Im, Kvl, Protocol, RangeKey};

@@ -1,52 +1,19 @@
--- The lists of the active and of the ended transactions.
-use Rattle.std.specs.Prelude.{◌≡◌, ℕ, ◌<◌, Bool, true, false, not, ◌==◌, ◌||◌, cond, List, [], ◌∷◌, Some, None, filter, refl, ◌⊎◌, T}
-use Rattle.std.specs.List.{list_any}
+-- The list of the active transactions: what stands in it, and that what stands in it is found.
+use Rattle.std.specs.Prelude.{◌≡◌, ℕ, ◌<◌, Bool, true, false, ◌||◌, cond, List, [], ◌∷◌, Some, filter, refl, ◌⊎◌}
 use Rattle.std.specs.Ordering.{nat_cmp, eq_by_cmp, is_lt}
 use Rattle.std.specs.declared.cmp.Ordering.{Ordering}
 use Rattle.std.specs.declared.cmp.Ordering.TheVariants.{Less, Equal, Greater}
-use Rattle.std.specs.Cmp.{nat_cmp_total}
 use Rattle.std.specs.FinMap.{find, put, is_sorted}
-use Rattle.std.specs.FinMap.Entries.{find-put, find-where_key, is_sorted-put, is_sorted-where_key, by_order, below_all}
+use Rattle.std.specs.FinMap.Entries.{by_order, below_all}
 use Rattle.std.proofs.lemmas.Bool.Decides.{nat_tests}
 use Rattle.std.proofs.lemmas.Map.Lookups.{exact_unsigned}
 use Rattle.std.proofs.Common.{sym, ◌∙◌, ap, subst, arith, inl, inr}
-use Rattle.kr_model.specs.Locks.{add_once}
 use Rattle.kr_model.proofs.Guarantees.{In}
 use Rattle.kr_model.proofs.MapLaws.{keys_apart, key_tie}
 use Rattle.kr_headline.proofs.Gaps.{and_one, and_two}
 
--- Tests on numbers.
-pub tied : (t : ℕ) → (t == t) ≡ true
-tied t = grind (arith, nat_tests)
-
-pub untied : (u t : ℕ) → (u ≡ t → ⊥) → (u == t) ≡ false
-untied u t h = grind (arith, nat_tests)
-
 pub true_not_false : true ≡ false → ⊥
 true_not_false e = cc
-
--- The ended --
-
-or_same : (b c : Bool) → (b || c) ≡ (b || (b || c))
-or_same true c = refl
-or_same false c = refl
-
-or_swap : (a b c : Bool) → (a || (b || c)) ≡ (b || (a || c))
-or_swap true true c = refl
-or_swap true false c = refl
-or_swap false true c = refl
-or_swap false false c = refl
-
-any_put : (f : ℕ → Bool) (x y : ℕ) (ys : List ℕ) (o : Ordering) → nat_cmp x y ≡ o → list_any f (add_once x ys) ≡ (f x || list_any f ys)
-    → list_any f (by_order o (x ∷ y ∷ ys) (y ∷ ys) (y ∷ add_once x ys)) ≡ (f x || (f y || list_any f ys))
-any_put f x y ys Less e h = refl
-any_put f x y ys Equal e h = or_same (f y) (list_any f ys) ∙ ap (λ z. f z || (f y || list_any f ys)) (sym (exact_unsigned x y e))
-any_put f x y ys Greater e h = ap (λ b. f y || b) h ∙ or_swap (f y) (f x) (list_any f ys)
-
--- A test holds of one of the numbers with x among them exactly where it holds of x or of one of the numbers.
-pub any_add_once : (f : ℕ → Bool) (x : ℕ) (xs : List ℕ) → list_any f (add_once x xs) ≡ (f x || list_any f xs)
-any_add_once f x [] = refl
-any_add_once f x (y ∷ ys) = any_put f x y ys (nat_cmp x y) refl (any_add_once f x ys)
 
 -- Disjunctions of tests.
 pub or_left : (a b : Bool) → (a || b) ≡ false → a ≡ false
@@ -61,24 +28,7 @@ pub or_false : (a b : Bool) → a ≡ false → b ≡ false → (a || b) ≡ fal
 or_false true b e f = e
 or_false false b e f = f
 
-pub or_true : (a b : Bool) → b ≡ true → (a || b) ≡ true
-or_true true b h = refl
-or_true false b h = h
-
 -- One transaction is put, or goes --
-
--- The one that is put is found, and every other is found as before.
-pub find_put_same : {X : Type 0} (es : List (ℕ × X)) (t : ℕ) (v : X) → find nat_cmp t (put nat_cmp t v es) ≡ Some v
-find_put_same es t v = find-put nat_cmp nat_cmp_total t t v es ∙ ap (λ b. cond b (Some v) (find nat_cmp t es)) (key_tie t)
-
-pub find_put_other : {X : Type 0} (es : List (ℕ × X)) (t u : ℕ) (v : X) → (u ≡ t → ⊥) → find nat_cmp u (put nat_cmp t v es) ≡ find nat_cmp u es
-find_put_other es t u v d = find-put nat_cmp nat_cmp_total u t v es ∙ ap (λ b. cond b (Some v) (find nat_cmp u es)) (keys_apart u t d)
-
-same_txn : (t x y : ℕ) → nat_cmp x y ≡ Equal → not (y == t) ≡ not (x == t)
-same_txn t x y e = ap (λ z. not (z == t)) (sym (exact_unsigned x y e))
-
-pub find_filter_other : {X : Type 0} (es : List (ℕ × X)) (t u : ℕ) → (u ≡ t → ⊥) → find nat_cmp u (filter (λ e. not (e.0 == t)) es) ≡ find nat_cmp u es
-find_filter_other es t u d = find-where_key nat_cmp (λ x. not (x == t)) u (λ y e. same_txn t u y e) es ∙ ap (λ b. cond (not b) (find nat_cmp u es) None) (untied u t d)
 
 -- What stands in the list after it is the one that was put, or stood there before.
 pub in_put : {X : Type 0} (k : ℕ) (v : X) (es : List (ℕ × X)) (e : ℕ × X) → In e (put nat_cmp k v es) → ((k, v) ≡ e) ⊎ In e es
@@ -107,20 +57,6 @@ in_filter f (y ∷ xs) x i = by_cases (f y) refl i (λ j. in_filter f xs x j)
     by_cases false e j r = let z = r j in (inr z.0, z.1)
 
 -- In a list in order each entry is found --
-
-true_of : (b : Bool) → T b → b ≡ true
-true_of true h = refl
-true_of false h = absurd h
-
-is_so : (b : Bool) → b ≡ true → T b
-is_so true h = tt
-is_so false h = absurd (cc)
-
-pub sorted_put : {X : Type 0} (k : ℕ) (v : X) (es : List (ℕ × X)) → is_sorted nat_cmp es ≡ true → is_sorted nat_cmp (put nat_cmp k v es) ≡ true
-sorted_put k v es h = true_of (is_sorted nat_cmp (put nat_cmp k v es)) (is_sorted-put nat_cmp nat_cmp_total k v es (is_so (is_sorted nat_cmp es) h))
-
-pub sorted_filter : {X : Type 0} (t : ℕ) (es : List (ℕ × X)) → is_sorted nat_cmp es ≡ true → is_sorted nat_cmp (filter (λ e. not (e.0 == t)) es) ≡ true
-sorted_filter t es h = true_of (is_sorted nat_cmp (filter (λ e. not (e.0 == t)) es)) (is_sorted-where_key nat_cmp (λ x. not (x == t)) es (is_so (is_sorted nat_cmp es) h))
 
 below_it : {X : Type 0} (k : ℕ) (es : List (ℕ × X)) (e : ℕ × X) → below_all nat_cmp k es ≡ true → In e es → is_lt (nat_cmp k e.0) ≡ true
 below_it k [] e h i = absurd i

@@ -22,6 +22,7 @@ use Rattle.kr_model.specs.Step.{changed, granted_or_blocked, fetched, inserted, 
 use Rattle.kr_model.specs.Run.{Entry, is_operation, is_granted, is_committed, answer_of}
 use Rattle.kr_model.specs.Serial.{whole_insert, whole_delete, found_or_none, map_left}
 use Rattle.kr_model.proofs.Guarantees.{in_left, in_right}
+use Rattle.kr_model.proofs.Requests.{request_at, AskModes, asks_one, asks_both}
 use Rattle.kr_headline.proofs.Gaps.{at-key}
 use Rattle.kr_headline.proofs.Covers.{Covered, covered}
 use Rattle.kr_headline.proofs.Maps.{has_none, has_some}
@@ -31,8 +32,8 @@ use Rattle.kr_headline.proofs.Invariant.{Invariant}
 use Rattle.kr_headline.proofs.ReadRows.{MayTouch, hit_touches, miss_touches}
 use Rattle.kr_headline.proofs.ReadKeeps.{read_keeps}
 use Rattle.kr_headline.proofs.WriteKeeps.{insert_keeps, delete_keeps}
-use Rattle.kr_headline.proofs.Keeping.{AskModes, asks_one, asks_both, kept_first, kept_only, kept_second, taken}
-use Rattle.kr_headline.proofs.Grants.{request_at, requests_of, granted_at}
+use Rattle.kr_headline.proofs.Keeping.{kept_first, kept_only, kept_second, taken}
+use Rattle.kr_headline.proofs.Grants.{requests_of, granted_at}
 use Rattle.kr_headline.proofs.Reading.{entry, ReadsAs, reads_answer}
 use Rattle.kr_headline.proofs.Known.{Known, KnownAfter, StandsScan, joined, stays, goes, state_after}
 

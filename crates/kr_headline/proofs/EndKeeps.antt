@@ -4,7 +4,8 @@ use Rattle.kr_model.specs.declared.Name.{Name}
 use Rattle.kr_model.specs.Protocol.{Protocol}
 use Rattle.kr_model.specs.Serial.{AreAnswered, map_left}
 use Rattle.kr_model.specs.Map.{Map, get, restore_all}
-use Rattle.kr_headline.proofs.Undo.{IsMap-restore_all, restore_all_apart}
+use Rattle.kr_model.proofs.UndoLaws.{IsMap-restore_all}
+use Rattle.kr_headline.proofs.Undo.{restore_all_apart}
 use Rattle.kr_headline.proofs.Parts.{Parts, blank, blank_untouched, moved_or_not, Touched, with_part}
 use Rattle.kr_headline.proofs.Covers.{Modes}
 use Rattle.kr_headline.proofs.Steps.{end_step}

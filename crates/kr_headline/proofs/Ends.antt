@@ -11,13 +11,15 @@ use Rattle.kr_model.specs.State.{State, has_ended, standing}
 use Rattle.kr_model.specs.Step.{ended_with}
 use Rattle.kr_model.specs.Run.{Entry, Answered}
 use Rattle.kr_model.specs.Serial.{AreAnswered, map_left}
-use Rattle.kr_headline.proofs.Actives.{tied, untied, true_not_false, any_add_once, or_true}
+use Rattle.kr_model.proofs.Keep.{AreWithin-release}
+use Rattle.kr_model.proofs.Actives.{tied, untied, any_add_once, or_true}
+use Rattle.kr_headline.proofs.Actives.{true_not_false}
 use Rattle.kr_model.proofs.SerialLaws.{answered_append, map_left-append}
 use Rattle.kr_headline.proofs.Parts.{blank, with_part}
 use Rattle.kr_headline.proofs.Invariant.{Invariant}
 use Rattle.kr_headline.proofs.EndKeeps.{commit_keeps, abort_keeps}
 use Rattle.kr_headline.proofs.Reading.{entry, ReadsAs, silent_other, silent_by, reads_silent, committed_append, committed_none}
-use Rattle.kr_headline.proofs.Keeping.{released_range, released_others}
+use Rattle.kr_headline.proofs.Keeping.{released_others}
 use Rattle.kr_headline.proofs.Known.{Known, KnownAfter, joined, joined_push, txns_push, Fixed, fixed_more, fixed_push, ends}
 
 module _ (p : Protocol) (opening : Map) (h : List Entry) (s : State) (g : Known p opening h s) (t : ℕ) (live_t : has_ended s t ≡ false) where
@@ -31,7 +33,7 @@ module _ (p : Protocol) (opening : Map) (h : List Entry) (s : State) (g : Known 
   has_now_ended m = any_add_once (λ v. v == t) t s.ended ∙ ap (λ b. b || has_ended s t) (tied t)
 
   range : (u : ℕ) (name : Name) → own (release s.locks t) u name ≤ p.count
-  range u name = let i = g.inv in let k = i.guarded in released_range p s.locks t k.range u name
+  range u name = let i = g.inv in let k = i.guarded in AreWithin-release p.count s.locks t k.range u name
 
   pub commits : (g.part t).scan ≡ None → KnownAfter p opening h t op.Commit (reply.Committed, ended_with s t s.map)
   commits quiet =

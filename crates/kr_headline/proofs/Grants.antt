@@ -1,7 +1,6 @@
 -- Grants: an attempt without blockers asks for nothing that another's mode refuses.
-use Rattle.std.specs.Prelude.{◌≡◌, ℕ, ◌<◌, ◌≤◌, Bool, true, false, not, ◌&&◌, ◌||◌, ◌==◌, List, [], ◌∷◌, Option, Some, None, refl, ◌⊎◌}
+use Rattle.std.specs.Prelude.{◌≡◌, ℕ, ◌≤◌, Bool, true, false, not, ◌&&◌, ◌||◌, ◌==◌, List, [], ◌∷◌, Option, Some, None, refl, ◌⊎◌}
 use Rattle.std.specs.List.{list_any}
-use Rattle.std.specs.Option.{option_to_list}
 use Rattle.std.proofs.lemmas.Bool.Decides.{nat_tests}
 use Rattle.std.proofs.Common.{sym, ◌∙◌, ap, subst, arith, inl, inr}
 use Rattle.kr_model.specs.declared.Name.{Name}
@@ -10,28 +9,16 @@ use Rattle.kr_model.specs.declared.Side.{Side}
 use Rattle.kr_model.specs.declared.Span.{Span}
 use Rattle.kr_model.specs.Protocol.{Protocol, IsLawful, IsMode}
 use Rattle.kr_model.specs.Locks.{Locks, own, lockers, blockers, refused_by, Request}
-use Rattle.kr_model.specs.Plan.{Access, side_request, plan_by, requests}
+use Rattle.kr_model.specs.Plan.{Access, plan_by, requests}
 use Rattle.kr_model.proofs.Guarantees.{In, IsRefused}
+use Rattle.kr_model.proofs.Keep.{kept_mode}
+use Rattle.kr_model.proofs.Requests.{request_at}
 use Rattle.kr_model.proofs.RisingNumbers.{has, has-filter, has-lockers}
 use Rattle.kr_headline.proofs.Covers.{Granted}
 
--- The requests of one side, and of both.
-abbrev pub request_at : Option Name → Option (ℕ × Span) → List Request
-request_at n a = option_to_list (side_request n a)
-
+-- The requests of both sides.
 abbrev pub requests_of : Protocol → Locks → ℕ → Access → List Request
 requests_of p h t a = requests (plan_by p h t a)
-
--- None and a mode convert to a mode, and so do two modes.
-pub convert_mode : (p : Protocol) → IsLawful p → (h q : ℕ) → h ≤ p.count → IsMode p q → IsMode p (p.convert h q)
-convert_mode p laws h q ih iq =
-    elim (zero_or_more h) [
-      | inl e ↦ subst (λ x. IsMode p x) (sym (ap (λ x. p.convert x q) e ∙ laws.convert-none_held q iq.in_range)) iq
-      | inr l ↦ laws.convert-modes h q (record { some = l; in_range = ih }) iq
-    ]
-  where
-    zero_or_more : (n : ℕ) → (n ≡ 0) ⊎ (0 < n)
-    zero_or_more n = grind arith
 
 -- Of tests of which none holds, no one does.
 none_any : {A : Type 0} (f : A → Bool) (xs : List A) → list_any f xs ≡ false → (x : A) → In x xs → f x ≡ false
@@ -83,7 +70,8 @@ granted_at p laws h t rs none range row side name on in_range within u other =
     by_request None mode inside refused = refused
     by_request (Some (q, s)) mode inside refused =
         elim (same_or_not (own h u name) 0) [
-          | inl e ↦ let m = convert_mode p laws (own h t name) q (range t name) (mode q s refl) in
+          | inl e ↦ let i = mode q s refl in
+              let m = kept_mode p (own h t name) q laws (range t name) i.some i.in_range in
               true_not_false (sym (laws.ok-none_held (p.convert (own h t name) q) m.in_range) ∙ ap (λ x. p.ok (p.convert (own h t name) q) x) (sym e) ∙ refused)
           | inr d ↦ let r : Request = (name, q, s) in true_not_false (sym (stands_beside p h t rs none r (inside r (inl refl)) u other d) ∙ refused)
         ]

@@ -14,10 +14,11 @@ use Rattle.kr_model.specs.declared.Side.TheVariants.{Current, Next}
 use Rattle.kr_model.specs.Protocol.{Protocol, IsLawful, IsMode}
 use Rattle.kr_model.specs.Covers.{IsCovered, mode_after}
 use Rattle.kr_model.specs.Locks.{Locks, own, keep, Request, kept, kept_one, release}
-use Rattle.kr_model.proofs.LockLaws.{own-keep_same, own-keep_other, own-release_same, own-release_other, name_or_not}
+use Rattle.kr_model.proofs.LockLaws.{own-keep_same, own-keep_other, own-release_other, name_or_not}
+use Rattle.kr_model.proofs.Keep.{kept_mode}
+use Rattle.kr_model.proofs.Requests.{request_at, AskModes}
 use Rattle.kr_model.proofs.Guarantees.{IsRefused, Serves, refuses_current, refuses_next, keeps_cover}
 use Rattle.kr_headline.proofs.Guarded.{Taken}
-use Rattle.kr_headline.proofs.Grants.{request_at, convert_mode}
 
 -- Conversions --
 
@@ -29,7 +30,7 @@ asked_none p laws r side = by_request (p.ask r side 0) (λ q s e. laws.ask-mode 
 
     by_request : (a : Option (ℕ × Span)) → ((q : ℕ) (s : Span) → a ≡ Some (q, s) → IsMode p q) → IsRefused p 0 0 a → ⊥
     by_request None mode refused = refused
-    by_request (Some (q, s)) mode refused = let m = convert_mode p laws 0 q (omega arith) (mode q s refl) in true_not_false (sym (laws.ok-none_held (p.convert 0 q) m.in_range) ∙ refused)
+    by_request (Some (q, s)) mode refused = let i = mode q s refl in let m = kept_mode p 0 q laws (omega arith) i.some i.in_range in true_not_false (sym (laws.ok-none_held (p.convert 0 q) m.in_range) ∙ refused)
 
 -- None serves nothing: each cover must refuse something.
 none_serves : (p : Protocol) → IsLawful p → (c : Cover) → Serves p c 0 → ⊥
@@ -49,25 +50,6 @@ converted_serves p laws cov c h q ih iq s =
     zero_or_more : (n : ℕ) → (n ≡ 0) ⊎ (0 < n)
     zero_or_more n = grind arith
 
--- Requests for modes --
-
--- Every request asks for a mode.
-abbrev pub AskModes : Protocol → List Request → Type 0
-AskModes p [] = Unit {0}
-AskModes p (r ∷ rs) = IsMode p r.1 × AskModes p rs
-
-pub asks_one : (p : Protocol) → IsLawful p → (n : Option Name) (r : Row) (side : Side) (on : ℕ) → on ≤ p.count → AskModes p (request_at n (p.ask r side on))
-asks_one p laws n r side on io = by_request n (p.ask r side on) (λ q s e. laws.ask-mode r side on q s io e)
-  where
-    by_request : (n : Option Name) (a : Option (ℕ × Span)) → ((q : ℕ) (s : Span) → a ≡ Some (q, s) → IsMode p q) → AskModes p (request_at n a)
-    by_request None a mode = tt
-    by_request (Some n) None mode = tt
-    by_request (Some n) (Some (q, s)) mode = (mode q s refl, tt)
-
-pub asks_both : (p : Protocol) (xs ys : List Request) → AskModes p xs → AskModes p ys → AskModes p (xs ++ ys)
-asks_both p [] ys a b = b
-asks_both p (x ∷ xs) ys a b = (a.0, asks_both p xs ys a.1 b)
-
 module _ (p : Protocol) (laws : IsLawful p) (cov : IsCovered p) where
   -- One request --
 
@@ -79,7 +61,7 @@ module _ (p : Protocol) (laws : IsLawful p) (cov : IsCovered p) where
   one_modes h t n q Instant iq io x = io x
   one_modes h t n q Commit iq io x =
       elim (name_or_not x n) [
-        | inl e ↦ subst (λ m. m ≤ p.count) (sym (ap (λ y. own (keep h t n (p.convert (own h t n) q)) t y) e ∙ own-keep_same h t n (p.convert (own h t n) q))) (let c = convert_mode p laws (own h t n) q (io n) iq in c.in_range)
+        | inl e ↦ subst (λ m. m ≤ p.count) (sym (ap (λ y. own (keep h t n (p.convert (own h t n) q)) t y) e ∙ own-keep_same h t n (p.convert (own h t n) q))) (let c = kept_mode p (own h t n) q laws (io n) iq.some iq.in_range in c.in_range)
         | inr d ↦ subst (λ m. m ≤ p.count) (sym (own-keep_other h t n (p.convert (own h t n) q) t x (λ a b. d a))) (io x)
       ]
 
@@ -141,12 +123,6 @@ module _ (p : Protocol) (laws : IsLawful p) (cov : IsCovered p) where
   }
 
 -- Locks given up --
-
-pub released_range : (p : Protocol) (h : Locks) (t : ℕ) → ((u : ℕ) (name : Name) → own h u name ≤ p.count) → (u : ℕ) (name : Name) → own (release h t) u name ≤ p.count
-released_range p h t range u n = ⊎_elim
-    (λ e. subst (λ z. own (release h t) z n ≤ p.count) (sym e) (subst (λ z. z ≤ p.count) (sym (own-release_same h t n)) (omega arith)))
-    (λ d. subst (λ z. z ≤ p.count) (sym (own-release_other h t u n d)) (range u n))
-    (cases_eq u t)
 
 pub released_others : (h : Locks) (t u : ℕ) → u ≢ t → (name : Name) → own (release h t) u name ≡ own h u name
 released_others h t u d n = own-release_other h t u n d

@@ -14,7 +14,9 @@ use Rattle.kr_model.specs.Step.{Outcome, ended_with, name_after}
 use Rattle.kr_model.specs.Run.{Entry, Answered, committed, is_rows, is_committed, is_granted}
 use Rattle.kr_model.specs.Serial.{AreAnswered, map_left}
 use Rattle.kr_model.proofs.Guarantees.{In}
-use Rattle.kr_headline.proofs.Actives.{tied, untied, true_not_false, any_add_once, or_left, or_right, or_false, find_put_same, find_put_other, find_filter_other, in_put, in_filter, sorted_put, sorted_filter}
+use Rattle.kr_model.proofs.MapLaws.{sorted_put, sorted_where}
+use Rattle.kr_model.proofs.Actives.{tied, untied, any_add_once, find_put_same, find_put_other, find_filter_other}
+use Rattle.kr_headline.proofs.Actives.{true_not_false, or_left, or_right, or_false, in_put, in_filter}
 use Rattle.kr_headline.proofs.Parts.{Progress, Part, Parts, blank, with_part, with_same, with_other}
 use Rattle.kr_headline.proofs.Invariant.{Invariant}
 use Rattle.kr_headline.proofs.Reading.{entry, ReadsAs, IsSilent, silent_other, silent_refused, reads_silent, committed_none}
@@ -192,7 +194,7 @@ ends p opening h s m t o a g done live_t answered inv fixed order =
           (cases_eq u t);
       fixed = fixed;
       order = order;
-      sorted = sorted_filter t s.active g.sorted;
+      sorted = sorted_where (λ x. not (x == t)) s.active g.sorted;
       live = λ u b i.
           let z = in_filter (λ (x : ℕ × Active). not (x.0 == t)) s.active (u, b) i in
           ended u ∙ or_false (t == u) (has_ended s u) (untied t u (λ d. other_of u t z.1 (sym d))) (g.live u b z.0);

@@ -28,8 +28,9 @@ use Rattle.kr_headline.proofs.Maps.{has-get, none_has}
 use Rattle.kr_headline.proofs.Parts.{Progress, Part}
 use Rattle.kr_headline.proofs.ReadRows.{MayTouch, key_touches, stop_touches}
 use Rattle.kr_headline.proofs.ReadKeeps.{scanning, going_keeps}
-use Rattle.kr_headline.proofs.Keeping.{AskModes, asks_one, asks_both, kept_first, kept_only, taken}
-use Rattle.kr_headline.proofs.Grants.{request_at, requests_of, granted_at}
+use Rattle.kr_model.proofs.Requests.{request_at, AskModes, asks_one, asks_both}
+use Rattle.kr_headline.proofs.Keeping.{kept_first, kept_only, taken}
+use Rattle.kr_headline.proofs.Grants.{requests_of, granted_at}
 use Rattle.kr_headline.proofs.Scans.{LooksFrom, one_more, no_more, from_in_range, scanned_below, below_scanned, gap_reach}
 use Rattle.kr_headline.proofs.Reading.{entry, ReadsAs}
 use Rattle.kr_headline.proofs.Known.{Known, KnownAfter, joined, stays, goes, state_after}

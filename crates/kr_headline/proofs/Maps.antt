@@ -1,15 +1,14 @@
 -- Maps: two with the same value at each key are one, and what a scan reads of a map depends on the keys of its range alone.
 use Rattle.std.proofs.Common.{ℕ, [], ◌∷◌, ◌++◌, Option, Some, None, ◌==◌, ◌≤◌, ◌<◌, ◌≡◌, ◌+◌, ⊎_elim, refl, sym, ap, ap₂, ◌∙◌, arith, Bool, true, false, ◌&&◌, leb, is_some}
-use Rattle.std.specs.Prelude.{if◌then◌else◌, not, T}
+use Rattle.std.specs.Prelude.{if◌then◌else◌}
 use Rattle.std.specs.Ordering.{nat_cmp}
 use Rattle.std.specs.Cmp.{nat_cmp_total}
-use Rattle.std.specs.FinMap.{is_sorted}
-use Rattle.std.specs.FinMap.Entries.{find-where_key, is_sorted-put, is_sorted-where_key, same_entries}
+use Rattle.std.specs.FinMap.Entries.{find-where_key, same_entries}
 use Rattle.std.proofs.lemmas.Bool.Decides.{nat_tests}
 use Rattle.std.proofs.lemmas.Map.Lookups.{exact_unsigned}
 use Rattle.std.proofs.lemmas.Bool.{cases_lt, cases_eq, cases_order, cases_Bool, leb-true, and_parts, and_from, and_left, and_right, le-leb, lt-leb}
-use Rattle.kr_model.specs.Map.{Map, IsMap, get, set, without, pairs_between}
-use Rattle.kr_model.proofs.MapLaws.{same_test}
+use Rattle.kr_model.specs.Map.{Map, IsMap, get, pairs_between}
+use Rattle.kr_model.proofs.MapLaws.{same_test, t_of, sorted_where}
 use Rattle.kr_headline.proofs.Gaps.{has, Rising, rising}
 
 -- What holds of both branches holds of a choice.
@@ -17,37 +16,16 @@ pub if_both : {X : Type 0} (b : Bool) (x y : X) (P : X → Type 0) → (b ≡ tr
 if_both true x y P f g = f refl
 if_both false x y P f g = g refl
 
--- Maps stay maps --
-
-as_test : (m : Map) → IsMap m → T (is_sorted nat_cmp m)
-as_test m h = by_test (is_sorted nat_cmp m) h
-  where
-    by_test : (b : Bool) → b ≡ true → T b
-    by_test true e = tt
-    by_test false e = absurd (cc)
-
-of_test : (m : Map) → T (is_sorted nat_cmp m) → IsMap m
-of_test m h = by_test (is_sorted nat_cmp m) h
-  where
-    by_test : (b : Bool) → T b → b ≡ true
-    by_test true e = refl
-    by_test false e = absurd e
-
--- A map in which a key is set, or taken out, or that is cut to a range, is a map.
-pub IsMap-set : (m : Map) (k v : ℕ) → IsMap m → IsMap (set m k v)
-IsMap-set m k v h = of_test (set m k v) (is_sorted-put nat_cmp nat_cmp_total k v m (as_test m h))
-
-pub IsMap-without : (m : Map) (k : ℕ) → IsMap m → IsMap (without m k)
-IsMap-without m k h = of_test (without m k) (is_sorted-where_key nat_cmp (λ x. not (x == k)) m (as_test m h))
+-- What is cut to a range --
 
 IsMap-between : (m : Map) (lo hi : ℕ) → IsMap m → IsMap (pairs_between m lo hi)
-IsMap-between m lo hi h = of_test (pairs_between m lo hi) (is_sorted-where_key nat_cmp (λ x. leb lo x && leb x hi) m (as_test m h))
+IsMap-between m lo hi h = sorted_where (λ x. leb lo x && leb x hi) m h
 
 -- Values --
 
 -- Two maps with the same value at each key are the same.
 pub same_map : (m n : Map) → IsMap m → IsMap n → ((q : ℕ) → get m q ≡ get n q) → m ≡ n
-same_map m n hm hn same = same_entries nat_cmp nat_cmp_total exact_unsigned m n (as_test m hm) (as_test n hn) same
+same_map m n hm hn same = same_entries nat_cmp nat_cmp_total exact_unsigned m n (t_of _ hm) (t_of _ hn) same
 
 -- The value of a key, by recursion on the pairs.
 abbrev look : Map → ℕ → Option ℕ

@@ -1,18 +1,14 @@
 -- Changes taken back, newest first: what stands at each key before and after.
-use Rattle.std.proofs.Common.{ℕ, [], ◌∷◌, Option, Some, None, ◌≡◌, ◌≢◌, ◌⊎◌, inl, inr, ⊎_elim, refl, sym, ap, ◌∙◌}
+use Rattle.std.proofs.Common.{ℕ, [], ◌∷◌, Option, ◌≡◌, ◌≢◌, ◌⊎◌, inl, inr, ⊎_elim, refl, sym, ap, ◌∙◌}
 use Rattle.std.proofs.lemmas.Bool.{cases_eq, eq-eqb, ne_eqb}
 use Rattle.std.specs.Prelude.{if◌then◌else◌}
 use Rattle.kr_model.specs.Map.{Map, IsMap, Changes, get, restore, restore_all}
-use Rattle.kr_model.proofs.UndoLaws.{get-restore}
-use Rattle.kr_headline.proofs.Maps.{IsMap-set, IsMap-without, same_map}
+use Rattle.kr_model.proofs.UndoLaws.{get-restore, IsMap-restore}
+use Rattle.kr_headline.proofs.Maps.{same_map}
 
 -- One change --
 
--- A map stays a map; the key is restored, and every other is as it was.
-pub IsMap-restore : (m : Map) (k : ℕ) (b : Option ℕ) → IsMap m → IsMap (restore m k b)
-IsMap-restore m k None h = IsMap-without m k h
-IsMap-restore m k (Some v) h = IsMap-set m k v h
-
+-- The key is restored, and every other is as it was.
 pub restore_here : (m : Map) (k : ℕ) (b : Option ℕ) → get (restore m k b) k ≡ b
 restore_here m k b = get-restore m k b k ∙ ap (λ c. if c then b else get m k) (eq-eqb k k refl)
 
@@ -35,11 +31,6 @@ ChangedIn (c ∷ cs) q = (q ≡ c.0) ⊎ ChangedIn cs q
 pub changed_or_not : (cs : Changes) (q : ℕ) → (ChangedIn cs q) ⊎ (ChangedIn cs q → ⊥)
 changed_or_not [] q = inr (λ h. h)
 changed_or_not (c ∷ cs) q = ⊎_elim (λ e. inl (inl e)) (λ ne. ⊎_elim (λ h. inl (inr h)) (λ out. inr (λ h. ⊎_elim ne out h)) (changed_or_not cs q)) (cases_eq q c.0)
-
--- A map stays a map.
-pub IsMap-restore_all : (m : Map) (cs : Changes) → IsMap m → IsMap (restore_all m cs)
-IsMap-restore_all m [] h = h
-IsMap-restore_all m (c ∷ cs) h = IsMap-restore_all (restore m c.0 c.1) cs (IsMap-restore m c.0 c.1 h)
 
 -- A key that no change is at is as it was.
 pub restore_all_apart : (m : Map) (cs : Changes) (q : ℕ) → (ChangedIn cs q → ⊥) → get (restore_all m cs) q ≡ get m q

@@ -15,7 +15,8 @@ use Rattle.kr_model.specs.Serial.{whole_insert, whole_delete}
 use Rattle.kr_model.proofs.Guarantees.{Serves}
 use Rattle.kr_headline.proofs.Gaps.{Reach, reach-refl, Alike, has}
 use Rattle.kr_headline.proofs.Maps.{has_none, has_some, has_same}
-use Rattle.kr_headline.proofs.Undo.{IsMap-restore, restore_here, restore_apart, restore_back}
+use Rattle.kr_model.proofs.UndoLaws.{IsMap-restore}
+use Rattle.kr_headline.proofs.Undo.{restore_here, restore_apart, restore_back}
 use Rattle.kr_headline.proofs.Parts.{Part, Parts, Points, Touched, Scanned, Changed, Moved, finished, finished_touches, finished_new, finished_old, with_part}
 use Rattle.kr_headline.proofs.Covers.{Modes, Granted, Covered, Holds, holds_keep}
 use Rattle.kr_headline.proofs.Guarded.{Taken, Guarded}

@@ -1,18 +1,24 @@
-//! The main theorem, over the definitions alone: every run under a covered protocol is serial in commit order. Each
-//! function does nothing, and its contract is a law. `docs/HEADLINE.md` tells the proof.
+//! The main theorem, over the definitions alone: every run under a covered protocol is serial in commit order; and
+//! laws of states, logs, runs and covers. Each function does nothing, and its contract is a law. `docs/HEADLINE.md`
+//! tells the proof.
 #![tactic(auto)]
 
-ghost use Rattle.std.specs.Prelude.{◌≡◌, ℕ, List, Some, None, unwrap_or};
+ghost use Rattle.std.specs.Prelude.{◌≡◌, ℕ, IsTrue, Contains, map, List, Some, None, unwrap_or};
 ghost use Rattle.kr_model.specs.Protocol.{Protocol, IsLawful};
-ghost use Rattle.kr_model.specs.Covers.{IsCovered};
+ghost use Rattle.kr_model.specs.Covers.{Ask, must_refuse, serves, IsCovered};
 ghost use Rattle.kr_model.specs.Kvl.{kvl};
 ghost use Rattle.kr_model.specs.Im.{im};
 ghost use Rattle.kr_model.specs.RangeKey.{range_key};
-ghost use Rattle.kr_model.specs.Map.{Map, Changes, get, restore_all, before_first};
-ghost use Rattle.kr_model.specs.Run.{Program};
+ghost use Rattle.kr_model.specs.Map.{Map, Changes, IsMap, get, restore_all, before_first};
+ghost use Rattle.kr_model.specs.State.{State, start};
+ghost use Rattle.kr_model.specs.WellFormed.{IsState};
+ghost use Rattle.kr_model.specs.Run.{Entry, Program, run, events_of, operations_of, programs, AreSteps, HadMemory};
+ghost use Rattle.kr_model.specs.Log.{no_log, log_after};
 ghost use Rattle.kr_model.specs.Serial.{AreSerial, RunsAreSerial};
 ghost use Rattle.kr_model.specs.Difference.{Difference, IsFirstDifference, first_difference};
 ghost use Rattle.kr_model.specs.declared.Rule.{Rule};
+ghost use Rattle.kr_model.specs.declared.Event.{Event};
+ghost use Rattle.kr_model.specs.declared.Cover.TheVariants.{ReadKey, ReadGap, InsertedKey, DeletedGap};
 ghost use Rattle.kr_headline.specs.Passes.{IsSplitting, IsMerging, RunsOfAreSerial};
 ghost use Rattle.kr_headline.specs.Needed.{IsNeeded};
 
@@ -57,4 +63,42 @@ pub fn differences_tell()
     ensures if_serial { (m : Map) (ps : List Program) → AreSerial m ps → first_difference m ps ≡ None }
     ensures first { (m : Map) (ps : List Program) (d : Difference) → first_difference m ps ≡ Some d → IsFirstDifference m ps d }
     ensures only { (m : Map) (ps : List Program) (d : Difference) → IsFirstDifference m ps d → first_difference m ps ≡ Some d }
+{}
+
+/// Under a lawful protocol every state that steps reach from an opening map is well formed, also where some were
+/// refused memory. So is the state at the end of a run, and so its index can open the next run.
+pub fn states_are_well_formed()
+    ensures steps { (p : Protocol) (opening : Map) (h : List Entry) (s : State)
+        → IsLawful p → IsMap opening → AreSteps p (start opening) h s → IsState p s }
+    ensures run { (p : Protocol) (opening : Map) (events : List Event)
+        → IsLawful p → IsMap opening → IsState p (run p (start opening) events).state }
+    ensures index { (p : Protocol) (opening : Map) (events : List Event)
+        → IsLawful p → IsMap opening → IsMap (run p (start opening) events).state.map }
+{}
+
+/// The log of steps has the programs that are read from their history: those that have committed, and of each active
+/// transaction its operations so far. Any of the steps may have been refused memory.
+pub fn logs_tell_programs()
+    ensures committed { (p : Protocol) (opening : Map) (h : List Entry) (s : State)
+        → AreSteps p (start opening) h s → (log_after no_log h).committed ≡ programs h }
+    ensures unfinished { (p : Protocol) (opening : Map) (h : List Entry) (s : State)
+        → AreSteps p (start opening) h s → (log_after no_log h).unfinished ≡ map (λ a. (a.0, operations_of a.0 h)) s.active }
+{}
+
+/// Runs are the histories of steps of which none was refused memory. So, apart from memory, the replies and the state
+/// are a function of the protocol, the state at first and the events.
+pub fn runs_are_steps_with_memory()
+    ensures run { (p : Protocol) (s : State) (h : List Entry) (new : State)
+        → AreSteps p s h new → HadMemory h → run p s (events_of h) ≡ record { history = h; state = new } }
+    ensures steps { (p : Protocol) (s : State) (events : List Event) → AreSteps p s (run p s events).history (run p s events).state }
+    ensures memory { (p : Protocol) (s : State) (events : List Event) → HadMemory (run p s events).history }
+{}
+
+/// The cover of a change must refuse all that the cover of a read must refuse there: that of an inserted key what that
+/// of a read key must, and that of a deleted gap what that of a read gap must. So a mode that serves it serves the read.
+pub fn changes_cover_reads()
+    ensures inserted { (a : Ask) → Contains (must_refuse ReadKey) a → Contains (must_refuse InsertedKey) a }
+    ensures deleted { (a : Ask) → Contains (must_refuse ReadGap) a → Contains (must_refuse DeletedGap) a }
+    ensures serves_key { (p : Protocol) (mode : ℕ) → IsTrue (serves p InsertedKey mode) → IsTrue (serves p ReadKey mode) }
+    ensures serves_gap { (p : Protocol) (mode : ℕ) → IsTrue (serves p DeletedGap mode) → IsTrue (serves p ReadGap mode) }
 {}

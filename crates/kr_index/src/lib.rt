@@ -4,7 +4,7 @@
 //! A caller that has to finish what it began pins the key first, while it may still give up.
 #![tactic(auto)]
 
-ghost use Rattle.std.specs.Prelude.{◌≡◌, ℕ, ◌+◌, ◌-◌, ◌<◌, ◌^◌, ◌==◌, if◌then◌else◌, OnOk, OnErr, IfOk};
+ghost use Rattle.std.specs.Prelude.{◌≡◌, ℕ, ◌+◌, ◌-◌, ◌<◌, ◌==◌, if◌then◌else◌, OnOk, OnErr, IfOk};
 ghost use Rattle.kr_model.specs.Map.{Map, IsMap, get, set, without, at, after};
 
 mod slots;
@@ -46,9 +46,8 @@ pub trait Ordered: Drop {
     /// Adds a pin to `key`, which may be present or absent. No value changes.
     ///
     /// A key has at most 4,294,967,295 pins.
-    /// Where a growth is refused the answer is `Memory`, and no pin changes either.
+    /// Where it has as many, or a growth is refused, the answer is `Memory`, and no pin changes either.
     fn pin(&mut self, key: u64) -> Result<(), Memory>
-        requires { pins self.old key + 1 < 2 ^ 32 }
         ensures map { map self.new ≡ map self.old }
         ensures ok { OnOk result ((q : ℕ) → pins self.new q ≡ (if q == key then pins self.old q + 1 else pins self.old q)) }
         ensures err { OnErr result ((q : ℕ) → pins self.new q ≡ pins self.old q) };
@@ -75,8 +74,8 @@ pub trait Ordered: Drop {
 
     /// A copy of all pairs, keys rising, or `Memory` where a growth is refused.
     fn copy(&self, alloc: Global) -> Result<Pairs, Memory>
-        ensures pairs { IfOk result (λ pairs. pairs ≡ map self.now) }
+        ensures { IfOk result (λ pairs. pairs ≡ map self.now) };
 
-        // This is known of the index itself, so also where the copy is refused.
-        ensures in_order { IsMap (map self.now) };
+    /// The keys of the pairs rise.
+    ghost in_order: { (o : Self) → IsMap (map o) };
 }

@@ -1,13 +1,12 @@
 //! An index as a sorted vector.
 ghost use Rattle.std.specs.Prelude.{◌≡◌, ℕ, [], IfOk};
 ghost use Rattle.kr_model.specs.Map.{IsMap};
-ghost use Rattle.kr_index.specs.Slots.{pairs_of, pins_of};
+ghost use Rattle.kr_index.specs.Slots.{pairs_of, pins_of, IsInOrder};
 
 use crate::slots::{Slot, add, first_present, remove, search, write};
 use crate::{Memory, Ordered};
 use kr_model::{Name, Pairs};
-use std::alloc::Global;
-use std::marker::Model;
+use std::alloc::{AllocError, Global};
 
 /// An index in one vector, sorted by key.
 ///
@@ -17,18 +16,8 @@ use std::marker::Model;
 #[derive(Debug, Drop)]
 pub struct Sorted {
     entries: Vec<(u64, Slot)>,
-}
-
-impl Model for Sorted {
-    ghost use Rattle.std.specs.Prelude.{ℕ, List};
-    ghost use Rattle.kr_index.specs.Slots.{IsInOrder};
-    ghost use Rattle.kr_index.specs.declared.slots.Slot.{Slot};
-
-    ghost Value = { List (ℕ × Slot) };
-
-    ghost view = { λ s. s.entries.items };
-
-    ghost invariant = { λ s. IsInOrder s.entries.items };
+    ghost sorted: { IsInOrder entries.items },
+    ghost rising: { IsMap (pairs_of entries.items) },
 }
 
 impl Sorted {
@@ -44,7 +33,7 @@ impl Sorted {
 
     /// An index of the pairs, whose keys strictly rise, without pins.
     /// The answer is `Memory` where a growth is refused. Its time is linear in the number of pairs.
-    pub fn from_pairs(pairs: &[(u64, u64)], alloc: Global) -> Result<Sorted, Memory>
+    pub fn from_pairs(alloc: Global, pairs: &[(u64, u64)]) -> Result<Sorted, Memory>
         requires { IsMap pairs.now }
         ensures map { IfOk result (λ index. ⟦<Sorted as Ordered>⟧.map index ≡ pairs.now) }
         ensures pins { IfOk result (λ index. (q : ℕ) → ⟦<Sorted as Ordered>⟧.pins index q ≡ 0) }
@@ -62,9 +51,9 @@ impl Sorted {
 }
 
 impl Ordered for Sorted {
-    ghost map = { λ s. pairs_of s };
+    ghost map = { λ s. pairs_of s.entries.items };
 
-    ghost pins = { λ s k. pins_of s k };
+    ghost pins = { λ s k. pins_of s.entries.items k };
 
     fn get(&self, key: u64) -> Option<u64> {
         match search(&self.entries, key) {
@@ -90,6 +79,9 @@ impl Ordered for Sorted {
     fn pin(&mut self, key: u64) -> Result<(), Memory> {
         match search(&self.entries, key) {
             Ok((place, slot)) => {
+                if slot.pins == u32::MAX {
+                    return Err(AllocError);
+                }
                 let pins = slot.pins + 1;
                 write(&mut self.entries, place, key, Slot { pins, ..slot });
             }
@@ -109,6 +101,7 @@ impl Ordered for Sorted {
         }
     }
 
+    #[tactic(auto, using(crate::proofs::SlotLaws::pairs_are_map))]
     fn put(&mut self, key: u64, value: u64) {
         if let Ok((place, slot)) = search(&self.entries, key) {
             let value = Some(value);
@@ -116,6 +109,7 @@ impl Ordered for Sorted {
         }
     }
 
+    #[tactic(auto, using(crate::proofs::SlotLaws::pairs_are_map))]
     fn take(&mut self, key: u64) -> Option<u64> {
         match search(&self.entries, key) {
             Ok((place, slot)) => {
@@ -136,4 +130,6 @@ impl Ordered for Sorted {
         }
         Ok(Pairs::from_vec(list))
     }
+
+    ghost in_order = { λ s. s.rising };
 }

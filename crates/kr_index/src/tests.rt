@@ -53,6 +53,8 @@ impl Ordered for Rationed {
     fn copy(&self, alloc: Global) -> Result<Pairs, Memory> {
         self.index.copy(alloc)
     }
+
+    ghost in_order = { λ r. r.index.rising };
 }
 
 /// Looks at an index that holds 20 at 2, 50 at 5 and 90 at 9.
@@ -129,7 +131,7 @@ fn takes<O: Ordered>(rt: &impl Abort, alloc: Global, index: &mut O) -> Result<()
 fn sample(alloc: Global) -> Result<Sorted, Memory>
     ensures { IfOk result (λ index. (q : ℕ) → ⟦<Sorted as Ordered>⟧.pins index q ≡ 0) }
 {
-    Sorted::from_pairs(&[(2, 20), (5, 50), (9, 90)], alloc)
+    Sorted::from_pairs(alloc, &[(2, 20), (5, 50), (9, 90)])
 }
 
 #[test]

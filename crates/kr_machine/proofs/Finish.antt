@@ -1,27 +1,23 @@
 -- What a pending step says where its event is known.
-use Rattle.std.proofs.Common.{All, IfOk, Result, Ok, Err, ◌≡◌, ℕ, ◌+◌, ◌≤◌, [], ◌∷◌, arith, Bool, true, false, Option, Some, None, IfSome, List, sym, ap, ◌∙◌, refl, Vec, subst, cond}
-use Rattle.std.specs.Prelude.{T, IsTrue, not, nat_le, unwrap_or, ◌==◌}
+use Rattle.std.proofs.Common.{All, IfOk, Result, Ok, Err, ◌≡◌, ℕ, ◌+◌, ◌≤◌, arith, Bool, true, false, Option, Some, None, IfSome, List, sym, ap, ◌∙◌, refl, Vec, subst, cond}
+use Rattle.std.specs.Prelude.{IsTrue}
 use Rattle.std.specs.Option.{option_map}
 use Rattle.std.specs.Ordering.{nat_cmp}
-use Rattle.std.specs.Cmp.{nat_cmp_total}
 use Rattle.std.specs.FinMap.{put, is_sorted}
-use Rattle.std.specs.FinMap.Entries.{is_sorted-put, is_sorted-where_key}
 use Rattle.kr_model.specs.declared.Event.{Event}
 use Rattle.kr_model.specs.declared.Name.{Name}
 use Rattle.kr_model.specs.declared.Op.{Op}
 use Rattle.kr_model.specs.declared.Op.TheVariants as op
-use Rattle.kr_model.specs.declared.Name.TheVariants.{Key, End}
-use Rattle.kr_model.specs.State.{Active, Scan}
-use Rattle.kr_model.specs.Step.{fetched, inserted, deleted, row_read, looked, name_to_look}
+use Rattle.kr_model.specs.State.{Active}
 use Rattle.kr_txn.proofs.Lists.{in_order-put}
 use Rattle.kr_machine.specs.declared.pending.Pending.{Pending}
-use Rattle.kr_machine.specs.Pending.{IsReserved, IsMachine, HasPins, IsEnd, HasRoom, begun, look_effect, effect_of}
+use Rattle.kr_machine.specs.Pending.{IsReserved, IsMachine, HasPins, IsEnd, HasRoom}
 use Rattle.kr_machine.specs.Pins.{changes_of, all_changes_of, taken_pins}
 use Rattle.kr_model.proofs.Keep.{HasNoNone-release, AreWithin-release, IsLocks-release}
 use Rattle.kr_txn.specs.Standings.{active_of, entries}
 use Rattle.std.specs.declared.alloc.Global.{Global}
 use Rattle.kr_model.specs.Protocol.{Protocol}
-use Rattle.kr_model.specs.Map.{Map, Changes, IsMap, get, set, without, restore, restore_all}
+use Rattle.kr_model.specs.Map.{Map}
 use Rattle.kr_model.specs.Locks.{Locks, release}
 use Rattle.kr_txn.specs.declared.Standing.{Standing}
 use Rattle.kr_txn.specs.EndedNumbers.{EndedNumbers}
@@ -44,57 +40,6 @@ event_of_pending o d e h is = some (ap (option_map (λ (p : Pending). p.event)) 
     some : ◌≡◌ {A = Option Event} (Some d.event) (Some e) → d.event ≡ e
     some x = cc
 
-t_of : (b : Bool) → IsTrue b → T b
-t_of b h = subst (λ (c : Bool). T c) (sym h) tt
-
-of_t : (b : Bool) → T b → IsTrue b
-of_t true h = refl
-of_t false h = absurd h
-
-map_set : (m : Map) (k v : ℕ) → IsMap m → IsMap (set m k v)
-map_set m k v h = of_t _ (is_sorted-put nat_cmp nat_cmp_total k v m (t_of _ h))
-
-map_without : (m : Map) (k : ℕ) → IsMap m → IsMap (without m k)
-map_without m k h = of_t _ (is_sorted-where_key nat_cmp (λ x. not (x == k)) m (t_of _ h))
-
-fetch_map : (m : Map) (a : Active) (g : Option ℕ) → IsMap m → IsMap (let e = fetched m a g in e.map)
-fetch_map m a None h = h
-fetch_map m a (Some v) h = h
-
-insert_map : (m : Map) (a : Active) (k v : ℕ) (g : Option ℕ) → IsMap m → IsMap (let e = inserted m a k v g in e.map)
-insert_map m a k v None h = map_set m k v h
-insert_map m a k v (Some w) h = h
-
-delete_map : (m : Map) (a : Active) (k : ℕ) (g : Option ℕ) → IsMap m → IsMap (let e = deleted m a k g in e.map)
-delete_map m a k None h = h
-delete_map m a k (Some w) h = map_without m k h
-
-look_map : (m : Map) (a : Active) (c : Scan) (n : Name) → (looked m a c n).map ≡ m
-look_map m a c End = refl
-look_map m a c (Key k) = by (nat_le k c.hi) refl
-  where
-    ends : (x : Bool) → k == c.hi ≡ x → (row_read m a c k (unwrap_or (get m k) 0)).map ≡ m
-    ends true e = rw e refl
-    ends false e = rw e refl
-
-    by : (x : Bool) → nat_le k c.hi ≡ x → (looked m a c (Key k)).map ≡ m
-    by true e = rw e (ends (k == c.hi) refl)
-    by false e = rw e refl
-
-scan_map : (m : Map) (a : Active) (c : Option Scan) → IsMap m → IsMap (let e = look_effect m a c in e.map)
-scan_map m a None h = h
-scan_map m a (Some c) h = subst IsMap (sym (look_map m a c (name_to_look m c))) h
-
--- An operation leaves keys rising.
-pub map-effect : (m : Map) (a : Active) (o : Op) → IsMap m → IsMap (let e = effect_of m a o in e.map)
-map-effect m a (op.Fetch k) h = fetch_map m a (get m k) h
-map-effect m a (op.Insert k v) h = insert_map m a k v (get m k) h
-map-effect m a (op.Delete k) h = delete_map m a k (get m k) h
-map-effect m a op.Commit h = h
-map-effect m a op.Abort h = h
-map-effect m a op.Go h = scan_map m a a.scan h
-map-effect m a (op.Scan lo hi) h = scan_map m a (Some (begun lo hi)) h
-
 -- With a transaction put back, the numbers rise.
 pub put_down_order : (b : Bool) (t : ℕ) (a : Active) (xs : List (ℕ × Active)) → IsTrue (is_sorted nat_cmp xs) → IsTrue (is_sorted nat_cmp (cond b (put nat_cmp t a xs) xs))
 put_down_order true t a xs h = in_order-put t xs h a
@@ -104,15 +49,6 @@ put_down_order false t a xs h = h
 pub all_of_items : {A E : Type 0} (items : A → Locks) (P : (Name × ℕ) × ℕ → Type 0) (r : Result A E) (h : Locks) → All P h → IfOk r (λ a. items a ≡ h) → IfOk r (λ a. All P (items a))
 all_of_items items P (Ok a) h all is = subst (All P) (sym is) all
 all_of_items items P (Err e) h all is = tt
-
-map-restore : (m : Map) (k : ℕ) (b : Option ℕ) → IsMap m → IsMap (restore m k b)
-map-restore m k None h = map_without m k h
-map-restore m k (Some v) h = map_set m k v h
-
--- Changes taken back leave keys rising.
-pub map-restore_all : (m : Map) (cs : Changes) → IsMap m → IsMap (restore_all m cs)
-map-restore_all m [] h = h
-map-restore_all m (c ∷ cs) h = map-restore_all (restore m c.0 c.1) cs (map-restore m c.0 c.1 h)
 
 -- The pins while a step is pending.
 pub pins_now : (pins : ℕ → ℕ) (es : List (ℕ × Active)) (o : Option Pending) (d : Pending) (e : Event) → o ≡ Some d → d.event ≡ e → HasPins o pins es → (q : ℕ) → pins q ≡ all_changes_of es q + changes_of (active_of d.standing).changes q + taken_pins e.op q
@@ -150,12 +86,11 @@ room_end active s rows (op.Scan lo hi) is = absurd is
 
 -- What the machine is after the end of the transaction whose step was pending.
 pub ended_machine : (p : Protocol) (m n : Map) (pins left : ℕ → ℕ) (real : Locks) (t : ℕ) (ended more : EndedNumbers) (active : Vec Standing Global) (o : Option Pending) (d : Pending) (e : Event)
-    → o ≡ Some d → d.event ≡ e → IsEnd e.op → IsMachine p m pins real ended active o → IsMap n → ended.room ≤ more.room + 1 → ((q : ℕ) → left q + changes_of (active_of d.standing).changes q ≡ pins q)
+    → o ≡ Some d → d.event ≡ e → IsEnd e.op → IsMachine p m pins real ended active o → ended.room ≤ more.room + 1 → ((q : ℕ) → left q + changes_of (active_of d.standing).changes q ≡ pins q)
     → IsMachine p n left (release real t) more active None
-ended_machine p m n pins left real t ended more active o d e is same end inv is_map room freed =
+ended_machine p m n pins left real t ended more active o d e is same end inv room freed =
     let now = reserved_now p m pins real ended active o d is inv.reserved in
     record {
-      is_map = is_map;
       in_order = IsLocks-release real t inv.in_order;
       within = AreWithin-release p.count real t inv.within;
       no_none = HasNoNone-release real t inv.no_none;

@@ -1,9 +1,8 @@
 -- Pins counted: what the changes of transactions need as they come and go.
-use Rattle.std.proofs.Common.{◌≡◌, ℕ, ◌+◌, ◌≤◌, cond, Option, Some, None, List, [], ◌∷◌, ◌++◌, length, reverse, sym, ◌∙◌, ap, arith}
+use Rattle.std.proofs.Common.{◌≡◌, ℕ, ◌+◌, cond, Option, Some, None, List, [], ◌∷◌, ◌++◌, reverse, sym, ◌∙◌, ap, arith}
 use Rattle.std.specs.Prelude.{◌==◌, IsTrue, if◌then◌else◌}
-use Rattle.std.specs.Vec.{vec_len}
-use Rattle.std.proofs.lemmas.List.{reverse-append, length-reverse}
-use Rattle.std.proofs.lemmas.List.Sums.{sum_by-cons, count_by-le-length}
+use Rattle.std.proofs.lemmas.List.{reverse-append}
+use Rattle.std.proofs.lemmas.List.Sums.{sum_by-cons}
 use Rattle.std.specs.declared.cmp.Ordering.{Ordering}
 use Rattle.std.specs.declared.cmp.Ordering.TheVariants.{Less, Equal, Greater}
 use Rattle.std.specs.Ordering.{nat_cmp, is_eq}
@@ -11,10 +10,9 @@ use Rattle.std.specs.FinMap.{find, put, is_sorted}
 use Rattle.std.specs.FinMap.Entries.{by_order}
 use Rattle.kr_model.specs.Map.{Map, Changes, restore, restore_all}
 use Rattle.kr_model.specs.State.{Active}
-use Rattle.kr_txn.specs.declared.Standing.{Standing}
-use Rattle.kr_txn.specs.Standings.{active_of, entries, without_txn}
+use Rattle.kr_txn.specs.Standings.{without_txn}
 use Rattle.kr_txn.proofs.Lists.{find-without, put_back}
-use Rattle.kr_machine.specs.Pins.{changes_of, all_changes_of, change_count}
+use Rattle.kr_machine.specs.Pins.{changes_of, all_changes_of}
 
 some_none : (a : Active) → ◌≡◌ {A = Option Active} (Some a) None → ⊥
 some_none a e = cc
@@ -48,16 +46,3 @@ changes-push cs c q =
 -- A change noted last is taken back first.
 pub restore_all-push : (m : Map) (cs : Changes) (c : ℕ × Option ℕ) → restore_all m (reverse (cs ++ c ∷ [])) ≡ restore_all (restore m c.0 c.1) (reverse cs)
 restore_all-push m cs c = ap (restore_all m) (reverse-append cs (c ∷ []))
-
-changes-within : (cs : Changes) (q : ℕ) → changes_of (reverse cs) q ≤ length cs
-changes-within cs q = let e = count_by-le-length (λ (c : ℕ × Option ℕ). q == c.0) (reverse cs) in let f = length-reverse cs in omega (arith, e, f)
-
--- A key has no more changes than there are.
-pub all-within : (xs : List Standing) (q : ℕ) → all_changes_of (entries xs) q ≤ change_count xs
-all-within [] q = omega arith
-all-within (x ∷ xs) q =
-    let e = all-cons (x.txn, active_of x) (entries xs) q in
-    let f = sum_by-cons (λ (s : Standing). vec_len s.changes) x xs in
-    let g = changes-within x.changes.items q in
-    let h = all-within xs q in
-    omega (arith, e, f, g, h)

@@ -11,7 +11,9 @@ use Rattle.kr_model.specs.Protocol.{Protocol}
 use Rattle.kr_model.specs.State.{State, active_of}
 use Rattle.kr_model.specs.Step.{step}
 use Rattle.kr_model.specs.Log.{Log}
+use Rattle.kr_model.specs.WellFormed.{IsState}
 use Rattle.kr_txn.specs.Logs.{LogWithRoom, MayNote}
+use Rattle.kr_machine.specs.declared.pending.DueReply.{DueReply}
 
 -- A machine as contracts see it: its protocol, its state between two steps, what its log has of the steps so far, and the event of a step that is ready and not yet done.
 pub record Seen (P : Type 0) : Type 0 where
@@ -24,12 +26,17 @@ pub record Seen (P : Type 0) : Type 0 where
 abbrev pub IsNoted : LogWithRoom → ℕ → Type 0
 IsNoted l t = is_some (find nat_cmp t l.log.unfinished) ≡ true
 
--- The reply of a step that is ready is kept, and the log may note it.
-abbrev pub IsDue : Protocol → State → LogWithRoom → Option Reply → Event → Type 0
-IsDue p s l due e = (due ≡ Some (step p s e.txn e.op).0) × MayNote l e (step p s e.txn e.op).0
+-- A reply for the log and for the caller.
+abbrev pub twice : Reply → DueReply
+twice r = record { noted = r; told = r }
 
--- What always holds of a machine's log: it has the programs of exactly the active transactions, and is ready where a step is.
-pub record IsLogged (p : Protocol) (s : State) (pending : Option Event) (l : LogWithRoom) (due : Option Reply) : Type 0 where
+-- The reply of a step that is ready is kept, and the log may note it.
+abbrev pub IsDue : Protocol → State → LogWithRoom → Option DueReply → Event → Type 0
+IsDue p s l due e = (due ≡ Some (twice (step p s e.txn e.op).0)) × MayNote l e (step p s e.txn e.op).0
+
+-- What always holds of a machine: its state is well formed, its log has the programs of exactly the active transactions, and is ready where a step is.
+pub record IsLogged (p : Protocol) (s : State) (pending : Option Event) (l : LogWithRoom) (due : Option DueReply) : Type 0 where
+  pub well_formed : IsState p s
   pub same : (t : ℕ) → is_some (find nat_cmp t l.log.unfinished) ≡ is_some (active_of s t)
   pub noted : IfSome pending (IsDue p s l due)
 

@@ -5,7 +5,7 @@ use Rattle.std.specs.declared.alloc.Global.{Global}
 use Rattle.std.specs.Ordering.{nat_cmp}
 use Rattle.std.specs.FinMap.{find, put}
 use Rattle.kr_model.specs.Protocol.{Protocol}
-use Rattle.kr_model.specs.Map.{Map, IsMap, get, restore_all}
+use Rattle.kr_model.specs.Map.{Map, get, restore_all}
 use Rattle.kr_model.specs.Locks.{Locks, Request, IsLocks, own, keep_or_drop, release, add_once, AreWithin, HasNoNone}
 use Rattle.kr_model.specs.State.{State, Active, Scan}
 use Rattle.kr_model.specs.Step.{Effect, effect, fetched, inserted, deleted, looked, name_to_look, goes_on, is_go, is_bad_range, step}
@@ -172,7 +172,6 @@ HasPins (Some p) pins es = (q : ℕ) → pins q ≡ all_changes_of es q + change
 
 -- What always holds of a machine's parts.
 pub record IsMachine (p : Protocol) (m : Map) (pins : ℕ → ℕ) (real : Locks) (ended : EndedNumbers) (active : Vec Standing Global) (pending : Option Pending) : Type 0 where
-  pub is_map : IsMap m
   pub in_order : IsLocks real
   pub within : AreWithin p.count real
   pub no_none : HasNoNone real

@@ -1,7 +1,8 @@
 //! What a granted operation does to the index and its transaction.
-ghost use Rattle.std.specs.Prelude.{◌≡◌, ℕ, ◌+◌, ◌-◌, ◌<◌, ◌≤◌, ◌^◌, Some, IsOk, OnOk, OnErr, IfOk, IsTrue, vec_len, vec_capacity, option_map, option_copied, []};
+ghost use Rattle.std.specs.Prelude.{◌≡◌, true, ℕ, ◌+◌, ◌-◌, ◌<◌, ◌≤◌, Some, IsOk, OnOk, OnErr, IfOk, vec_len, vec_capacity, option_map, option_copied, []};
 ghost use Rattle.kr_model.specs.Map.{restore_all};
 ghost use Rattle.kr_model.specs.Step.{Effect};
+ghost use Rattle.kr_model.specs.Run.{is_granted};
 ghost use Rattle.kr_txn.specs.Standings.{active_of, scan_of};
 ghost use Rattle.kr_machine.specs.Pending.{IsAttempt, IsOfOneKey, IsEnd, HasRoomIn, HasFirstRoom, end_reply, attempt_of, effect_of};
 ghost use Rattle.kr_machine.specs.Pins.{changes_of, taken_pins};
@@ -10,7 +11,7 @@ use crate::scans;
 use kr_index::{Memory, Ordered};
 use kr_model::{Op, Reply, Step};
 use kr_txn::{Scan, Standing};
-use std::alloc::{AllocError, Global};
+use std::alloc::Global;
 
 /// The attempt of an operation that makes one, by the scan in progress; of any other it doesn't matter.
 pub(crate) fn attempt_of<I: Ordered>(index: &I, scan: Option<&Scan>, op: Op) -> Step
@@ -31,17 +32,13 @@ pub(crate) fn attempt_of<I: Ordered>(index: &I, scan: Option<&Scan>, op: Op) -> 
 
 /// Pins the key that an operation may change. The answer is `Memory` where that key may have no more pins, or a growth is
 /// refused; then no pin changes.
-pub(crate) fn reserve<I: Ordered>(index: &mut I, op: Op, may_pin: bool) -> Result<(), Memory>
-    requires { IsTrue may_pin → (q : ℕ) → I.pins index.old q + 1 < 2 ^ 32 }
+pub(crate) fn reserve<I: Ordered>(index: &mut I, op: Op) -> Result<(), Memory>
     ensures map { I.map index.new ≡ I.map index.old }
     ensures ok { OnOk result ((q : ℕ) → I.pins index.new q ≡ I.pins index.old q + taken_pins op q) }
     ensures err { OnErr result ((q : ℕ) → I.pins index.new q ≡ I.pins index.old q) }
 {
     match op {
         Op::Insert(key, _) | Op::Delete(key) => {
-            if !may_pin {
-                return Err(AllocError);
-            }
             index.pin(key)?;
             Ok(())
         }
@@ -162,7 +159,8 @@ pub(crate) fn reply_to<I: Ordered>(
     scan: Option<&Scan>,
     op: Op,
 ) -> Result<Reply, Memory>
-    ensures { IfOk result (λ r. r ≡ (effect_of (I.map index.now) (record { scan = option_map scan_of (option_copied scan.entry); changes = [] }) op).reply) }
+    ensures reply { IfOk result (λ r. r ≡ (effect_of (I.map index.now) (record { scan = option_map scan_of (option_copied scan.entry); changes = [] }) op).reply) }
+    ensures granted { IfOk result (λ r. is_granted r ≡ true) }
 {
     match op {
         Op::Fetch(key) => match index.get(key) {
@@ -192,7 +190,8 @@ pub(crate) fn reply_to<I: Ordered>(
 /// What an operation answers that ends its transaction.
 pub(crate) fn end_reply(op: Op) -> Reply
     requires { IsEnd op }
-    ensures { result ≡ end_reply op }
+    ensures reply { result ≡ end_reply op }
+    ensures granted { is_granted result ≡ true }
 {
     match op {
         Op::Abort => Reply::Aborted,

@@ -1,18 +1,21 @@
 //! A machine: what does the steps, and the log of what they did.
-ghost use Rattle.std.specs.Prelude.{All, map, ◌≡◌, ℕ, ◌≤◌, [], None, Some, IfOk, IfErr, IfSome, OnOk, OnErr, IsOk, IsTrue, ◌⊎◌, false, is_some};
-ghost use Rattle.kr_model.specs.Map.{IsMap};
-ghost use Rattle.kr_model.specs.State.{start, active_of};
+ghost use Rattle.std.specs.Prelude.{All, map, ◌≡◌, ℕ, ◌≤◌, [], None, Some, IfOk, IfErr, OnOk, OnErr, IsOk, IsTrue, ◌⊎◌, true, false, is_some, if◌then◌else◌};
+ghost use Rattle.kr_model.specs.declared.Op.TheVariants as op_is;
+ghost use Rattle.kr_model.specs.declared.Refusal.TheVariants as refusal_is;
+ghost use Rattle.kr_model.specs.declared.Reply.TheVariants as reply_is;
+ghost use Rattle.kr_model.specs.State.{start, active_of, is_scanning};
 ghost use Rattle.kr_model.specs.Step.{step, is_end, IsStep};
+ghost use Rattle.kr_model.specs.WellFormed.{IsState};
 ghost use Rattle.kr_model.specs.Log.{no_log, logged};
 ghost use Rattle.kr_model.specs.Run.{is_granted};
 ghost use Rattle.kr_txn.specs.Logs.{MayNote};
-ghost use Rattle.kr_machine.specs.Logged.{MayKeep};
+ghost use Rattle.kr_machine.specs.Logged.{MayKeep, twice};
 
-use crate::Ready;
+use crate::pending::{DueReply, Ready};
 use crate::stepper::Stepper;
 use kr_index::Ordered;
 use kr_locks::{Holdings, Memory};
-use kr_model::{Event, Mode, Name, Op, Pairs, Programs, Refusal, Reply, Txn, Txns};
+use kr_model::{Mode, Name, Op, Pairs, Programs, Refusal, Reply, Txn, Txns};
 use kr_protocol::Protocol;
 use kr_txn::Log;
 use std::alloc::Global;
@@ -29,8 +32,8 @@ pub struct Machine<P: Protocol, I: Ordered, L: Holdings> {
     stepper: Stepper<P, I, L>,
     /// The programs so far, and the committed ones.
     log: Log,
-    /// The reply of a step that is ready, for the log.
-    due: Option<Reply>,
+    /// The reply of a step that is ready.
+    due: Option<DueReply>,
 }
 
 impl<P: Protocol, I: Ordered, L: Holdings> Model for Machine<P, I, L> {
@@ -46,7 +49,6 @@ impl<P: Protocol, I: Ordered, L: Holdings> Model for Machine<P, I, L> {
 impl<P: Protocol, I: Ordered, L: Holdings> Machine<P, I, L> {
     /// A machine with this opening index and no transactions. The index has no pins, and no locks are held. Takes no memory.
     pub fn new(alloc: Global, protocol: P, index: I, locks: L) -> Self
-        requires is_map { IsMap (I.map index) }
         requires no_pins { (q : ℕ) → I.pins index q ≡ 0 }
         requires no_locks { L.locks locks ≡ [] }
         ensures { result ≡ record { protocol = protocol; state = start (I.map index); log = no_log; pending = None } }
@@ -61,7 +63,8 @@ impl<P: Protocol, I: Ordered, L: Holdings> Machine<P, I, L> {
     /// Whether a transaction is active: some step of it was granted, and it has neither committed nor aborted.
     pub fn active(&self, txn: Txn) -> bool
         requires { self.now.pending ≡ None }
-        ensures { result ≡ is_some (active_of self.now.state txn) }
+        ensures active { result ≡ is_some (active_of self.now.state txn) }
+        ensures well_formed { IsState (P.table self.now.protocol) self.now.state }
     {
         self.stepper.active(txn)
     }
@@ -69,7 +72,8 @@ impl<P: Protocol, I: Ordered, L: Holdings> Machine<P, I, L> {
     /// A copy of the pairs of the index, keys rising, or `Memory` where a growth is refused.
     pub fn index(&self) -> Result<Pairs, Memory>
         requires { self.now.pending ≡ None }
-        ensures { IfOk result (λ pairs. pairs ≡ self.now.state.map) }
+        ensures index { IfOk result (λ pairs. pairs ≡ self.now.state.map) }
+        ensures well_formed { IsState (P.table self.now.protocol) self.now.state }
     {
         self.stepper.index()
     }
@@ -80,6 +84,7 @@ impl<P: Protocol, I: Ordered, L: Holdings> Machine<P, I, L> {
         requires { self.now.pending ≡ None }
         ensures locks { IfOk result (λ list. list.items ≡ self.now.state.locks) }
         ensures modes { IfOk result (λ list. All (λ l. l.1 ≤ (P.table self.now.protocol).count) list.items) }
+        ensures well_formed { IsState (P.table self.now.protocol) self.now.state }
     {
         self.stepper.locks()
     }
@@ -87,7 +92,8 @@ impl<P: Protocol, I: Ordered, L: Holdings> Machine<P, I, L> {
     /// The numbers of the active transactions, rising, or `Memory` where a growth is refused.
     pub fn unfinished(&self) -> Result<Txns, Memory>
         requires { self.now.pending ≡ None }
-        ensures { IfOk result (λ txns. txns ≡ map (λ a. a.0) self.now.state.active) }
+        ensures unfinished { IfOk result (λ txns. txns ≡ map (λ a. a.0) self.now.state.active) }
+        ensures well_formed { IsState (P.table self.now.protocol) self.now.state }
     {
         self.stepper.unfinished()
     }
@@ -110,17 +116,19 @@ impl<P: Protocol, I: Ordered, L: Holdings> Machine<P, I, L> {
         requires at_rest { self.old.pending ≡ None }
         ensures event { IfOk result (λ r. r.event ≡ record { txn = txn; op = op }) }
         ensures reply { IfOk result (λ r. r.reply ≡ (step (P.table self.old.protocol) self.old.state txn op).0) }
+        ensures granted { IfOk result (λ r. is_granted r.reply ≡ true) }
         ensures waits { OnOk result (self.new ≡ record { protocol = self.old.protocol; state = self.old.state; log = self.old.log; pending = Some (record { txn = txn; op = op }) }) }
         ensures refusal { IfErr result (λ r. IsStep (P.table self.old.protocol) self.old.state txn op r self.old.state) }
         ensures not_granted { IfErr result (λ r. is_granted r ≡ false) }
         ensures err { OnErr result (self.new ≡ self.old) }
+        ensures well_formed { IsState (P.table self.old.protocol) self.old.state }
     {
         let alloc = self.stepper.alloc();
         let is_active = self.stepper.active(txn);
         let ready = self.stepper.ready(txn, op)?;
         match keep(alloc, &mut self.log, txn, op, is_active, ready.reply()) {
-            Ok(reply) => {
-                self.due = Some(reply);
+            Ok(due) => {
+                self.due = Some(due);
                 Ok(ready)
             }
             Err(_) => {
@@ -139,8 +147,8 @@ impl<P: Protocol, I: Ordered, L: Holdings> Machine<P, I, L> {
     /// - `Refused(Busy)`: a scan of the transaction is in progress, and the operation neither goes on with it nor aborts.
     /// - `Refused(NoScan)`: no scan is in progress to go on with.
     /// - `Refused(BadRange)`: the lower end of the range to scan is above the upper end.
-    /// - `Refused(Memory)`: a growth was refused, and no other refusal applies. So it is for an insert or a delete where the
-    ///   active transactions have made 4,294,967,295 changes together. The commit or abort of an active transaction takes
+    /// - `Refused(Memory)`: a growth was refused, and no other refusal applies. So it is for an insert or a delete of a key
+    ///   that the active transactions have changed 4,294,967,295 times. The commit or abort of an active transaction takes
     ///   no memory.
     /// - `Blocked`: these transactions hold locks that refuse a lock that the step asks for. A transaction that wasn't
     ///   active isn't so after it.
@@ -154,6 +162,10 @@ impl<P: Protocol, I: Ordered, L: Holdings> Machine<P, I, L> {
     pub fn step(&mut self, txn: Txn, op: Op) -> Reply
         requires at_rest { self.old.pending ≡ None }
         ensures step { IsStep (P.table self.old.protocol) self.old.state txn op result self.new.state }
+        ensures abort { op ≡ op_is.Abort → IsTrue (is_some (active_of self.old.state txn)) → result ≡ reply_is.Aborted }
+        ensures commit { op ≡ op_is.Commit → IsTrue (is_some (active_of self.old.state txn)) →
+            result ≡ (if is_scanning self.old.state txn then reply_is.Refused refusal_is.Busy else reply_is.Committed) }
+        ensures well_formed { IsState (P.table self.new.protocol) self.new.state }
         ensures log { self.new.log ≡ logged self.old.log (record { txn = txn; op = op }, result) }
         ensures protocol { self.new.protocol ≡ self.old.protocol }
         ensures at_rest { self.new.pending ≡ None }
@@ -173,30 +185,23 @@ impl<P: Protocol, I: Ordered, L: Holdings> Machine<P, I, L> {
         self.stepper.cancel(ready);
     }
 
-    /// Does the step that is ready, and gives the reply that was told. Takes no memory.
+    /// Does the step that is ready, and answers its reply. Takes no memory.
     pub fn finish(&mut self, ready: Ready) -> Reply
         requires { self.old.pending ≡ Some ready.event }
-        ensures reply { result ≡ ready.reply }
+        ensures reply { result ≡ (step (P.table self.old.protocol) self.old.state ready.event.txn ready.event.op).0 }
         ensures machine { self.new ≡ (let o = step (P.table self.old.protocol) self.old.state ready.event.txn ready.event.op in
             record { protocol = self.old.protocol; state = o.1; log = logged self.old.log (ready.event, o.0); pending = None }) }
+        ensures well_formed { IsState (P.table self.new.protocol) self.new.state }
     {
-        let reply = self.due.take();
-        note(&mut self.log, ready.event, reply);
-        self.stepper.finish(ready)
+        let Ready { event, reply: _ } = ready;
+        let DueReply { noted, told } = self.due.take().unwrap();
+        self.log.note(event, noted);
+        self.stepper.finish(event);
+        told
     }
 }
 
-/// Notes a step with its reply, where there is one. Takes no memory.
-fn note(log: &mut Log, event: Event, reply: Option<Reply>)
-    requires { IfSome reply (MayNote log.old event) }
-    ensures { IfSome reply (λ a. log.new.log ≡ logged log.old.log (event, a)) }
-{
-    if let Some(reply) = reply {
-        log.note(event, reply);
-    }
-}
-
-/// Takes the memory of noting a step with this reply, and gives a copy of the reply. The end of an active transaction
+/// Takes the memory of noting a step with this reply, and gives copies of the reply. The end of an active transaction
 /// takes none; else the answer is `Memory` where a growth is refused. The log stays.
 fn keep(
     alloc: Global,
@@ -205,10 +210,10 @@ fn keep(
     op: Op,
     is_active: bool,
     reply: &Reply,
-) -> Result<Reply, Memory>
+) -> Result<DueReply, Memory>
     requires { MayKeep log.old op is_active txn reply.now }
     ensures log { log.new.log ≡ log.old.log }
-    ensures copy { IfOk result (λ copy. copy ≡ reply.now) }
+    ensures due { IfOk result (λ due. due ≡ twice reply.now) }
     ensures noted { OnOk result (MayNote log.new (record { txn = txn; op = op }) reply.now) }
     ensures end { IsTrue (is_end op) → IsTrue is_active → IsOk result }
 {
@@ -217,17 +222,26 @@ fn keep(
             if !is_active {
                 log.make_room(txn)?;
             }
-            Ok(Reply::Committed)
+            Ok(DueReply {
+                noted: Reply::Committed,
+                told: Reply::Committed,
+            })
         }
         Op::Abort => {
             if !is_active {
                 log.make_room(txn)?;
             }
-            Ok(Reply::Aborted)
+            Ok(DueReply {
+                noted: Reply::Aborted,
+                told: Reply::Aborted,
+            })
         }
         Op::Fetch(_) | Op::Scan(_, _) | Op::Go | Op::Insert(_, _) | Op::Delete(_) => {
             log.make_room(txn)?;
-            reply.try_copy(alloc)
+            Ok(DueReply {
+                noted: reply.try_copy(alloc)?,
+                told: reply.try_copy(alloc)?,
+            })
         }
     }
 }

@@ -44,6 +44,15 @@ impl Model for Ready {
     ghost inverse = { λ d. record { event = d.event; reply = d.reply } };
 }
 
+/// The reply of a step that is ready, as the machine keeps it.
+#[derive(Drop)]
+pub struct DueReply {
+    /// For the log.
+    pub noted: Reply,
+    /// For the caller.
+    pub told: Reply,
+}
+
 impl Ready {
     /// The reply that the step has if it is done.
     pub fn reply(&self) -> &Reply

@@ -47,10 +47,9 @@ pub(crate) fn reserve<P: Protocol, I: Ordered, L: Holdings>(
     ensures err { OnErr result (IsMachine (P.table protocol.now) (I.map index.new) (I.pins index.new) (L.locks locks.new) ended.new active.new None) }
 {
     room::make_room(ended, active)?;
-    let may_pin = room::may_change(active);
     let first_rows = scans::first_rows(*active.allocator(), op)?;
     let (standing, was_active) = room::stand(active, txn, op)?;
-    if let Err(refused) = change::reserve(index, op, may_pin) {
+    if let Err(refused) = change::reserve(index, op) {
         room::put_down(active, txn, standing, was_active);
         return Err(refused);
     }

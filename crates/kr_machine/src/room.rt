@@ -1,5 +1,5 @@
 //! The lists of ended and active transactions, and room in them.
-ghost use Rattle.std.specs.Prelude.{◌≡◌, ◌≢◌, ℕ, ◌+◌, ◌<◌, ◌≤◌, ◌^◌, ◌↔◌, None, Some, OnOk, OnErr, IfOk, IfErr, IsOk, IsTrue, length, vec_len, vec_capacity, if◌then◌else◌, unwrap_or, [], false, option_map, option_copied};
+ghost use Rattle.std.specs.Prelude.{◌≡◌, ◌≢◌, ℕ, ◌+◌, ◌<◌, ◌≤◌, None, Some, OnOk, OnErr, IfOk, IfErr, IsOk, IsTrue, length, vec_len, vec_capacity, if◌then◌else◌, unwrap_or, [], false, option_map, option_copied};
 ghost use Rattle.std.specs.Ordering.{nat_cmp};
 ghost use Rattle.std.specs.FinMap.{find, put};
 ghost use Rattle.kr_model.specs.Locks.{add_once, release};
@@ -7,7 +7,7 @@ ghost use Rattle.kr_model.specs.State.{State, idle, Active};
 ghost use Rattle.kr_model.specs.Step.{refusal_of};
 ghost use Rattle.kr_txn.specs.Standings.{active_of, scan_of, entries, IsInOrder, without_txn};
 ghost use Rattle.kr_machine.specs.Pending.{HasRoomIn, refusal_in, shown};
-ghost use Rattle.kr_machine.specs.Pins.{change_count, changes_of, all_changes_of};
+ghost use Rattle.kr_machine.specs.Pins.{changes_of, all_changes_of};
 
 use kr_locks::Holdings;
 use kr_model::{Op, Refusal, Txn};
@@ -86,22 +86,6 @@ pub(crate) fn make_room(ended: &mut Ended, active: &mut Vec<Standing>) -> Result
     ended.make_room(more)?;
     active.reserve(1)?;
     Ok(())
-}
-
-/// Whether the transactions may have one more change: together they have at most 4,294,967,295, so that a key has no more
-/// pins than it may have.
-pub(crate) fn may_change(active: &[Standing]) -> bool
-    ensures { IsTrue result ↔ (change_count active.now + 1 < 2 ^ 32) }
-{
-    let mut left: usize = 4_294_967_294;
-    for standing in active {
-        let changes = standing.changes.len();
-        if changes > left {
-            return false;
-        }
-        left -= changes;
-    }
-    true
 }
 
 /// Takes room for what an operation adds to its transaction: a row of the scan in progress, or a change.

@@ -1,6 +1,7 @@
 //! A step of a scan: the name that it looks at, what it answers, and what it leaves.
-ghost use Rattle.std.specs.Prelude.{◌≡◌, ◌<◌, Some, IfOk, IfSome, option_map, vec_len, vec_capacity};
+ghost use Rattle.std.specs.Prelude.{◌≡◌, ◌<◌, true, Some, IfOk, IfSome, option_map, vec_len, vec_capacity};
 ghost use Rattle.kr_model.specs.State.{idle};
+ghost use Rattle.kr_model.specs.Run.{is_granted};
 ghost use Rattle.kr_model.specs.Step.{Effect, looked, name_to_look};
 ghost use Rattle.kr_txn.specs.Standings.{active_of, scan_of};
 ghost use Rattle.kr_machine.specs.Pending.{HasFirstRoom, look_effect};
@@ -29,7 +30,8 @@ pub(crate) fn answer<I: Ordered>(
     hi: u64,
     rows: &[(u64, u64)],
 ) -> Result<Reply, Memory>
-    ensures { IfOk result (λ r. r ≡ (looked (I.map index.now) idle (record { lo = 0; hi = hi; rows = rows.now }) name).reply) }
+    ensures reply { IfOk result (λ r. r ≡ (looked (I.map index.now) idle (record { lo = 0; hi = hi; rows = rows.now }) name).reply) }
+    ensures granted { IfOk result (λ r. is_granted r ≡ true) }
 {
     if let Name::Key(key) = name {
         if key < hi {

@@ -1,6 +1,5 @@
 //! What does the steps of a machine.
 ghost use Rattle.std.specs.Prelude.{All, map, ◌≡◌, ◌≢◌, ℕ, ◌<◌, ◌≤◌, ◌⊎◌, [], None, Some, IfOk, IfErr, OnOk, OnErr, IsTrue, IsOk, true, false, is_some};
-ghost use Rattle.kr_model.specs.Map.{IsMap};
 ghost use Rattle.kr_model.specs.State.{State, start, active_of};
 ghost use Rattle.kr_model.specs.Step.{step, IsStep, refusal_of};
 ghost use Rattle.kr_model.specs.Run.{is_granted};
@@ -54,7 +53,6 @@ impl<P: Protocol, I: Ordered, L: Holdings> Model for Stepper<P, I, L> {
 impl<P: Protocol, I: Ordered, L: Holdings> Stepper<P, I, L> {
     /// A machine with this opening index and no transactions. The index has no pins, and no locks are held. Takes no memory.
     pub fn new(alloc: Global, protocol: P, index: I, locks: L) -> Self
-        requires is_map { IsMap (I.map index) }
         requires no_pins { (q : ℕ) → I.pins index q ≡ 0 }
         requires no_locks { L.locks locks ≡ [] }
         ensures { result ≡ (protocol, (start (I.map index), None)) }
@@ -117,6 +115,7 @@ impl<P: Protocol, I: Ordered, L: Holdings> Stepper<P, I, L> {
         requires at_rest { self.old.1.1 ≡ None }
         ensures event { IfOk result (λ r. r.event ≡ record { txn = txn; op = op }) }
         ensures reply { IfOk result (λ r. r.reply ≡ (step (P.table self.old.0) self.old.1.0 txn op).0) }
+        ensures granted { IfOk result (λ r. is_granted r.reply ≡ true) }
         ensures waits { OnOk result (self.new ≡ (self.old.0, (self.old.1.0, Some (record { txn = txn; op = op })))) }
         ensures allowed { OnOk result (refusal_of self.old.1.0 txn op ≡ None) }
         ensures refusal { IfErr result (λ r. IsStep (P.table self.old.0) self.old.1.0 txn op r self.old.1.0) }
@@ -141,6 +140,7 @@ impl<P: Protocol, I: Ordered, L: Holdings> Stepper<P, I, L> {
         requires allowed { refusal_of self.old.1.0 txn op ≡ None }
         ensures event { IfOk result (λ r. r.event ≡ record { txn = txn; op = op }) }
         ensures reply { IfOk result (λ r. r.reply ≡ (step (P.table self.old.0) self.old.1.0 txn op).0) }
+        ensures granted { IfOk result (λ r. is_granted r.reply ≡ true) }
         ensures waits { OnOk result (self.new ≡ (self.old.0, (self.old.1.0, Some (record { txn = txn; op = op })))) }
         ensures refusal { IfErr result (λ r. IsStep (P.table self.old.0) self.old.1.0 txn op r self.old.1.0) }
         ensures not_granted { IfErr result (λ r. is_granted r ≡ false) }
@@ -173,6 +173,7 @@ impl<P: Protocol, I: Ordered, L: Holdings> Stepper<P, I, L> {
         requires allowed { refusal_of self.old.1.0 txn op ≡ None }
         ensures event { IfOk result (λ r. r.event ≡ record { txn = txn; op = op }) }
         ensures reply { IfOk result (λ r. r.reply ≡ (step (P.table self.old.0) self.old.1.0 txn op).0) }
+        ensures granted { IfOk result (λ r. is_granted r.reply ≡ true) }
         ensures waits { OnOk result (self.new ≡ (self.old.0, (self.old.1.0, Some (record { txn = txn; op = op })))) }
         ensures refusal { IfErr result (λ r. IsStep (P.table self.old.0) self.old.1.0 txn op r self.old.1.0) }
         ensures not_granted { IfErr result (λ r. is_granted r ≡ false) }
@@ -236,13 +237,11 @@ impl<P: Protocol, I: Ordered, L: Holdings> Stepper<P, I, L> {
         }
     }
 
-    /// Does the step that is ready, and gives the reply that was told. Takes no memory.
-    pub fn finish(&mut self, ready: Ready) -> Reply
-        requires { self.old.1.1 ≡ Some ready.event }
-        ensures reply { result ≡ ready.reply }
-        ensures machine { self.new ≡ (self.old.0, ((step (P.table self.old.0) self.old.1.0 ready.event.txn ready.event.op).1, None)) }
+    /// Does the step of this event, which is ready. Takes no memory.
+    pub fn finish(&mut self, event: Event)
+        requires { self.old.1.1 ≡ Some event }
+        ensures { self.new ≡ (self.old.0, ((step (P.table self.old.0) self.old.1.0 event.txn event.op).1, None)) }
     {
-        let Ready { event, reply } = ready;
         if let Some(pending) = self.pending.take() {
             let Pending {
                 event: _,
@@ -269,6 +268,5 @@ impl<P: Protocol, I: Ordered, L: Holdings> Stepper<P, I, L> {
                 }
             }
         }
-        reply
     }
 }

@@ -5,6 +5,7 @@ ghost use Rattle.std.specs.Prelude.{◌≡◌, [], None, IfOk};
 
 use super::{Machine, Mode, Name, Txn};
 
+mod ample;
 mod scans;
 mod scarce;
 
@@ -58,7 +59,7 @@ fn rows(alloc: Global, pairs: &[(u64, u64)]) -> Result<Reply, Memory> {
 fn plain<P: Protocol>(alloc: Global, protocol: P) -> Result<Machine<P, Sorted, List>, Memory>
     ensures { IfOk result (λ machine. machine.pending ≡ None) }
 {
-    let index = Sorted::from_pairs(&[(10, 1), (20, 2), (30, 3)], alloc)?;
+    let index = Sorted::from_pairs(alloc, &[(10, 1), (20, 2), (30, 3)])?;
     Ok(Machine::new(alloc, protocol, index, List::new(alloc)))
 }
 
@@ -72,7 +73,7 @@ fn scant<P: Protocol>(
     ensures { IfOk result (λ machine. machine.pending ≡ None) }
 {
     let index = ScarceIndex {
-        index: Sorted::from_pairs(&[(10, 1), (20, 2), (30, 3)], alloc)?,
+        index: Sorted::from_pairs(alloc, &[(10, 1), (20, 2), (30, 3)])?,
         memory: Countdown::new(index_calls),
     };
     let locks = ScarceLocks {

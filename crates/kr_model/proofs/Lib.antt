@@ -11,9 +11,14 @@ pub mod DifferenceLaws
 pub mod CaseCount
 pub mod Bundled
 pub mod WorkedCovers
+pub mod WorkedEntries
 pub mod WorkedRuns
+pub mod Asymmetric
 pub mod Entries
 pub mod Keep
+pub mod Actives
+pub mod Requests
+pub mod WellFormedLaws
 pub mod Numbers
 pub mod Retained
 pub mod SortedSearch

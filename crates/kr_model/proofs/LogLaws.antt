@@ -1,12 +1,10 @@
 -- The log of a run has the operations so far of each active transaction, and the committed programs.
-use Rattle.std.specs.Prelude.{◌≡◌, ℕ, Bool, true, false, not, ◌==◌, ◌&&◌, ◌||◌, cond, nat_le, List, [], ◌∷◌, ◌++◌, Option, Some, None, is_some, unwrap_or, filter, map, refl, if◌then◌else◌, T, ◌⊎◌}
+use Rattle.std.specs.Prelude.{◌≡◌, ℕ, Bool, true, false, not, ◌==◌, ◌&&◌, ◌||◌, cond, nat_le, List, [], ◌∷◌, ◌++◌, Option, Some, None, is_some, unwrap_or, filter, map, refl, if◌then◌else◌, ◌⊎◌}
 use Rattle.std.specs.List.{list_any, cons_option}
 use Rattle.std.specs.Ordering.{nat_cmp, eq_by_cmp, is_lt}
-use Rattle.std.specs.declared.cmp.Ordering.{Ordering}
-use Rattle.std.specs.declared.cmp.Ordering.TheVariants.{Less, Equal, Greater}
 use Rattle.std.specs.Cmp.{nat_cmp_total}
 use Rattle.std.specs.FinMap.{find, put, is_sorted}
-use Rattle.std.specs.FinMap.Entries.{find-put, find-where_key, is_sorted-put, is_sorted-where_key, by_order, same_entries, below_all}
+use Rattle.std.specs.FinMap.Entries.{find-put, same_entries, below_all}
 use Rattle.std.proofs.lemmas.Bool.Decides.{nat_tests}
 use Rattle.std.proofs.lemmas.Map.Lookups.{exact_unsigned}
 use Rattle.std.proofs.lemmas.Bool.{cases_eq}
@@ -29,17 +27,12 @@ use Rattle.kr_model.specs.State.{State, Active, Scan, start, idle, active_of, st
 use Rattle.kr_model.specs.Step.{Effect, Outcome, IsStep, refusal_of, unless_refused, performed, granted_or_blocked, looked, row_read, fetched, inserted, deleted, attempted_scan, name_to_look, is_full, goes_on}
 use Rattle.kr_model.specs.Run.{Entry, Answered, Program, run, operations_of, answer_of, first_rows, committed, programs, is_rows, is_committed, is_operation, is_granted, AreSteps}
 use Rattle.kr_model.specs.Log.{Log, no_log, operations_so_far, last_answered, with_step, step_logged, end_logged, logged, log_after}
-use Rattle.kr_model.proofs.MapLaws.{keys_apart, key_tie, equal_of_test}
+use Rattle.kr_model.proofs.MapLaws.{equal_of_test, t_of, sorted_put, sorted_where}
+use Rattle.kr_model.proofs.Actives.{tied, untied, any_add_once, or_true, find_put_same, find_put_other, find_filter, find_filter_other}
 use Rattle.kr_model.proofs.RunLaws.{steps_of_run}
 
 abbrev event : ℕ → Op → Event
 event t o = record { txn = t; op = o }
-
-tied : (t : ℕ) → (t == t) ≡ true
-tied t = grind (arith, nat_tests)
-
-untied : (u t : ℕ) → (u ≡ t → ⊥) → (u == t) ≡ false
-untied u t h = grind (arith, nat_tests)
 
 turned : (u t : ℕ) → (u == t) ≡ (t == u)
 turned u t = grind (arith, nat_tests)
@@ -304,7 +297,7 @@ performed_kind p s t op.Abort a new works rest is =
       kept = inr (ap (λ (x : Outcome). x.0) is);
     })
 
-not_refused : (b : Bool) (r : Refusal) (o : Option Refusal) → cond b (Some r) o ≡ None → (b ≡ false) × (o ≡ None)
+pub not_refused : (b : Bool) (r : Refusal) (o : Option Refusal) → cond b (Some r) o ≡ None → (b ≡ false) × (o ≡ None)
 not_refused true r o e = absurd (cc)
 not_refused false r o e = (refl, e)
 
@@ -335,30 +328,6 @@ map_append : {A B : Type 0} (f : A → B) (xs ys : List A) → map f (xs ++ ys) 
 map_append f [] ys = refl
 map_append f (x ∷ xs) ys = ap (λ l. f x ∷ l) (map_append f xs ys)
 
-or_same : (b c : Bool) → (b || c) ≡ (b || (b || c))
-or_same true c = refl
-or_same false c = refl
-
-or_swap : (a b c : Bool) → (a || (b || c)) ≡ (b || (a || c))
-or_swap true true c = refl
-or_swap true false c = refl
-or_swap false true c = refl
-or_swap false false c = refl
-
-any_put : (f : ℕ → Bool) (x y : ℕ) (ys : List ℕ) (o : Ordering) → nat_cmp x y ≡ o → list_any f (add_once x ys) ≡ (f x || list_any f ys)
-    → list_any f (by_order o (x ∷ y ∷ ys) (y ∷ ys) (y ∷ add_once x ys)) ≡ (f x || (f y || list_any f ys))
-any_put f x y ys Less e h = refl
-any_put f x y ys Equal e h = or_same (f y) (list_any f ys) ∙ ap (λ z. f z || (f y || list_any f ys)) (sym (exact_unsigned x y e))
-any_put f x y ys Greater e h = ap (λ b. f y || b) h ∙ or_swap (f y) (f x) (list_any f ys)
-
-any_add_once : (f : ℕ → Bool) (x : ℕ) (xs : List ℕ) → list_any f (add_once x xs) ≡ (f x || list_any f xs)
-any_add_once f x [] = refl
-any_add_once f x (y ∷ ys) = any_put f x y ys (nat_cmp x y) refl (any_add_once f x ys)
-
-or_true : (a b : Bool) → b ≡ true → (a || b) ≡ true
-or_true true b h = refl
-or_true false b h = h
-
 or_left : (a b : Bool) → a ≡ true → (a || b) ≡ true
 or_left true b h = refl
 or_left false b h = absurd (cc)
@@ -366,32 +335,6 @@ or_left false b h = absurd (cc)
 or_none : (a b : Bool) → (a || b) ≡ false → (a ≡ false) × (b ≡ false)
 or_none true b h = absurd (cc)
 or_none false b h = (refl, h)
-
-find_put_same : {X : Type 0} (es : List (ℕ × X)) (t : ℕ) (v : X) → find nat_cmp t (put nat_cmp t v es) ≡ Some v
-find_put_same es t v = find-put nat_cmp nat_cmp_total t t v es ∙ ap (λ b. cond b (Some v) (find nat_cmp t es)) (key_tie t)
-
-find_put_other : {X : Type 0} (es : List (ℕ × X)) (t u : ℕ) (v : X) → (u ≡ t → ⊥) → find nat_cmp u (put nat_cmp t v es) ≡ find nat_cmp u es
-find_put_other es t u v d = find-put nat_cmp nat_cmp_total u t v es ∙ ap (λ b. cond b (Some v) (find nat_cmp u es)) (keys_apart u t d)
-
-find_filter : {X : Type 0} (es : List (ℕ × X)) (t u : ℕ) → find nat_cmp u (filter (λ e. not (e.0 == t)) es) ≡ cond (not (u == t)) (find nat_cmp u es) None
-find_filter es t u = find-where_key nat_cmp (λ x. not (x == t)) u (λ y e. ap (λ z. not (z == t)) (sym (exact_unsigned u y e))) es
-
-find_filter_other : {X : Type 0} (es : List (ℕ × X)) (t u : ℕ) → (u ≡ t → ⊥) → find nat_cmp u (filter (λ e. not (e.0 == t)) es) ≡ find nat_cmp u es
-find_filter_other es t u d = find_filter es t u ∙ ap (λ b. cond (not b) (find nat_cmp u es) None) (untied u t d)
-
-true_of : (b : Bool) → T b → b ≡ true
-true_of true h = refl
-true_of false h = absurd h
-
-t_of : (b : Bool) → b ≡ true → T b
-t_of true h = tt
-t_of false h = absurd (cc)
-
-sorted_put : {X : Type 0} (k : ℕ) (v : X) (es : List (ℕ × X)) → is_sorted nat_cmp es ≡ true → is_sorted nat_cmp (put nat_cmp k v es) ≡ true
-sorted_put k v es h = true_of (is_sorted nat_cmp (put nat_cmp k v es)) (is_sorted-put nat_cmp nat_cmp_total k v es (t_of (is_sorted nat_cmp es) h))
-
-sorted_filter : {X : Type 0} (t : ℕ) (es : List (ℕ × X)) → is_sorted nat_cmp es ≡ true → is_sorted nat_cmp (filter (λ e. not (e.0 == t)) es) ≡ true
-sorted_filter t es h = true_of (is_sorted nat_cmp (filter (λ e. not (e.0 == t)) es)) (is_sorted-where_key nat_cmp (λ x. not (x == t)) es (t_of (is_sorted nat_cmp es) h))
 
 same_some : {X Y : Type 0} (es : List (ℕ × X)) (fs : List (ℕ × Y)) (t q : ℕ) (v : X) (w : Y) → is_some (find nat_cmp q es) ≡ is_some (find nat_cmp q fs)
     → is_some (find nat_cmp q (put nat_cmp t v es)) ≡ is_some (find nat_cmp q (put nat_cmp t w fs))
@@ -568,8 +511,8 @@ module _ (h : List Entry) (s : State) (l : Log) (t : ℕ) (o : Op) (a : Reply) (
   -- the log after an end, where the programs listed are right
   log_ended : (ps : List Program) → logged l (event t o, a) ≡ end_logged l t ps → HaveEnded new (committed (h ++ (event t o, a) ∷ [])) → ps ≡ programs (h ++ (event t o, a) ∷ []) → IsLog (h ++ (event t o, a) ∷ []) new (logged l (event t o, a))
   log_ended ps is listed right = subst (λ z. IsLog (h ++ (event t o, a) ∷ []) new z) (sym is) record {
-    in_order = ap (is_sorted nat_cmp) g.active ∙ sorted_filter t s.active k.in_order;
-    log_in_order = sorted_filter t l.unfinished k.log_in_order;
+    in_order = ap (is_sorted nat_cmp) g.active ∙ sorted_where (λ x. not (x == t)) s.active k.in_order;
+    log_in_order = sorted_where (λ x. not (x == t)) l.unfinished k.log_in_order;
     same = λ u. same_without l.unfinished s.active t u (k.same u) ∙ sym (ap (λ z. is_some (find nat_cmp u z)) g.active);
     works = works_after;
     reads = reads_after ps;

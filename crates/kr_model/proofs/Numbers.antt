@@ -1,7 +1,8 @@
 -- Rising lists of numbers: a number put in, two lists joined, and what refuses several requests.
 use Rattle.std.specs.List.{insert, list_any, filter}
+use Rattle.std.specs.List.Sorted.{IsStrictlyIncreasing}
 use Rattle.std.proofs.lemmas.Bool.Decides.{nat_tests}
-use Rattle.std.proofs.Common.{◌≡◌, ℕ, zero, suc, ◌<◌, length, get_or, Bool, true, false, cond, List, [], ◌∷◌, ◌++◌, ◌||◌, sym, ◌∙◌, ap, refl, arith, ◌↔◌}
+use Rattle.std.proofs.Common.{◌≡◌, ℕ, zero, suc, ◌<◌, ◌+◌, length, get_or, Bool, true, false, cond, List, [], ◌∷◌, ◌++◌, ◌||◌, sym, ◌∙◌, ap, subst, refl, arith, ◌↔◌}
 use Rattle.std.specs.declared.cmp.Ordering.{Ordering}
 use Rattle.std.specs.declared.cmp.Ordering.TheVariants.{Less, Equal, Greater}
 use Rattle.std.specs.Ordering.{nat_cmp}
@@ -105,7 +106,8 @@ module _ where
   rising_add_by x y ys Equal e a r more = (a, r)
   rising_add_by x y ys Greater e a r more = (above_add y x ys (is_greater x y e) a, more)
 
-  rising_add : (x : ℕ) (ys : List ℕ) → Rising ys → Rising (add_once x ys)
+  -- with one more put in its place they rise still
+  pub rising_add : (x : ℕ) (ys : List ℕ) → Rising ys → Rising (add_once x ys)
   rising_add x [] r = (none, tt)
     where
       none : Above x []
@@ -116,6 +118,28 @@ module _ where
   pub lockers_rise : (h : Locks) → Rising (lockers h)
   lockers_rise [] = tt
   lockers_rise (l ∷ ls) = rising_add l.0.1 (lockers ls) (lockers_rise ls)
+
+next_place : (k : ℕ) → suc k + 1 ≡ suc (k + 1)
+next_place k = omega arith
+
+-- numbers each of which is below the next are each below all after it, and the other way round
+rising_of : (xs : List ℕ) → IsStrictlyIncreasing xs → Rising xs
+rising_of [] up = tt
+rising_of (x ∷ []) up = (tt, tt)
+rising_of (x ∷ y ∷ ys) up =
+    let lt : x < y = up 0 (omega arith) in
+    let rest = rising_of (y ∷ ys) (λ k le. subst (λ i. get_or (y ∷ ys) k 0 < get_or (x ∷ y ∷ ys) i 0) (next_place k) (up (suc k) (omega arith))) in
+    ((lt, above_trans x y ys lt rest.0), rest)
+
+increasing_of : (xs : List ℕ) → Rising xs → IsStrictlyIncreasing xs
+increasing_of [] r k le = absurd (omega arith)
+increasing_of (x ∷ []) r k le = absurd (omega arith)
+increasing_of (x ∷ y ∷ ys) r zero le = r.0.0
+increasing_of (x ∷ y ∷ ys) r (suc k) le = subst (λ i. get_or (y ∷ ys) k 0 < get_or (x ∷ y ∷ ys) i 0) (sym (next_place k)) (increasing_of (y ∷ ys) r.1 k (omega arith))
+
+-- so with one more put in its place each is below the next
+pub increasing_add : (x : ℕ) (xs : List ℕ) → IsStrictlyIncreasing xs → IsStrictlyIncreasing (add_once x xs)
+increasing_add x xs up = increasing_of (add_once x xs) (rising_add x xs (rising_of xs up))
 
 -- the numbers of the first list put into the second, the last one first
 abbrev pub merged : List ℕ → List ℕ → List ℕ

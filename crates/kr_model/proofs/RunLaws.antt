@@ -1,20 +1,24 @@
--- A history in which no step was refused memory is the run of its events.
-use Rattle.std.specs.Prelude.{◌≡◌, ℕ, List, [], ◌∷◌, refl}
+-- Runs are the histories of steps of which none was refused memory.
+use Rattle.std.specs.Prelude.{◌≡◌, ℕ, Bool, true, false, not, ◌&&◌, ◌==◌, nat_le, if◌then◌else◌, unwrap_or, Option, Some, None, List, [], ◌∷◌, refl}
 use Rattle.std.proofs.Common.{sym, ◌∙◌, ap, inl, inr}
 use Rattle.kr_model.specs.declared.Event.{Event}
 use Rattle.kr_model.specs.declared.Op.{Op}
+use Rattle.kr_model.specs.declared.Name.{Name}
+use Rattle.kr_model.specs.declared.Name.TheVariants.{Key, End}
+use Rattle.kr_model.specs.declared.Step.{Step}
+use Rattle.kr_model.specs.declared.Step.TheVariants as attempt
+use Rattle.kr_model.specs.declared.Op.TheVariants as op
+use Rattle.kr_model.specs.declared.Refusal.{Refusal}
 use Rattle.kr_model.specs.declared.Reply.{Reply}
 use Rattle.kr_model.specs.declared.Reply.TheVariants as reply
 use Rattle.kr_model.specs.declared.Refusal.TheVariants as refusal
 use Rattle.kr_model.specs.Protocol.{Protocol}
-use Rattle.kr_model.specs.State.{State}
-use Rattle.kr_model.specs.Step.{Outcome, step, IsStep}
-use Rattle.kr_model.specs.Run.{Entry, Trace, run, events_of, AreSteps}
-
--- no reply of the history is a refusal for want of memory
-abbrev pub HadMemory : List Entry → Type 0
-HadMemory [] = Unit {0}
-HadMemory (e ∷ es) = (e.1 ≡ reply.Refused refusal.Memory → ⊥) × HadMemory es
+use Rattle.kr_model.specs.State.{State, Active, Scan, has_ended, standing, is_scanning}
+use Rattle.kr_model.specs.Map.{Map, get}
+use Rattle.kr_model.specs.Locks.{Request, blockers}
+use Rattle.kr_model.specs.Plan.{plan_of, requests}
+use Rattle.kr_model.specs.Step.{Effect, Outcome, is_full, goes_on, is_go, is_bad_range, refusal_of, fetched, inserted, deleted, row_read, looked, name_to_look, granted_or_blocked, attempted, attempted_scan, performed, unless_refused, step, IsStep}
+use Rattle.kr_model.specs.Run.{Entry, Trace, run, events_of, AreSteps, HadMemory}
 
 is_outcome : (p : Protocol) (s : State) (t : ℕ) (o : Op) (r : Reply) (new : State) → (r ≡ reply.Refused refusal.Memory → ⊥) → IsStep p s t o r new → ◌≡◌ {A = Outcome} (r, new) (step p s t o)
 is_outcome p s t o r new had (inl e) = e
@@ -36,3 +40,93 @@ run_of_steps p s ((e, r) ∷ rest) new (mid, are) had =
 pub steps_of_run : (p : Protocol) (s : State) (events : List Event) → let r = run p s events in AreSteps p s r.history r.state
 steps_of_run p s [] = refl
 steps_of_run p s (e ∷ es) = let o = step p s e.txn e.op in (o.1, (inl refl, steps_of_run p o.1 es))
+
+-- Where memory is ample, it isn't refused --
+
+-- whether a reply is a refusal of memory
+abbrev lacks_memory : Reply → Bool
+lacks_memory (reply.Refused refusal.Memory) = true
+lacks_memory _ = false
+
+-- whether a refusal is one of memory
+abbrev is_memory : Option Refusal → Bool
+is_memory (Some refusal.Memory) = true
+is_memory _ = false
+
+fetch_has : (m : Map) (a : Active) (g : Option ℕ) → lacks_memory (fetched m a g).reply ≡ false
+fetch_has m a None = refl
+fetch_has m a (Some v) = refl
+
+insert_has : (m : Map) (a : Active) (k v : ℕ) (g : Option ℕ) → lacks_memory (inserted m a k v g).reply ≡ false
+insert_has m a k v None = refl
+insert_has m a k v (Some w) = refl
+
+delete_has : (m : Map) (a : Active) (k : ℕ) (g : Option ℕ) → lacks_memory (deleted m a k g).reply ≡ false
+delete_has m a k None = refl
+delete_has m a k (Some w) = refl
+
+look_has : (m : Map) (a : Active) (c : Scan) (n : Name) → lacks_memory (looked m a c n).reply ≡ false
+look_has m a c End = refl
+look_has m a c (Key k) = by (nat_le k c.hi) refl
+  where
+    ends : (x : Bool) → k == c.hi ≡ x → lacks_memory (row_read m a c k (unwrap_or (get m k) 0)).reply ≡ false
+    ends true e = rw e refl
+    ends false e = rw e refl
+
+    by : (x : Bool) → nat_le k c.hi ≡ x → lacks_memory (looked m a c (Key k)).reply ≡ false
+    by true e = rw e (ends (k == c.hi) refl)
+    by false e = rw e refl
+
+module _ (p : Protocol) (s : State) (t : ℕ) where
+  attempt_has : (rs : List Request) (e : Effect) → lacks_memory e.reply ≡ false → (us : List ℕ) → lacks_memory (granted_or_blocked p s t rs e us).0 ≡ false
+  attempt_has rs e h [] = h
+  attempt_has rs e h (u ∷ us) = refl
+
+  step_has : (a : Step) (e : Effect) → lacks_memory e.reply ≡ false → lacks_memory (attempted p s t a e).0 ≡ false
+  step_has a e h = let rs = requests (plan_of p s.map s.locks t a) in attempt_has rs e h (blockers p s.locks t rs)
+
+  scan_has : (c : Option Scan) → lacks_memory (attempted_scan p s t c).0 ≡ false
+  scan_has None = refl
+  scan_has (Some c) = let n = name_to_look s.map c in step_has (attempt.Look n c.hi) (looked s.map (standing s t) c n) (look_has s.map (standing s t) c n)
+
+  performed_has : (o : Op) → lacks_memory (performed p s t o).0 ≡ false
+  performed_has (op.Fetch k) = step_has (attempt.Fetch k) (fetched s.map (standing s t) (get s.map k)) (fetch_has s.map (standing s t) (get s.map k))
+  performed_has (op.Scan lo hi) = scan_has (Some (record { lo = lo; hi = hi; rows = [] }))
+  performed_has op.Go = scan_has (standing s t).scan
+  performed_has (op.Insert k v) = step_has (attempt.Insert k) (inserted s.map (standing s t) k v (get s.map k)) (insert_has s.map (standing s t) k v (get s.map k))
+  performed_has (op.Delete k) = step_has (attempt.Delete k) (deleted s.map (standing s t) k (get s.map k)) (delete_has s.map (standing s t) k (get s.map k))
+  performed_has op.Commit = refl
+  performed_has op.Abort = refl
+
+  first_refusal : (b : Bool) (r : Refusal) (x : Option Refusal) → is_memory (Some r) ≡ false → is_memory x ≡ false → is_memory (if b then Some r else x) ≡ false
+  first_refusal true r x e h = e
+  first_refusal false r x e h = h
+
+  refusal_has : (o : Op) → is_memory (refusal_of s t o) ≡ false
+  refusal_has o =
+      first_refusal (has_ended s t) refusal.Ended _ refl
+      (first_refusal (is_full s t) refusal.Full _ refl
+      (first_refusal (is_scanning s t && not (goes_on o)) refusal.Busy _ refl
+      (first_refusal (not (is_scanning s t) && is_go o) refusal.NoScan _ refl
+      (first_refusal (is_bad_range o) refusal.BadRange None refl refl))))
+
+  unless_has : (o : Op) (x : Option Refusal) → is_memory x ≡ false → lacks_memory (unless_refused p s t o x).0 ≡ false
+  unless_has o None h = performed_has o
+  unless_has o (Some refusal.Ended) h = refl
+  unless_has o (Some refusal.Full) h = refl
+  unless_has o (Some refusal.Busy) h = refl
+  unless_has o (Some refusal.NoScan) h = refl
+  unless_has o (Some refusal.BadRange) h = refl
+  unless_has o (Some refusal.Memory) h = absurd (cc)
+
+  -- the step where memory is ample
+  had_memory : (o : Op) → (step p s t o).0 ≡ reply.Refused refusal.Memory → ⊥
+  had_memory o e = no (lacks_memory (step p s t o).0) (unless_has o (refusal_of s t o) (refusal_has o)) (ap lacks_memory e)
+    where
+      no : (b : Bool) → b ≡ false → b ≡ true → ⊥
+      no b f t = cc
+
+-- no step of a run is refused memory
+pub memory_of_run : (p : Protocol) (s : State) (events : List Event) → HadMemory (run p s events).history
+memory_of_run p s [] = tt
+memory_of_run p s (e ∷ es) = let o = step p s e.txn e.op in (had_memory p s e.txn e.op, memory_of_run p o.1 es)

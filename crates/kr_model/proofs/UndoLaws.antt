@@ -4,8 +4,8 @@ use Rattle.std.specs.Ordering.{nat_cmp, eq_by_cmp}
 use Rattle.std.specs.FinMap.{find}
 use Rattle.std.proofs.lemmas.List.{reverse-append}
 use Rattle.std.proofs.Common.{sym, ◌∙◌, ap}
-use Rattle.kr_model.specs.Map.{Map, Changes, get, restore, restore_all, before_first}
-use Rattle.kr_model.proofs.MapLaws.{same_test, get-set, get-without}
+use Rattle.kr_model.specs.Map.{Map, Changes, IsMap, get, restore, restore_all, before_first}
+use Rattle.kr_model.proofs.MapLaws.{same_test, get-set, get-without, IsMap-set, IsMap-without}
 
 -- a key that is restored stands as it stood, and every other key is as it was
 pub get-restore : (m : Map) (k : ℕ) (b : Option ℕ) (q : ℕ) → get (restore m k b) q ≡ (if k == q then b else get m q)
@@ -48,3 +48,12 @@ get-restore_all m (c ∷ cs) k =
     get-restore_all (restore m c.0 c.1) cs k
     ∙ one_more (before_first cs k) c k (get (restore m c.0 c.1) k) (get m k) (get-restore m c.0 c.1 k)
     ∙ ap (λ o. unwrap_or o (get m k)) (sym (before_first-cons c cs k))
+
+-- a map in which a key is restored, or all changes are taken back, is a map
+pub IsMap-restore : (m : Map) (k : ℕ) (b : Option ℕ) → IsMap m → IsMap (restore m k b)
+IsMap-restore m k None h = IsMap-without m k h
+IsMap-restore m k (Some v) h = IsMap-set m k v h
+
+pub IsMap-restore_all : (m : Map) (cs : Changes) → IsMap m → IsMap (restore_all m cs)
+IsMap-restore_all m [] h = h
+IsMap-restore_all m (c ∷ cs) h = IsMap-restore_all (restore m c.0 c.1) cs (IsMap-restore m c.0 c.1 h)

@@ -8,6 +8,7 @@ pub mod RangeKey
 pub mod Map
 pub mod Locks
 pub mod State
+pub mod WellFormed
 pub mod Plan
 pub mod Step
 pub mod Run

@@ -7,6 +7,7 @@ use Rattle.kr_model.specs.declared.Event.{Event}
 use Rattle.kr_model.specs.declared.Program as declared
 use Rattle.kr_model.specs.declared.Reply.{Reply}
 use Rattle.kr_model.specs.declared.Reply.TheVariants as reply
+use Rattle.kr_model.specs.declared.Refusal.TheVariants as refusal
 use Rattle.kr_model.specs.Protocol.{Protocol}
 use Rattle.kr_model.specs.Map.{Map}
 use Rattle.kr_model.specs.State.{State, start}
@@ -45,6 +46,11 @@ IsRun p opening h s = run p (start opening) (events_of h) ≡ record { history =
 abbrev pub AreSteps : Protocol → State → List Entry → State → Type 0
 AreSteps p s [] new = new ≡ s
 AreSteps p s ((e, r) ∷ rest) new = (mid : State) × (IsStep p s e.txn e.op r mid × AreSteps p mid rest new)
+
+-- Memory sufficed: no step of the history was refused it.
+abbrev pub HadMemory : List Entry → Type 0
+HadMemory [] = Unit {0}
+HadMemory ((e, r) ∷ rest) = (r ≡ reply.Refused refusal.Memory → ⊥) × HadMemory rest
 
 -- Committed programs, read from events and replies alone --
 

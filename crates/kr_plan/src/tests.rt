@@ -29,7 +29,7 @@ fn at_once(name: Name, mode: Mode) -> Option<(Name, Mode, Span)> {
 }
 
 fn sample(alloc: Global) -> Result<Sorted, Memory> {
-    Sorted::from_pairs(&[(10, 1), (20, 2), (30, 3)], alloc)
+    Sorted::from_pairs(alloc, &[(10, 1), (20, 2), (30, 3)])
 }
 
 /// Gives a transaction a mode on a name.

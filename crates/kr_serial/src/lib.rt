@@ -2,9 +2,9 @@
 #![tactic(auto)]
 
 mod covered;
+mod index;
 mod judging;
 mod lists;
-mod opening;
 mod ran;
 mod runs;
 mod steps;
@@ -14,10 +14,10 @@ mod verdict;
 mod whole;
 
 pub use covered::run;
+pub use index::Index;
 pub use judging::judge;
 pub use kr_model::{Mode, Name, Pairs, Program, Programs, Reply, Txn, Txns};
 pub use lists::{Replies, Triples};
-pub use opening::Opening;
 pub use ran::Ran;
 pub use runs::run_any;
 pub use steps::replay;

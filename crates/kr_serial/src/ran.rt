@@ -1,18 +1,18 @@
 //! What a run leaves.
 
-use crate::{Opening, Pairs, Programs, Replies, Triples, Txns};
+use crate::{Index, Programs, Replies, Triples, Txns};
 
 /// A run at its end.
 #[derive(Debug, Drop)]
 pub struct Ran {
     /// The index before the first step, keys rising.
-    pub opening: Opening,
+    pub opening: Index,
     /// The reply to each step, in the order of the steps.
     pub replies: Replies,
     /// What each transaction that committed did, in commit order.
     pub programs: Programs,
     /// The index after the last step, keys rising.
-    pub index: Pairs,
+    pub index: Index,
     /// The locks that are held after the last step: holders rise by name, then by transaction.
     pub locks: Triples,
     /// The transactions that are active after the last step, rising.

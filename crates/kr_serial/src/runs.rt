@@ -1,10 +1,12 @@
 //! Whole runs.
-ghost use Rattle.std.specs.Prelude.{◌≡◌, ◌≤◌, None, IfOk, All, map};
+ghost use Rattle.std.specs.Prelude.{◌≡◌, ◌≤◌, None, IfOk, OnOk, All, map};
 ghost use Rattle.kr_model.specs.Map.{IsMap};
+ghost use Rattle.kr_model.specs.Covers.{IsCovered};
+ghost use Rattle.kr_model.specs.Serial.{AreSerial, IsSerialRun};
 ghost use Rattle.kr_model.specs.State.{start};
 ghost use Rattle.kr_model.specs.Run.{run, replies_of, programs};
 
-use crate::{Opening, Ran, Replies, Triples, replay};
+use crate::{Index, Ran, Replies, Triples, replay};
 use kr_index::{Memory, Ordered, Sorted};
 use kr_locks::{Holdings, List};
 use kr_machine::Machine;
@@ -14,7 +16,9 @@ use std::alloc::Global;
 
 /// Runs the events under any protocol, from an opening map whose keys rise strictly. The only fault is `Memory`: a step
 /// that was refused memory ends the run, and nothing of it is shown.
-#[tactic(auto, using(crate::proofs::Replayed::programs_of_run))]
+///
+/// Where the protocol is covered the run is serial: its committed programs are serial in commit order from the opening
+/// map, and the index with the unfinished rolled back, in any order, is the map that they leave.
 pub fn run_any<P: Protocol>(
     alloc: Global,
     protocol: &P,
@@ -29,9 +33,31 @@ pub fn run_any<P: Protocol>(
     ensures programs { IfOk result (λ ran. let r = run (P.table protocol.now) (start opening.now) events.now in ran.programs ≡ programs r.history) }
     ensures modes { IfOk result (λ ran. All (λ l. l.1 ≤ (P.table protocol.now).count) ran.locks) }
     ensures unfinished { IfOk result (λ ran. let r = run (P.table protocol.now) (start opening.now) events.now in ran.unfinished ≡ map (λ a. a.0) r.state.active) }
+    ensures covered { IsCovered (P.table protocol.now) → IfOk result (λ ran. AreSerial ran.opening ran.programs) }
+    ensures covered_run { IsCovered (P.table protocol.now) → OnOk result (IsSerialRun opening.now (run (P.table protocol.now) (start opening.now) events.now)) }
 {
-    let first = Opening::copy_of(alloc, opening)?;
-    let index = Sorted::from_pairs(opening, alloc)?;
+    replayed(alloc, protocol, opening, events)
+}
+
+/// The same, without what holds where the protocol is covered.
+#[tactic(auto, using(crate::proofs::Replayed::programs_of_run))]
+fn replayed<P: Protocol>(
+    alloc: Global,
+    protocol: &P,
+    opening: &[(u64, u64)],
+    events: &[Event],
+) -> Result<Ran, Memory>
+    requires { IsMap opening.now }
+    ensures opening { IfOk result (λ ran. ran.opening ≡ opening.now) }
+    ensures replies { IfOk result (λ ran. let r = run (P.table protocol.now) (start opening.now) events.now in ran.replies ≡ replies_of r.history) }
+    ensures index { IfOk result (λ ran. let r = run (P.table protocol.now) (start opening.now) events.now in ran.index ≡ r.state.map) }
+    ensures locks { IfOk result (λ ran. let r = run (P.table protocol.now) (start opening.now) events.now in ran.locks ≡ r.state.locks) }
+    ensures programs { IfOk result (λ ran. let r = run (P.table protocol.now) (start opening.now) events.now in ran.programs ≡ programs r.history) }
+    ensures modes { IfOk result (λ ran. All (λ l. l.1 ≤ (P.table protocol.now).count) ran.locks) }
+    ensures unfinished { IfOk result (λ ran. let r = run (P.table protocol.now) (start opening.now) events.now in ran.unfinished ≡ map (λ a. a.0) r.state.active) }
+{
+    let first = Index::copy_of(alloc, opening)?;
+    let index = Sorted::from_pairs(alloc, opening)?;
     let mut machine = Machine::new(alloc, protocol, index, List::new(alloc));
     let replies = replay(alloc, &mut machine, events)?;
     show(&machine, first, replies)
@@ -40,7 +66,7 @@ pub fn run_any<P: Protocol>(
 /// What a machine shows after a run with these replies from this opening map.
 fn show<P: Protocol, I: Ordered, L: Holdings>(
     machine: &Machine<P, I, L>,
-    opening: Opening,
+    opening: Index,
     replies: Replies,
 ) -> Result<Ran, Memory>
     requires { machine.now.pending ≡ None }
@@ -52,7 +78,7 @@ fn show<P: Protocol, I: Ordered, L: Holdings>(
     ensures modes { IfOk result (λ ran. All (λ l. l.1 ≤ (P.table machine.now.protocol).count) ran.locks) }
     ensures unfinished { IfOk result (λ ran. ran.unfinished ≡ map (λ a. a.0) machine.now.state.active) }
 {
-    let index = machine.index()?;
+    let index = Index::from_pairs(machine.index()?);
     let locks = Triples::from_vec(machine.locks()?);
     let programs = machine.programs()?;
     let unfinished = machine.unfinished()?;

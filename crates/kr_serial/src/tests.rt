@@ -1,7 +1,8 @@
+mod ample;
 mod judging;
 mod running;
 
-use crate::{Name, Opening, Pairs, Programs, Ran, Replies, Reply, Triples, Txns};
+use crate::{Index, Name, Programs, Ran, Replies, Reply, Triples, Txns};
 use std::alloc::{AllocError, Global};
 
 fn ran(alloc: Global) -> Result<Ran, AllocError> {
@@ -11,9 +12,9 @@ fn ran(alloc: Global) -> Result<Ran, AllocError> {
     ]?;
     let locks = vec![in alloc; ((Name::Key(20), 1), 3), ((Name::End, 2), 5)]?;
     Ok(Ran {
-        opening: Opening::copy_of(alloc, &[(20, 2)])?,
+        opening: Index::copy_of(alloc, &[(20, 2)])?,
         replies: Replies::from_vec(replies),
-        index: Pairs::from_vec(vec![in alloc; (20, 2)]?),
+        index: Index::copy_of(alloc, &[(20, 2)])?,
         locks: Triples::from_vec(locks),
         programs: Programs::from_vec(Vec::new(alloc)),
         unfinished: Txns::from_vec(vec![in alloc; 1, 2]?),

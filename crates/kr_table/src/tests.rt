@@ -1,4 +1,6 @@
 //! The first fault of wrong tables, and that the bundled tables are what they stand for.
+mod ample;
+
 use crate::texts::{IM, KVL, RANGE_KEY};
 use crate::{Table, TableFault, read, write};
 use kr_protocol::{Im, Kvl, Protocol, RangeKey, Row, Side};

@@ -7,7 +7,7 @@ use std::test::Fail;
 use std::thread::Threads;
 
 /// Checks a table in a file, and compares the report.
-fn checks<R: std::rt::Files + AllocGlobal + Threads + Sync + Abort>(
+pub fn checks<R: std::rt::Files + AllocGlobal + Threads + Sync + Abort>(
     rt: &R,
     table: &str,
     report: &str,
@@ -59,7 +59,7 @@ fn no_table(rt: HostRuntime) -> Result<(), Fail> {
 }
 
 /// The text with a part of it replaced, which stands there once.
-fn with(alloc: Global, text: &str, old: &str, new: &str) -> Result<String, Fail> {
+pub fn with(alloc: Global, text: &str, old: &str, new: &str) -> Result<String, Fail> {
     let (before, after) = text.split_once(old).ok_or("no such part")?;
     Ok(format!(in alloc; "{before}{new}{after}")?)
 }

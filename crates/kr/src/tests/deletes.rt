@@ -86,17 +86,17 @@ fn delete_of_an_absent_key(rt: HostRuntime) -> Result<(), Fail> {
     )
 }
 
-// An abort by a transaction that did nothing ends its number.
+// An abort or a commit by a transaction that did nothing ends its number.
 #[test]
-fn abort_of_one_that_did_nothing(rt: HostRuntime) -> Result<(), Fail> {
+fn ends_of_those_that_did_nothing(rt: HostRuntime) -> Result<(), Fail> {
     under_each(
         &rt,
         Expected {
             opening: OPENING,
-            steps: r#"[[1,"abort"],[1,"fetch",10]]"#,
+            steps: r#"[[1,"abort"],[1,"fetch",10],[2,"commit"],[2,"fetch",10]]"#,
             index: OPENING,
             locks: ["[]", "[]", "[]"],
-            replies: r#"[["aborted"],["refused",1,"Ended"]]"#,
+            replies: r#"[["aborted"],["refused",1,"Ended"],["committed"],["refused",1,"Ended"]]"#,
             unfinished: "[]",
         },
     )

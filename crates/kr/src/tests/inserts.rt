@@ -1,5 +1,6 @@
 //! Fetches, inserts and commits.
 use super::{OPENING, reports};
+use std::alloc::{AllocError, Global};
 use std::test::Fail;
 
 #[test]
@@ -72,22 +73,67 @@ fn two_inserts_in_one_gap(rt: HostRuntime) -> Result<(), Fail> {
     )
 }
 
+/// What 64 transactions do that fetch 10, and what they leave, under key-value locking.
+#[derive(Drop)]
+struct Fetched {
+    steps: String,
+    locks: String,
+    replies: String,
+    unfinished: String,
+}
+
+/// 64 transactions, numbered from this one on.
+fn fetched_by_64(alloc: Global, first: u8) -> Result<Fetched, AllocError> {
+    let mut steps = String::new(alloc);
+    let mut locks = String::new(alloc);
+    let mut replies = String::new(alloc);
+    let mut unfinished = String::new(alloc);
+    for place in 0..64_u32 {
+        let txn = u32::from(first) + place;
+        let comma = if place == 0 { "" } else { "," };
+        steps.push_str(format!(in alloc; "{comma}[{txn},\"fetch\",10]")?.as_str())?;
+        locks.push_str(format!(in alloc; "{comma}[10,{txn},\"S\"]")?.as_str())?;
+        replies.push_str(format!(in alloc; "{comma}[\"found\",1]")?.as_str())?;
+        unfinished.push_str(format!(in alloc; "{comma}{txn}")?.as_str())?;
+    }
+    Ok(Fetched {
+        steps,
+        locks,
+        replies,
+        unfinished,
+    })
+}
+
 #[test]
 fn the_65th_transaction(rt: HostRuntime) -> Result<(), Fail> {
     let alloc = rt.alloc();
-    let mut steps = String::from_str(alloc, "[[1,\"fetch\",10]")?;
-    let mut locks = String::from_str(alloc, "[[10,1,\"S\"]")?;
-    let mut replies = String::from_str(alloc, "[[\"found\",1]")?;
-    let mut unfinished = String::from_str(alloc, "[1")?;
-    for txn in 2..65_u32 {
-        steps.push_str(format!(in alloc; ",[{txn},\"fetch\",10]")?.as_str())?;
-        locks.push_str(format!(in alloc; ",[10,{txn},\"S\"]")?.as_str())?;
-        replies.push_str(",[\"found\",1]")?;
-        unfinished.push_str(format!(in alloc; ",{txn}")?.as_str())?;
-    }
-    steps.push_str(",[65,\"fetch\",10]]")?;
+    let Fetched {
+        steps,
+        locks,
+        replies,
+        unfinished,
+    } = fetched_by_64(alloc, 1)?;
+    let steps = format!(in alloc; "[{steps},[65,\"fetch\",10]]")?;
     let report = format!(in alloc;
-        "{{\"index\":{OPENING},\"locks\":{locks}],\"replies\":{replies},[\"refused\",5,\"Full\"]],\"unfinished\":{unfinished}],\"verdict\":[\"serial\"]}}"
+        "{{\"index\":{OPENING},\"locks\":[{locks}],\"replies\":[{replies},[\"refused\",5,\"Full\"]],\"unfinished\":[{unfinished}],\"verdict\":[\"serial\"]}}"
+    )?;
+    reports(&rt, "@kvl", OPENING, steps.as_str(), report.as_str())
+}
+
+#[test]
+fn ended_before_full(rt: HostRuntime) -> Result<(), Fail> {
+    let alloc = rt.alloc();
+    let Fetched {
+        steps,
+        locks,
+        replies,
+        unfinished,
+    } = fetched_by_64(alloc, 2)?;
+    let steps = format!(in alloc;
+        "[[1,\"fetch\",10],[1,\"commit\"],{steps},[1,\"fetch\",10],[66,\"fetch\",10]]"
+    )?;
+    let report = format!(in alloc;
+        "{{\"index\":{OPENING},\"locks\":[{locks}],\"replies\":[[\"found\",1],[\"committed\"],{replies},[\"refused\",1,\"Ended\"],[\"refused\",5,\"Full\"]],\"unfinished\":[{unfinished}],\"verdict\":[\"serial\"]}}"
     )?;
     reports(&rt, "@kvl", OPENING, steps.as_str(), report.as_str())
 }

@@ -94,6 +94,22 @@ fn refusals_in_a_scan(rt: HostRuntime) -> Result<(), Fail> {
     )
 }
 
+// In the midst of a scan a range upside down is refused as one scan too many.
+#[test]
+fn busy_before_bad_range(rt: HostRuntime) -> Result<(), Fail> {
+    under_each(
+        &rt,
+        Expected {
+            opening: OPENING,
+            steps: r#"[[1,"scan",10,30],[1,"scan",30,10],[1,"abort"]]"#,
+            index: OPENING,
+            locks: ["[]", "[]", "[]"],
+            replies: r#"[["going",10],["refused",2,"Busy"],["aborted"]]"#,
+            unfinished: "[]",
+        },
+    )
+}
+
 // An insert above the scan is let in, one within is not.
 #[test]
 fn scan_ends_on_its_upper_key(rt: HostRuntime) -> Result<(), Fail> {

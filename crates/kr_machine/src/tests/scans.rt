@@ -51,7 +51,7 @@ fn opened<P: Protocol>(
     requires { IsMap pairs.now }
     ensures { IfOk result (λ machine. machine.pending ≡ None) }
 {
-    let index = Sorted::from_pairs(pairs, alloc)?;
+    let index = Sorted::from_pairs(alloc, pairs)?;
     Ok(Machine::new(alloc, protocol, index, List::new(alloc)))
 }
 

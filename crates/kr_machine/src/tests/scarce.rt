@@ -82,6 +82,8 @@ impl Ordered for ScarceIndex {
         self.memory.count()?;
         Ok(pairs)
     }
+
+    ghost in_order = { λ s. s.index.rising };
 }
 
 /// A list of locks that refuses one new lock, list of blockers or copy.

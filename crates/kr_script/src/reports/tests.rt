@@ -5,7 +5,7 @@ ghost use Rattle.kr_model.proofs.Tested.{lawful_by_test};
 use crate::{report_run, report_verdict};
 use kr_model::{Mode, Name, Pairs, Programs, Refusal, Reply, Row, Side, Span, Txns};
 use kr_protocol::Protocol;
-use kr_serial::{Opening, Ran, Replies, Triples, Verdict};
+use kr_serial::{Index, Ran, Replies, Triples, Verdict};
 use std::alloc::{AllocError, Global};
 
 // Two modes, which stand beside each other and are never asked for.
@@ -55,9 +55,9 @@ fn reports_the_phantom(rt: HostRuntime) -> Result<(), AllocError> {
     ]?;
     let locks = vec![in alloc; ((Name::Key(20), 1), 1)]?;
     let ran = Ran {
-        opening: Opening::copy_of(alloc, &[(10, 1), (20, 2), (30, 3)])?,
+        opening: Index::copy_of(alloc, &[(10, 1), (20, 2), (30, 3)])?,
         replies: Replies::from_vec(replies),
-        index: Pairs::from_vec(vec![in alloc; (10, 1), (20, 2), (30, 3)]?),
+        index: Index::copy_of(alloc, &[(10, 1), (20, 2), (30, 3)])?,
         locks: Triples::from_vec(locks),
         programs: Programs::from_vec(Vec::new(alloc)),
         unfinished: Txns::from_vec(vec![in alloc; 1]?),
@@ -105,9 +105,9 @@ fn reports_each_reply(rt: HostRuntime) -> Result<(), AllocError> {
         ((Name::End, 4_294_967_295), 2),
     ]?;
     let ran = Ran {
-        opening: Opening::copy_of(alloc, &[])?,
+        opening: Index::copy_of(alloc, &[])?,
         replies: Replies::from_vec(each_reply(alloc)?),
-        index: Pairs::from_vec(Vec::new(alloc)),
+        index: Index::copy_of(alloc, &[])?,
         locks: Triples::from_vec(locks),
         programs: Programs::from_vec(Vec::new(alloc)),
         unfinished: Txns::from_vec(Vec::new(alloc)),

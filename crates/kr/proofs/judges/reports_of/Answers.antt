@@ -1,4 +1,4 @@
-use Rattle.std.proofs.Common.{◌≡◌, ◌+◌, ◌<◌, ◌≤◌, ◌++◌, [], ◌∷◌, map, take, min, length, get_or, string_bytes, sym, ap, ◌∙◌, subst, arith}
+use Rattle.std.proofs.Common.{◌≡◌, ◌+◌, ◌<◌, ◌++◌, [], ◌∷◌, map, take, length, get_or, string_bytes, sym, ap, ◌∙◌, arith}
 use Rattle.std.proofs.lemmas.List.{map-append}
 use Rattle.kr_script.specs.Report.{verdict_text}
 use Rattle.kr.specs.Judges.{reports_of}
@@ -12,7 +12,8 @@ loop-i-preserved c =
     let i = c.loop-i.i in
     let verdict = c.index-verdicts-i.result in
     let so_far = reports_of (map (λ n. n.now) (take i names)) (take i verdicts) in
-    let low : i < min (length names) (length verdicts) = subst (λ m. i < m) c.min-i-end.ensures c.loop-i-test.true in
+    let named : length names ≡ length verdicts = c.requires in
+    let low : i < length verdicts = c.loop-i-test.true in
     let told : string_bytes c.in_ok-report_verdict.field-0 ≡ verdict_text (get_or names i _).now verdict = c.in_ok-report_verdict.ensures.text in
     let pushed : map string_bytes c.push.new.self.items ≡ so_far ++ string_bytes c.in_ok-report_verdict.field-0 ∷ [] =
     ap (map string_bytes) c.in_ok-push.ensures.items
@@ -21,8 +22,8 @@ loop-i-preserved c =
     let next : map string_bytes c.push.new.self.items ≡ reports_of (map (λ n. n.now) (take (i + 1) names)) (take (i + 1) verdicts) =
     pushed
     ∙ ap (λ t. so_far ++ t ∷ []) (told ∙ ap (verdict_text (get_or names i _).now) c.index-verdicts-i.is)
-    ∙ sym (reports_more (λ n. n.now) names verdicts i _ verdict (omega arith) (omega arith)) in
+    ∙ sym (reports_more (λ n. n.now) names verdicts i _ verdict (omega (arith, named, low)) low) in
     next
 
 pub returns : goal.returns
-returns c = c.loop-i.invariant ∙ reports_all (λ n. n.now) c.args.names.now c.args.verdicts.now c.loop-i.i (subst (λ m. m ≤ c.loop-i.i) c.min-i-end.ensures c.loop-i-test.false)
+returns c = c.loop-i.invariant ∙ reports_all (λ n. n.now) c.args.names.now c.args.verdicts.now c.loop-i.i (omega (arith, c.requires, c.loop-i-test.false))

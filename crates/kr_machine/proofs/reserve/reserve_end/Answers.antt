@@ -34,7 +34,6 @@ returns-in-Some-clause-ok g c =
     λ q. noted-without c.args.txn es a q rest.standing (sym c.in-Some.ensures.found) ∙ ap (λ xs. all_changes_of xs q + changes_of a.changes q) (sym c.take_out.ensures.rest) in
     let order = subst (λ xs. IsTrue (is_sorted nat_cmp xs)) (sym c.take_out.ensures.rest) (in_order-without c.args.txn es rest.standing) in
     record {
-      is_map = rest.is_map;
       in_order = rest.in_order;
       within = rest.within;
       no_none = rest.no_none;

@@ -46,6 +46,6 @@ returns-in-Ok-reserve-clause-reply g c =
     let allowed : refusal_of s c.args.txn c.args.op ≡ None = subst (λ x. refusal_of x c.args.txn c.args.op ≡ None) (sym same) c.requires.allowed in
     let scan : option_map scan_of (option_copied c.scan_of-scan.result) ≡ (standing s c.args.txn).scan = c.scan_of-scan.ensures ∙ ap (λ xs. (unwrap_or (find nat_cmp c.args.txn (entries xs)) idle).scan) c.deref.ensures.value in
     let planned : c.plan-plan.result ≡ plan_of p m h c.args.txn (attempt_of m (standing s c.args.txn).scan c.args.op) = c.plan-plan.ensures.plan ∙ ap (λ a. plan_of p m h c.args.txn a) (c.attempt_of-attempt.ensures ∙ ap (λ x. attempt_of m x c.args.op) scan) in
-    c.in-Ok-reply_to.ensures
+    c.in-Ok-reply_to.ensures.reply
     ∙ granted_reply p s c.args.txn c.args.op c.plan-plan.result (record { scan = option_map scan_of (option_copied c.scan_of-scan.result); changes = [] }) c.requires.attempt allowed planned (c.granted.ensures.0 c.if-not-granted.false) scan
     ∙ ap (λ x. (step p x c.args.txn c.args.op).0) same ∙ ap (λ v. (step (g.P.Protocol.table v.0) c.args.self.now.1.0 c.args.txn c.args.op).0) c.self.view_is

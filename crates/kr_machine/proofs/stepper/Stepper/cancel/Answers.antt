@@ -1,5 +1,4 @@
 use Rattle.std.proofs.Common.{arith, ◌≡◌, subst, sym, ap, ◌∙◌, Some}
-use Rattle.kr_model.specs.Map.{IsMap}
 use Rattle.kr_model.specs.Locks.{IsLocks, AreWithin, HasNoNone}
 use Rattle.kr_txn.specs.Standings.{active_of, entries}
 use Rattle.kr_machine.specs.Due.{Due}
@@ -23,7 +22,6 @@ invariant_of-self g c =
     c.give_back-in-Some.ensures ∙ ap (λ (l : Locks). put_back l c.ready.inside.event.txn c.in-Some.pending.plan.current c.in-Some.pending.current_was) c.give_back.ensures
     ∙ ap (λ e. put_back (put_back (g.L.Holdings.locks c.self.inside.locks) e.txn c.in-Some.pending.plan.next c.in-Some.pending.next_was) e.txn c.in-Some.pending.plan.current c.in-Some.pending.current_was) (sym same) in
     subst (λ o. IsMachine (g.P.Protocol.table c.self.inside.protocol) (g.I.Ordered.map c.give_up.new.index) (g.I.Ordered.pins c.give_up.new.index) (g.L.Holdings.locks c.give_back-in-Some.new.locks) c.self.inside.ended c.put_down.new.active o) (sym c.take.ensures.after) (record {
-      is_map = subst IsMap (sym c.give_up.ensures.map) inv.is_map;
       in_order = subst IsLocks (sym back) now.in_order;
       within = subst (AreWithin (g.P.Protocol.table c.self.inside.protocol).count) (sym back) now.within;
       no_none = subst HasNoNone (sym back) now.no_none;
