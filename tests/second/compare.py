@@ -1,0 +1,115 @@
+#!/usr/bin/env python3
+"""Compares kr with a second checker and runner, which are written from docs/DEFINITIONS.md alone (table.py, checker.py,
+runner.py): on random tables and scripts both have to print the same bytes and end with the same status.
+
+    compare.py PROGRAM [SEED [TABLES]]
+
+A third of the tables are those of tables/ and examples/, a third the same with some entries changed, the others random;
+each is checked, and four scripts are run under it and judged. Under a table that is accepted each run has to be serial.
+Status 1 where something differs, and then the folder that is printed has the table, the script and both texts. The same
+numbers make the same tables and scripts."""
+
+import collections
+import json
+import pathlib
+import random
+import shutil
+import subprocess
+import sys
+import tempfile
+
+sys.dont_write_bytecode = True
+
+from checker import Checker
+from runner import Run
+from samples import Draft, Script
+from table import Table
+
+TOP = pathlib.Path(__file__).resolve().parents[2]
+SCRIPTS = 4  # under each table
+REPLIES = 'found none going rows done duplicate deleted absent committed aborted blocked'.split()
+REFUSALS = ['Ended', 'Full', 'Busy', 'NoScan', 'BadRange']
+GROUPS = [f'G{it}' for it in range(1, 9)]  # of cases that fail
+TOTALS = ['tables', 'accepted', 'asymmetric', 'runs', 'not serial', 'steps']
+
+
+class Differs(Exception):
+    pass
+
+
+def line(report):
+    return json.dumps(report, separators=(',', ':')) + '\n'
+
+
+class Comparison:
+    def __init__(self, program, seed, folder):
+        self.program, self.random, self.folder = program, random.Random(seed), folder
+        self.counts = collections.Counter()
+        files = [*(TOP / 'tables').glob('*.toml'), *(TOP / 'examples').glob('**/*.toml')]
+        self.texts = [it.read_text() for it in sorted(files)]
+
+    def expect(self, words, text, status):
+        ran = subprocess.run([self.program, *words], cwd=self.folder, capture_output=True, text=True)
+        if (ran.stdout, ran.stderr, ran.returncode) != (text, '', status):
+            (self.folder / 'program').write_text(f'{ran.stdout}{ran.stderr}status {ran.returncode}\n')
+            (self.folder / 'second').write_text(f'{text}status {status}\n')
+            raise Differs(' '.join(words))
+
+    def draft(self):
+        kind = self.random.randrange(3)
+        if kind == 2:
+            return Draft.random(self.random)
+        draft = Draft.of_text(self.random.choice(self.texts))
+        for _ in range(self.random.randint(1, 4) * kind):
+            draft.change(self.random)
+        return draft
+
+    def table(self):
+        draft = self.draft()
+        (self.folder / 'table.toml').write_text(draft.text())
+        table = Table(draft.text())
+        report = Checker(table).report()
+        self.counts.update({'tables': 1, 'accepted': report['accepted'], 'asymmetric': not draft.is_symmetric()})
+        self.counts.update({it['case'] for it in report.get('failed', [])})
+        self.expect(['check', 'table.toml'], line(report), 0 if report['accepted'] else 1)
+        verdicts = [self.run(table, f'{it}.json', report['accepted']) for it in range(SCRIPTS)]
+        names = [f'{it}.json' for it in range(SCRIPTS)]
+        lines = [line({'script': name, 'verdict': verdict}) for name, verdict in zip(names, verdicts)]
+        self.expect(['judge', 'table.toml', *names], ''.join(lines), int(any(it != ['serial'] for it in verdicts)))
+
+    def run(self, table, name, is_accepted):
+        script = Script(self.random, lambda opening: Run(table, opening))
+        (self.folder / name).write_text(script.text())
+        report = script.run.report()
+        verdict = report['verdict']
+        is_serial = verdict == ['serial']
+        self.counts.update({'runs': 1, 'not serial': not is_serial, 'steps': len(script.steps)})
+        self.counts.update(reply[2] if reply[0] == 'refused' else reply[0] for reply in report['replies'])
+        if is_accepted and not is_serial:
+            (self.folder / 'second').write_text(line(report))
+            raise Differs(f'run table.toml {name}: not serial, and the table is accepted')
+        self.expect(['run', 'table.toml', name], line(report), 0 if is_serial else 1)
+        return verdict
+
+
+def main(program, seed=1, tables=300):
+    folder = pathlib.Path(tempfile.mkdtemp(prefix='kr-second-'))
+    comparison = Comparison(str(pathlib.Path(program).resolve()), int(seed), folder)
+    try:
+        for _ in range(int(tables)):
+            comparison.table()
+    except Differs as it:
+        print(f'second: DIFFERS: kr {it}, in {folder}')
+        return 1
+    shutil.rmtree(folder)
+    counts = comparison.counts
+    for names in [TOTALS, REPLIES + REFUSALS, GROUPS]:
+        print('second: ' + ', '.join(f'{counts[it]} {it}' for it in names))
+    missing = [it for it in TOTALS + REPLIES + REFUSALS + GROUPS if not counts[it]]
+    if missing:
+        print(f'second: nothing compared of {", ".join(missing)}')
+    return 1 if missing else 0
+
+
+if __name__ == '__main__':
+    sys.exit(main(*sys.argv[1:]))
