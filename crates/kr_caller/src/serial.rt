@@ -1,11 +1,13 @@
 //! Runs under a table that was checked.
-ghost use Rattle.std.specs.Prelude.{◌≡◌, IfOk, IsOk};
+ghost use Rattle.std.specs.Prelude.{◌≡◌, IfOk, IfErr, IsOk};
 ghost use Rattle.kr_model.specs.Map.{IsMap};
 ghost use Rattle.kr_model.specs.State.{start};
 ghost use Rattle.kr_model.specs.Run as model;
 ghost use Rattle.kr_model.specs.Serial.{IsSerialRun};
 ghost use Rattle.kr_table.specs.Tables.{protocol_of};
 ghost use Rattle.kr_table.specs.Reading.{reading};
+ghost use Rattle.kr_caller.specs.Faults.{Explains};
+ghost use Rattle.kr_caller.specs.declared.serial.Fault.TheVariants as told_as;
 
 use kr_cases::{Rejected, check};
 use kr_model::Event;
@@ -29,18 +31,24 @@ pub enum Fault {
 }
 
 impl From<TableFault> for Fault {
+    ghost from_gives = { λ f e. e ≡ told_as.Table f };
+
     fn from(fault: TableFault) -> Fault {
         Fault::Table(fault)
     }
 }
 
 impl From<Rejected<Table>> for Fault {
+    ghost from_gives = { λ _ e. e ≡ told_as.Rejected };
+
     fn from(_rejected: Rejected<Table>) -> Fault {
         Fault::Rejected
     }
 }
 
 impl From<AllocError> for Fault {
+    ghost from_gives = { λ _ e. e ≡ told_as.Memory };
+
     fn from(_e: AllocError) -> Fault {
         Fault::Memory
     }
@@ -55,6 +63,7 @@ pub fn run_checked(
     events: &[Event],
 ) -> Result<Ran, Fault>
     requires { IsMap opening.now }
+    ensures err { IfErr result (Explains table.now) }
     ensures reads { IfOk result (λ _. IsOk (reading table.now)) }
     ensures replies { IfOk result (λ ran. IfOk (reading table.now) (λ t. ran.replies ≡ model.replies_of (model.run (protocol_of t) (start opening.now) events.now).history)) }
     ensures serial_run { IfOk result (λ _. IfOk (reading table.now) (λ t. IsSerialRun opening.now (model.run (protocol_of t) (start opening.now) events.now))) }

@@ -121,6 +121,11 @@ fn seen<P: Protocol, I: Ordered, L: Holdings>(machine: &Machine<P, I, L>) -> Res
     })
 }
 
+/// Fails where a reply doesn't fit.
+fn expect_fits(rt: &impl Abort, fits: bool, txn: Txn, op: Op, reply: &Reply) {
+    assert!(rt; fits, "{txn} {op:?}: {reply:?}");
+}
+
 /// Attempts an operation, and compares the reply.
 fn expect<P: Protocol, I: Ordered, L: Holdings>(
     rt: &impl Abort,
@@ -133,7 +138,45 @@ fn expect<P: Protocol, I: Ordered, L: Holdings>(
     ensures { machine.new.pending ≡ None }
 {
     let reply = machine.step(txn, op);
-    assert!(rt; same(&reply, &want), "{txn} {op:?}: {reply:?}");
+    expect_fits(rt, same(&reply, &want), txn, op, &reply);
+}
+
+/// Attempts an operation that this transaction alone blocks.
+fn expect_blocked<P: Protocol, I: Ordered, L: Holdings>(
+    rt: &impl Abort,
+    machine: &mut Machine<P, I, L>,
+    txn: Txn,
+    op: Op,
+    by: Txn,
+)
+    requires { machine.old.pending ≡ None }
+    ensures { machine.new.pending ≡ None }
+{
+    let reply = machine.step(txn, op);
+    let fits = match &reply {
+        Reply::Blocked(txns) => txns.as_slice() == [by].as_slice(),
+        _ => false,
+    };
+    expect_fits(rt, fits, txn, op, &reply);
+}
+
+/// Attempts a step with which a scan ends, and compares the rows.
+fn expect_rows<P: Protocol, I: Ordered, L: Holdings>(
+    rt: &impl Abort,
+    machine: &mut Machine<P, I, L>,
+    txn: Txn,
+    op: Op,
+    pairs: &[(u64, u64)],
+)
+    requires { machine.old.pending ≡ None }
+    ensures { machine.new.pending ≡ None }
+{
+    let reply = machine.step(txn, op);
+    let fits = match &reply {
+        Reply::Rows(rows) => rows.as_slice() == pairs,
+        _ => false,
+    };
+    expect_fits(rt, fits, txn, op, &reply);
 }
 
 /// Compares what can be seen of a machine.
@@ -455,7 +498,7 @@ fn insist<P: Protocol, I: Ordered, L: Holdings>(
     let before = seen(machine)?;
     let reply = machine.step(txn, op);
     if !same(&reply, &Reply::Refused(Refusal::Memory)) {
-        assert!(rt; same(&reply, &want), "{txn} {op:?}: {reply:?}");
+        expect_fits(rt, same(&reply, &want), txn, op, &reply);
         return Ok(before.met_refusal);
     }
     expect_view(

@@ -1,9 +1,8 @@
 //! Steps where memory is ample: none is refused it, whatever its key, value and number are, and what isn't blocked is
-//! answered as a plain map beside the machine says.
+//! answered as a list of the changes beside the machine says.
 ghost use Rattle.std.specs.Prelude.{◌≡◌, None};
 
 use super::*;
-use std::collections::BTreeMap;
 
 /// The ends of the keys, a key in the middle, and some beside them.
 const KEYS: [u64; 6] = [0, 1, 7, 1 << 63, u64::MAX - 1, u64::MAX];
@@ -14,226 +13,171 @@ const TXNS: [Txn; 3] = [0, 1, u32::MAX];
 /// What is known beside a machine.
 #[derive(Drop)]
 struct Beside {
-    map: BTreeMap<u64, u64>,
-    /// The changes so far, oldest first, each with what stood there before.
+    /// The changes, but for those of aborted transactions, oldest first; each with what it left under the key.
     changes: Vec<(Txn, u64, Option<u64>)>,
     ended: Vec<Txn>,
 }
 
 impl Beside {
-    fn new(alloc: Global) -> Beside {
-        Beside {
-            map: BTreeMap::new(alloc),
-            changes: Vec::new(alloc),
-            ended: Vec::new(alloc),
+    /// What stands under a key.
+    fn get(&self, key: u64) -> Option<u64> {
+        let mut value = None;
+        for &(_, other, left) in &self.changes {
+            if other == key {
+                value = left;
+            }
         }
+        value
     }
 
-    /// The reply of a granted operation, but for scans.
-    fn answer(&self, op: Op) -> Reply {
+    /// Whether each of these rows is a pair of the range, and the keys rise.
+    fn are_pairs(&self, rows: &[(u64, u64)], lo: u64, hi: u64) -> bool {
+        let mut last = None;
+        for &(key, value) in rows {
+            if key < lo || hi < key || self.get(key) != Some(value) || !is_after(last, key) {
+                return false;
+            }
+            last = Some(key);
+        }
+        true
+    }
+
+    /// Whether each pair of the range has its row.
+    fn are_all(&self, rows: &[(u64, u64)], lo: u64, hi: u64) -> bool {
+        for &(_, key, _) in &self.changes {
+            if lo <= key && key <= hi && self.get(key).is_some() && !has_key(rows, key) {
+                return false;
+            }
+        }
+        true
+    }
+
+    /// Whether this is the reply of a granted operation, a scan being taken to its end.
+    fn answers(&self, op: Op, reply: &Reply) -> bool {
         match op {
-            Op::Fetch(key) => self
-                .map
-                .get(&key)
-                .map_or(Reply::None, |value| Reply::Found(*value)),
-            Op::Insert(key, _) => {
-                if self.map.get(&key).is_some() {
-                    Reply::Duplicate
-                } else {
-                    Reply::Done
-                }
-            }
-            Op::Delete(key) => self
-                .map
-                .get(&key)
-                .map_or(Reply::Absent, |value| Reply::Deleted(*value)),
-            Op::Commit => Reply::Committed,
-            Op::Abort => Reply::Aborted,
-            Op::Scan(_, _) | Op::Go => Reply::None,
+            Op::Fetch(key) => match self.get(key) {
+                Some(value) => matches!(reply, Reply::Found(found) if *found == value),
+                None => matches!(reply, Reply::None),
+            },
+            Op::Insert(key, _) => match self.get(key) {
+                Some(_) => matches!(reply, Reply::Duplicate),
+                None => matches!(reply, Reply::Done),
+            },
+            Op::Delete(key) => match self.get(key) {
+                Some(value) => matches!(reply, Reply::Deleted(was) if *was == value),
+                None => matches!(reply, Reply::Absent),
+            },
+            Op::Scan(lo, hi) => self.is_scan(reply, lo, hi),
+            Op::Commit => matches!(reply, Reply::Committed),
+            Op::Abort => matches!(reply, Reply::Aborted),
+            Op::Go => false,
         }
     }
 
-    /// The pairs from one key to another.
-    fn between(&self, alloc: Global, lo: u64, hi: u64) -> Result<Vec<(u64, u64)>, Memory> {
-        let mut pairs = Vec::new(alloc);
-        for (&key, &value) in &self.map {
-            if lo <= key && key <= hi {
-                pairs.push((key, value))?;
+    /// Whether this is what a scan of a range ends with.
+    fn is_scan(&self, reply: &Reply, lo: u64, hi: u64) -> bool {
+        match reply {
+            Reply::Rows(rows) => {
+                let rows = rows.as_slice();
+                self.are_pairs(rows, lo, hi) && self.are_all(rows, lo, hi)
             }
+            _ => false,
         }
-        Ok(pairs)
     }
 
     /// Does a granted operation.
     fn follow(&mut self, txn: Txn, op: Op) -> Result<(), Memory> {
         match op {
             Op::Insert(key, value) => {
-                if self.map.get(&key).is_none() {
-                    self.changes.push((txn, key, None))?;
-                    self.map.insert(key, value)?;
-                }
-            }
-            Op::Delete(key) => {
-                if let Some(value) = self.map.remove(&key) {
+                if self.get(key).is_none() {
                     self.changes.push((txn, key, Some(value)))?;
                 }
             }
+            Op::Delete(key) => self.changes.push((txn, key, None))?,
             Op::Commit => self.ended.push(txn)?,
             Op::Abort => {
-                self.take_back(txn)?;
+                self.changes.retain(|change| change.0 != txn);
                 self.ended.push(txn)?;
             }
             Op::Fetch(_) | Op::Scan(_, _) | Op::Go => {}
         }
         Ok(())
     }
+}
 
-    /// Takes the changes of a transaction back, newest first.
-    fn take_back(&mut self, txn: Txn) -> Result<(), Memory> {
-        let mut left = self.changes.len();
-        while left > 0 {
-            left -= 1;
-            let (other, key, before) = self.changes[left];
-            if other == txn {
-                match before {
-                    Some(value) => {
-                        self.map.insert(key, value)?;
-                    }
-                    None => {
-                        let _ = self.map.remove(&key);
-                    }
-                }
-            }
-        }
-        Ok(())
+/// Whether a key is above the last one.
+fn is_after(last: Option<u64>, key: u64) -> bool {
+    match last {
+        Some(last) => last < key,
+        None => true,
     }
 }
 
-/// Scans a range until the scan ends, and compares the rows; one that is blocked is aborted.
-fn scan<P: Protocol, I: Ordered, L: Holdings>(
-    rt: &impl Abort,
-    alloc: Global,
-    machine: &mut Machine<P, I, L>,
-    beside: &mut Beside,
-    txn: Txn,
-    lo: u64,
-    hi: u64,
-) -> Result<(), Fail>
-    requires { machine.old.pending ≡ None }
-    ensures { machine.new.pending ≡ None }
-{
-    let mut reply = machine.step(txn, Op::Scan(lo, hi));
-    for step in 0..70 {
-        if !matches!(reply, Reply::Going(_)) {
-            break;
-        }
-        reply = machine.step(txn, Op::Go);
-    }
-    match reply {
-        Reply::Rows(rows) => {
-            let pairs = beside.between(alloc, lo, hi)?;
-            assert_eq!(rt; rows.as_slice(), pairs.as_slice());
-            Ok(())
-        }
-        Reply::Blocked(_) => attempt(rt, machine, beside, txn, Op::Abort),
-        other => panic!(rt; "{txn} {lo} {hi}: {other:?}"),
-    }
-}
-
-/// Attempts an operation, and compares its reply.
-fn attempt<P: Protocol, I: Ordered, L: Holdings>(
-    rt: &impl Abort,
-    machine: &mut Machine<P, I, L>,
-    beside: &mut Beside,
-    txn: Txn,
-    op: Op,
-) -> Result<(), Fail>
-    requires { machine.old.pending ≡ None }
-    ensures { machine.new.pending ≡ None }
-{
-    let reply = machine.step(txn, op);
-    if beside.ended.as_slice().contains(&txn) {
-        assert!(rt;
-            same(&reply, &Reply::Refused(Refusal::Ended)),
-            "{txn} {op:?}: {reply:?}"
-        );
-    } else if !matches!(reply, Reply::Blocked(_)) {
-        assert!(rt; same(&reply, &beside.answer(op)), "{txn} {op:?}: {reply:?}");
-        beside.follow(txn, op)?;
-    }
-    Ok(())
-}
-
-/// Attempts one operation after another.
-fn attempt_all<P: Protocol, I: Ordered, L: Holdings>(
-    rt: &impl Abort,
-    alloc: Global,
-    machine: Machine<P, I, L>,
-    steps: &[(Txn, Op)],
-) -> Result<(), Fail>
-    requires { machine.pending ≡ None }
-{
-    let mut machine = machine;
-    let mut beside = Beside::new(alloc);
-    for &(txn, op) in steps {
-        match op {
-            Op::Scan(lo, hi) if !beside.ended.as_slice().contains(&txn) => {
-                scan(rt, alloc, &mut machine, &mut beside, txn, lo, hi)?;
-            }
-            _ => attempt(rt, &mut machine, &mut beside, txn, op)?,
+/// Whether a row has this key.
+fn has_key(rows: &[(u64, u64)], key: u64) -> bool {
+    for row in rows {
+        if row.0 == key {
+            return true;
         }
     }
-    Ok(())
+    false
 }
 
-/// Each operation at each key by each number, of which the first commits and the others abort.
-fn boundary_steps(alloc: Global) -> Result<Vec<(Txn, Op)>, Memory> {
-    let mut steps = Vec::new(alloc);
-    for txn in TXNS {
-        for key in KEYS {
-            for op in [
-                Op::Fetch(key),
-                Op::Insert(key, 0),
-                Op::Insert(key, 1),
-                Op::Delete(key),
-                Op::Delete(key),
-                Op::Insert(key, u64::MAX),
-                Op::Fetch(key),
-                Op::Scan(key, key),
-                Op::Scan(key, u64::MAX),
-                Op::Scan(0, key),
-            ] {
-                steps.push((txn, op))?;
-            }
-        }
-        steps.push((txn, if txn == 0 { Op::Commit } else { Op::Abort }))?;
-    }
-    Ok(steps)
+/// Which steps are attempted.
+#[derive(Clone, Copy)]
+enum Sweep {
+    /// Each operation at each key by each number, of which the first commits and the others abort: 183 steps.
+    Boundary,
+    /// 64 transactions insert a key each, then each reads its own, and then every other one commits, and the rest aborts;
+    /// at last one reads all: 193 steps.
+    Crowd,
+    /// Steps at random, by a few transactions at a time.
+    Random(u64),
 }
 
-/// 64 transactions insert a key each and read it, one after another; then every other one commits, and the rest aborts.
-fn crowd_steps(alloc: Global) -> Result<Vec<(Txn, Op)>, Memory> {
-    let mut steps = Vec::new(alloc);
-    for txn in 0..64 {
-        let key = u64::from(txn);
-        steps.push((txn, Op::Insert(key, 64 - key)))?;
+/// One of the operations on a key.
+fn boundary_op(kind: u32, key: u64) -> Op {
+    match kind {
+        0 | 6 => Op::Fetch(key),
+        1 => Op::Insert(key, 0),
+        2 => Op::Insert(key, 1),
+        3 | 4 => Op::Delete(key),
+        5 => Op::Insert(key, u64::MAX),
+        7 => Op::Scan(key, key),
+        8 => Op::Scan(key, u64::MAX),
+        _ => Op::Scan(0, key),
     }
-    for txn in 0..64 {
-        steps.push((txn, Op::Fetch(u64::from(txn))))?;
-    }
-    for txn in 0..64 {
-        let end = if txn % 2 == 0 { Op::Commit } else { Op::Abort };
-        steps.push((txn, end))?;
-    }
-    steps.push((64, Op::Scan(0, u64::MAX)))?;
-    Ok(steps)
 }
 
-/// A number made of the one before it.
-fn next_random(number: u64) -> u64 {
-    number
-        .wrapping_mul(6_364_136_223_846_793_005)
-        .wrapping_add(1_442_695_040_888_963_407)
+/// The step at a place of the first sweep.
+fn boundary_step(place: u32) -> (Txn, Op) {
+    let txn = TXNS[place as usize / 61 % 3];
+    let within = place % 61;
+    if within < 60 {
+        let key = KEYS[within as usize / 10 % 6];
+        return (txn, boundary_op(within % 10, key));
+    }
+    (txn, if txn == 0 { Op::Commit } else { Op::Abort })
+}
+
+/// The step at a place of the second.
+fn crowd_step(place: u32) -> (Txn, Op) {
+    let txn = place % 64;
+    let key = u64::from(txn);
+    match place / 64 {
+        0 => (txn, Op::Insert(key, 64 - key)),
+        1 => (txn, Op::Fetch(key)),
+        2 => (txn, if txn % 2 == 0 { Op::Commit } else { Op::Abort }),
+        _ => (64, Op::Scan(0, u64::MAX)),
+    }
+}
+
+/// A number that looks like chance, made of another.
+fn mixed(number: u64) -> u64 {
+    let mut mixed = number.wrapping_mul(0x9e37_79b9_7f4a_7c15);
+    mixed = (mixed ^ (mixed >> 30)).wrapping_mul(0xbf58_476d_1ce4_e5b9);
+    mixed = (mixed ^ (mixed >> 27)).wrapping_mul(0x94d0_49bb_1331_11eb);
+    mixed ^ (mixed >> 31)
 }
 
 /// An operation at a key, by a random number.
@@ -248,31 +192,122 @@ fn random_op(random: u64, key: u64) -> Op {
     }
 }
 
-/// Steps at random, by a few transactions at a time.
-fn random_steps(alloc: Global, seed: u64) -> Result<Vec<(Txn, Op)>, Memory> {
-    let mut steps = Vec::new(alloc);
-    let mut random = seed;
-    for round in 0..20 {
-        for key in KEYS {
-            random = next_random(random);
-            let txn = round / 2 * 4 + (random >> 40) as u32 % 4;
-            let key = if random >> 63 == 0 { key } else { random >> 55 };
-            steps.push((txn, random_op(random >> 32, key)))?;
+/// The step at a place of a sweep at random.
+fn random_step(seed: u64, place: u32) -> (Txn, Op) {
+    let random = mixed(seed.wrapping_mul(1_000).wrapping_add(u64::from(place)));
+    let txn = place / 12 * 4 + (random >> 40) as u32 % 4;
+    let key = if random >> 63 == 0 {
+        KEYS[place as usize % 6]
+    } else {
+        random >> 55
+    };
+    (txn, random_op(random >> 32, key))
+}
+
+/// The step at a place of a sweep.
+fn step_at(sweep: Sweep, place: u32) -> (Txn, Op) {
+    match sweep {
+        Sweep::Boundary => boundary_step(place),
+        Sweep::Crowd => crowd_step(place),
+        Sweep::Random(seed) => random_step(seed, place),
+    }
+}
+
+/// Attempts an operation, and goes on with a scan until it ends.
+fn to_its_end<P: Protocol, I: Ordered, L: Holdings>(
+    machine: &mut Machine<P, I, L>,
+    txn: Txn,
+    op: Op,
+) -> Reply
+    requires { machine.old.pending ≡ None }
+    ensures { machine.new.pending ≡ None }
+{
+    let mut reply = machine.step(txn, op);
+    for step in 0..70 {
+        if !matches!(reply, Reply::Going(_)) {
+            break;
+        }
+        reply = machine.step(txn, Op::Go);
+    }
+    reply
+}
+
+/// Compares the reply of an operation, and tells whether the operation is done.
+fn is_done(rt: &impl Abort, beside: &Beside, txn: Txn, op: Op, reply: Reply) -> bool {
+    let has_ended = beside.ended.as_slice().contains(&txn);
+    let fits = match &reply {
+        Reply::Refused(refusal) => has_ended && *refusal == Refusal::Ended,
+        Reply::Blocked(_) => !has_ended,
+        _ => !has_ended && beside.answers(op, &reply),
+    };
+    expect_fits(rt, fits, txn, op, &reply);
+    !matches!(reply, Reply::Refused(_) | Reply::Blocked(_))
+}
+
+/// Attempts an operation; a scan that is blocked is aborted.
+fn attempt<P: Protocol, I: Ordered, L: Holdings>(
+    rt: &impl Abort,
+    machine: &mut Machine<P, I, L>,
+    beside: &mut Beside,
+    txn: Txn,
+    op: Op,
+) -> Result<(), Memory>
+    requires { machine.old.pending ≡ None }
+    ensures { machine.new.pending ≡ None }
+{
+    let reply = to_its_end(machine, txn, op);
+    if is_done(rt, beside, txn, op, reply) {
+        return beside.follow(txn, op);
+    }
+    if matches!(op, Op::Scan(_, _)) {
+        let reply = machine.step(txn, Op::Abort);
+        if is_done(rt, beside, txn, Op::Abort, reply) {
+            return beside.follow(txn, Op::Abort);
         }
     }
-    Ok(steps)
+    Ok(())
+}
+
+/// Attempts one step of a sweep after another.
+fn attempt_each<P: Protocol, I: Ordered, L: Holdings>(
+    rt: &impl Abort,
+    machine: &mut Machine<P, I, L>,
+    beside: &mut Beside,
+    sweep: Sweep,
+    places: u32,
+) -> Result<(), Memory>
+    requires { machine.old.pending ≡ None }
+{
+    for place in 0..places {
+        let (txn, op) = step_at(sweep, place);
+        attempt(rt, machine, beside, txn, op)?;
+    }
+    Ok(())
+}
+
+/// Attempts them on a machine with an empty index.
+fn attempt_all<P: Protocol>(
+    rt: &impl Abort,
+    alloc: Global,
+    protocol: P,
+    sweep: Sweep,
+    places: u32,
+) -> Result<(), Memory> {
+    let mut machine = Machine::new(alloc, protocol, Sorted::new(alloc), List::new(alloc));
+    let mut beside = Beside {
+        changes: Vec::new(alloc),
+        ended: Vec::new(alloc),
+    };
+    attempt_each(rt, &mut machine, &mut beside, sweep, places)
 }
 
 #[test]
 fn ample_memory(rt: HostRuntime) -> Result<(), Fail> {
     let alloc = rt.alloc();
-    let machine = Machine::new(alloc, Kvl, Sorted::new(alloc), List::new(alloc));
-    attempt_all(&rt, alloc, machine, boundary_steps(alloc)?.as_slice())?;
-    let machine = Machine::new(alloc, Kvl, Sorted::new(alloc), List::new(alloc));
-    attempt_all(&rt, alloc, machine, crowd_steps(alloc)?.as_slice())?;
+    attempt_all(&rt, alloc, Kvl, Sweep::Boundary, 183)?;
+    attempt_all(&rt, alloc, Kvl, Sweep::Crowd, 193)?;
     for seed in 0..4 {
-        let machine = Machine::new(alloc, Im, Sorted::new(alloc), List::new(alloc));
-        attempt_all(&rt, alloc, machine, random_steps(alloc, seed)?.as_slice())?;
+        attempt_all(&rt, alloc, Im, Sweep::Random(seed), 120)?;
     }
     Ok(())
 }

@@ -64,8 +64,7 @@ fn greatest_key<P: Protocol>(
 ) -> Result<(), Fail> {
     let pairs = [(u64::MAX, 4)];
     let mut machine = opened(alloc, protocol, &pairs)?;
-    let all = rows(alloc, &pairs)?;
-    expect(rt, &mut machine, 1, Op::Scan(u64::MAX, u64::MAX), all);
+    expect_rows(rt, &mut machine, 1, Op::Scan(u64::MAX, u64::MAX), &pairs);
     let locks = [((Name::Key(u64::MAX), 1), modes.key)];
     expect_view(rt, &machine, &pairs, &locks, &[1])
 }
@@ -78,10 +77,8 @@ fn nothing<P: Protocol>(
     modes: Modes,
 ) -> Result<(), Fail> {
     let mut machine = opened(alloc, protocol, &[])?;
-    let none = rows(alloc, &[])?;
-    expect(rt, &mut machine, 1, Op::Scan(0, u64::MAX), none);
-    let blocked = blocked_by(alloc, 1)?;
-    expect(rt, &mut machine, 2, Op::Insert(5, 1), blocked);
+    expect_rows(rt, &mut machine, 1, Op::Scan(0, u64::MAX), &[]);
+    expect_blocked(rt, &mut machine, 2, Op::Insert(5, 1), 1);
     let locks = [((Name::End, 1), modes.stop)];
     expect_view(rt, &machine, &[], &locks, &[1])
 }
@@ -95,8 +92,7 @@ fn own_insert<P: Protocol>(
 ) -> Result<(), Fail> {
     let mut machine = plain(alloc, protocol)?;
     expect(rt, &mut machine, 1, Op::Insert(15, 5), Reply::Done);
-    let all = rows(alloc, &[(15, 5)])?;
-    expect(rt, &mut machine, 1, Op::Scan(15, 15), all);
+    expect_rows(rt, &mut machine, 1, Op::Scan(15, 15), &[(15, 5)]);
     let index = [(10, 1), (15, 5), (20, 2), (30, 3)];
     let locks = [((Name::Key(15), 1), modes.both)];
     expect_view(rt, &machine, &index, &locks, &[1])
@@ -111,11 +107,9 @@ fn upper_key<P: Protocol>(
 ) -> Result<(), Fail> {
     let mut machine = plain(alloc, protocol)?;
     expect(rt, &mut machine, 1, Op::Scan(10, 20), Reply::Going(10));
-    let all = rows(alloc, &[(10, 1), (20, 2)])?;
-    expect(rt, &mut machine, 1, Op::Go, all);
+    expect_rows(rt, &mut machine, 1, Op::Go, &[(10, 1), (20, 2)]);
     expect(rt, &mut machine, 2, Op::Insert(25, 5), Reply::Done);
-    let blocked = blocked_by(alloc, 1)?;
-    expect(rt, &mut machine, 2, Op::Insert(15, 1), blocked);
+    expect_blocked(rt, &mut machine, 2, Op::Insert(15, 1), 1);
     let index = [(10, 1), (20, 2), (25, 5), (30, 3)];
     let locks = [
         ((Name::Key(10), 1), modes.key),
@@ -133,8 +127,7 @@ fn empty<P: Protocol>(
     modes: Modes,
 ) -> Result<(), Fail> {
     let mut machine = plain(alloc, protocol)?;
-    let none = rows(alloc, &[])?;
-    expect(rt, &mut machine, 1, Op::Scan(12, 15), none);
+    expect_rows(rt, &mut machine, 1, Op::Scan(12, 15), &[]);
     let index = [(10, 1), (20, 2), (30, 3)];
     let locks = [((Name::Key(20), 1), modes.stop)];
     expect_view(rt, &machine, &index, &locks, &[1])
@@ -177,12 +170,10 @@ fn against_delete<P: Protocol>(
     let mut machine = plain(alloc, protocol)?;
     expect(rt, &mut machine, 1, Op::Scan(10, 25), Reply::Going(10));
     expect(rt, &mut machine, 2, Op::Delete(20), Reply::Deleted(2));
-    let blocked = blocked_by(alloc, 2)?;
-    expect(rt, &mut machine, 1, Op::Go, blocked);
+    expect_blocked(rt, &mut machine, 1, Op::Go, 2);
     expect(rt, &mut machine, 2, Op::Abort, Reply::Aborted);
     expect(rt, &mut machine, 1, Op::Go, Reply::Going(20));
-    let all = rows(alloc, &[(10, 1), (20, 2)])?;
-    expect(rt, &mut machine, 1, Op::Go, all);
+    expect_rows(rt, &mut machine, 1, Op::Go, &[(10, 1), (20, 2)]);
     let index = [(10, 1), (20, 2), (30, 3)];
     let locks = [
         ((Name::Key(10), 1), modes.key),
@@ -213,7 +204,7 @@ fn given_up<P: Protocol>(
         ((Name::Key(20), 1), modes.key),
     ];
     expect_view(rt, &machine, &index, &locks, &[1])?;
-    expect(rt, &mut machine, 1, Op::Go, rows(alloc, &index)?);
+    expect_rows(rt, &mut machine, 1, Op::Go, &index);
     Ok(())
 }
 

@@ -1,5 +1,5 @@
 use Rattle.std.proofs.Common.{◌≡◌, None}
-use Rattle.kr_machine.proofs.tests.ample.scan.Given as goal
+use Rattle.kr_machine.proofs.tests.ample.to_its_end.Given as goal
 
 -- No step is pending.
 abbrev pub invariant-loop-step : goal.invariant-loop-step
