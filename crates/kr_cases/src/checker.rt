@@ -49,6 +49,10 @@ impl<P: Protocol> Protocol for Checked<P> {
         self.protocol.ok(requested, held)
     }
 
+    fn row(&self, requested: Mode) -> u16 {
+        self.protocol.row(requested)
+    }
+
     fn convert(&self, held: Mode, requested: Mode) -> Mode {
         self.protocol.convert(held, requested)
     }

@@ -34,6 +34,10 @@ impl Protocol for InsertAlwaysIx {
         Kvl.ok(requested, held)
     }
 
+    fn row(&self, requested: Mode) -> u16 {
+        Kvl.row(requested)
+    }
+
     fn convert(&self, held: Mode, requested: Mode) -> Mode {
         Kvl.convert(held, requested)
     }
@@ -76,6 +80,10 @@ impl Protocol for DeletesNextInstant {
 
     fn ok(&self, requested: Mode, held: Mode) -> bool {
         Kvl.ok(requested, held)
+    }
+
+    fn row(&self, requested: Mode) -> u16 {
+        Kvl.row(requested)
     }
 
     fn convert(&self, held: Mode, requested: Mode) -> Mode {

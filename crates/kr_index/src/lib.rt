@@ -11,11 +11,13 @@ mod slots;
 mod sorted;
 #[cfg(test)]
 mod tests;
+mod tree;
 
 pub use kr_model::Name;
 use kr_model::Pairs;
 pub use sorted::Sorted;
 use std::alloc::{AllocError, Global};
+pub use tree::Tree;
 
 /// A growth was refused.
 pub type Memory = AllocError;

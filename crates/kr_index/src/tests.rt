@@ -1,4 +1,4 @@
-//! Each call at two indexes, one of which refuses pins, and where growths are refused.
+//! Each call at three indexes, one of which refuses pins, and where growths are refused.
 ghost use Rattle.std.specs.Prelude.{◌≡◌, ℕ, OnOk, IfOk};
 
 use super::*;
@@ -153,6 +153,14 @@ fn rationed_answers(rt: HostRuntime) -> Result<(), Fail> {
     takes(&rt, rt.alloc(), &mut index)
 }
 
+#[test]
+fn tree_answers(rt: HostRuntime) -> Result<(), Fail> {
+    let mut index = Tree::from_pairs(rt.alloc(), &[(2, 20), (5, 50), (9, 90)])?;
+    looks(&rt, rt.alloc(), &index)?;
+    writes(&rt, rt.alloc(), &mut index)?;
+    takes(&rt, rt.alloc(), &mut index)
+}
+
 /// A refused pin leaves the index as it was.
 #[test]
 fn rationed_refuses(rt: HostRuntime) -> Result<(), Fail> {
@@ -165,13 +173,12 @@ fn rationed_refuses(rt: HostRuntime) -> Result<(), Fail> {
     looks(&rt, rt.alloc(), &index)
 }
 
-#[test]
-fn new_is_empty(rt: HostRuntime) -> Result<(), Fail> {
-    let mut index = Sorted::new(rt.alloc());
+/// An index that is new, and its greatest key.
+fn is_empty<O: Ordered>(rt: &impl Abort, alloc: Global, index: &mut O) -> Result<(), Fail> {
     assert_eq!(rt; index.get(0), None);
     assert_eq!(rt; index.at(0), Name::End);
     assert_eq!(rt; index.after(0), Name::End);
-    assert_eq!(rt; index.copy(rt.alloc())?.as_slice().len(), 0);
+    assert_eq!(rt; index.copy(alloc)?.as_slice().len(), 0);
 
     index.pin(u64::MAX)?;
     index.put(u64::MAX, 1);
@@ -180,11 +187,20 @@ fn new_is_empty(rt: HostRuntime) -> Result<(), Fail> {
     Ok(())
 }
 
-/// Passes too where any one growth is refused: the pin or the copy that answers `Memory` has changed
-/// nothing and can be asked for again.
 #[test]
-fn refused_growths_change_nothing(rt: HostRuntime) -> Result<(), Fail> {
-    let mut index = Sorted::new(rt.alloc());
+fn new_sorted_is_empty(rt: HostRuntime) -> Result<(), Fail> {
+    is_empty(&rt, rt.alloc(), &mut Sorted::new(rt.alloc()))
+}
+
+#[test]
+fn new_tree_is_empty(rt: HostRuntime) -> Result<(), Fail> {
+    is_empty(&rt, rt.alloc(), &mut Tree::new(rt.alloc()))
+}
+
+/// Pins, writes and copies, each again where it was refused.
+fn grows<O: Ordered>(rt: &impl Abort, alloc: Global, index: &mut O) -> Result<(), Fail>
+    requires { (q : ℕ) → O.pins index.old q ≡ 0 }
+{
     for key in 0..20 {
         if index.pin(key).is_err() {
             assert_eq!(rt; index.get(key), None);
@@ -199,10 +215,22 @@ fn refused_growths_change_nothing(rt: HostRuntime) -> Result<(), Fail> {
     for key in 0..20 {
         assert_eq!(rt; index.get(key), Some(key + 100));
     }
-    let pairs = match index.copy(rt.alloc()) {
+    let pairs = match index.copy(alloc) {
         Ok(pairs) => pairs,
-        Err(_) => index.copy(rt.alloc())?,
+        Err(_) => index.copy(alloc)?,
     };
     assert_eq!(rt; pairs.as_slice().len(), 20);
     Ok(())
+}
+
+/// Passes too where any one growth is refused: the pin or the copy that answers `Memory` has changed
+/// nothing and can be asked for again.
+#[test]
+fn refused_growths_change_no_sorted(rt: HostRuntime) -> Result<(), Fail> {
+    grows(&rt, rt.alloc(), &mut Sorted::new(rt.alloc()))
+}
+
+#[test]
+fn refused_growths_change_no_tree(rt: HostRuntime) -> Result<(), Fail> {
+    grows(&rt, rt.alloc(), &mut Tree::new(rt.alloc()))
 }

@@ -1,3 +1,8 @@
 pub mod Places
 pub mod OnName
 pub mod Refusers
+pub mod HolderPlaces
+pub mod Masks
+pub mod NameLaws
+pub mod BucketLaws
+pub mod NotedLaws

@@ -1,1 +1,3 @@
 pub mod List
+pub mod Buckets
+pub mod Noted

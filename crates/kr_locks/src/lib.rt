@@ -5,10 +5,15 @@ ghost use Rattle.std.specs.Prelude.{◌≡◌, ◌≢◌, ◌≤◌, [], ◌∷�
 ghost use Rattle.kr_model.specs.Locks.{Locks, AreWithin, own, keep_or_drop, release, blockers};
 ghost use Rattle.kr_model.specs.declared.Span.TheVariants as span;
 
+mod bucket;
+mod buckets;
+mod holders;
 mod list;
+mod names;
 #[cfg(test)]
 mod tests;
 
+pub use buckets::Buckets;
 pub use kr_model::{Mode, Name, Txn};
 use kr_protocol::Protocol;
 pub use list::List;

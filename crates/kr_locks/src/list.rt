@@ -1,5 +1,4 @@
-// The locks of all transactions in one sorted list.
-
+//! The locks of all transactions in one sorted list.
 ghost use Rattle.std.specs.Prelude.{◌≡◌, ◌≢◌, ◌≤◌, [], None, IsOk, OnOk, OnErr, MatchResult, length, slice_range};
 ghost use Rattle.std.specs.Ordering.{is_lt, is_le};
 ghost use Rattle.std.specs.FinMap.{find, put};

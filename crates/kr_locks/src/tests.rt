@@ -1,10 +1,11 @@
-// Each call once with ample memory, at two kinds of lock table, against answers worked out by hand.
+// Each call once with ample memory, at three kinds of lock table, against answers worked out by hand.
 
 ghost use Rattle.std.specs.Prelude.{◌≡◌, ◌≤◌, []};
 ghost use Rattle.kr_model.specs.Locks.{AreWithin};
 
 use super::*;
 
+mod conflicts;
 mod scarce;
 mod shared_exclusive;
 
@@ -114,6 +115,16 @@ fn list_answers(rt: HostRuntime) -> Result<(), Fail> {
 #[test]
 fn list_changes(rt: HostRuntime) -> Result<(), Fail> {
     changes(&rt, rt.alloc(), List::new(rt.alloc()))
+}
+
+#[test]
+fn buckets_answer(rt: HostRuntime) -> Result<(), Fail> {
+    answers(&rt, rt.alloc(), Buckets::new(rt.alloc()))
+}
+
+#[test]
+fn buckets_change(rt: HostRuntime) -> Result<(), Fail> {
+    changes(&rt, rt.alloc(), Buckets::new(rt.alloc()))
 }
 
 #[test]

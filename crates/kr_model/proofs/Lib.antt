@@ -23,3 +23,4 @@ pub mod Numbers
 pub mod Retained
 pub mod SortedSearch
 pub mod RisingNumbers
+pub mod Trees

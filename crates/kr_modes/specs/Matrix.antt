@@ -1,6 +1,7 @@
 -- The names of modes, with their compatibility and their conversion.
-use Rattle.std.specs.Prelude.{◌≡◌, ◌≢◌, ℕ, ◌+◌, ◌-◌, ◌*◌, ◌<◌, ◌≤◌, ◌||◌, Bool, false, ◌==◌, if◌then◌else◌, List, All, AllPairs, length, map, slice_index_or, String}
+use Rattle.std.specs.Prelude.{◌≡◌, ◌≢◌, ℕ, ◌+◌, ◌-◌, ◌*◌, ◌<◌, ◌≤◌, ◌||◌, Bool, false, not, ◌&&◌, nat_lt, nat_le, ◌==◌, if◌then◌else◌, List, All, AllPairs, length, map, slice_index_or, String}
 use Rattle.std.specs.Global.{Global}
+use Rattle.std.specs.Int.{bit_at}
 use Rattle.std.specs.String.{string_bytes}
 use Rattle.kr_model.specs.ModeNames.{IsModeName, name_of}
 
@@ -37,3 +38,15 @@ convert_of x h q = if h == 0 then q else (if q == 0 then h else slice_index_or x
 -- m is the mode with this name
 abbrev pub IsNamed : Matrix → List ℕ → ℕ → Type 0
 IsNamed x name m = (0 < m) × (m ≤ length x.names) × (name_of x.names m ≡ name)
+
+-- h is a mode, and a request in mode q may not stand beside it
+abbrev pub conflicts_of : Matrix → ℕ → ℕ → Bool
+conflicts_of x q h = (nat_lt 0 h && nat_le h (length x.names)) && not (ok_of x q h)
+
+-- bit h of r is set exactly where h is a mode, and a request in mode q may not stand beside it
+abbrev pub IsRowOf : Matrix → ℕ → ℕ → Type 0
+IsRowOf x q r = (h : ℕ) → bit_at r h ≡ (if conflicts_of x q h then 1 else 0)
+
+-- row q stands at place q, for none and for each mode
+abbrev pub AreRowsOf : Matrix → List ℕ → Type 0
+AreRowsOf x rows = (q : ℕ) → q ≤ length x.names → IsRowOf x q (slice_index_or rows q 0)

@@ -1,7 +1,7 @@
 //! Modes with their compatibility and their conversion.
-ghost use Rattle.std.specs.Prelude.{◌≡◌, ℕ, ◌+◌, ◌-◌, ◌*◌, ◌<◌, ◌≤◌, length, map, string_bytes, IfSome, IfNone};
+ghost use Rattle.std.specs.Prelude.{◌≡◌, ℕ, ◌+◌, ◌-◌, ◌*◌, ◌<◌, ◌≤◌, [], length, map, string_bytes, IfSome, IfNone};
 ghost use Rattle.kr_model.specs.ModeNames.{name_of};
-ghost use Rattle.kr_modes.specs.Matrix.{Matrix, IsMatrix, matrix_of, ok_of, convert_of, IsNamed};
+ghost use Rattle.kr_modes.specs.Matrix.{Matrix, IsMatrix, matrix_of, ok_of, convert_of, IsNamed, IsRowOf, AreRowsOf};
 
 use kr_model::Mode;
 use std::marker::Model;
@@ -13,16 +13,69 @@ pub struct Modes {
     names: Vec<String>,
     compatible: Vec<bool>,
     conversion: Vec<Mode>,
+    /// For each mode requested, and none, the modes held that it conflicts with, each as a bit.
+    rows: [u16; 16],
 }
 
 impl Model for Modes {
-    ghost use Rattle.kr_modes.specs.Matrix.{Matrix, IsMatrix, matrix_of};
+    ghost use Rattle.kr_modes.specs.Matrix.{Matrix, IsMatrix, AreRowsOf, matrix_of};
 
     ghost Value = { Matrix };
 
     ghost view = { λ s. matrix_of s.names.items s.compatible.items s.conversion.items };
 
-    ghost invariant = { λ s. IsMatrix (matrix_of s.names.items s.compatible.items s.conversion.items) };
+    ghost invariant = { λ s. let x = matrix_of s.names.items s.compatible.items s.conversion.items in IsMatrix x × AreRowsOf x s.rows };
+}
+
+/// The place of two modes in a square of all modes, which has a row for each first one.
+fn place(count: usize, first: Mode, second: Mode) -> usize
+    requires few { count ≤ 15 }
+    requires first { (0 < first) × (first ≤ count) }
+    requires second { (0 < second) × (second ≤ count) }
+    ensures place { result ≡ (first - 1) * count + (second - 1) }
+    ensures in_square { result < count * count }
+{
+    (first as usize - 1) * count + (second as usize - 1)
+}
+
+/// Whether a request in a mode may stand beside a held mode, by the square of the modes with these names.
+fn entry(names: &[String], ok: &[bool], requested: Mode, held: Mode) -> bool
+    requires few { length names.now ≤ 15 }
+    requires square { length ok.now ≡ length names.now * length names.now }
+    requires requested { (0 < requested) × (requested ≤ length names.now) }
+    requires held { (0 < held) × (held ≤ length names.now) }
+    ensures { result ≡ ok_of (matrix_of names.now ok.now []) requested held }
+{
+    ok[place(names.len(), requested, held)]
+}
+
+/// The row of a mode, by the square of the modes with these names.
+fn row_of(names: &[String], ok: &[bool], requested: Mode) -> u16
+    requires few { length names.now ≤ 15 }
+    requires square { length ok.now ≡ length names.now * length names.now }
+    requires requested { (0 < requested) × (requested ≤ length names.now) }
+    ensures { IsRowOf (matrix_of names.now ok.now []) requested result }
+{
+    let mut row: u16 = 0;
+    for held in 1..names.len() as Mode + 1 {
+        if !entry(names, ok, requested, held) {
+            row |= 1 << held;
+        }
+    }
+    row
+}
+
+/// The rows of none, which conflicts with nothing, and of each mode, by the square of the modes with these names.
+fn rows_of(names: &[String], ok: &[bool]) -> [u16; 16]
+    requires few { length names.now ≤ 15 }
+    requires square { length ok.now ≡ length names.now * length names.now }
+    ensures { AreRowsOf (matrix_of names.now ok.now []) result }
+{
+    let mut rows = [0; 16];
+    for requested in 1..names.len() as Mode + 1 {
+        rows[requested as usize] = row_of(names, ok, requested);
+    }
+    rows
 }
 
 impl Modes {
@@ -36,10 +89,12 @@ impl Modes {
         requires { IsMatrix (matrix_of names.items ok.items convert.items) }
         ensures { result ≡ matrix_of names.items ok.items convert.items }
     {
+        let rows = rows_of(&names, &ok);
         Modes {
             names,
             compatible: ok,
             conversion: convert,
+            rows,
         }
     }
 
@@ -61,7 +116,16 @@ impl Modes {
         if requested == 0 || held == 0 {
             return true;
         }
-        self.compatible[self.place(requested, held)]
+        self.compatible[place(self.names.len(), requested, held)]
+    }
+
+    /// The modes that a request in one mode may not stand beside, each as a bit: bit `h` is set
+    /// exactly where `h` is a mode and `ok` of the request and `h` is false.
+    pub fn row(&self, requested: Mode) -> u16
+        requires { requested ≤ length self.now.names }
+        ensures { IsRowOf self.now requested result }
+    {
+        self.rows[requested as usize]
     }
 
     /// The mode of one who holds a mode and asks for another. Where one of them is none, it is
@@ -77,7 +141,7 @@ impl Modes {
         if requested == 0 {
             return held;
         }
-        self.conversion[self.place(held, requested)]
+        self.conversion[place(self.names.len(), held, requested)]
     }
 
     /// The name of a mode, and `none` for none.
@@ -125,15 +189,5 @@ impl Modes {
             }
         }
         None
-    }
-
-    /// The place of two modes in a square of all modes, which has a row for each first one.
-    fn place(&self, first: Mode, second: Mode) -> usize
-        requires first { (0 < first) × (first ≤ length self.now.names) }
-        requires second { (0 < second) × (second ≤ length self.now.names) }
-        ensures place { result ≡ (first - 1) * length self.now.names + (second - 1) }
-        ensures in_square { result < length self.now.names * length self.now.names }
-    {
-        (first as usize - 1) * self.names.len() + (second as usize - 1)
     }
 }

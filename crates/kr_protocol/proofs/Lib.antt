@@ -1,1 +1,5 @@
 pub mod KvlTables
+pub mod RowLaws
+pub mod KvlRows
+pub mod ImRows
+pub mod RangeKeyRows

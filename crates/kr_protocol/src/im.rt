@@ -70,6 +70,9 @@ static CONVERTED: [[Mode; 3]; 3] = [
     [X, X, X],
 ];
 
+/// The modes that a request may not stand beside, each as a bit, by the mode requested.
+static ROWS: [u16; 3] = [0, 4, 6];
+
 impl Protocol for Im {
     ghost table = { λ _. im };
 
@@ -81,6 +84,10 @@ impl Protocol for Im {
 
     fn ok(&self, requested: Mode, held: Mode) -> bool {
         COMPATIBLE[requested as usize][held as usize]
+    }
+
+    fn row(&self, requested: Mode) -> u16 {
+        ROWS[requested as usize]
     }
 
     fn convert(&self, held: Mode, requested: Mode) -> Mode {

@@ -92,6 +92,9 @@ static CONVERTED: [[Mode; 6]; 6] = [
     [X, X, X, X, X, X],
 ];
 
+/// The modes that a request may not stand beside, each as a bit, by the mode requested.
+static ROWS: [u16; 6] = [0, 32, 56, 52, 60, 62];
+
 impl Protocol for Kvl {
     ghost table = { λ _. kvl };
 
@@ -103,6 +106,10 @@ impl Protocol for Kvl {
 
     fn ok(&self, requested: Mode, held: Mode) -> bool {
         COMPATIBLE[requested as usize][held as usize]
+    }
+
+    fn row(&self, requested: Mode) -> u16 {
+        ROWS[requested as usize]
     }
 
     fn convert(&self, held: Mode, requested: Mode) -> Mode {

@@ -3,6 +3,7 @@ ghost use Rattle.std.specs.Prelude.{◌≡◌, ℕ, ◌≤◌, List};
 ghost use Rattle.kr_model.specs.Protocol.{Protocol, IsLawful};
 ghost use Rattle.kr_model.specs.Covers.{IsCovered};
 ghost use Rattle.kr_model.specs.ModeNames.{name_of, AreModeNames};
+ghost use Rattle.kr_protocol.specs.Rows.{IsRow};
 
 use kr_model::{Mode, Row, Side, Span};
 
@@ -25,6 +26,12 @@ pub trait Protocol: Drop {
         requires requested_is_mode { requested ≤ (table self.now).count }
         requires held_is_mode { held ≤ (table self.now).count }
         ensures { result ≡ (table self.now).ok requested held };
+
+    /// The modes that a request in one mode may not stand beside, each as a bit: bit `h` is set
+    /// exactly where `h` is a mode and `ok` of the request and `h` is false.
+    fn row(&self, requested: Mode) -> u16
+        requires { requested ≤ (table self.now).count }
+        ensures { IsRow (table self.now) requested result };
 
     /// The mode of one who holds a mode and asks for another. Where one of them is none, it is
     /// the other.
@@ -70,6 +77,10 @@ impl<P: Protocol> Protocol for &P {
 
     fn ok(&self, requested: Mode, held: Mode) -> bool {
         P::ok(*self, requested, held)
+    }
+
+    fn row(&self, requested: Mode) -> u16 {
+        P::row(*self, requested)
     }
 
     fn convert(&self, held: Mode, requested: Mode) -> Mode {

@@ -142,6 +142,11 @@ fn mode_of(range: RangePart, key: KeyPart) -> Mode
     }
 }
 
+/// The modes that a request may not stand beside, each as a bit, by the mode requested.
+static ROWS: [u16; 12] = [
+    0, 2340, 3510, 4032, 4068, 4086, 3640, 3900, 4030, 4088, 4092, 4094,
+];
+
 impl Protocol for RangeKey {
     ghost table = { λ _. range_key };
 
@@ -155,6 +160,10 @@ impl Protocol for RangeKey {
         let (range, key) = parts_of(requested);
         let (held_range, held_key) = parts_of(held);
         range.stands_beside(held_range) && key.stands_beside(held_key)
+    }
+
+    fn row(&self, requested: Mode) -> u16 {
+        ROWS[requested as usize]
     }
 
     fn convert(&self, held: Mode, requested: Mode) -> Mode {

@@ -168,6 +168,15 @@ fn key_value_locking(rt: HostRuntime) -> Result<(), Fail> {
 }
 
 #[test]
+fn rows_of_key_value_locking(rt: HostRuntime) -> Result<(), Fail> {
+    let rows: [u16; 6] = [0, 32, 56, 52, 60, 62];
+    for requested in 0..6_u8 {
+        assert_eq!(rt; Kvl.row(requested), rows[requested as usize]);
+    }
+    Ok(())
+}
+
+#[test]
 fn index_specific_locking(rt: HostRuntime) -> Result<(), Fail> {
     let alloc = rt.alloc();
     assert_eq!(rt; covered_count(&Im), 2);

@@ -7,8 +7,8 @@ ghost use Rattle.kr_model.specs.State.{start};
 ghost use Rattle.kr_model.specs.Run.{run, replies_of, programs};
 
 use crate::{Index, Ran, Replies, Triples, replay};
-use kr_index::{Memory, Ordered, Sorted};
-use kr_locks::{Holdings, List};
+use kr_index::{Memory, Ordered, Tree};
+use kr_locks::{Buckets, Holdings};
 use kr_machine::Machine;
 use kr_model::Event;
 use kr_protocol::Protocol;
@@ -57,8 +57,8 @@ fn replayed<P: Protocol>(
     ensures unfinished { IfOk result (λ ran. let r = run (P.table protocol.now) (start opening.now) events.now in ran.unfinished ≡ map (λ a. a.0) r.state.active) }
 {
     let first = Index::copy_of(alloc, opening)?;
-    let index = Sorted::from_pairs(alloc, opening)?;
-    let mut machine = Machine::new(alloc, protocol, index, List::new(alloc));
+    let index = Tree::from_pairs(alloc, opening)?;
+    let mut machine = Machine::new(alloc, protocol, index, Buckets::new(alloc));
     let replies = replay(alloc, &mut machine, events)?;
     show(&machine, first, replies)
 }

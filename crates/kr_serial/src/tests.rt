@@ -1,39 +1,36 @@
 mod ample;
+mod crowds;
 mod judging;
+mod plain;
 mod running;
 
-use crate::{Index, Name, Programs, Ran, Replies, Reply, Triples, Txns};
-use std::alloc::{AllocError, Global};
+use crate::{Name, Replies, Reply, Triples};
+use std::alloc::AllocError;
 
-fn ran(alloc: Global) -> Result<Ran, AllocError> {
-    let replies = vec![in alloc;
-        Reply::None,
-        Reply::Blocked(Txns::from_vec(vec![in alloc; 1]?)),
-    ]?;
-    let locks = vec![in alloc; ((Name::Key(20), 1), 3), ((Name::End, 2), 5)]?;
-    Ok(Ran {
-        opening: Index::copy_of(alloc, &[(20, 2)])?,
-        replies: Replies::from_vec(replies),
-        index: Index::copy_of(alloc, &[(20, 2)])?,
-        locks: Triples::from_vec(locks),
-        programs: Programs::from_vec(Vec::new(alloc)),
-        unfinished: Txns::from_vec(vec![in alloc; 1, 2]?),
-    })
+#[test]
+fn replies_are_made_of_a_vector_and_give_it_back(rt: HostRuntime) -> Result<(), AllocError> {
+    let mut list = Vec::new(rt.alloc());
+    list.push(Reply::None)?;
+    list.push(Reply::Done)?;
+    let replies = Replies::from_vec(list);
+    let shown = replies.as_slice();
+    assert_eq!(rt; shown.len(), 2);
+    assert!(rt; matches!(&shown[0], Reply::None));
+    assert!(rt; matches!(&shown[1], Reply::Done));
+    assert_eq!(rt; replies.into_vec().len(), 2);
+    Ok(())
 }
 
 #[test]
-fn lists_are_made_of_vectors_and_give_them_back(rt: HostRuntime) -> Result<(), AllocError> {
-    let ran = ran(rt.alloc())?;
-    let replies = ran.replies.as_slice();
-    assert_eq!(rt; replies.len(), 2);
-    assert!(rt; matches!(&replies[0], Reply::None));
-    assert!(rt; matches!(&replies[1], Reply::Blocked(_)));
-    assert_eq!(rt; ran.replies.into_vec().len(), 2);
-    let locks = ran.locks.as_slice();
-    assert_eq!(rt; locks.len(), 2);
-    assert!(rt; locks[0] == ((Name::Key(20), 1), 3));
-    let locks = ran.locks.into_vec();
-    assert_eq!(rt; locks.len(), 2);
-    assert!(rt; locks[1] == ((Name::End, 2), 5));
+fn triples_are_made_of_a_vector_and_give_it_back(rt: HostRuntime) -> Result<(), AllocError> {
+    let mut list = Vec::new(rt.alloc());
+    list.push(((Name::Key(20), 1), 3))?;
+    list.push(((Name::End, 2), 5))?;
+    let triples = Triples::from_vec(list);
+    assert_eq!(rt; triples.as_slice().len(), 2);
+    assert!(rt; triples.as_slice()[0] == ((Name::Key(20), 1), 3));
+    let list = triples.into_vec();
+    assert_eq!(rt; list.len(), 2);
+    assert!(rt; list[1] == ((Name::End, 2), 5));
     Ok(())
 }

@@ -66,6 +66,10 @@ impl Protocol for Table {
         self.parts.modes.ok(requested, held)
     }
 
+    fn row(&self, requested: Mode) -> u16 {
+        self.parts.modes.row(requested)
+    }
+
     fn convert(&self, held: Mode, requested: Mode) -> Mode {
         self.parts.modes.convert(held, requested)
     }

@@ -30,6 +30,14 @@ impl Protocol for SharedExclusive {
         q == 0 || h == 0 || (q == 1 && h == 1)
     }
 
+    fn row(&self, q: u8) -> u16 {
+        match q {
+            SHARED => 4,
+            EXCLUSIVE => 6,
+            _ => 0,
+        }
+    }
+
     fn convert(&self, h: u8, q: u8) -> u8 {
         if h < q { q } else { h }
     }

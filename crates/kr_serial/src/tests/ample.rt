@@ -1,53 +1,13 @@
 //! Runs with ample memory, none of which answers want of memory: operations at boundary keys, numbers and values and at
-//! some hundred others, 64 active transactions, runs that aren't serial, and steps from a small generator.
-ghost use Rattle.std.specs.Prelude.{◌≡◌, max, [], ◌∷◌, None, true, codes, refl};
-ghost use Rattle.std.proofs.Common.{rules};
-ghost use Rattle.kr_model.specs.Map.{IsMap};
-ghost use Rattle.kr_model.proofs.Tested.{lawful_by_test};
-
-use crate::{Mode, Pairs, Ran, Reply, Txn, Txns, Verdict, judge, run, run_any};
-use kr_model::{Event, Op, Refusal, Row, Side, Span};
-use kr_protocol::{Covered, Im, Kvl, Protocol, RangeKey};
-use std::alloc::{AllocError, Global};
+//! some hundred others, runs that aren't serial, and steps from a small generator.
+use super::plain::Plain;
+use crate::{Ran, Reply, Txn, Verdict, judge, run, run_any};
+use kr_index::Memory;
+use kr_model::{Event, Op, Refusal};
+use kr_protocol::{Im, Kvl, RangeKey};
+use std::alloc::Global;
 use std::process::Abort;
 use std::test::Fail;
-
-/// One mode, which is never asked for.
-#[derive(Drop)]
-struct Plain;
-
-impl Protocol for Plain {
-    ghost table = { λ _. record { count = 1; ok = λ q h. true; convert = λ h q. max h q; ask = λ row side own. None } };
-
-    ghost names = { λ _. codes "A" ∷ [] };
-
-    fn count(&self) -> Mode {
-        1
-    }
-
-    fn ok(&self, _requested: Mode, _held: Mode) -> bool {
-        true
-    }
-
-    fn convert(&self, held: Mode, requested: Mode) -> Mode {
-        held.max(requested)
-    }
-
-    fn name(&self, mode: Mode) -> &str {
-        match mode {
-            0 => "none",
-            _ => "A",
-        }
-    }
-
-    fn ask(&self, _row: Row, _side: Side, _own_next: Mode) -> Option<(Mode, Span)> {
-        None
-    }
-
-    ghost lawful = { λ _. lawful_by_test (record { count = 1; ok = λ q h. true; convert = λ h q. max h q; ask = λ row side own. None }) refl };
-
-    ghost named = { λ _. Prim.search rules };
-}
 
 /// Keys and values at which a number turns.
 const KEYS: [u64; 8] = [
@@ -64,108 +24,194 @@ const KEYS: [u64; 8] = [
 /// Numbers of transactions at which a number turns.
 const NUMBERS: [Txn; 5] = [0, 1, 7, 1 << 31, u32::MAX];
 
-/// Whether two replies are the same.
-fn same(one: &Reply, other: &Reply) -> bool {
-    match (one, other) {
-        (Reply::Found(one), Reply::Found(other)) => one == other,
-        (Reply::Deleted(one), Reply::Deleted(other)) => one == other,
-        (Reply::Going(one), Reply::Going(other)) => one == other,
-        (Reply::Rows(one), Reply::Rows(other)) => one.as_slice() == other.as_slice(),
-        (Reply::Blocked(one), Reply::Blocked(other)) => one.as_slice() == other.as_slice(),
-        (Reply::Refused(one), Reply::Refused(other)) => one == other,
-        (Reply::None, Reply::None)
-        | (Reply::Done, Reply::Done)
-        | (Reply::Duplicate, Reply::Duplicate)
-        | (Reply::Absent, Reply::Absent)
-        | (Reply::Committed, Reply::Committed)
-        | (Reply::Aborted, Reply::Aborted) => true,
+/// A transaction, a key and a value: below 64 each boundary key with each boundary value and each such transaction, and
+/// then small numbers and numbers that look random in turn.
+fn case(i: u32) -> (Txn, u64, u64) {
+    let number = u64::from(i);
+    if i < 64 {
+        let txn = NUMBERS[(i % 5) as usize];
+        return (txn, KEYS[(i / 8) as usize], KEYS[(i % 8) as usize]);
+    }
+    if i % 2 == 0 {
+        return (i, number, number);
+    }
+    let scattered = number.wrapping_mul(11_400_714_819_323_198_485);
+    ((scattered >> 32) as u32, scattered, !scattered)
+}
+
+/// How many of them are gone over.
+const CASES: u32 = 364;
+
+pub fn event(txn: Txn, op: Op) -> Event {
+    Event { txn, op }
+}
+
+/// The run of events from an empty index, in each of seven ways: by `run` under a covered protocol, and by `run_any` under
+/// such a one or without locks.
+pub fn ran_by(alloc: Global, way: u32, events: &[Event]) -> Result<Ran, Memory> {
+    match way {
+        0 => run(alloc, &Kvl, &[], events),
+        1 => run(alloc, &Im, &[], events),
+        2 => run(alloc, &RangeKey, &[], events),
+        3 => run_any(alloc, &Kvl, &[], events),
+        4 => run_any(alloc, &Im, &[], events),
+        5 => run_any(alloc, &RangeKey, &[], events),
+        _ => run_any(alloc, &Plain, &[], events),
+    }
+}
+
+/// The operation at an index of a story about a key that is absent at first.
+fn story_op(step: usize, key: u64, value: u64) -> Op {
+    match step {
+        0 | 7 => Op::Delete(key),
+        2 | 9 => Op::Insert(key, value),
+        3 => Op::Insert(key, 3),
+        5 => Op::Scan(key, key),
+        6 if key == 0 => Op::Go,
+        6 => Op::Scan(key, key.saturating_sub(1)),
+        8 => Op::Scan(0, u64::MAX),
+        10 => Op::Commit,
+        _ => Op::Fetch(key),
+    }
+}
+
+/// That story as the steps of a transaction.
+fn story(txn: Txn, key: u64, value: u64) -> [Event; 12] {
+    let mut events = [event(txn, Op::Commit); 12];
+    for step in 0..12 {
+        events[step] = event(txn, story_op(step, key, value));
+    }
+    events
+}
+
+/// Whether this is the reply to that operation.
+fn is_story(reply: &Reply, step: usize, key: u64, value: u64) -> bool {
+    match (step, reply) {
+        (0, Reply::Absent) | (1, Reply::None) | (3, Reply::Duplicate) => true,
+        (2 | 9, Reply::Done) | (10, Reply::Committed) => true,
+        (4, Reply::Found(found)) => *found == value,
+        (5, Reply::Rows(rows)) => rows.as_slice() == [(key, value)].as_slice(),
+        (6, Reply::Refused(Refusal::NoScan)) => key == 0,
+        (6, Reply::Refused(Refusal::BadRange)) => key > 0,
+        (7, Reply::Deleted(deleted)) => *deleted == value,
+        (8, Reply::Rows(rows)) => rows.as_slice().is_empty(),
+        (11, Reply::Refused(refusal)) => *refusal == Refusal::Ended,
         _ => false,
     }
 }
 
-fn rows(alloc: Global, pairs: &[(u64, u64)]) -> Result<Reply, AllocError> {
-    Ok(Reply::Rows(Pairs::from_vec(pairs.to_vec(alloc)?)))
-}
-
-/// Each operation at a key that is absent at first, with its reply.
-fn story(alloc: Global, key: u64, value: u64) -> Result<Vec<(Op, Reply)>, AllocError> {
-    let alone = rows(alloc, &[(key, value)])?;
-    let none = rows(alloc, &[])?;
-    let bad = Reply::Refused(Refusal::BadRange);
-    let range = if key == 0 {
-        (Op::Go, Reply::Refused(Refusal::NoScan))
-    } else {
-        (Op::Scan(key, key - 1), bad)
-    };
-    let steps = vec![in alloc;
-        (Op::Delete(key), Reply::Absent),
-        (Op::Fetch(key), Reply::None),
-        (Op::Insert(key, value), Reply::Done),
-        (Op::Insert(key, 3), Reply::Duplicate),
-        (Op::Fetch(key), Reply::Found(value)),
-        (Op::Scan(key, key), alone),
-        range,
-        (Op::Delete(key), Reply::Deleted(value)),
-        (Op::Scan(0, u64::MAX), none),
-        (Op::Insert(key, value), Reply::Done),
-        (Op::Commit, Reply::Committed),
-        (Op::Fetch(key), Reply::Refused(Refusal::Ended)),
-    ]?;
-    Ok(steps)
-}
-
-/// The operations as steps of a transaction.
-fn events_of(alloc: Global, txn: Txn, steps: &[(Op, Reply)]) -> Result<Vec<Event>, AllocError> {
-    let mut events = Vec::new(alloc);
-    for (op, _) in steps {
-        events.push(Event { txn, op: *op })?;
-    }
-    Ok(events)
-}
-
-/// Runs the story of a key under a protocol, and compares each reply and the index; the run is serial.
-fn tells_story<R: AllocGlobal + Abort, P: Protocol>(
-    rt: &R,
-    protocol: &P,
-    txn: Txn,
-    key: u64,
-    value: u64,
-) -> Result<(), Fail> {
-    let alloc = rt.alloc();
-    let steps = story(alloc, key, value)?;
-    let events = events_of(alloc, txn, steps.as_slice())?;
-    let ran = run_any(alloc, protocol, &[], events.as_slice())?;
+/// Whether a run has told that story.
+fn has_told(ran: &Ran, key: u64, value: u64) -> bool {
     let replies = ran.replies.as_slice();
-    assert_eq!(rt; replies.len(), steps.len());
-    for (reply, (op, wanted)) in replies.iter().zip(&steps) {
-        assert!(rt; same(reply, wanted), "{txn} {op:?}: {reply:?}");
+    for step in 0..replies.len() {
+        if !is_story(&replies[step], step, key, value) {
+            return false;
+        }
     }
-    assert_eq!(rt; ran.index.as_slice(), [(key, value)].as_slice());
-    assert!(rt; judge(alloc, &ran)?.is_serial(), "{key}");
-    Ok(())
+    replies.len() == 12 && ran.index.as_slice() == [(key, value)].as_slice()
 }
 
-fn tells_story_under_each<R: AllocGlobal + Abort>(
-    rt: &R,
-    txn: Txn,
-    key: u64,
-    value: u64,
-) -> Result<(), Fail> {
-    tells_story(rt, &Kvl, txn, key, value)?;
-    tells_story(rt, &Im, txn, key, value)?;
-    tells_story(rt, &RangeKey, txn, key, value)?;
-    tells_story(rt, &Plain, txn, key, value)
+/// Whether the run of that story in one of the ways tells it, and is serial.
+fn is_told(alloc: Global, way: u32, txn: Txn, key: u64, value: u64) -> Result<bool, Memory> {
+    let ran = ran_by(alloc, way, &story(txn, key, value))?;
+    Ok(has_told(&ran, key, value) & judge(alloc, &ran)?.is_serial())
 }
 
 #[test]
-fn each_operation_at_boundaries(rt: HostRuntime) -> Result<(), Fail> {
-    for key in KEYS {
-        for txn in NUMBERS {
-            tells_story_under_each(&rt, txn, key, key)?;
+fn each_operation(rt: HostRuntime) -> Result<(), Fail> {
+    for i in 0..CASES {
+        let (txn, key, value) = case(i);
+        for way in 0..7 {
+            let told = is_told(rt.alloc(), way, txn, key, value)?;
+            assert!(rt; told, "{way} {txn} {key} {value}");
         }
-        for value in KEYS {
-            tells_story_under_each(&rt, 1, key, value)?;
+    }
+    Ok(())
+}
+
+/// What the one who acts first does, and then the other, who commits first, in each of seven ways in which an answer isn't the
+/// one of the commit order. In the odd ones the key is there at first.
+fn clash(i: u32, key: u64, value: u64) -> (Op, Op) {
+    let (insert, delete) = (Op::Insert(key, value), Op::Delete(key));
+    match i {
+        0 => (Op::Fetch(key), insert),
+        1 => (Op::Fetch(key), delete),
+        2 => (Op::Scan(key, key), insert),
+        3 | 6 => (insert, delete),
+        _ => (delete, insert),
+    }
+}
+
+/// Whether these are the answer that was given and the one in commit order.
+fn are_answers(i: u32, key: u64, value: u64, given: &Reply, serial: &Reply) -> bool {
+    match (i, given, serial) {
+        (0, Reply::None, Reply::Found(found)) => *found == value,
+        (1, Reply::Found(found), Reply::None) => *found == value,
+        (2, Reply::Rows(given), Reply::Rows(serial)) => {
+            given.as_slice().is_empty() && serial.as_slice() == [(key, value)].as_slice()
         }
+        (3, Reply::Duplicate, Reply::Done) | (5, Reply::Done, Reply::Duplicate) => true,
+        (4, Reply::Absent, Reply::Deleted(deleted)) => *deleted == value,
+        (6, Reply::Deleted(deleted), Reply::Absent) => *deleted == value,
+        _ => false,
+    }
+}
+
+/// Runs a clash of two transactions where no lock keeps them apart.
+fn ran_clash(alloc: Global, i: u32, txns: (Txn, Txn), key: u64, value: u64) -> Result<Ran, Memory> {
+    let (first, second) = txns;
+    let (op, other) = clash(i, key, value);
+    let events = [
+        event(first, op),
+        event(second, other),
+        event(second, Op::Commit),
+        event(first, Op::Commit),
+    ];
+    if i % 2 == 0 {
+        run_any(alloc, &Plain, &[], &events)
+    } else {
+        run_any(alloc, &Plain, &[(key, value)], &events)
+    }
+}
+
+/// Whether the verdict on a clash tells it: up to 4 it is in the answer of the one who acts first, and then in the other's.
+fn tells(verdict: &Verdict, i: u32, txns: (Txn, Txn), key: u64, value: u64) -> bool {
+    let whose = if i < 5 { txns.0 } else { txns.1 };
+    match verdict {
+        Verdict::Serial => false,
+        Verdict::NotSerial {
+            txn,
+            operation,
+            given,
+            serial,
+        } => *txn == whose && *operation == 1 && are_answers(i, key, value, given, serial),
+    }
+}
+
+/// Whether each clash of two transactions is told.
+fn are_told(alloc: Global, txns: (Txn, Txn), key: u64, value: u64) -> Result<bool, Memory> {
+    for i in 0..7 {
+        let ran = ran_clash(alloc, i, txns, key, value)?;
+        if !tells(&judge(alloc, &ran)?, i, txns, key, value) {
+            return Ok(false);
+        }
+    }
+    Ok(true)
+}
+
+#[test]
+fn each_clash(rt: HostRuntime) -> Result<(), Fail> {
+    let alloc = rt.alloc();
+    for i in 0..CASES {
+        let (txn, key, value) = case(i);
+        assert!(rt;
+            are_told(alloc, (txn, 2), key, value)?,
+            "{txn} {key} {value}"
+        );
+        assert!(rt;
+            are_told(alloc, (2, txn), key, value)?,
+            "{txn} {key} {value}"
+        );
     }
     Ok(())
 }
@@ -177,254 +223,17 @@ fn after(number: u64) -> u64 {
     number ^ (number << 17)
 }
 
-#[test]
-fn each_operation_at_other_keys(rt: HostRuntime) -> Result<(), Fail> {
-    let mut number = 1;
-    for small in 0..300_u32 {
-        number = after(number);
-        tells_story_under_each(&rt, (number >> 32) as u32, number, after(number))?;
-        tells_story_under_each(&rt, small, small as u64, small as u64)?;
-    }
-    Ok(())
-}
-
-/// Two transactions, of which the second commits first, and the answer that isn't the one of the commit order.
-#[derive(Drop)]
-struct Clash {
-    /// Whether the key is there at first.
-    is_present: bool,
-    /// What the one that acts first does, and then the other.
-    ops: (Op, Op),
-    /// Whether it is the answer of the one that acts first.
-    is_first: bool,
-    /// The answer that was given.
-    given: Reply,
-    /// The answer in commit order.
-    serial: Reply,
-}
-
-/// Each way in which the one that acts first reads what the other then changes.
-fn clashes(alloc: Global, key: u64, value: u64) -> Result<Vec<Clash>, AllocError> {
-    let (insert, delete) = (Op::Insert(key, value), Op::Delete(key));
-    let scanned = rows(alloc, &[(key, value)])?;
-    let list = vec![in alloc;
-        misread(
-            false,
-            (Op::Fetch(key), insert),
-            Reply::None,
-            Reply::Found(value)
-        ),
-        misread(
-            true,
-            (Op::Fetch(key), delete),
-            Reply::Found(value),
-            Reply::None
-        ),
-        misread(
-            false,
-            (Op::Scan(key, key), insert),
-            rows(alloc, &[])?,
-            scanned
-        ),
-        misread(
-            false,
-            (delete, insert),
-            Reply::Absent,
-            Reply::Deleted(value)
-        ),
-        misread(true, (insert, delete), Reply::Duplicate, Reply::Done),
-        dirty(
-            false,
-            (insert, delete),
-            Reply::Deleted(value),
-            Reply::Absent
-        ),
-        dirty(true, (delete, insert), Reply::Done, Reply::Duplicate),
-    ]?;
-    Ok(list)
-}
-
-/// A clash in the answer of the one that acts first.
-fn misread(is_present: bool, ops: (Op, Op), given: Reply, serial: Reply) -> Clash {
-    Clash {
-        is_present,
-        ops,
-        is_first: true,
-        given,
-        serial,
-    }
-}
-
-/// A clash in the answer of the other, which meets a change that isn't committed.
-fn dirty(is_present: bool, ops: (Op, Op), given: Reply, serial: Reply) -> Clash {
-    Clash {
-        is_present,
-        ops,
-        is_first: false,
-        given,
-        serial,
-    }
-}
-
-fn event(txn: Txn, op: Op) -> Event {
-    Event { txn, op }
-}
-
-/// Runs a clash where no lock keeps the two apart, and compares the verdict.
-fn tells_clash<R: AllocGlobal + Abort>(
-    rt: &R,
-    txns: (Txn, Txn),
-    opening: &[(u64, u64)],
-    clash: &Clash,
-) -> Result<(), Fail>
-    requires { IsMap opening.now }
-{
-    let alloc = rt.alloc();
-    let (first, second) = txns;
-    let events = [
-        event(first, clash.ops.0),
-        event(second, clash.ops.1),
-        event(second, Op::Commit),
-        event(first, Op::Commit),
-    ];
-    let ran = run_any(alloc, &Plain, opening, &events)?;
-    let wanted = if clash.is_first { first } else { second };
-    match judge(alloc, &ran)? {
-        Verdict::Serial => panic!(rt; "{opening:?} {:?}: serial", clash.ops),
-        Verdict::NotSerial {
-            txn,
-            operation,
-            given,
-            serial,
-        } => {
-            assert_eq!(rt; (txn, operation), (wanted, 1));
-            assert!(rt; same(&given, &clash.given), "{:?}: {given:?}", clash.ops);
-            assert!(rt; same(&serial, &clash.serial), "{:?}: {serial:?}", clash.ops);
-        }
-    }
-    Ok(())
-}
-
-/// Runs each clash at a key.
-fn tells_clashes<R: AllocGlobal + Abort>(
-    rt: &R,
-    txns: (Txn, Txn),
-    key: u64,
-    value: u64,
-) -> Result<(), Fail> {
-    for clash in &clashes(rt.alloc(), key, value)? {
-        if clash.is_present {
-            tells_clash(rt, txns, &[(key, value)], clash)?;
-        } else {
-            tells_clash(rt, txns, &[], clash)?;
-        }
-    }
-    Ok(())
-}
-
-#[test]
-fn each_clash_at_boundaries(rt: HostRuntime) -> Result<(), Fail> {
-    for key in KEYS {
-        for txn in NUMBERS {
-            tells_clashes(&rt, (txn, 2), key, key)?;
-            tells_clashes(&rt, (2, txn), key, 5)?;
-        }
-        for value in KEYS {
-            tells_clashes(&rt, (1, 2), key, value)?;
-        }
-    }
-    Ok(())
-}
-
-#[test]
-fn each_clash_at_other_keys(rt: HostRuntime) -> Result<(), Fail> {
-    let mut number = 1;
-    for small in 0..300_u32 {
-        number = after(number);
-        tells_clashes(&rt, (1, 2), number, after(number))?;
-        tells_clashes(&rt, (small, 300), small as u64, small as u64)?;
-    }
-    Ok(())
-}
-
-/// The number of one who comes when 64 are active, of which the greatest number is `last`.
-fn late(last: Txn) -> Txn {
-    last ^ 65_536
-}
-
-/// 64 transactions fetch an absent key; one more comes, and then one of the 64 inserts that key; all 64 commit, and the one
-/// who came late inserts it.
-fn crowd(alloc: Global, last: Txn) -> Result<Vec<Event>, AllocError> {
-    let mut events = Vec::new(alloc);
-    for below in 0..64 {
-        events.push(event(last.saturating_sub(below), Op::Fetch(7)))?;
-    }
-    events.push(event(late(last), Op::Fetch(7)))?;
-    events.push(event(last, Op::Insert(7, 7)))?;
-    for below in 0..64 {
-        events.push(event(last.saturating_sub(below), Op::Commit))?;
-    }
-    events.push(event(late(last), Op::Insert(7, 8)))?;
-    Ok(events)
-}
-
-/// The others of the 64.
-fn others(alloc: Global, last: Txn) -> Result<Txns, AllocError> {
-    let mut numbers = Vec::new(alloc);
-    for below in 0..63 {
-        numbers.push(last.saturating_sub(63 - below))?;
-    }
-    Ok(Txns::from_vec(numbers))
-}
-
-/// The reply to the step of that run at an index.
-fn crowd_reply(alloc: Global, last: Txn, step: usize) -> Result<Reply, AllocError> {
-    Ok(match step {
-        0..=63 => Reply::None,
-        64 => Reply::Refused(Refusal::Full),
-        65 => Reply::Blocked(others(alloc, last)?),
-        66..=129 => Reply::Committed,
-        _ => Reply::Done,
-    })
-}
-
-/// Runs a crowd under a covered protocol, and compares each reply, the index and who is left; the run is serial.
-fn tells_crowd<R: AllocGlobal + Abort, P: Covered>(
-    rt: &R,
-    protocol: &P,
-    last: Txn,
-) -> Result<(), Fail> {
-    let alloc = rt.alloc();
-    let events = crowd(alloc, last)?;
-    let ran = run(alloc, protocol, &[], events.as_slice())?;
-    assert_eq!(rt; ran.replies.as_slice().len(), 131);
-    for (step, reply) in ran.replies.as_slice().iter().enumerate() {
-        let wanted = crowd_reply(alloc, last, step)?;
-        assert!(rt; same(reply, &wanted), "{last} {step}: {reply:?}");
-    }
-    assert_eq!(rt; ran.index.as_slice(), [(7, 8)].as_slice());
-    assert_eq!(rt; ran.unfinished.as_slice(), [late(last)].as_slice());
-    assert_eq!(rt; ran.programs.as_slice().len(), 64);
-    assert!(rt; judge(alloc, &ran)?.is_serial());
-    Ok(())
-}
-
-#[test]
-fn crowds_of_64(rt: HostRuntime) -> Result<(), Fail> {
-    for last in [63, 64, 1000, u32::MAX - 1, u32::MAX] {
-        tells_crowd(&rt, &Kvl, last)?;
-        tells_crowd(&rt, &Im, last)?;
-        tells_crowd(&rt, &RangeKey, last)?;
-    }
-    Ok(())
+/// One of the keys, by a number.
+fn key_by(number: u64) -> u64 {
+    KEYS[(number % 8) as usize]
 }
 
 /// An operation that looks random.
 fn random_op(number: u64) -> Op {
-    let key = KEYS[(number >> 8) as usize % 8];
+    let key = key_by(number >> 8);
     match (number >> 16) % 9 {
         0 | 1 => Op::Fetch(key),
-        2 | 3 => Op::Scan(key, KEYS[(number >> 24) as usize % 8]),
+        2 | 3 => Op::Scan(key, key_by(number >> 24)),
         4 => Op::Go,
         5 | 6 => Op::Insert(key, number),
         7 => Op::Delete(key),
@@ -433,92 +242,64 @@ fn random_op(number: u64) -> Op {
 }
 
 /// 400 steps that look random: five transactions at a time take 30 steps, and then each commits, or aborts where it can't.
-fn random_steps(alloc: Global, seed: u64) -> Result<Vec<Event>, AllocError> {
-    let mut events = Vec::new(alloc);
+fn random_steps(seed: u64) -> [Event; 400] {
+    let mut events = [event(0, Op::Commit); 400];
     let mut number = seed;
     for step in 0..400_u32 {
         number = after(number);
         let first = step / 40 * 5;
-        let event = match step % 40 {
+        events[step as usize] = match step % 40 {
             30..=34 => event(first + step % 5, Op::Commit),
             35..=39 => event(first + step % 5, Op::Abort),
             _ => event(first + (number % 5) as u32, random_op(number)),
         };
-        events.push(event)?;
     }
-    Ok(events)
+    events
 }
 
-/// Under a covered protocol such steps are serial, and each transaction ends.
-fn tells_serial<R: AllocGlobal + Abort, P: Covered>(
-    rt: &R,
-    protocol: &P,
-    events: &[Event],
-) -> Result<(), Fail> {
-    let alloc = rt.alloc();
-    let ran = run(alloc, protocol, &[], events)?;
-    assert!(rt; judge(alloc, &ran)?.is_serial());
-    let any = run_any(alloc, protocol, &[], events)?;
-    assert!(rt; judge(alloc, &any)?.is_serial());
-    assert_eq!(rt; any.index.as_slice(), ran.index.as_slice());
-    assert!(rt; any.unfinished.as_slice().is_empty());
-    assert!(rt; any.locks.as_slice().is_empty());
-    Ok(())
+/// Whether such steps in one of the ways are serial, with each transaction at its end.
+fn is_serial(alloc: Global, way: u32, seed: u64) -> Result<bool, Memory> {
+    let ran = ran_by(alloc, way, &random_steps(seed))?;
+    let is_over = ran.unfinished.as_slice().is_empty() && ran.locks.as_slice().is_empty();
+    Ok(is_over & judge(alloc, &ran)?.is_serial())
 }
 
 #[test]
 fn random_steps_under_covered_protocols(rt: HostRuntime) -> Result<(), Fail> {
     for seed in 1..=20 {
-        let events = random_steps(rt.alloc(), seed)?;
-        tells_serial(&rt, &Kvl, events.as_slice())?;
-        tells_serial(&rt, &Im, events.as_slice())?;
-        tells_serial(&rt, &RangeKey, events.as_slice())?;
+        for way in 0..6 {
+            assert!(rt; is_serial(rt.alloc(), way, seed)?, "{way} {seed}");
+        }
     }
     Ok(())
 }
 
-/// How many programs a run left, and the transaction and the number of the first operation whose answer isn't the one of
-/// the commit order.
-fn first_difference(alloc: Global, ran: &Ran) -> Result<(usize, Txn, u64), AllocError> {
+/// Worked out by another program: for each seed from 1 how many programs such steps leave where no lock keeps them apart, and
+/// the first answer that differs.
+#[rattlefmt::skip]
+const DIFFERENCES: [(usize, Txn, u64); 20] = [
+    (39, 4, 1), (42, 4, 3), (28, 7, 8), (36, 3, 1), (37, 5, 1),
+    (35, 0, 1), (37, 2, 5), (40, 2, 1), (39, 0, 3), (37, 1, 7),
+    (36, 2, 2), (39, 6, 5), (32, 0, 2), (39, 1, 1), (34, 4, 3),
+    (34, 4, 2), (36, 1, 3), (42, 0, 3), (39, 24, 1), (42, 9, 2),
+];
+
+/// How many programs such steps leave without locks, and the transaction and the number of the first operation whose answer isn't
+/// the one of the commit order.
+fn difference(alloc: Global, seed: u64) -> Result<(usize, Txn, u64), Memory> {
+    let ran = run_any(alloc, &Plain, &[], &random_steps(seed))?;
     let programs = ran.programs.as_slice().len();
-    match judge(alloc, ran)? {
+    match judge(alloc, &ran)? {
         Verdict::Serial => Ok((programs, 0, 0)),
         Verdict::NotSerial { txn, operation, .. } => Ok((programs, txn, operation)),
     }
 }
 
-/// Worked out by another program: for each seed from 1 how many programs such steps leave where no lock keeps them apart, and
-/// the first answer that differs.
-const DIFFERENCES: [(usize, Txn, u64); 20] = [
-    (39, 4, 1),
-    (42, 4, 3),
-    (28, 7, 8),
-    (36, 3, 1),
-    (37, 5, 1),
-    (35, 0, 1),
-    (37, 2, 5),
-    (40, 2, 1),
-    (39, 0, 3),
-    (37, 1, 7),
-    (36, 2, 2),
-    (39, 6, 5),
-    (32, 0, 2),
-    (39, 1, 1),
-    (34, 4, 3),
-    (34, 4, 2),
-    (36, 1, 3),
-    (42, 0, 3),
-    (39, 24, 1),
-    (42, 9, 2),
-];
-
 #[test]
 fn random_steps_without_locks(rt: HostRuntime) -> Result<(), Fail> {
-    let alloc = rt.alloc();
-    for (i, wanted) in DIFFERENCES.iter().enumerate() {
-        let events = random_steps(alloc, i as u64 + 1)?;
-        let ran = run_any(alloc, &Plain, &[], events.as_slice())?;
-        assert_eq!(rt; first_difference(alloc, &ran)?, *wanted, "{i}");
+    for seed in 1..=20_u64 {
+        let told = difference(rt.alloc(), seed)?;
+        assert_eq!(rt; told, DIFFERENCES[seed as usize - 1], "{seed}");
     }
     Ok(())
 }

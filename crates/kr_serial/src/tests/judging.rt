@@ -7,11 +7,33 @@ use std::alloc::{AllocError, Global};
 
 const OPENING: [(u64, u64); 3] = [(10, 1), (20, 2), (30, 3)];
 
-fn program(txn: Txn, operations: Vec<(Op, Reply)>) -> Program {
-    Program {
+/// What a transaction did, of one operation.
+fn one(alloc: Global, txn: Txn, op: Op, reply: Reply) -> Result<Program, AllocError> {
+    let mut operations = Vec::new(alloc);
+    operations.push((op, reply))?;
+    Ok(Program {
         txn,
         operations: Answers::from_vec(operations),
-    }
+    })
+}
+
+/// The same with one more operation at its end.
+fn then(program: Program, op: Op, reply: Reply) -> Result<Program, AllocError> {
+    let txn = program.txn;
+    let mut operations = program.operations.into_vec();
+    operations.push((op, reply))?;
+    Ok(Program {
+        txn,
+        operations: Answers::from_vec(operations),
+    })
+}
+
+/// Judges two programs in this order.
+fn judged(alloc: Global, first: Program, second: Program) -> Result<Verdict, AllocError> {
+    let mut programs = Vec::new(alloc);
+    programs.push(first)?;
+    programs.push(second)?;
+    judge_programs(alloc, &OPENING, programs.as_slice())
 }
 
 fn rows(alloc: Global, pairs: &[(u64, u64)]) -> Result<Reply, AllocError> {
@@ -37,11 +59,11 @@ fn no_program_is_serial(rt: HostRuntime) -> Result<(), AllocError> {
 #[test]
 fn scan_not_serial(rt: HostRuntime) -> Result<(), AllocError> {
     let alloc = rt.alloc();
+    let deletes = one(alloc, 2, Op::Delete(10), Reply::Deleted(1))?;
+    let fetches = one(alloc, 1, Op::Fetch(30), Reply::Found(3))?;
     let read = rows(alloc, &[(10, 1), (20, 2)])?;
-    let second = vec![in alloc; (Op::Delete(10), Reply::Deleted(1))]?;
-    let first = vec![in alloc; (Op::Fetch(30), Reply::Found(3)), (Op::Scan(10, 20), read)]?;
-    let programs = vec![in alloc; program(2, second), program(1, first)]?;
-    match judge_programs(alloc, &OPENING, &programs)? {
+    let scans = then(fetches, Op::Scan(10, 20), read)?;
+    match judged(alloc, deletes, scans)? {
         Verdict::NotSerial {
             txn,
             operation,
@@ -61,13 +83,10 @@ fn scan_not_serial(rt: HostRuntime) -> Result<(), AllocError> {
 #[test]
 fn fetch_not_serial(rt: HostRuntime) -> Result<(), AllocError> {
     let alloc = rt.alloc();
-    let second = vec![in alloc; (Op::Delete(20), Reply::Deleted(2))]?;
-    let first = vec![in alloc;
-        (Op::Fetch(20), Reply::Found(2)),
-        (Op::Fetch(20), Reply::None),
-    ]?;
-    let programs = vec![in alloc; program(2, second), program(1, first)]?;
-    match judge_programs(alloc, &OPENING, &programs)? {
+    let deletes = one(alloc, 2, Op::Delete(20), Reply::Deleted(2))?;
+    let fetches = one(alloc, 1, Op::Fetch(20), Reply::Found(2))?;
+    let fetches = then(fetches, Op::Fetch(20), Reply::None)?;
+    match judged(alloc, deletes, fetches)? {
         Verdict::NotSerial {
             txn,
             operation,
@@ -83,12 +102,10 @@ fn fetch_not_serial(rt: HostRuntime) -> Result<(), AllocError> {
 #[test]
 fn serial_by_chance(rt: HostRuntime) -> Result<(), AllocError> {
     let alloc = rt.alloc();
+    let deletes = one(alloc, 2, Op::Delete(20), Reply::Deleted(2))?;
     let read = rows(alloc, &[(10, 1), (30, 3)])?;
-    let second = vec![in alloc; (Op::Delete(20), Reply::Deleted(2))]?;
-    let first = vec![in alloc; (Op::Scan(10, 30), read)]?;
-    let programs = vec![in alloc; program(2, second), program(1, first)]?;
-    let verdict = judge_programs(alloc, &OPENING, &programs)?;
-    assert!(rt; verdict.is_serial());
+    let scans = one(alloc, 1, Op::Scan(10, 30), read)?;
+    assert!(rt; judged(alloc, deletes, scans)?.is_serial());
     Ok(())
 }
 
@@ -96,13 +113,10 @@ fn serial_by_chance(rt: HostRuntime) -> Result<(), AllocError> {
 #[test]
 fn split_not_serial(rt: HostRuntime) -> Result<(), AllocError> {
     let alloc = rt.alloc();
-    let second = vec![in alloc; (Op::Insert(12, 7), Reply::Done)]?;
-    let first = vec![in alloc;
-        (Op::Fetch(12), Reply::None),
-        (Op::Insert(15, 5), Reply::Done),
-    ]?;
-    let programs = vec![in alloc; program(2, second), program(1, first)]?;
-    match judge_programs(alloc, &OPENING, &programs)? {
+    let inserts = one(alloc, 2, Op::Insert(12, 7), Reply::Done)?;
+    let splits = one(alloc, 1, Op::Fetch(12), Reply::None)?;
+    let splits = then(splits, Op::Insert(15, 5), Reply::Done)?;
+    match judged(alloc, inserts, splits)? {
         Verdict::NotSerial {
             txn,
             operation,
@@ -114,25 +128,22 @@ fn split_not_serial(rt: HostRuntime) -> Result<(), AllocError> {
     Ok(())
 }
 
+/// Inserts and deletes of absent and present keys.
+fn changes(alloc: Global) -> Result<Program, AllocError> {
+    let changes = one(alloc, 5, Op::Insert(15, 9), Reply::Done)?;
+    let changes = then(changes, Op::Insert(10, 8), Reply::Duplicate)?;
+    let changes = then(changes, Op::Delete(20), Reply::Deleted(2))?;
+    then(changes, Op::Delete(20), Reply::Absent)
+}
+
 // What one program changes stands for the next: absent and present keys, inserted over and deleted, and an empty range.
 #[test]
 fn changes_stand_for_the_next(rt: HostRuntime) -> Result<(), AllocError> {
     let alloc = rt.alloc();
     let all = rows(alloc, &[(10, 1), (15, 9), (30, 3)])?;
-    let none = rows(alloc, &[])?;
-    let first = vec![in alloc;
-        (Op::Insert(15, 9), Reply::Done),
-        (Op::Insert(10, 8), Reply::Duplicate),
-        (Op::Delete(20), Reply::Deleted(2)),
-        (Op::Delete(20), Reply::Absent),
-    ]?;
-    let second = vec![in alloc;
-        (Op::Scan(0, u64::MAX), all),
-        (Op::Scan(16, 29), none),
-        (Op::Fetch(15), Reply::Found(9)),
-    ]?;
-    let programs = vec![in alloc; program(5, first), program(4, second)]?;
-    let verdict = judge_programs(alloc, &OPENING, &programs)?;
-    assert!(rt; verdict.is_serial());
+    let reads = one(alloc, 4, Op::Scan(0, u64::MAX), all)?;
+    let reads = then(reads, Op::Scan(16, 29), rows(alloc, &[])?)?;
+    let reads = then(reads, Op::Fetch(15), Reply::Found(9))?;
+    assert!(rt; judged(alloc, changes(alloc)?, reads)?.is_serial());
     Ok(())
 }

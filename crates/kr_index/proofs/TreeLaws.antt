@@ -1,0 +1,92 @@
+-- A tree's entries: what a loan of a slot leaves, and where a walk through a part of them ends.
+use Rattle.std.specs.Prelude.{◌≡◌, ℕ, suc, Bool, true, false, ◌&&◌, ◌==◌, cond, nat_le, [], ◌∷◌, Option, Some, None, filter, refl, IsSome}
+use Rattle.std.specs.Ordering.{nat_cmp, is_eq, is_lt, is_le, eq_by_cmp}
+use Rattle.std.specs.FinMap.{find, put}
+use Rattle.std.specs.FinMap.Entries.{find-put, is_sorted-put, same_entries}
+use Rattle.std.specs.BTreeMap.{is_at}
+use Rattle.std.specs.Map.{lookup, set_value}
+use Rattle.std.specs.Cmp.{nat_cmp_total}
+use Rattle.std.proofs.lemmas.Map.Lookups.{exact_unsigned}
+use Rattle.std.proofs.lemmas.Bool.Decides.{nat_tests}
+use Rattle.std.proofs.Common.{sym, ◌∙◌, ap, subst, arith}
+use Rattle.kr_model.specs.declared.Name.TheVariants.{Key}
+use Rattle.kr_model.specs.Map.{at, after}
+use Rattle.kr_model.proofs.Trees.{lookup_is_find, written_is_put}
+use Rattle.kr_index.specs.declared.slots.Slot.{Slot}
+use Rattle.kr_index.specs.Slots.{Entries, pairs_of, with_value, least, IsInOrder}
+use Rattle.kr_index.proofs.SlotLaws.{t_in_order}
+
+-- a slot that is written where the key has one is put
+pub written : (es fs : Entries) (k : ℕ) (o w : Slot) → IsInOrder es → Some o ≡ lookup (is_at (nat_cmp k)) es → fs ≡ set_value (is_at (nat_cmp k)) es w → fs ≡ put nat_cmp k w es
+written es fs k o w h found is = is ∙ written_is_put es k w (t_in_order es h) (subst IsSome (found ∙ lookup_is_find nat_cmp es k) refl)
+
+tied_key : (k x : ℕ) → is_eq (nat_cmp k x) ≡ true → x ≡ k
+tied_key k x h = grind (arith, nat_tests)
+
+put_back : (q k : ℕ) (s : Slot) (es : Entries) → find nat_cmp k es ≡ Some s → cond (eq_by_cmp nat_cmp q k) (Some s) (find nat_cmp q es) ≡ find nat_cmp q es
+put_back q k s es e = by (eq_by_cmp nat_cmp q k) refl
+  where
+    by : (b : Bool) → is_eq (nat_cmp q k) ≡ b → cond b (Some s) (find nat_cmp q es) ≡ find nat_cmp q es
+    by true t = sym (subst (λ (x : ℕ). find nat_cmp x es ≡ Some s) (tied_key q k t) e)
+    by false t = refl
+
+-- a slot that is written as it was
+pub kept_as_it_was : (es fs : Entries) (k : ℕ) (o : Slot) → IsInOrder es → Some o ≡ lookup (is_at (nat_cmp k)) es → fs ≡ set_value (is_at (nat_cmp k)) es o → fs ≡ es
+kept_as_it_was es fs k o h found is =
+    written es fs k o o h found is
+    ∙ same_entries nat_cmp nat_cmp_total exact_unsigned (put nat_cmp k o es) es (is_sorted-put nat_cmp nat_cmp_total k o es (t_in_order es h)) (t_in_order es h) (λ q. find-put nat_cmp nat_cmp_total q k o es ∙ put_back q k o es (sym (found ∙ lookup_is_find nat_cmp es k)))
+
+-- one pin more or less
+pub pins_by : (g f : ℕ → ℕ) (k q p : ℕ) → p ≡ g (f k) → cond (q == k) p (f q) ≡ cond (q == k) (g (f q)) (f q)
+pins_by g f k q p e = by (q == k) refl
+  where
+    same : (q == k) ≡ true → k ≡ q
+    same t = grind (arith, nat_tests)
+
+    by : (b : Bool) → (q == k) ≡ b → cond b p (f q) ≡ cond b (g (f q)) (f q)
+    by true t = e ∙ ap (λ x. g (f x)) (same t)
+    by false t = refl
+
+-- no pin more or less
+pub pins_same : (f : ℕ → ℕ) (k q p : ℕ) → p ≡ f k → cond (q == k) p (f q) ≡ f q
+pins_same f k q p e = pins_by (λ n. n) f k q p e ∙ by (q == k)
+  where
+    by : (b : Bool) → cond b (f q) (f q) ≡ f q
+    by true = refl
+    by false = refl
+
+-- Walks --
+
+-- the entries with keys from c on, and past k
+abbrev pub from : ℕ → Entries → Entries
+from c es = filter (λ e. is_le (nat_cmp c e.0) && true) es
+
+abbrev pub past : ℕ → Entries → Entries
+past k es = filter (λ e. is_lt (nat_cmp k e.0) && true) es
+
+le_test : (c x : ℕ) → (is_le (nat_cmp c x) && true) ≡ nat_le c x
+le_test c x = grind (arith, nat_tests)
+
+lt_test : (k x : ℕ) → (is_lt (nat_cmp k x) && true) ≡ nat_le (suc k) x
+lt_test k x = grind (arith, nat_tests)
+
+walk_step : (k c : ℕ) (s : Slot) (es rest : Entries) (a b : Bool) → a ≡ b → nat_le c k ≡ b → at (pairs_of es) c ≡ least (pairs_of rest) → at (with_value k s.value (pairs_of es)) c ≡ least (pairs_of (cond a ((k, s) ∷ rest) rest))
+walk_step k c s es rest a b same le h = by s.value refl a b same le
+  where
+    by : (o : Option ℕ) → s.value ≡ o → (a b : Bool) → a ≡ b → nat_le c k ≡ b → at (with_value k o (pairs_of es)) c ≡ least (pairs_of (cond a ((k, s) ∷ rest) rest))
+    by None e true b same le = h ∙ ap least (sym (ap (λ o. with_value k o (pairs_of rest)) e))
+    by None e false b same le = h
+    by (Some v) e true true same le = ap (λ t. cond t (Key k) (at (pairs_of es) c)) le ∙ ap least (sym (ap (λ o. with_value k o (pairs_of rest)) e))
+    by (Some v) e false false same le = ap (λ t. cond t (Key k) (at (pairs_of es) c)) le ∙ h
+    by (Some v) e true false same le = absurd (cc)
+    by (Some v) e false true same le = absurd (cc)
+
+-- the name at c is the first of the entries from c on
+pub at_from : (es : Entries) (c : ℕ) → at (pairs_of es) c ≡ least (pairs_of (from c es))
+at_from [] c = refl
+at_from (e ∷ es) c = walk_step e.0 c e.1 es (from c es) (is_le (nat_cmp c e.0) && true) (nat_le c e.0) (le_test c e.0) refl (at_from es c)
+
+-- the name after k is the first of the entries past k
+pub after_past : (es : Entries) (k : ℕ) → after (pairs_of es) k ≡ least (pairs_of (past k es))
+after_past [] k = refl
+after_past (e ∷ es) k = walk_step e.0 (suc k) e.1 es (past k es) (is_lt (nat_cmp k e.0) && true) (nat_le (suc k) e.0) (lt_test k e.0) refl (after_past es k)

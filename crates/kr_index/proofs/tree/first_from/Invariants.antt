@@ -1,0 +1,8 @@
+use Rattle.std.proofs.Common.{◌≡◌}
+use Rattle.kr_model.specs.Map.{at}
+use Rattle.kr_index.specs.Slots.{pairs_of, least}
+use Rattle.kr_index.proofs.tree.first_from.Given as goal
+
+-- no key so far has a value
+abbrev pub invariant-loop-key : goal.invariant-loop-key
+invariant-loop-key l = least (pairs_of l.key-iterator) ≡ at (pairs_of l.slots.entries) l.from

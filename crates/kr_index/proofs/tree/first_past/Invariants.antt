@@ -1,0 +1,8 @@
+use Rattle.std.proofs.Common.{◌≡◌}
+use Rattle.kr_model.specs.Map.{after}
+use Rattle.kr_index.specs.Slots.{pairs_of, least}
+use Rattle.kr_index.proofs.tree.first_past.Given as goal
+
+-- no key so far has a value
+abbrev pub invariant-loop-key : goal.invariant-loop-key
+invariant-loop-key l = least (pairs_of l.key-iterator) ≡ after (pairs_of l.slots.entries) l.key

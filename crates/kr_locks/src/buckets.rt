@@ -1,0 +1,172 @@
+//! The locks of all transactions, by name.
+ghost use Rattle.std.specs.Prelude.{◌≡◌, ◌≢◌, ℕ, [], false, IsTrue, IsOk, OnOk, IfOk, IfSome, IfNone};
+ghost use Rattle.kr_model.specs.declared.Name.{Name};
+ghost use Rattle.kr_model.specs.Locks.{own};
+ghost use Rattle.kr_locks.specs.Buckets.{IsNames, locks_of};
+ghost use Rattle.kr_locks.specs.Noted.{IsNoted, AreNoted, noted};
+
+use crate::bucket::Bucket;
+use crate::names::{all_locks, drop_lock, drop_locks, hindering, is_free, own_in, store};
+use crate::{Holdings, Memory, Mode, Name, Txn};
+use kr_protocol::Protocol;
+use std::alloc::Global;
+use std::collections::BTreeMap;
+use std::marker::Model;
+
+/// Locks by name: for each name its few holders, and the mask of all their modes; and for each transaction the names that
+/// it was given locks on.
+///
+/// `own`, `test` and `blockers` look at the holders of the name, and `test` at none of them where the mask shows that no mode
+/// refuses. `keep` takes a logarithmic number of looks at names. `release` goes over the transaction's own names, and `copy`
+/// over all locks.
+#[derive(Drop)]
+pub struct Buckets {
+    alloc: Global,
+    names: BTreeMap<Name, Bucket>,
+    held: BTreeMap<Txn, Vec<Name>>,
+}
+
+impl Model for Buckets {
+    ghost use Rattle.kr_model.specs.Locks.{Locks};
+    ghost use Rattle.kr_locks.specs.Buckets.{IsNames, locks_of};
+    ghost use Rattle.kr_locks.specs.Noted.{AreNoted};
+
+    ghost Value = { Locks };
+
+    ghost view = { λ b. locks_of b.names.entries };
+
+    ghost invariant = { λ b. IsNames b.names.entries × AreNoted b.held (locks_of b.names.entries) };
+}
+
+/// Notes a name of a transaction that has names, and tells whether it has some.
+fn note_there(held: &mut BTreeMap<Txn, Vec<Name>>, txn: Txn, name: Name) -> Result<bool, Memory>
+    ensures kept { (t : ℕ) (n : Name) → IsNoted held.old t n → IsNoted held.new t n }
+    ensures noted { IfOk result (λ there. IsTrue there → IsNoted held.new txn name) }
+    ensures absent { IfOk result (λ there. there ≡ false → noted held.new txn ≡ []) }
+{
+    if let Some(list) = held.get_mut(&txn) {
+        list.push(name)?;
+        return Ok(true);
+    }
+    Ok(false)
+}
+
+/// Notes the first name of a transaction.
+fn note_first(
+    alloc: Global,
+    held: &mut BTreeMap<Txn, Vec<Name>>,
+    txn: Txn,
+    name: Name,
+) -> Result<(), Memory>
+    requires { noted held.old txn ≡ [] }
+    ensures kept { (t : ℕ) (n : Name) → IsNoted held.old t n → IsNoted held.new t n }
+    ensures noted { OnOk result (IsNoted held.new txn name) }
+{
+    let mut list = Vec::new(alloc);
+    list.push(name)?;
+    held.insert(txn, list)?;
+    Ok(())
+}
+
+/// Notes a name of a transaction.
+fn note(
+    alloc: Global,
+    held: &mut BTreeMap<Txn, Vec<Name>>,
+    txn: Txn,
+    name: Name,
+) -> Result<(), Memory>
+    ensures kept { (t : ℕ) (n : Name) → IsNoted held.old t n → IsNoted held.new t n }
+    ensures noted { OnOk result (IsNoted held.new txn name) }
+{
+    if note_there(held, txn, name)? {
+        return Ok(());
+    }
+    note_first(alloc, held, txn, name)?;
+    Ok(())
+}
+
+/// Notes a name of a transaction that holds no lock on it yet. One that does has noted it, and takes no memory.
+fn note_new(
+    alloc: Global,
+    held: &mut BTreeMap<Txn, Vec<Name>>,
+    names: &BTreeMap<Name, Bucket>,
+    txn: Txn,
+    name: Name,
+) -> Result<(), Memory>
+    requires in_order { IsNames names.now.entries }
+    requires all { AreNoted held.old (locks_of names.now.entries) }
+    ensures all { AreNoted held.new (locks_of names.now.entries) }
+    ensures noted { OnOk result (IsNoted held.new txn name) }
+    ensures there { own (locks_of names.now.entries) txn name ≢ 0 → IsOk result }
+{
+    if own_in(names, txn, name) != 0 {
+        return Ok(());
+    }
+    note(alloc, held, txn, name)?;
+    Ok(())
+}
+
+/// The names of a transaction, which are forgotten.
+fn take_noted(held: &mut BTreeMap<Txn, Vec<Name>>, txn: Txn) -> Option<Vec<Name>>
+    ensures some { IfSome result (λ list. list.items ≡ noted held.old txn) }
+    ensures none { IfNone result (noted held.old txn ≡ []) }
+    ensures kept { (t : ℕ) (n : Name) → t ≢ txn → IsNoted held.old t n → IsNoted held.new t n }
+{
+    held.remove(&txn)
+}
+
+impl Buckets {
+    /// No locks. It takes no memory.
+    pub fn new(alloc: Global) -> Buckets
+        ensures { result ≡ [] }
+    {
+        Buckets {
+            alloc,
+            names: BTreeMap::new(alloc),
+            held: BTreeMap::new(alloc),
+        }
+    }
+}
+
+impl Holdings for Buckets {
+    ghost locks = { λ b. b };
+
+    fn own(&self, txn: Txn, name: Name) -> Mode {
+        own_in(&self.names, txn, name)
+    }
+
+    fn test<P: Protocol>(&self, protocol: &P, txn: Txn, name: Name, mode: Mode) -> bool {
+        is_free(&self.names, protocol, txn, name, mode)
+    }
+
+    fn blockers<P: Protocol>(
+        &self,
+        alloc: Global,
+        protocol: &P,
+        txn: Txn,
+        name: Name,
+        mode: Mode,
+    ) -> Result<Vec<Txn>, Memory> {
+        hindering(alloc, &self.names, protocol, txn, name, mode)
+    }
+
+    fn keep(&mut self, txn: Txn, name: Name, mode: Mode) -> Result<(), Memory> {
+        if mode == 0 {
+            drop_lock(&mut self.names, txn, name);
+            return Ok(());
+        }
+        note_new(self.alloc, &mut self.held, &self.names, txn, name)?;
+        store(self.alloc, &mut self.names, txn, name, mode)?;
+        Ok(())
+    }
+
+    fn release(&mut self, txn: Txn) {
+        if let Some(list) = take_noted(&mut self.held, txn) {
+            drop_locks(&mut self.names, txn, &list);
+        }
+    }
+
+    fn copy(&self, alloc: Global) -> Result<Vec<((Name, Txn), Mode)>, Memory> {
+        all_locks(alloc, &self.names)
+    }
+}
