@@ -3,7 +3,7 @@ use Rattle.std.proofs.Common.{◌≡◌, ℕ, List, Option, IfSome, Err, refl}
 use Rattle.kr_model.specs.Protocol.{Protocol}
 use Rattle.kr_script.specs.declared.faults.ScriptFault.{ScriptFault}
 use Rattle.kr_script.specs.declared.faults.ScriptFault.TheVariants as told_as
-use Rattle.kr_script.specs.Faults.{too_long, not_json, format, field, opening, step, too_many, fault_of}
+use Rattle.kr_script.specs.Faults.{too_long, not_json, format, opening, step, fault_of}
 use Rattle.kr_script.specs.Reading.{reading}
 use Rattle.kr.specs.Over.{over_fault, Explains}
 

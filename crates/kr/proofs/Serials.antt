@@ -1,5 +1,5 @@
 -- All verdicts are serial exactly where each run is.
-use Rattle.std.proofs.Common.{◌≡◌, ℕ, zero, suc, Bool, true, false, ◌&&◌, All, List, [], ◌∷◌, refl, arith}
+use Rattle.std.proofs.Common.{◌≡◌, zero, suc, Bool, true, false, ◌&&◌, All, List, [], ◌∷◌, refl, arith}
 use Rattle.std.specs.List.{list_all}
 use Rattle.kr_model.specs.Protocol.{Protocol, IsLawful}
 use Rattle.kr_model.specs.Covers.{IsCovered}

@@ -1,5 +1,5 @@
 //! The program over its words, files and streams.
-ghost use Rattle.std.specs.Prelude.{◌≡◌, ◌↔◌, ◌≤◌, true, IfOk, length, vec_len, if◌then◌else◌};
+ghost use Rattle.std.specs.Prelude.{◌≡◌, ◌↔◌, ◌≤◌, true, IfOk, IfNone, length, vec_len, if◌then◌else◌};
 ghost use Rattle.kr_model.specs.Covers.{IsCovered};
 ghost use Rattle.kr.specs.declared.program.Ending.TheVariants as ending;
 ghost use Rattle.kr.specs.declared.over.OverFault.TheVariants as fault;
@@ -9,8 +9,9 @@ use crate::files::{FileFault, Files};
 use crate::judges::judge_over;
 use crate::over::{OverFault, run_over};
 use crate::words::{Task, WordsFault, read_words};
+use kr_batch::{ReadFault, read_all};
 use kr_protocol::{Im, Kvl, Protocol, RangeKey};
-use kr_script::{Script, ScriptFault, Sink, print, read_script};
+use kr_script::{Script, ScriptFault, Sink, print};
 use kr_table::TableFault;
 use std::alloc::{AllocError, Global};
 use std::thread::Threads;
@@ -106,8 +107,34 @@ fn run_script<R: std::rt::Files + AllocGlobal, P: Protocol, F: Files, W: Sink>(
     }
 }
 
-/// The scripts that words name, or how the program ends at the first that has a fault.
-fn read_scripts<R: std::rt::Files + AllocGlobal, F: Files>(
+/// The bytes of the files that words name, in their order, up to the first that isn't read, and how the program ends at
+/// that one.
+fn read_files<R: std::rt::Files + AllocGlobal, F: Files>(
+    rt: &R,
+    words: &[&str],
+    files: &F,
+) -> (Vec<Vec<u8>>, Option<Ending>)
+    ensures within { vec_len result.0 ≤ length words.now }
+    ensures all { IfNone result.1 (vec_len result.0 ≡ length words.now) }
+{
+    let mut texts = Vec::new(rt.alloc());
+    for word in words {
+        match whole(rt, word, files) {
+            Ok(bytes) => {
+                if texts.push(bytes).is_err() {
+                    return (texts, Some(Ending::Memory));
+                }
+            }
+            Err(ending) => return (texts, Some(ending)),
+        }
+    }
+    (texts, None)
+}
+
+/// The scripts that words name, or how the program ends at the first that has a fault. The files are read one after
+/// another, and then their bytes on several threads; where a file isn't read, a script before it may have a fault, and
+/// then that one is told.
+fn read_scripts<R: std::rt::Files + AllocGlobal + Threads + Sync, F: Files>(
     rt: &R,
     words: &[&str],
     files: &F,
@@ -115,19 +142,15 @@ fn read_scripts<R: std::rt::Files + AllocGlobal, F: Files>(
     ensures { IfOk result (λ scripts. vec_len scripts ≡ length words.now) }
 {
     let alloc = rt.alloc();
-    let mut read = Vec::new(alloc);
-    for word in words {
-        let bytes = whole(rt, word, files)?;
-        match read_script(alloc, bytes.as_slice()) {
-            Ok(script) => {
-                if read.push(script).is_err() {
-                    return Err(Ending::Memory);
-                }
-            }
-            Err(fault) => return Err(at_fault(alloc, word, fault)?),
-        }
+    let (texts, ending) = read_files(rt, words, files);
+    match read_all(rt, alloc, texts) {
+        Ok(scripts) => match ending {
+            None => Ok(scripts),
+            Some(ending) => Err(ending),
+        },
+        Err(ReadFault::Script(at, fault)) => Err(at_fault(alloc, words[at], fault)?),
+        Err(ReadFault::Memory) => Err(Ending::Memory),
     }
-    Ok(read)
 }
 
 /// Does a task under a protocol, and answers its status; under a covered protocol that is 0, whatever the task.

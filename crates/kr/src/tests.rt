@@ -1,4 +1,5 @@
 use self::covered::serial_under_each;
+use self::pairs::agree_under_each;
 use crate::files::{FileFault, Files};
 use crate::program::execute;
 use kr_script::{Failed, Io, Sink};
@@ -7,12 +8,14 @@ use std::process::Abort;
 use std::test::Fail;
 use std::thread::Threads;
 
+mod ample;
 mod asymmetric;
 mod checks;
 mod covered;
 mod deletes;
 mod faults;
 mod inserts;
+mod pairs;
 mod scans;
 mod tables;
 mod verdicts;
@@ -140,7 +143,8 @@ fn script_of(alloc: Global, opening: &str, steps: &str) -> Result<String, AllocE
     format!(in alloc; "{{\"format\":1,\"opening\":{opening},\"steps\":{steps}}}")
 }
 
-/// Runs steps on an opening map under a bundled table, and compares the report; they are serial under each.
+/// Runs steps on an opening map under a bundled table, and compares the report; they are serial under each, with the same
+/// replies at each index with each lock table.
 fn reports<R: std::rt::Files + AllocGlobal + Threads + Sync + Abort>(
     rt: &R,
     table: &str,
@@ -151,6 +155,7 @@ fn reports<R: std::rt::Files + AllocGlobal + Threads + Sync + Abort>(
     let alloc = rt.alloc();
     let script = script_of(alloc, opening, steps)?;
     serial_under_each(rt, script.as_str())?;
+    agree_under_each(rt, script.as_str())?;
     let line = format!(in alloc; "{report}\n")?;
     told(
         rt,

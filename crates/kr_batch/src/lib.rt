@@ -1,8 +1,10 @@
-//! Judging the runs of many scripts, on several threads.
+//! Reading many scripts, and judging their runs, on several threads.
 #![tactic(auto)]
 
 mod judging;
+mod reading;
 #[cfg(test)]
 mod tests;
 
 pub use judging::judge_all;
+pub use reading::{ReadFault, read_all};

@@ -3,6 +3,7 @@ ghost use Rattle.std.proofs.Common.{rules};
 ghost use Rattle.kr_model.proofs.Tested.{lawful_by_test};
 
 mod ample;
+mod reading;
 
 use crate::judge_all;
 use kr_model::{Mode, Row, Side, Span};
@@ -26,6 +27,10 @@ impl Protocol for Plain {
 
     fn ok(&self, _requested: Mode, _held: Mode) -> bool {
         true
+    }
+
+    fn row(&self, _requested: Mode) -> u16 {
+        0
     }
 
     fn convert(&self, held: Mode, requested: Mode) -> Mode {

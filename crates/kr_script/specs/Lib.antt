@@ -6,3 +6,4 @@ pub mod Steps
 pub mod Faults
 pub mod Reading
 pub mod CheckReport
+pub mod Tokens

@@ -1,14 +1,18 @@
 //! Scripts of transactions' steps: read from JSON, and the reports of their run and of checks, printed on a sink.
 #![tactic(auto)]
 
+#[cfg(test)]
+mod ample;
 mod check_reports;
 mod faults;
-mod json;
+mod parts;
+mod plain;
 mod reading;
 mod reports;
 mod script;
 mod sink;
 mod steps;
+mod writing;
 
 pub use check_reports::report_check;
 pub use faults::ScriptFault;

@@ -9,7 +9,8 @@ ghost use Rattle.kr_script.specs.Faults.{Passes, Tells, format_faults, name_faul
 ghost use Rattle.kr_script.specs.Reading as spec;
 ghost use Rattle.kr_script.specs.Reading.{Gives, reading, reading_of};
 
-use crate::json::{length_of, number_at};
+use crate::parts::{length_of, number_at};
+use crate::plain::read_plain;
 use crate::steps::event_of;
 use crate::{Script, ScriptFault};
 use kr_model::Event;
@@ -21,7 +22,7 @@ mod tests;
 
 const MAX_BYTES: usize = 16_777_216;
 
-const MAX_ELEMENTS: usize = 100_000;
+pub const MAX_ELEMENTS: usize = 100_000;
 
 fn field(alloc: Global, name: &str) -> ScriptFault
     ensures { Tells result (fault.field name.now ∷ []) }
@@ -98,7 +99,7 @@ fn pair_of(value: &Value) -> Option<(u64, u64)>
     }
 }
 
-fn is_above(key: u64, before: Option<u64>) -> bool
+pub fn is_above(key: u64, before: Option<u64>) -> bool
     ensures { result ≡ fault.is_above key before }
 {
     match before {
@@ -112,7 +113,9 @@ fn pairs_of(alloc: Global, list: &[Value]) -> Result<Vec<(u64, u64)>, ScriptFaul
         (λ v. (opening_faults 0 None (items_view list.now) ≡ []) × (v.items ≡ spec.pairs_of (items_view list.now)))
         (λ e. Tells e (opening_faults 0 None (items_view list.now))) }
 {
-    let mut pairs = Vec::new(alloc);
+    let Ok(mut pairs) = Vec::with_capacity(alloc, list.len()) else {
+        return Err(ScriptFault::Memory);
+    };
     let mut before = None;
     for (i, item) in list.iter().enumerate() {
         let Some((key, number)) = pair_of(item) else {
@@ -134,7 +137,9 @@ fn events_of(alloc: Global, list: &[Value]) -> Result<Vec<Event>, ScriptFault>
         (λ v. (step_faults 0 (items_view list.now) ≡ []) × (v.items ≡ spec.events_of (items_view list.now)))
         (λ e. Tells e (step_faults 0 (items_view list.now))) }
 {
-    let mut events = Vec::new(alloc);
+    let Ok(mut events) = Vec::with_capacity(alloc, list.len()) else {
+        return Err(ScriptFault::Memory);
+    };
     for (i, item) in list.iter().enumerate() {
         let Some(event) = event_of(item) else {
             return Err(ScriptFault::Step(i));
@@ -173,6 +178,9 @@ pub fn read_script(alloc: Global, bytes: &[u8]) -> Result<Script, ScriptFault>
 {
     if bytes.len() > MAX_BYTES {
         return Err(ScriptFault::TooLong);
+    }
+    if let Some(script) = read_plain(alloc, bytes) {
+        return Ok(script);
     }
     match Value::from_slice(alloc, bytes) {
         Ok(value) => script_of(alloc, &value),

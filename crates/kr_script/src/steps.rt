@@ -5,7 +5,7 @@ ghost use Rattle.serde_json.specs.View.{view};
 ghost use Rattle.kr_model.specs.declared.Event.{Event};
 ghost use Rattle.kr_script.specs.Steps as spec;
 
-use crate::json::{length_of, number_at, word_at};
+use crate::parts::{length_of, number_at, word_at};
 use kr_model::{Event, Op};
 use serde_json::Value;
 

@@ -103,6 +103,11 @@ fn faults_before_any_verdict(rt: HostRuntime) -> Result<(), Fail> {
     told(&rt, words.as_slice(), "{", "", fault, 2)?;
     let words = ["judge", "@kvl", "a.json", "t", "s"];
     told(&rt, words.as_slice(), "{", "", "kr: t: cannot be read\n", 2)?;
+    let words = ["judge", "@kvl", "s", "t", "big"];
+    told(&rt, words.as_slice(), "{", "", fault, 2)?;
+    let words = ["judge", "@kvl", "a.json", "big", "s"];
+    let memory = "kr: out of memory\n";
+    told(&rt, words.as_slice(), "{", "", memory, 2)?;
     let words = ["judge", "@kvl2", "s"];
     let unread = "kr: @kvl2: cannot be read\n";
     told(&rt, words.as_slice(), "{", "", unread, 2)?;
@@ -111,7 +116,7 @@ fn faults_before_any_verdict(rt: HostRuntime) -> Result<(), Fail> {
 }
 
 /// A table of one mode that asks for nothing.
-const PLAIN: &str =
+pub const PLAIN: &str =
     "format = 1\nmodes = [\"A\"]\ncompatible = { A = [] }\nconvert = { A = { A = \"A\" } }\nrules = {}\n";
 
 /// The verdict on steps under that table; under each bundled table they are serial.

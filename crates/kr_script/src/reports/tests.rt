@@ -25,6 +25,10 @@ impl Protocol for Sample {
         true
     }
 
+    fn row(&self, _requested: Mode) -> u16 {
+        0
+    }
+
     fn convert(&self, held: Mode, requested: Mode) -> Mode {
         held.max(requested)
     }

@@ -1,0 +1,18 @@
+use Rattle.std.proofs.Common.{◌≡◌, ◌≤◌, ◌∷◌, List, map, length}
+use Rattle.json.specs.Token.{Token}
+use Rattle.kr_script.specs.Steps.{step_of}
+use Rattle.kr_script.specs.Tokens.{AreNext}
+use Rattle.kr_script.proofs.Documents.{ReadBack}
+use Rattle.kr_script.proofs.plain.read_events.Given as goal
+
+-- the events so far come next in the array, their steps read back, and there are few
+abbrev pub invariant-events : goal.invariant-events
+invariant-events l = record {
+  next : AreNext 125 l.initial.reader (map step_of l.events.items) l.reader;
+  opened : l.fn.reader ≡ Token.begin_array ∷ l.initial.reader;
+  back : ReadBack l.events.items;
+  few : length l.events.items ≤ 100000;
+}
+
+abbrev pub decreases-events : goal.decreases-events
+decreases-events l = length l.reader

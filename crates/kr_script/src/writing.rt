@@ -1,0 +1,262 @@
+//! Parts of reports, each written behind what a text has.
+ghost use Rattle.std.specs.Prelude.{◌≡◌, ◌++◌, ◌∷◌, [], codes, decimal, IfOk, OnOk, string_bytes};
+ghost use Rattle.serde_json.specs.Data.{string};
+ghost use Rattle.serde_json.specs.Written.{comma_if, compact_text};
+ghost use Rattle.kr_model.specs.declared.Reply.TheVariants as reply;
+ghost use Rattle.kr_model.specs.ModeNames.{name_of};
+ghost use Rattle.kr_model.specs.Difference.{refusal_number};
+ghost use Rattle.kr_script.specs.Report.{numbers_data, pair_data, pairs_data, refusal_name, reply_data, replies_data, name_data, locks_data, verdict_data};
+
+use crate::reports::mode_name;
+use itoa::Buffer;
+use kr_model::{Mode, Name, Refusal, Reply, Txn};
+use kr_protocol::Protocol;
+use kr_serial::Verdict;
+use serde_json::Value;
+use std::alloc::{AllocError, Global};
+
+/// The comma before what isn't the first element.
+fn separator(later: bool) -> &'static str
+    ensures { result.now ≡ comma_if later }
+{
+    if later { "," } else { "" }
+}
+
+fn write_number(out: &mut String, number: u64) -> Result<(), AllocError>
+    ensures { OnOk result (string_bytes out.new ≡ string_bytes out.old ++ decimal number) }
+{
+    out.push_str(Buffer::new().format(number))
+}
+
+/// Writes an array of transactions' numbers.
+pub fn write_numbers(out: &mut String, numbers: &[Txn]) -> Result<(), AllocError>
+    ensures { OnOk result (string_bytes out.new ≡ string_bytes out.old ++ compact_text (numbers_data numbers.now)) }
+{
+    out.push_str("[")?;
+    let mut later = false;
+    for number in numbers {
+        out.push_str(separator(later))?;
+        write_number(out, u64::from(*number))?;
+        later = true;
+    }
+    out.push_str("]")
+}
+
+fn write_pair(out: &mut String, pair: (u64, u64)) -> Result<(), AllocError>
+    ensures { OnOk result (string_bytes out.new ≡ string_bytes out.old ++ compact_text (pair_data pair)) }
+{
+    out.push_str("[")?;
+    write_number(out, pair.0)?;
+    out.push_str(",")?;
+    write_number(out, pair.1)?;
+    out.push_str("]")
+}
+
+/// Writes an array of keys with their values.
+pub fn write_pairs(out: &mut String, pairs: &[(u64, u64)]) -> Result<(), AllocError>
+    ensures { OnOk result (string_bytes out.new ≡ string_bytes out.old ++ compact_text (pairs_data pairs.now)) }
+{
+    out.push_str("[")?;
+    let mut later = false;
+    for pair in pairs {
+        out.push_str(separator(later))?;
+        write_pair(out, *pair)?;
+        later = true;
+    }
+    out.push_str("]")
+}
+
+/// Writes the beginning of an array, a number and the closing bracket.
+fn write_with_number(out: &mut String, beginning: &str, number: u64) -> Result<(), AllocError>
+    ensures { OnOk result (string_bytes out.new ≡ string_bytes out.old ++ beginning.now ++ decimal number ++ codes "]") }
+{
+    out.push_str(beginning)?;
+    write_number(out, number)?;
+    out.push_str("]")
+}
+
+fn number_of(refusal: Refusal) -> u64
+    ensures { result ≡ refusal_number refusal }
+{
+    match refusal {
+        Refusal::Ended => 1,
+        Refusal::Busy => 2,
+        Refusal::NoScan => 3,
+        Refusal::BadRange => 4,
+        Refusal::Full => 5,
+        Refusal::Memory => 6,
+    }
+}
+
+/// The name of a refusal in its quotes.
+#[tactic(auto, unfolding(serde_json::proofs::OnLiterals::serde_json_on_literals))]
+fn quoted_refusal(refusal: Refusal) -> &'static str
+    ensures { result.now ≡ compact_text (string (refusal_name refusal)) }
+{
+    match refusal {
+        Refusal::Ended => r#""Ended""#,
+        Refusal::Busy => r#""Busy""#,
+        Refusal::NoScan => r#""NoScan""#,
+        Refusal::BadRange => r#""BadRange""#,
+        Refusal::Full => r#""Full""#,
+        Refusal::Memory => r#""Memory""#,
+    }
+}
+
+#[tactic(auto, unfolding(serde_json::proofs::OnLiterals::serde_json_on_literals))]
+fn write_refusal(out: &mut String, refusal: Refusal) -> Result<(), AllocError>
+    ensures { OnOk result (string_bytes out.new ≡ string_bytes out.old ++ compact_text (reply_data (reply.Refused refusal))) }
+{
+    out.push_str(r#"["refused","#)?;
+    write_number(out, number_of(refusal))?;
+    out.push_str(",")?;
+    out.push_str(quoted_refusal(refusal))?;
+    out.push_str("]")
+}
+
+#[tactic(auto, unfolding(serde_json::proofs::OnLiterals::serde_json_on_literals))]
+fn write_reply(out: &mut String, reply: &Reply) -> Result<(), AllocError>
+    ensures { OnOk result (string_bytes out.new ≡ string_bytes out.old ++ compact_text (reply_data reply.now)) }
+{
+    match reply {
+        Reply::Found(value) => write_with_number(out, r#"["found","#, *value),
+        Reply::None => out.push_str(r#"["none"]"#),
+        Reply::Going(key) => write_with_number(out, r#"["going","#, *key),
+        Reply::Rows(rows) => {
+            out.push_str(r#"["rows","#)?;
+            write_pairs(out, rows.as_slice())?;
+            out.push_str("]")
+        }
+        Reply::Done => out.push_str(r#"["done"]"#),
+        Reply::Duplicate => out.push_str(r#"["duplicate"]"#),
+        Reply::Deleted(value) => write_with_number(out, r#"["deleted","#, *value),
+        Reply::Absent => out.push_str(r#"["absent"]"#),
+        Reply::Committed => out.push_str(r#"["committed"]"#),
+        Reply::Aborted => out.push_str(r#"["aborted"]"#),
+        Reply::Blocked(txns) => {
+            out.push_str(r#"["blocked","#)?;
+            write_numbers(out, txns.as_slice())?;
+            out.push_str("]")
+        }
+        Reply::Refused(refusal) => write_refusal(out, *refusal),
+    }
+}
+
+/// Writes an array of replies.
+pub fn write_replies(out: &mut String, replies: &[Reply]) -> Result<(), AllocError>
+    ensures { OnOk result (string_bytes out.new ≡ string_bytes out.old ++ compact_text (replies_data replies.now)) }
+{
+    out.push_str("[")?;
+    let mut later = false;
+    for reply in replies {
+        out.push_str(separator(later))?;
+        write_reply(out, reply)?;
+        later = true;
+    }
+    out.push_str("]")
+}
+
+#[tactic(auto, unfolding(serde_json::proofs::OnLiterals::serde_json_on_literals))]
+fn write_name(out: &mut String, name: Name) -> Result<(), AllocError>
+    ensures { OnOk result (string_bytes out.new ≡ string_bytes out.old ++ compact_text (name_data name)) }
+{
+    match name {
+        Name::Key(key) => write_number(out, key),
+        Name::End => out.push_str(r#""End""#),
+    }
+}
+
+/// A text in quotes, with escapes where JSON wants them.
+pub fn quoted(alloc: Global, text: &str) -> Result<String, AllocError>
+    ensures { IfOk result (λ written. string_bytes written ≡ compact_text (string text.now)) }
+{
+    Value::try_from_str(alloc, text)?.to_string(alloc)
+}
+
+/// Writes a lock whose mode has this name in quotes.
+fn write_lock(out: &mut String, lock: (Name, Txn), mode: &str) -> Result<(), AllocError>
+    ensures { OnOk result (string_bytes out.new ≡ string_bytes out.old
+        ++ 91 ∷ (compact_text (name_data lock.0) ++ 44 ∷ (decimal lock.1 ++ 44 ∷ (mode.now ++ 93 ∷ [])))) }
+{
+    out.push_str("[")?;
+    write_name(out, lock.0)?;
+    out.push_str(",")?;
+    write_number(out, u64::from(lock.1))?;
+    out.push_str(",")?;
+    out.push_str(mode)?;
+    out.push_str("]")
+}
+
+/// Writes an array of locks under a protocol.
+pub fn write_locks<P: Protocol>(
+    alloc: Global,
+    protocol: &P,
+    out: &mut String,
+    locks: &[((Name, Txn), Mode)],
+) -> Result<(), AllocError>
+    ensures { OnOk result (string_bytes out.new
+        ≡ string_bytes out.old ++ compact_text (locks_data (P.names protocol.now) locks.now)) }
+{
+    out.push_str("[")?;
+    let mut later = false;
+    // Neighbours mostly have the same mode, so its name is quoted where the mode changes.
+    let mut named = 0;
+    let mut name = quoted(alloc, mode_name(protocol, named))?;
+    for (lock, mode) in locks {
+        if *mode != named {
+            named = *mode;
+            name = quoted(alloc, mode_name(protocol, named))?;
+        }
+        out.push_str(separator(later))?;
+        write_lock(out, *lock, name.as_str())?;
+        later = true;
+    }
+    out.push_str("]")
+}
+
+/// Writes the beginning of an array, the number of a transaction and that of an operation, and a comma behind each.
+fn write_place(
+    out: &mut String,
+    beginning: &str,
+    txn: Txn,
+    operation: u64,
+) -> Result<(), AllocError>
+    ensures { OnOk result (string_bytes out.new ≡ string_bytes out.old
+        ++ (beginning.now ++ (decimal txn ++ 44 ∷ (decimal operation ++ 44 ∷ [])))) }
+{
+    out.push_str(beginning)?;
+    write_number(out, u64::from(txn))?;
+    out.push_str(",")?;
+    write_number(out, operation)?;
+    out.push_str(",")
+}
+
+/// Writes two replies with a comma between, and the closing bracket.
+fn write_both(out: &mut String, given: &Reply, serial: &Reply) -> Result<(), AllocError>
+    ensures { OnOk result (string_bytes out.new ≡ string_bytes out.old
+        ++ (compact_text (reply_data given.now) ++ 44 ∷ (compact_text (reply_data serial.now) ++ 93 ∷ []))) }
+{
+    write_reply(out, given)?;
+    out.push_str(",")?;
+    write_reply(out, serial)?;
+    out.push_str("]")
+}
+
+/// Writes a verdict.
+#[tactic(auto, unfolding(serde_json::proofs::OnLiterals::serde_json_on_literals))]
+pub fn write_verdict(out: &mut String, verdict: &Verdict) -> Result<(), AllocError>
+    ensures { OnOk result (string_bytes out.new ≡ string_bytes out.old ++ compact_text (verdict_data verdict.now)) }
+{
+    match verdict {
+        Verdict::Serial => out.push_str(r#"["serial"]"#),
+        Verdict::NotSerial {
+            txn,
+            operation,
+            given,
+            serial,
+        } => {
+            write_place(out, r#"["not-serial","#, *txn, *operation)?;
+            write_both(out, given, serial)
+        }
+    }
+}
