@@ -1,6 +1,13 @@
 //! The program over its words, files and streams.
-ghost use Rattle.std.specs.Prelude.{◌≡◌, ◌↔◌, ◌≤◌, true, IfOk, IfNone, length, vec_len, if◌then◌else◌};
+ghost use Rattle.std.specs.Prelude.{◌≡◌, ◌⊎◌, ◌↔◌, ◌≤◌, ℕ, List, true, false, IfOk, IfErr, IfNone, IfSome, IsTrue, length, vec_len, if◌then◌else◌};
+ghost use Rattle.std.specs.Io.KnownBytes.{Appends};
+ghost use Rattle.kr_model.specs.Protocol.{Protocol, IsLawful};
 ghost use Rattle.kr_model.specs.Covers.{IsCovered};
+ghost use Rattle.kr_script.specs.Puts.{HasCause};
+ghost use Rattle.kr_script.specs.Script.{Script};
+ghost use Rattle.kr.specs.Over.{report_line, IsSerialScript};
+ghost use Rattle.kr.specs.Program.{Reports, is_output};
+ghost use Rattle.kr.specs.declared.words.Task.{Task};
 ghost use Rattle.kr.specs.declared.program.Ending.TheVariants as ending;
 ghost use Rattle.kr.specs.declared.over.OverFault.TheVariants as fault;
 
@@ -60,7 +67,9 @@ fn status(is_well: bool) -> u8
     if is_well { 0 } else { 1 }
 }
 
-fn unreadable(alloc: Global, word: &str) -> Result<Ending, AllocError> {
+fn unreadable(alloc: Global, word: &str) -> Result<Ending, AllocError>
+    ensures { IfOk result (λ e. is_output e ≡ false) }
+{
     Ok(Ending::Line(format!(in alloc; "kr: {word}: cannot be read")?))
 }
 
@@ -69,7 +78,9 @@ fn whole<R: std::rt::Files + AllocGlobal, F: Files>(
     rt: &R,
     word: &str,
     files: &F,
-) -> Result<Vec<u8>, Ending> {
+) -> Result<Vec<u8>, Ending>
+    ensures { IfErr result (λ e. is_output e ≡ false) }
+{
     let alloc = rt.alloc();
     if word.starts_with('@') {
         return Err(unreadable(alloc, word)?);
@@ -82,13 +93,16 @@ fn whole<R: std::rt::Files + AllocGlobal, F: Files>(
 }
 
 /// How the program ends at a fault of the script that a word names.
-fn at_fault(alloc: Global, word: &str, fault: ScriptFault) -> Result<Ending, AllocError> {
+fn at_fault(alloc: Global, word: &str, fault: ScriptFault) -> Result<Ending, AllocError>
+    ensures { IfOk result (λ e. is_output e ≡ false) }
+{
     match fault {
         ScriptFault::Memory => Ok(Ending::Memory),
         _ => Ok(Ending::Line(format!(in alloc; "kr: {word}: {fault}")?)),
     }
 }
 
+/// Runs the script in the file that a word names, writes its report, and answers whether the run is serial.
 fn run_script<R: std::rt::Files + AllocGlobal, P: Protocol, F: Files, W: Sink>(
     rt: &R,
     protocol: &P,
@@ -96,7 +110,11 @@ fn run_script<R: std::rt::Files + AllocGlobal, P: Protocol, F: Files, W: Sink>(
     files: &F,
     out: &mut W,
 ) -> Result<bool, Ending>
-    ensures covered { IsCovered (P.table protocol.now) → IfOk result (λ serial. serial ≡ true) }
+    ensures reports { IfOk result (λ serial. (s : Script) × (Appends (W.taken out.old) (W.taken out.new) (report_line (P.table protocol.now) (P.names protocol.now) s)
+        × (IsTrue serial ↔ IsSerialScript (P.table protocol.now) s))) }
+    ensures covered { IsCovered (P.table protocol.now) → IfOk result (λ serial. IsTrue serial) }
+    ensures nothing { IfErr result (λ e. IsTrue (is_output e) ⊎ (out.new ≡ out.old)) }
+    ensures cause { IfErr result (λ e. IsTrue (is_output e) → HasCause (W.failures out.old) (W.failures out.new)) }
 {
     let alloc = rt.alloc();
     let bytes = whole(rt, script, files)?;
@@ -116,6 +134,7 @@ fn read_files<R: std::rt::Files + AllocGlobal, F: Files>(
 ) -> (Vec<Vec<u8>>, Option<Ending>)
     ensures within { vec_len result.0 ≤ length words.now }
     ensures all { IfNone result.1 (vec_len result.0 ≡ length words.now) }
+    ensures ending { IfSome result.1 (λ e. is_output e ≡ false) }
 {
     let mut texts = Vec::new(rt.alloc());
     for word in words {
@@ -139,7 +158,8 @@ fn read_scripts<R: std::rt::Files + AllocGlobal + Threads + Sync, F: Files>(
     words: &[&str],
     files: &F,
 ) -> Result<Vec<Script>, Ending>
-    ensures { IfOk result (λ scripts. vec_len scripts ≡ length words.now) }
+    ensures all { IfOk result (λ scripts. vec_len scripts ≡ length words.now) }
+    ensures ending { IfErr result (λ e. is_output e ≡ false) }
 {
     let alloc = rt.alloc();
     let (texts, ending) = read_files(rt, words, files);
@@ -153,21 +173,24 @@ fn read_scripts<R: std::rt::Files + AllocGlobal + Threads + Sync, F: Files>(
     }
 }
 
-/// Does a task under a protocol, and answers its status; under a covered protocol that is 0, whatever the task.
+/// Does a task under a protocol, and answers whether the table is accepted, or each run is serial; under a covered
+/// protocol that is so, whatever the task. At a fault of scripts or memory nothing is written on `out`.
 fn under<R: std::rt::Files + AllocGlobal + Threads + Sync, P: Protocol + Sync, F: Files, W: Sink>(
     rt: &R,
     protocol: P,
     task: &Task,
     files: &F,
     out: &mut W,
-) -> Result<u8, Ending>
-    ensures within { IfOk result (λ status. status ≤ 1) }
-    ensures covered { IsCovered (P.table protocol) → IfOk result (λ status. status ≡ 0) }
+) -> Result<bool, Ending>
+    ensures reports { IfOk result (Reports (P.table protocol) (P.names protocol) task.now (W.taken out.old) (W.taken out.new)) }
+    ensures covered { IsCovered (P.table protocol) → IfOk result (λ is_well. IsTrue is_well) }
+    ensures nothing { IfErr result (λ e. IsTrue (is_output e) ⊎ (out.new ≡ out.old)) }
+    ensures cause { IfErr result (λ e. IsTrue (is_output e) → HasCause (W.failures out.old) (W.failures out.new)) }
 {
     let alloc = rt.alloc();
     match task {
-        Task::Check => Ok(status(check_over(alloc, protocol, out)?)),
-        Task::Run(script) => Ok(status(run_script(rt, &protocol, script, files, out)?)),
+        Task::Check => Ok(check_over(alloc, protocol, out)?),
+        Task::Run(script) => run_script(rt, &protocol, script, files, out),
         Task::Judge(names) => {
             let scripts = read_scripts(rt, names.as_slice(), files)?;
             let serial = judge_over(
@@ -178,7 +201,7 @@ fn under<R: std::rt::Files + AllocGlobal + Threads + Sync, P: Protocol + Sync, F
                 scripts.as_slice(),
                 out,
             )?;
-            Ok(status(serial))
+            Ok(serial)
         }
     }
 }
@@ -191,8 +214,10 @@ fn with_table<R: std::rt::Files + AllocGlobal + Threads + Sync, F: Files, W: Sin
     task: &Task,
     files: &F,
     out: &mut W,
-) -> Result<u8, Ending>
-    ensures { IfOk result (λ status. status ≤ 1) }
+) -> Result<bool, Ending>
+    ensures reports { IfOk result (λ is_well. (p : Protocol) × (names : List (List ℕ)) × IsLawful p × Reports p names task.now (W.taken out.old) (W.taken out.new) is_well) }
+    ensures nothing { IfErr result (λ e. IsTrue (is_output e) ⊎ (out.new ≡ out.old)) }
+    ensures cause { IfErr result (λ e. IsTrue (is_output e) → HasCause (W.failures out.old) (W.failures out.new)) }
 {
     match table {
         "@kvl" => under(rt, Kvl, task, files, out),
@@ -209,8 +234,10 @@ fn with_file<R: std::rt::Files + AllocGlobal + Threads + Sync, F: Files, W: Sink
     task: &Task,
     files: &F,
     out: &mut W,
-) -> Result<u8, Ending>
-    ensures { IfOk result (λ status. status ≤ 1) }
+) -> Result<bool, Ending>
+    ensures reports { IfOk result (λ is_well. (p : Protocol) × (names : List (List ℕ)) × IsLawful p × Reports p names task.now (W.taken out.old) (W.taken out.new) is_well) }
+    ensures nothing { IfErr result (λ e. IsTrue (is_output e) ⊎ (out.new ≡ out.old)) }
+    ensures cause { IfErr result (λ e. IsTrue (is_output e) → HasCause (W.failures out.old) (W.failures out.new)) }
 {
     let alloc = rt.alloc();
     let bytes = whole(rt, table, files)?;
@@ -222,8 +249,9 @@ fn with_file<R: std::rt::Files + AllocGlobal + Threads + Sync, F: Files, W: Sink
 }
 
 /// Runs the program on words without its own name, and answers its status: 0 where it accepted a table or each run was
-/// serial, 1 where it refused a table or a run wasn't serial, and 2 where it told a fault on `err`. At a fault of words,
-/// files, tables, scripts or memory nothing is written on `out`.
+/// serial, 1 where it refused a table or a run wasn't serial, and 2 where it told a fault on `err`. At 0 and 1 the whole
+/// report of a task under a lawful table is written on `out`; at a fault of words, files, tables, scripts or memory
+/// nothing is.
 pub fn execute<R: std::rt::Files + AllocGlobal + Threads + Sync, F: Files, W: Sink, E: Sink>(
     rt: &R,
     words: &[String],
@@ -231,7 +259,10 @@ pub fn execute<R: std::rt::Files + AllocGlobal + Threads + Sync, F: Files, W: Si
     out: &mut W,
     err: &mut E,
 ) -> u8
-    ensures { result ≤ 2 }
+    ensures within { result ≤ 2 }
+    ensures accepts { result ≡ 0 → (p : Protocol) × (names : List (List ℕ)) × (task : Task) × IsLawful p × Reports p names task (W.taken out.old) (W.taken out.new) true }
+    ensures refuses { result ≡ 1 → (p : Protocol) × (names : List (List ℕ)) × (task : Task) × IsLawful p × Reports p names task (W.taken out.old) (W.taken out.new) false }
+    ensures fault { result ≡ 2 → HasCause (W.failures out.old) (W.failures out.new) ⊎ (out.new ≡ out.old) }
 {
     let done = match read_words(rt.alloc(), words) {
         Ok(asked) => with_table(rt, asked.table, &asked.task, files, out),
@@ -242,7 +273,7 @@ pub fn execute<R: std::rt::Files + AllocGlobal + Threads + Sync, F: Files, W: Si
         Err(WordsFault::Memory) => Err(Ending::Memory),
     };
     let line = match &done {
-        Ok(status) => return *status,
+        Ok(is_well) => return status(*is_well),
         Err(Ending::Line(line)) => line.as_str(),
         Err(Ending::Memory) => OUT_OF_MEMORY,
         Err(Ending::Output) => "kr: output: cannot be written",
