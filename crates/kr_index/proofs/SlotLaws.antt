@@ -13,7 +13,7 @@ use Rattle.kr_model.specs.Map.{Map, IsMap, get, restore}
 use Rattle.kr_index.specs.declared.slots.Slot.{Slot}
 use Rattle.kr_index.specs.Slots.{pairs_of, with_value, value_in, pins_in, pins_of, unpinned, IsInOrder}
 
-t_of : (b : Bool) → IsTrue b → T b
+pub t_of : (b : Bool) → IsTrue b → T b
 t_of b h = subst (λ (c : Bool). T c) (sym h) tt
 
 of_t : (b : Bool) → T b → IsTrue b

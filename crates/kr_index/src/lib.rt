@@ -9,9 +9,11 @@ ghost use Rattle.kr_model.specs.Map.{Map, IsMap, get, set, without, at, after};
 
 mod slots;
 mod sorted;
+mod stretches;
 #[cfg(test)]
 mod tests;
 mod tree;
+mod walks;
 
 pub use kr_model::Name;
 use kr_model::Pairs;

@@ -1,5 +1,5 @@
 //! Each call at three indexes, one of which refuses pins, and where growths are refused.
-ghost use Rattle.std.specs.Prelude.{◌≡◌, ℕ, OnOk, IfOk};
+ghost use Rattle.std.specs.Prelude.{◌≡◌, ℕ, ◌<◌, OnOk, IfOk};
 
 use super::*;
 use std::process::Abort;
@@ -233,4 +233,90 @@ fn refused_growths_change_no_sorted(rt: HostRuntime) -> Result<(), Fail> {
 #[test]
 fn refused_growths_change_no_tree(rt: HostRuntime) -> Result<(), Fail> {
     grows(&rt, rt.alloc(), &mut Tree::new(rt.alloc()))
+}
+
+/// More keys than three stretches of a tree have slots for.
+const MANY: u64 = 1000;
+
+/// Pins and writes many keys, the least first.
+fn fills<O: Ordered>(index: &mut O) -> Result<(), Fail>
+    requires { (q : ℕ) → O.pins index.old q ≡ 0 }
+    ensures { OnOk result ((q : ℕ) → q < 1000 → 0 < O.pins index.new q) }
+{
+    for key in 0..MANY {
+        index.pin(key)?;
+        index.put(key, key + 7);
+    }
+    Ok(())
+}
+
+/// Takes all keys away but the first and the last, the greatest first: each is next to all that are taken already.
+fn takes_many<O: Ordered>(rt: &impl Abort, index: &mut O) -> Result<(), Fail>
+    requires { (q : ℕ) → q < 1000 → 0 < O.pins index.old q }
+    ensures { OnOk result ((q : ℕ) → q < 1000 → 0 < O.pins index.new q) }
+{
+    for taken in 1..MANY - 1 {
+        let key = MANY - 1 - taken;
+        assert_eq!(rt; index.take(key), Some(key + 7));
+        assert_eq!(rt; index.get(key), None);
+        assert_eq!(rt; index.after(key), Name::Key(MANY - 1));
+        assert_eq!(rt;
+            index.after(0),
+            Name::Key(if key == 1 { MANY - 1 } else { 1 })
+        );
+    }
+    Ok(())
+}
+
+/// Writes a key amid many absent ones, and takes it away.
+fn writes_amid<O: Ordered>(rt: &impl Abort, index: &mut O, key: u64) -> Result<(), Fail>
+    requires key { key < 1000 }
+    requires pinned { (q : ℕ) → q < 1000 → 0 < O.pins index.old q }
+    ensures { OnOk result ((q : ℕ) → q < 1000 → 0 < O.pins index.new q) }
+{
+    index.put(key, 1);
+    assert_eq!(rt; index.at(1), Name::Key(key));
+    assert_eq!(rt; index.after(key), Name::Key(MANY - 1));
+    assert_eq!(rt; index.take(key), Some(1));
+    assert_eq!(rt; index.at(1), Name::Key(MANY - 1));
+    Ok(())
+}
+
+/// Gives up the pins of many keys, the least first.
+fn empties<O: Ordered>(rt: &impl Abort, index: &mut O) -> Result<(), Fail>
+    requires { (q : ℕ) → q < 1000 → 0 < O.pins index.old q }
+{
+    for key in 0..MANY {
+        index.unpin(key);
+        assert_eq!(rt; index.after(0), Name::Key(MANY - 1));
+    }
+    assert_eq!(rt; index.get(0), Some(7));
+    assert_eq!(rt; index.after(MANY - 1), Name::End);
+    Ok(())
+}
+
+fn crosses<O: Ordered>(rt: &impl Abort, alloc: Global, index: &mut O) -> Result<(), Fail>
+    requires { (q : ℕ) → O.pins index.old q ≡ 0 }
+{
+    fills(index)?;
+    assert_eq!(rt; index.copy(alloc)?.as_slice().len(), 1000);
+    takes_many(rt, index)?;
+    assert_eq!(rt;
+        index.copy(alloc)?.as_slice(),
+        [(0, 7), (MANY - 1, MANY + 6)].as_slice()
+    );
+    for key in [1, 130, 500, 998] {
+        writes_amid(rt, index, key)?;
+    }
+    empties(rt, index)
+}
+
+#[test]
+fn sorted_crosses(rt: HostRuntime) -> Result<(), Fail> {
+    crosses(&rt, rt.alloc(), &mut Sorted::new(rt.alloc()))
+}
+
+#[test]
+fn tree_crosses(rt: HostRuntime) -> Result<(), Fail> {
+    crosses(&rt, rt.alloc(), &mut Tree::new(rt.alloc()))
 }

@@ -2,50 +2,54 @@
 ghost use Rattle.std.specs.Prelude.{◌≡◌, ℕ, ◌+◌, ◌-◌, ◌<◌, ◌^◌, [], None, IfOk, OnOk, OnErr, IsTrue, false, ◌==◌, if◌then◌else◌};
 ghost use Rattle.std.specs.Ordering.{nat_cmp};
 ghost use Rattle.std.specs.FinMap.{find};
-ghost use Rattle.kr_model.specs.Map.{IsMap, get, at, after, restore};
+ghost use Rattle.kr_model.specs.Map.{Map, IsMap, get, restore};
 ghost use Rattle.kr_index.specs.Slots.{pairs_of, pins_of, value_in, IsInOrder};
+ghost use Rattle.kr_index.specs.Stretches.{IsRising, AreMarked};
 
 use crate::slots::Slot;
+use crate::stretches::{Stretch, cut, enter, grow, join, leave, shrink, tally};
+use crate::walks::{first_past, make_room, name_from, settle};
 use crate::{Memory, Ordered};
 use kr_model::{Name, Pairs};
 use std::alloc::{AllocError, Global};
 use std::collections::BTreeMap;
-use std::ops::Bound;
 
 /// An index in a tree of keys.
 ///
-/// Each call looks at a logarithmic number of keys. A pinned key has a slot, and an absent one has a slot without a value,
-/// so `put` and `take` write in place. `at` and `after` also step over the absent keys that are pinned right before their
-/// answer.
+/// A pinned key has a slot, and an absent one has a slot without a value, so `put` and `take` write in place.
+/// The keys are cut into stretches of at most 256 slots, and a stretch is marked as bare once none of its keys has a value.
+///
+/// Each call looks at a logarithmic number of keys. `at` and `after` also step over the absent keys that are pinned right
+/// before their answer: one by one in the stretches where they begin and end, and else a stretch at a time. `pin` of a
+/// new key may cut its stretch, and `take` and `unpin` may look whether one is bare, which takes as long as `at` there.
 #[derive(Drop)]
 pub struct Tree {
     slots: BTreeMap<u64, Slot>,
+    stretches: Vec<Stretch>,
     ghost sorted: { IsInOrder slots.entries },
     ghost rising: { IsMap (pairs_of slots.entries) },
+    ghost parted: { IsRising stretches.items },
+    ghost marked: { AreMarked stretches.items (pairs_of slots.entries) },
 }
 
-/// The first key from `from` on that has a value. The absent keys before it are stepped over.
-fn first_from(slots: &BTreeMap<u64, Slot>, from: u64) -> Name
-    ensures { result ≡ at (pairs_of slots.now.entries) from }
-{
-    for (key, slot) in slots.range(from..) {
-        if slot.value.is_some() {
-            return Name::Key(*key);
-        }
-    }
-    Name::End
-}
+/// How many slots a stretch has in a tree that is made of pairs, which leaves room for some more.
+const FILLED: usize = 192;
 
-/// The first key past `key` that has a value. The absent keys before it are stepped over.
-fn first_past(slots: &BTreeMap<u64, Slot>, key: u64) -> Name
-    ensures { result ≡ after (pairs_of slots.now.entries) key }
+/// Stretches for the keys of pairs, the first one from 0 on, and none of them marked as bare.
+/// The answer is `Memory` where a growth is refused.
+fn stretches_of(alloc: Global, pairs: &[(u64, u64)]) -> Result<Vec<Stretch>, Memory>
+    ensures rising { IfOk result (λ stretches. IsRising stretches.items) }
+    ensures marked { IfOk result (λ stretches. (m : Map) → AreMarked stretches.items m) }
 {
-    for (key, slot) in slots.range((Bound::Excluded(key), Bound::Unbounded)) {
-        if slot.value.is_some() {
-            return Name::Key(*key);
+    let mut stretches = Vec::new(alloc);
+    for part in pairs.chunks(FILLED) {
+        if let Some(&(key, _)) = part.first() {
+            let first = if stretches.is_empty() { 0 } else { key };
+            cut(&mut stretches, first)?;
+            tally(&mut stretches, first, part.len(), part.len());
         }
     }
-    Name::End
+    Ok(stretches)
 }
 
 /// The tree of entries in order.
@@ -142,6 +146,32 @@ fn replace(slots: &mut BTreeMap<u64, Slot>, key: u64, value: Option<u64>) -> Opt
     None
 }
 
+/// Counts the value of `key` as taken away. A stretch where none is left is marked as bare.
+fn take_from(slots: &BTreeMap<u64, Slot>, stretches: &mut Vec<Stretch>, key: u64)
+    requires in_order { IsInOrder slots.now.entries }
+    requires rising { IsRising stretches.old.items }
+    requires marked { AreMarked stretches.old.items (pairs_of slots.now.entries) }
+    ensures rising { IsRising stretches.new.items }
+    ensures marked { AreMarked stretches.new.items (pairs_of slots.now.entries) }
+{
+    leave(stretches, key);
+    settle(slots, stretches, key);
+}
+
+/// Counts the slot of `key` as dropped. A stretch that has no slot left is joined to the one before it.
+fn drop_from(slots: &BTreeMap<u64, Slot>, stretches: &mut Vec<Stretch>, key: u64)
+    requires in_order { IsInOrder slots.now.entries }
+    requires rising { IsRising stretches.old.items }
+    requires marked { AreMarked stretches.old.items (pairs_of slots.now.entries) }
+    ensures rising { IsRising stretches.new.items }
+    ensures marked { AreMarked stretches.new.items (pairs_of slots.now.entries) }
+{
+    if shrink(stretches, key) {
+        settle(slots, stretches, key);
+        join(stretches, key);
+    }
+}
+
 impl Tree {
     /// An empty index without pins. It takes no memory yet.
     pub fn new(alloc: Global) -> Tree
@@ -150,6 +180,7 @@ impl Tree {
     {
         Tree {
             slots: BTreeMap::new(alloc),
+            stretches: Vec::new(alloc),
         }
     }
 
@@ -168,8 +199,9 @@ impl Tree {
             };
             entries.push((key, slot))?;
         }
+        let stretches = stretches_of(alloc, pairs)?;
         let slots = tree_of(alloc, entries)?;
-        Ok(Tree { slots })
+        Ok(Tree { slots, stretches })
     }
 }
 
@@ -186,11 +218,14 @@ impl Ordered for Tree {
     }
 
     fn at(&self, from: u64) -> Name {
-        first_from(&self.slots, from)
+        name_from(&self.slots, &self.stretches, from)
     }
 
     fn after(&self, key: u64) -> Name {
-        first_past(&self.slots, key)
+        match key.checked_add(1) {
+            Some(past) => name_from(&self.slots, &self.stretches, past),
+            None => first_past(&self.slots, key),
+        }
     }
 
     #[tactic(auto, using(crate::proofs::SlotLaws::pairs_are_map))]
@@ -198,7 +233,9 @@ impl Ordered for Tree {
         if pin_there(&mut self.slots, key)? {
             return Ok(());
         }
+        make_room(&self.slots, &mut self.stretches, key)?;
         add(&mut self.slots, key)?;
+        grow(&mut self.stretches, key);
         Ok(())
     }
 
@@ -206,17 +243,23 @@ impl Ordered for Tree {
     fn unpin(&mut self, key: u64) {
         if !unpin_kept(&mut self.slots, key) {
             remove(&mut self.slots, key);
+            drop_from(&self.slots, &mut self.stretches, key);
         }
     }
 
     #[tactic(auto, using(crate::proofs::SlotLaws::pairs_are_map))]
     fn put(&mut self, key: u64, value: u64) {
-        let _ = replace(&mut self.slots, key, Some(value));
+        let was = replace(&mut self.slots, key, Some(value));
+        enter(&mut self.stretches, key, was.is_none());
     }
 
     #[tactic(auto, using(crate::proofs::SlotLaws::pairs_are_map))]
     fn take(&mut self, key: u64) -> Option<u64> {
-        replace(&mut self.slots, key, None)
+        let was = replace(&mut self.slots, key, None);
+        if was.is_some() {
+            take_from(&self.slots, &mut self.stretches, key);
+        }
+        was
     }
 
     fn copy(&self, alloc: Global) -> Result<Pairs, Memory> {

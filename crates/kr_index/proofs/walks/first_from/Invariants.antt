@@ -1,7 +1,7 @@
 use Rattle.std.proofs.Common.{◌≡◌}
 use Rattle.kr_model.specs.Map.{at}
 use Rattle.kr_index.specs.Slots.{pairs_of, least}
-use Rattle.kr_index.proofs.tree.first_from.Given as goal
+use Rattle.kr_index.proofs.walks.first_from.Given as goal
 
 -- no key so far has a value
 abbrev pub invariant-loop-key : goal.invariant-loop-key

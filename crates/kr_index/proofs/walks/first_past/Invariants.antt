@@ -1,7 +1,7 @@
 use Rattle.std.proofs.Common.{◌≡◌}
 use Rattle.kr_model.specs.Map.{after}
 use Rattle.kr_index.specs.Slots.{pairs_of, least}
-use Rattle.kr_index.proofs.tree.first_past.Given as goal
+use Rattle.kr_index.proofs.walks.first_past.Given as goal
 
 -- no key so far has a value
 abbrev pub invariant-loop-key : goal.invariant-loop-key

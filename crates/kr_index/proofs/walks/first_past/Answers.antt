@@ -1,7 +1,7 @@
 use Rattle.std.proofs.Common.{ap, sym, ◌∙◌}
 use Rattle.kr_index.specs.Slots.{pairs_of, least}
 use Rattle.kr_index.proofs.TreeLaws.{after_past}
-use Rattle.kr_index.proofs.tree.first_past.Goals as goal
+use Rattle.kr_index.proofs.walks.first_past.Goals as goal
 
 pub loop-key-init : goal.loop-key-init
 loop-key-init c =

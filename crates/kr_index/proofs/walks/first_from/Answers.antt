@@ -1,7 +1,7 @@
 use Rattle.std.proofs.Common.{ap, sym, ◌∙◌}
 use Rattle.kr_index.specs.Slots.{pairs_of, least}
 use Rattle.kr_index.proofs.TreeLaws.{at_from}
-use Rattle.kr_index.proofs.tree.first_from.Goals as goal
+use Rattle.kr_index.proofs.walks.first_from.Goals as goal
 
 pub loop-key-init : goal.loop-key-init
 loop-key-init c =
