@@ -109,11 +109,9 @@ fn change<I: Ordered>(index: &mut I, standing: Standing, op: Op) -> Standing
             }
         }
         Op::Delete(key) => {
-            if let Some(value) = index.get(key) {
-                let _ = index.take(key);
-                standing.changes.push_reserved((key, Some(value)));
-            } else {
-                index.unpin(key);
+            match index.take(key) {
+                Some(value) => standing.changes.push_reserved((key, Some(value))),
+                None => index.unpin(key),
             }
         }
         Op::Fetch(_) | Op::Scan(_, _) | Op::Go | Op::Commit | Op::Abort => {}

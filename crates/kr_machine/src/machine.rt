@@ -107,6 +107,18 @@ impl<P: Protocol, I: Ordered, L: Holdings> Machine<P, I, L> {
         self.log.programs()
     }
 
+    /// The same of a machine that is used no more, without a copy. Takes no memory.
+    pub fn into_programs(self) -> Programs
+        ensures { result ≡ self.log.committed }
+    {
+        let Machine {
+            stepper: _,
+            log,
+            due: _,
+        } = self;
+        log.into_programs()
+    }
+
     /// Takes all memory of a step, and tells its reply without doing it.
     ///
     /// What it gives must be spent by `finish` or `cancel` before the next call. Until then the state is seen as before

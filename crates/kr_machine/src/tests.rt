@@ -199,20 +199,13 @@ fn expect_view<P: Protocol, I: Ordered, L: Holdings>(
 /// A transaction that splits a gap that it has read covers both parts of it.
 fn splits_own_gap<P: Protocol, I: Ordered, L: Holdings>(
     rt: &impl Abort,
-    alloc: Global,
     mut machine: Machine<P, I, L>,
 ) -> Result<(), Fail>
     requires { machine.pending ≡ None }
 {
     expect(rt, &mut machine, 1, Op::Fetch(12), Reply::None);
     expect(rt, &mut machine, 1, Op::Insert(15, 5), Reply::Done);
-    expect(
-        rt,
-        &mut machine,
-        2,
-        Op::Insert(12, 7),
-        blocked_by(alloc, 1)?,
-    );
+    expect_blocked(rt, &mut machine, 2, Op::Insert(12, 7), 1);
     expect_view(
         rt,
         &machine,
@@ -222,16 +215,26 @@ fn splits_own_gap<P: Protocol, I: Ordered, L: Holdings>(
     )
 }
 
-/// Two transactions insert into one gap; the second gets this reply.
+/// Two transactions insert into one gap.
 fn inserts_twice<P: Protocol, I: Ordered, L: Holdings>(
     rt: &impl Abort,
-    mut machine: Machine<P, I, L>,
-    second: Reply,
+    machine: &mut Machine<P, I, L>,
 )
-    requires { machine.pending ≡ None }
+    requires { machine.old.pending ≡ None }
 {
-    expect(rt, &mut machine, 1, Op::Insert(15, 5), Reply::Done);
-    expect(rt, &mut machine, 2, Op::Insert(12, 7), second);
+    expect(rt, machine, 1, Op::Insert(15, 5), Reply::Done);
+    expect(rt, machine, 2, Op::Insert(12, 7), Reply::Done);
+}
+
+/// Two transactions insert into one gap; the first blocks the second.
+fn inserts_once<P: Protocol, I: Ordered, L: Holdings>(
+    rt: &impl Abort,
+    machine: &mut Machine<P, I, L>,
+)
+    requires { machine.old.pending ≡ None }
+{
+    expect(rt, machine, 1, Op::Insert(15, 5), Reply::Done);
+    expect_blocked(rt, machine, 2, Op::Insert(12, 7), 1);
 }
 
 /// 64 transactions may be active, and no more.
@@ -292,13 +295,12 @@ fn shares_duplicates<P: Protocol, I: Ordered, L: Holdings>(
 /// A delete of the last key locks the end.
 fn deletes_last<P: Protocol, I: Ordered, L: Holdings>(
     rt: &impl Abort,
-    alloc: Global,
     mut machine: Machine<P, I, L>,
 ) -> Result<(), Fail>
     requires { machine.pending ≡ None }
 {
     expect(rt, &mut machine, 1, Op::Delete(30), Reply::Deleted(3));
-    expect(rt, &mut machine, 2, Op::Fetch(40), blocked_by(alloc, 1)?);
+    expect_blocked(rt, &mut machine, 2, Op::Fetch(40), 1);
     expect_view(
         rt,
         &machine,
@@ -311,13 +313,12 @@ fn deletes_last<P: Protocol, I: Ordered, L: Holdings>(
 /// An insert of a present key reads it, so no other may delete it.
 fn reads_duplicate<P: Protocol, I: Ordered, L: Holdings>(
     rt: &impl Abort,
-    alloc: Global,
     mut machine: Machine<P, I, L>,
 ) -> Result<(), Fail>
     requires { machine.pending ≡ None }
 {
     expect(rt, &mut machine, 1, Op::Insert(20, 9), Reply::Duplicate);
-    expect(rt, &mut machine, 2, Op::Delete(20), blocked_by(alloc, 1)?);
+    expect_blocked(rt, &mut machine, 2, Op::Delete(20), 1);
     expect_view(
         rt,
         &machine,
@@ -352,13 +353,12 @@ fn deletes_inserts_aborts<P: Protocol, I: Ordered, L: Holdings>(
 /// A delete widens a gap, and its undo narrows it again.
 fn widens_and_narrows<P: Protocol, I: Ordered, L: Holdings>(
     rt: &impl Abort,
-    alloc: Global,
     mut machine: Machine<P, I, L>,
 ) -> Result<(), Fail>
     requires { machine.pending ≡ None }
 {
     expect(rt, &mut machine, 1, Op::Delete(30), Reply::Deleted(3));
-    expect(rt, &mut machine, 2, Op::Fetch(25), blocked_by(alloc, 1)?);
+    expect_blocked(rt, &mut machine, 2, Op::Fetch(25), 1);
     expect(rt, &mut machine, 1, Op::Abort, Reply::Aborted);
     expect(rt, &mut machine, 2, Op::Fetch(25), Reply::None);
     expect_view(
@@ -391,8 +391,8 @@ fn aborts(rt: HostRuntime) -> Result<(), Fail> {
     let alloc = rt.alloc();
     deletes_inserts_aborts(&rt, plain(alloc, Kvl)?)?;
     deletes_inserts_aborts(&rt, scant(alloc, &Kvl, None, None)?)?;
-    widens_and_narrows(&rt, alloc, plain(alloc, Kvl)?)?;
-    widens_and_narrows(&rt, alloc, scant(alloc, &Kvl, None, None)?)?;
+    widens_and_narrows(&rt, plain(alloc, Kvl)?)?;
+    widens_and_narrows(&rt, scant(alloc, &Kvl, None, None)?)?;
     ends_unbegun(&rt, plain(alloc, Im)?)?;
     ends_unbegun(&rt, scant(alloc, Im, None, None)?)
 }
@@ -400,31 +400,30 @@ fn aborts(rt: HostRuntime) -> Result<(), Fail> {
 #[test]
 fn key_value_locking_at_plain_parts(rt: HostRuntime) -> Result<(), Fail> {
     let alloc = rt.alloc();
-    splits_own_gap(&rt, alloc, plain(alloc, Kvl)?)?;
-    inserts_twice(&rt, plain(alloc, Kvl)?, Reply::Done);
+    splits_own_gap(&rt, plain(alloc, Kvl)?)?;
+    inserts_twice(&rt, &mut plain(alloc, Kvl)?);
     fills_up(&rt, plain(alloc, Kvl)?)?;
     shares_duplicates(&rt, plain(alloc, Kvl)?)?;
-    reads_duplicate(&rt, alloc, plain(alloc, Kvl)?)?;
-    deletes_last(&rt, alloc, plain(alloc, Kvl)?)
+    reads_duplicate(&rt, plain(alloc, Kvl)?)?;
+    deletes_last(&rt, plain(alloc, Kvl)?)
 }
 
 #[test]
 fn key_value_locking_at_other_parts(rt: HostRuntime) -> Result<(), Fail> {
     let alloc = rt.alloc();
-    splits_own_gap(&rt, alloc, scant(alloc, &Kvl, None, None)?)?;
-    inserts_twice(&rt, scant(alloc, &Kvl, None, None)?, Reply::Done);
+    splits_own_gap(&rt, scant(alloc, &Kvl, None, None)?)?;
+    inserts_twice(&rt, &mut scant(alloc, &Kvl, None, None)?);
     fills_up(&rt, scant(alloc, &Kvl, None, None)?)?;
     shares_duplicates(&rt, scant(alloc, &Kvl, None, None)?)?;
-    reads_duplicate(&rt, alloc, scant(alloc, &Kvl, None, None)?)?;
-    deletes_last(&rt, alloc, scant(alloc, &Kvl, None, None)?)
+    reads_duplicate(&rt, scant(alloc, &Kvl, None, None)?)?;
+    deletes_last(&rt, scant(alloc, &Kvl, None, None)?)
 }
 
 #[test]
 fn index_specific_locking(rt: HostRuntime) -> Result<(), Fail> {
     let alloc = rt.alloc();
-    inserts_twice(&rt, plain(alloc, Im)?, blocked_by(alloc, 1)?);
-    let machine = scant(alloc, Im, None, None)?;
-    inserts_twice(&rt, machine, blocked_by(alloc, 1)?);
+    inserts_once(&rt, &mut plain(alloc, Im)?);
+    inserts_once(&rt, &mut scant(alloc, Im, None, None)?);
     Ok(())
 }
 
@@ -460,28 +459,62 @@ fn two_parts<P: Protocol, I: Ordered, L: Holdings>(
     }
 }
 
-/// Gives a step up, which leaves nothing, and then does it; an insert, and then an abort.
+/// Gives an insert up, which leaves nothing, and then does it.
+fn gives_insert_up_first<P: Protocol, I: Ordered, L: Holdings>(
+    rt: &impl Abort,
+    machine: &mut Machine<P, I, L>,
+) -> Result<(), Fail>
+    requires { machine.old.pending ≡ None }
+    ensures { machine.new.pending ≡ None }
+{
+    two_parts(rt, machine, Op::Insert(15, 5), Reply::Done, false);
+    assert!(rt; !machine.active(1));
+    expect_view(rt, machine, &[(10, 1), (20, 2), (30, 3)], &[], &[])?;
+    two_parts(rt, machine, Op::Insert(15, 5), Reply::Done, true);
+    assert!(rt; machine.active(1));
+    expect_inserted(rt, machine)
+}
+
+/// What stands after that insert.
+fn expect_inserted<P: Protocol, I: Ordered, L: Holdings>(
+    rt: &impl Abort,
+    machine: &Machine<P, I, L>,
+) -> Result<(), Fail>
+    requires { machine.now.pending ≡ None }
+{
+    expect_view(
+        rt,
+        machine,
+        &[(10, 1), (15, 5), (20, 2), (30, 3)],
+        &[((Name::Key(15), 1), IX)],
+        &[1],
+    )
+}
+
+/// Gives the abort of that insert up, which leaves all as it was, and then does it.
+fn gives_abort_up_first<P: Protocol, I: Ordered, L: Holdings>(
+    rt: &impl Abort,
+    machine: &mut Machine<P, I, L>,
+) -> Result<(), Fail>
+    requires { machine.old.pending ≡ None }
+{
+    two_parts(rt, machine, Op::Abort, Reply::Aborted, false);
+    assert!(rt; machine.active(1));
+    expect_inserted(rt, machine)?;
+    two_parts(rt, machine, Op::Abort, Reply::Aborted, true);
+    assert!(rt; !machine.active(1));
+    expect_view(rt, machine, &[(10, 1), (20, 2), (30, 3)], &[], &[])
+}
+
+/// Each step is given up first.
 fn gives_up_first<P: Protocol, I: Ordered, L: Holdings>(
     rt: &impl Abort,
-    mut machine: Machine<P, I, L>,
+    machine: &mut Machine<P, I, L>,
 ) -> Result<(), Fail>
-    requires { machine.pending ≡ None }
+    requires { machine.old.pending ≡ None }
 {
-    two_parts(rt, &mut machine, Op::Insert(15, 5), Reply::Done, false);
-    assert!(rt; !machine.active(1));
-    expect_view(rt, &machine, &[(10, 1), (20, 2), (30, 3)], &[], &[])?;
-    two_parts(rt, &mut machine, Op::Insert(15, 5), Reply::Done, true);
-    assert!(rt; machine.active(1));
-    let index = [(10, 1), (15, 5), (20, 2), (30, 3)];
-    let locks = [((Name::Key(15), 1), IX)];
-    expect_view(rt, &machine, &index, &locks, &[1])?;
-
-    two_parts(rt, &mut machine, Op::Abort, Reply::Aborted, false);
-    assert!(rt; machine.active(1));
-    expect_view(rt, &machine, &index, &locks, &[1])?;
-    two_parts(rt, &mut machine, Op::Abort, Reply::Aborted, true);
-    assert!(rt; !machine.active(1));
-    expect_view(rt, &machine, &[(10, 1), (20, 2), (30, 3)], &[], &[])
+    gives_insert_up_first(rt, machine)?;
+    gives_abort_up_first(rt, machine)
 }
 
 /// Attempts an operation, and again where memory was refused, which changes nothing. Tells whether it was.
@@ -618,8 +651,8 @@ fn insists_on_scans<P: Protocol, I: Ordered, L: Holdings>(
 #[test]
 fn steps_in_two_parts(rt: HostRuntime) -> Result<(), Fail> {
     let alloc = rt.alloc();
-    gives_up_first(&rt, plain(alloc, Kvl)?)?;
-    gives_up_first(&rt, scant(alloc, &Kvl, None, None)?)
+    gives_up_first(&rt, &mut plain(alloc, Kvl)?)?;
+    gives_up_first(&rt, &mut scant(alloc, &Kvl, None, None)?)
 }
 
 /// Refuses the first call that may lack memory, then the second, and so on: before each of the 22 steps the index and

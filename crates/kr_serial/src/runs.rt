@@ -60,28 +60,28 @@ fn replayed<P: Protocol>(
     let index = Tree::from_pairs(alloc, opening)?;
     let mut machine = Machine::new(alloc, protocol, index, Buckets::new(alloc));
     let replies = replay(alloc, &mut machine, events)?;
-    show(&machine, first, replies)
+    show(machine, first, replies)
 }
 
 /// What a machine shows after a run with these replies from this opening map.
 fn show<P: Protocol, I: Ordered, L: Holdings>(
-    machine: &Machine<P, I, L>,
+    machine: Machine<P, I, L>,
     opening: Index,
     replies: Replies,
 ) -> Result<Ran, Memory>
-    requires { machine.now.pending ≡ None }
+    requires { machine.pending ≡ None }
     ensures opening { IfOk result (λ ran. ran.opening ≡ opening) }
     ensures replies { IfOk result (λ ran. ran.replies ≡ replies) }
-    ensures index { IfOk result (λ ran. ran.index ≡ machine.now.state.map) }
-    ensures locks { IfOk result (λ ran. ran.locks ≡ machine.now.state.locks) }
-    ensures programs { IfOk result (λ ran. ran.programs ≡ machine.now.log.committed) }
-    ensures modes { IfOk result (λ ran. All (λ l. l.1 ≤ (P.table machine.now.protocol).count) ran.locks) }
-    ensures unfinished { IfOk result (λ ran. ran.unfinished ≡ map (λ a. a.0) machine.now.state.active) }
+    ensures index { IfOk result (λ ran. ran.index ≡ machine.state.map) }
+    ensures locks { IfOk result (λ ran. ran.locks ≡ machine.state.locks) }
+    ensures programs { IfOk result (λ ran. ran.programs ≡ machine.log.committed) }
+    ensures modes { IfOk result (λ ran. All (λ l. l.1 ≤ (P.table machine.protocol).count) ran.locks) }
+    ensures unfinished { IfOk result (λ ran. ran.unfinished ≡ map (λ a. a.0) machine.state.active) }
 {
     let index = Index::from_pairs(machine.index()?);
     let locks = Triples::from_vec(machine.locks()?);
-    let programs = machine.programs()?;
     let unfinished = machine.unfinished()?;
+    let programs = machine.into_programs();
     Ok(Ran {
         opening,
         replies,

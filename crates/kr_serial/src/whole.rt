@@ -13,14 +13,7 @@ pub fn map_of(alloc: Global, pairs: &[(u64, u64)]) -> Result<BTreeMap<u64, u64>,
     requires { IsMap pairs.now }
     ensures { IfOk result (λ map. map.entries ≡ pairs.now) }
 {
-    let mut map = BTreeMap::new(alloc);
-    let mut left = pairs.len();
-    while left > 0 {
-        left -= 1;
-        let (key, value) = pairs[left];
-        map.insert(key, value)?;
-    }
-    Ok(map)
+    pairs.iter().copied().collect(alloc)
 }
 
 /// Whether this is the answer of the operation run whole. Rows are compared in place.

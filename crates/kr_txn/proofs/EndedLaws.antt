@@ -3,11 +3,11 @@ use Rattle.std.specs.Prelude.{◌==◌}
 use Rattle.std.specs.List.{insert, list_any}
 use Rattle.std.specs.List.Sorted.{IsStrictlyIncreasing, IsBinarySearchResult}
 use Rattle.std.specs.Ordering.{nat_cmp}
-use Rattle.std.proofs.Common.{◌≡◌, ◌≢◌, ℕ, zero, suc, ◌+◌, ◌-◌, ◌<◌, ◌≤◌, length, get_or, Bool, true, false, Result, Ok, Err, is_ok, List, [], ◌∷◌, ◌||◌, ◌⊎◌, ⊎_elim, sym, ◌∙◌, ap, refl, subst, arith, MatchResult}
+use Rattle.std.proofs.Common.{◌≡◌, ◌≢◌, ℕ, zero, suc, ◌+◌, ◌<◌, ◌≤◌, length, get_or, Bool, true, false, Result, Ok, Err, is_ok, List, [], ◌∷◌, ◌||◌, ◌⊎◌, ⊎_elim, sym, ◌∙◌, ap, refl, subst, arith, MatchResult}
 use Rattle.std.proofs.Math.Numerals.{add-one}
 use Rattle.std.proofs.lemmas.Bool.Decides.{nat_tests}
 use Rattle.std.proofs.lemmas.List.Sorted.{searched}
-use Rattle.std.proofs.lemmas.List.Edits.{get_or-insert_at, get_or-insert_below, get_or-insert_above, length-insert, insert_end}
+use Rattle.std.proofs.lemmas.List.Edits.{insert_end}
 use Rattle.kr_model.specs.Locks.{add_once}
 use Rattle.kr_model.proofs.Numbers.{add_once_insert, add_once_there, add_once_end}
 
@@ -36,7 +36,8 @@ or_true : (b : Bool) → (b || true) ≡ true
 or_true true = refl
 or_true false = refl
 
-any_at : (xs : List ℕ) (t i : ℕ) → i < length xs → get_or xs i 0 ≡ t → list_any (λ u. u == t) xs ≡ true
+-- A number at a place is among them.
+pub any_at : (xs : List ℕ) (t i : ℕ) → i < length xs → get_or xs i 0 ≡ t → list_any (λ u. u == t) xs ≡ true
 any_at [] t i lt e = absurd (omega arith)
 any_at (x ∷ xs) t zero lt e = ap (λ b. b || list_any (λ u. u == t) xs) (let same : (x == t) ≡ true = grind (arith, nat_tests) in same)
 any_at (x ∷ xs) t (suc i) lt e = ap (λ b. (x == t) || b) (any_at xs t i (omega arith) e) ∙ or_true (x == t)
@@ -74,47 +75,3 @@ add_once-present xs t i up at = add_once_there t xs i at.0 (λ k lt. below xs up
         let step : get_or xs k 0 < get_or xs (k + 1) 0 = up k (omega arith) in
         let rest : get_or xs (k + 1) 0 ≤ get_or xs i 0 = rise_between xs up (k + 1) i (omega arith) in_range in
         omega (arith, step, rest, e, f)
-
-around : (k i : ℕ) → (k + 1 < i) ⊎ ((k + 1 ≡ i) ⊎ ((k ≡ i) ⊎ (i < k)))
-around k i = grind arith
-
--- At each place, the next number is greater.
-abbrev pub RisesAt : List ℕ → ℕ → Type 0
-RisesAt xs k = get_or xs k 0 < get_or xs (k + 1) 0
-
-module _ (xs : List ℕ) (t i : ℕ) (up : IsStrictlyIncreasing xs) (at : IsFoundAt xs t (Err i)) where
-  both_below : (k : ℕ) → k + 1 < i → RisesAt (insert xs i t) k
-  both_below k b =
-      let le = at.0 in
-      let now : get_or (insert xs i t) k 0 ≡ get_or xs k 0 = get_or-insert_below xs i t 0 k (omega arith) at.0 in
-      let next : get_or (insert xs i t) (k + 1) 0 ≡ get_or xs (k + 1) 0 = get_or-insert_below xs i t 0 (k + 1) b at.0 in
-      let step = up k (omega arith) in
-      omega (arith, now, next, step)
-
-  up_to_it : (k : ℕ) → k + 1 ≡ i → RisesAt (insert xs i t) k
-  up_to_it k e =
-      let now : get_or (insert xs i t) k 0 ≡ get_or xs k 0 = get_or-insert_below xs i t 0 k (omega arith) at.0 in
-      let next : get_or (insert xs i t) (k + 1) 0 ≡ t = ap (λ n. get_or (insert xs i t) n 0) e ∙ get_or-insert_at xs i t 0 at.0 in
-      let below = at.1 k (omega arith) in
-      omega (arith, now, next, below)
-
-  from_it : (k : ℕ) → k ≡ i → k < length xs → RisesAt (insert xs i t) k
-  from_it k e in_range =
-      let now : get_or (insert xs i t) k 0 ≡ t = ap (λ n. get_or (insert xs i t) n 0) e ∙ get_or-insert_at xs i t 0 at.0 in
-      let next : get_or (insert xs i t) (k + 1) 0 ≡ get_or xs k 0 = get_or-insert_above xs i t 0 k (omega arith) at.0 in
-      let above = at.2 k (omega arith) in_range in
-      omega (arith, now, next, above)
-
-  both_above : (j : ℕ) → i ≤ j → j + 1 < length xs → RisesAt (insert xs i t) (j + 1)
-  both_above j b in_range =
-      let now : get_or (insert xs i t) (j + 1) 0 ≡ get_or xs j 0 = get_or-insert_above xs i t 0 j b at.0 in
-      let next : get_or (insert xs i t) (j + 1 + 1) 0 ≡ get_or xs (j + 1) 0 = get_or-insert_above xs i t 0 (j + 1) (omega arith) at.0 in
-      let step = up j in_range in
-      omega (arith, now, next, step)
-
-  -- With the number put there, they still rise.
-  pub rises-insert : IsStrictlyIncreasing (insert xs i t)
-  rises-insert k lt =
-      let many : length (insert xs i t) ≡ length xs + 1 = length-insert xs i t at.0 in
-      let in_range : k < length xs = omega (arith, lt, many) in
-      ⊎_elim (λ b. both_below k b) (λ r. ⊎_elim (λ e. up_to_it k e) (λ r. ⊎_elim (λ e. from_it k e in_range) (λ b. let e : (k - 1) + 1 ≡ k = omega arith in subst (RisesAt (insert xs i t)) e (both_above (k - 1) (omega arith) (omega arith))) r) r) (around k i)

@@ -1,4 +1,5 @@
 pub mod Lists
 pub mod EndedLaws
+pub mod Unions
 pub mod LogLists
 pub mod LogSteps

@@ -1,29 +1,32 @@
 //! The transactions that have ended.
-ghost use Rattle.std.specs.Prelude.{◌≡◌, ℕ, ◌+◌, ◌<◌, ◌≤◌, ◌==◌, [], OnOk};
+ghost use Rattle.std.specs.Prelude.{◌≡◌, ℕ, ◌+◌, ◌<◌, ◌≤◌, ◌==◌, [], false, IsTrue, OnOk, length, take, slice_index, vec_len, vec_capacity};
 ghost use Rattle.std.specs.List.{list_any};
+ghost use Rattle.std.specs.List.Sorted.{IsStrictlyIncreasing};
 ghost use Rattle.kr_model.specs.Locks.{add_once};
+ghost use Rattle.kr_txn.specs.EndedNumbers.{union, AreApart, AreEnded};
 
 use kr_model::Txn;
 use std::alloc::{AllocError, Global};
 use std::marker::Model;
 
-/// Numbers of transactions, rising, with room for more. A look is by bisection, and a number that is greater than all
-/// others is added without a shift.
+/// Numbers of transactions, with room for more. Most stand in a rising list, to whose end a number goes that is greater
+/// than all others. Any other goes to a second, short rising list, which is merged into the first where it is full. So a
+/// look is by two bisections, and in no order does each number shift all others.
 #[derive(Drop)]
 pub struct Ended {
-    numbers: Vec<Txn>,
+    settled: Vec<Txn>,
+    recent: Vec<Txn>,
 }
 
 impl Model for Ended {
-    ghost use Rattle.std.specs.Prelude.{◌-◌, vec_len, vec_capacity};
-    ghost use Rattle.std.specs.List.Sorted.{IsStrictlyIncreasing};
-    ghost use Rattle.kr_txn.specs.EndedNumbers.{EndedNumbers};
+    ghost use Rattle.std.specs.Prelude.{ℕ, ◌+◌, ◌-◌, ◌<◌, vec_len, vec_capacity};
+    ghost use Rattle.kr_txn.specs.EndedNumbers.{EndedNumbers, union, AreEnded};
 
     ghost Value = { EndedNumbers };
 
-    ghost view = { λ e. record { numbers = e.numbers.items; room = vec_capacity e.numbers - vec_len e.numbers } };
+    ghost view = { λ e. record { numbers = union e.recent.items e.settled.items; room = vec_capacity e.settled - (vec_len e.settled + vec_len e.recent) } };
 
-    ghost invariant = { λ e. IsStrictlyIncreasing e.numbers.items };
+    ghost invariant = { λ e. AreEnded e.settled.items e.recent.items × (vec_len e.settled + vec_len e.recent < vec_capacity e.settled → 0 < vec_capacity e.recent) };
 }
 
 impl Ended {
@@ -32,7 +35,8 @@ impl Ended {
         ensures { result.numbers ≡ [] }
     {
         Ended {
-            numbers: Vec::new(alloc),
+            settled: Vec::new(alloc),
+            recent: Vec::new(alloc),
         }
     }
 
@@ -40,7 +44,7 @@ impl Ended {
     pub fn has(&self, txn: Txn) -> bool
         ensures { result ≡ list_any (λ u. u == txn) self.now.numbers }
     {
-        self.numbers.binary_search(&txn).is_ok()
+        is_in(&self.recent, txn) || is_in(&self.settled, txn)
     }
 
     /// Takes the memory that so many more numbers need, or answers an error where a growth is refused. The numbers stay,
@@ -50,7 +54,12 @@ impl Ended {
         ensures ok { OnOk result (count ≤ self.new.room) }
         ensures room { self.old.room ≤ self.new.room }
     {
-        self.numbers.reserve(count)?;
+        let recent = self.recent.len();
+        if recent == self.recent.capacity() && is_short(recent, self.settled.len()) {
+            self.recent.reserve(SHORTEST)?;
+        }
+        let more = count.checked_add(recent).ok_or(AllocError)?;
+        self.settled.reserve(more)?;
         Ok(())
     }
 
@@ -60,8 +69,93 @@ impl Ended {
         ensures numbers { self.new.numbers ≡ add_once txn self.old.numbers }
         ensures room { self.old.room ≤ self.new.room + 1 }
     {
-        if let Err(place) = self.numbers.binary_search(&txn) {
-            let _ = self.numbers.insert(place, txn);
+        if self.recent.is_empty() && is_past(&self.settled, txn) {
+            self.settled.push_reserved(txn);
+        } else if !self.has(txn) {
+            settle(&mut self.settled, &mut self.recent);
+            put(&mut self.recent, txn);
+        }
+    }
+}
+
+/// The recent numbers have memory for so many at least, once they have any.
+const SHORTEST: usize = 64;
+
+/// Whether a full list of so many recent numbers is short beside the settled ones: to merge it into them would take more
+/// than a few moves for each number.
+fn is_short(recent: usize, settled: usize) -> bool
+    ensures { recent ≡ 0 → IsTrue result }
+{
+    recent < SHORTEST || recent / 16 < settled / recent
+}
+
+/// Whether a number is in a rising list.
+fn is_in(numbers: &[Txn], txn: Txn) -> bool
+    requires { IsStrictlyIncreasing numbers.now }
+    ensures { result ≡ list_any (λ u. u == txn) numbers.now }
+{
+    numbers.binary_search(&txn).is_ok()
+}
+
+/// Whether a number is greater than all of a rising list.
+fn is_past(numbers: &[Txn], txn: Txn) -> bool
+    requires { IsStrictlyIncreasing numbers.now }
+    ensures { IsTrue result → (k : ℕ) → k < length numbers.now → slice_index numbers.now k < txn }
+{
+    numbers.is_empty() || numbers[numbers.len() - 1] < txn
+}
+
+/// Puts a number into a rising list that has room for it; one that is there stays.
+fn put(numbers: &mut Vec<Txn>, txn: Txn)
+    requires rising { IsStrictlyIncreasing numbers.old.items }
+    requires room { vec_len numbers.old < vec_capacity numbers.old }
+    ensures items { numbers.new.items ≡ add_once txn numbers.old.items }
+    ensures len { vec_len numbers.new ≤ vec_len numbers.old + 1 }
+    ensures capacity { vec_capacity numbers.old ≤ vec_capacity numbers.new }
+{
+    if let Err(place) = numbers.binary_search(&txn) {
+        let _ = numbers.insert(place, txn);
+    }
+}
+
+/// Makes a place among the recent numbers: where they are full, they are merged into the settled ones, which have room
+/// for them. Takes no memory.
+fn settle(settled: &mut Vec<Txn>, recent: &mut Vec<Txn>)
+    requires ended { AreEnded settled.old.items recent.old.items }
+    requires room { vec_len settled.old + vec_len recent.old ≤ vec_capacity settled.old }
+    requires memory { 0 < vec_capacity recent.old }
+    ensures ended { AreEnded settled.new.items recent.new.items }
+    ensures numbers { union recent.new.items settled.new.items ≡ union recent.old.items settled.old.items }
+    ensures len { vec_len settled.new + vec_len recent.new ≡ vec_len settled.old + vec_len recent.old }
+    ensures place { vec_len recent.new < vec_capacity recent.new }
+    ensures capacity { vec_capacity settled.old ≤ vec_capacity settled.new }
+{
+    if recent.len() < recent.capacity() {
+        return;
+    }
+    let first = settled.len();
+    let _ = settled.extend_from_slice(recent.as_slice());
+    merge(settled.as_mut_slice(), first, recent.as_slice());
+    recent.clear();
+}
+
+/// Merges rising numbers into the first of the places, from the back. Those rise too and have none of them, and there are
+/// as many places past them.
+fn merge(places: &mut [Txn], first: usize, recent: &[Txn])
+    requires places { first + length recent.now ≡ length places.old }
+    requires ended { AreEnded (take first places.old) recent.now }
+    ensures { places.new ≡ union recent.now (take first places.old) }
+{
+    let mut left = first;
+    let mut more = recent.len();
+    while more > 0 {
+        let place = left + more - 1;
+        if left > 0 && recent[more - 1] < places[left - 1] {
+            left -= 1;
+            places[place] = places[left];
+        } else {
+            more -= 1;
+            places[place] = recent[more];
         }
     }
 }

@@ -100,4 +100,16 @@ impl Log {
         }
         Ok(Programs::from_vec(list))
     }
+
+    /// The committed programs in commit order, without a copy. Takes no memory.
+    pub fn into_programs(self) -> Programs
+        ensures { result ≡ self.log.committed }
+    {
+        let Log {
+            unfinished: _,
+            committed,
+            ready: _,
+        } = self;
+        Programs::from_vec(committed)
+    }
 }

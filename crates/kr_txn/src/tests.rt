@@ -1,6 +1,7 @@
 //! Each call once, with answers worked out by hand.
 ghost use Rattle.kr_txn.specs.Standings.{IsInOrder};
 
+mod ended;
 mod log;
 
 use super::*;

@@ -141,23 +141,42 @@ fn refusals<P: Protocol>(
     modes: Modes,
 ) -> Result<(), Fail> {
     let mut machine = plain(alloc, protocol)?;
-    let no_scan = Reply::Refused(Refusal::NoScan);
-    expect(rt, &mut machine, 1, Op::Go, no_scan);
-    let bad_range = Reply::Refused(Refusal::BadRange);
-    expect(rt, &mut machine, 1, Op::Scan(30, 10), bad_range);
+    refuses(rt, &mut machine, modes)
+}
+
+/// Those refusals, on a machine that is lent.
+fn refuses<P: Protocol>(
+    rt: &impl Abort,
+    machine: &mut Machine<P, Sorted, List>,
+    modes: Modes,
+) -> Result<(), Fail>
+    requires { machine.old.pending ≡ None }
+{
+    expect_refused(rt, machine, Op::Go, Refusal::NoScan);
+    expect_refused(rt, machine, Op::Scan(30, 10), Refusal::BadRange);
     assert!(rt; !machine.active(1));
-    expect(rt, &mut machine, 1, Op::Scan(10, 30), Reply::Going(10));
-    let busy = Reply::Refused(Refusal::Busy);
-    expect(rt, &mut machine, 1, Op::Commit, busy);
-    let busy = Reply::Refused(Refusal::Busy);
-    expect(rt, &mut machine, 1, Op::Scan(30, 10), busy);
-    let busy = Reply::Refused(Refusal::Busy);
-    expect(rt, &mut machine, 1, Op::Delete(10), busy);
+    expect(rt, machine, 1, Op::Scan(10, 30), Reply::Going(10));
+    expect_refused(rt, machine, Op::Commit, Refusal::Busy);
+    expect_refused(rt, machine, Op::Scan(30, 10), Refusal::Busy);
+    expect_refused(rt, machine, Op::Delete(10), Refusal::Busy);
     let index = [(10, 1), (20, 2), (30, 3)];
     let locks = [((Name::Key(10), 1), modes.key)];
-    expect_view(rt, &machine, &index, &locks, &[1])?;
-    expect(rt, &mut machine, 1, Op::Abort, Reply::Aborted);
-    expect_view(rt, &machine, &index, &[], &[])
+    expect_view(rt, machine, &index, &locks, &[1])?;
+    expect(rt, machine, 1, Op::Abort, Reply::Aborted);
+    expect_view(rt, machine, &index, &[], &[])
+}
+
+/// Attempts an operation of transaction 1 that is refused.
+fn expect_refused<P: Protocol>(
+    rt: &impl Abort,
+    machine: &mut Machine<P, Sorted, List>,
+    op: Op,
+    refusal: Refusal,
+)
+    requires { machine.old.pending ≡ None }
+    ensures { machine.new.pending ≡ None }
+{
+    expect(rt, machine, 1, op, Reply::Refused(refusal));
 }
 
 /// A scan waits for a delete in its range, and reads the key that comes back when the delete is undone.
@@ -191,20 +210,31 @@ fn given_up<P: Protocol>(
     modes: Modes,
 ) -> Result<(), Fail> {
     let mut machine = plain(alloc, protocol)?;
-    two_parts(rt, &mut machine, Op::Scan(20, 30), Reply::Going(20), false);
-    let no_scan = Reply::Refused(Refusal::NoScan);
-    expect(rt, &mut machine, 1, Op::Go, no_scan);
-    expect(rt, &mut machine, 1, Op::Scan(10, 30), Reply::Going(10));
-    two_parts(rt, &mut machine, Op::Go, Reply::Going(20), false);
-    expect(rt, &mut machine, 1, Op::Go, Reply::Going(20));
+    gives_up(rt, alloc, &mut machine, modes)
+}
+
+/// Each step of a scan is given up once, on a machine that is lent.
+fn gives_up<P: Protocol>(
+    rt: &impl Abort,
+    alloc: Global,
+    machine: &mut Machine<P, Sorted, List>,
+    modes: Modes,
+) -> Result<(), Fail>
+    requires { machine.old.pending ≡ None }
+{
+    two_parts(rt, machine, Op::Scan(20, 30), Reply::Going(20), false);
+    expect_refused(rt, machine, Op::Go, Refusal::NoScan);
+    expect(rt, machine, 1, Op::Scan(10, 30), Reply::Going(10));
+    two_parts(rt, machine, Op::Go, Reply::Going(20), false);
+    expect(rt, machine, 1, Op::Go, Reply::Going(20));
     let index = [(10, 1), (20, 2), (30, 3)];
-    two_parts(rt, &mut machine, Op::Go, rows(alloc, &index)?, false);
+    two_parts(rt, machine, Op::Go, rows(alloc, &index)?, false);
     let locks = [
         ((Name::Key(10), 1), modes.key),
         ((Name::Key(20), 1), modes.key),
     ];
-    expect_view(rt, &machine, &index, &locks, &[1])?;
-    expect_rows(rt, &mut machine, 1, Op::Go, &index);
+    expect_view(rt, machine, &index, &locks, &[1])?;
+    expect_rows(rt, machine, 1, Op::Go, &index);
     Ok(())
 }
 

@@ -1,37 +1,48 @@
-use Rattle.std.specs.List.{insert}
-use Rattle.std.specs.List.Sorted.{IsStrictlyIncreasing, IsBinarySearchResult}
-use Rattle.std.specs.Ordering.{nat_cmp}
-use Rattle.std.proofs.Common.{◌≡◌, ◌<◌, sym, ◌∙◌, ap, subst, arith}
-use Rattle.std.specs.Prelude.{vec_len, vec_capacity}
+use Rattle.std.specs.List.{list_any}
+use Rattle.std.specs.Prelude.{◌==◌, ℕ, Bool, true, false, [], length, vec_len}
+use Rattle.std.proofs.Common.{◌≡◌, sym, ◌∙◌, ap, subst, arith}
+use Rattle.std.proofs.lemmas.Bool.Decides.{nat_tests}
+use Rattle.std.proofs.lemmas.List.{nil_from_length}
 use Rattle.kr_model.specs.Locks.{add_once}
-use Rattle.kr_txn.specs.EndedNumbers.{EndedNumbers}
-use Rattle.kr_txn.proofs.Lists.{if_ok}
-use Rattle.kr_txn.proofs.EndedLaws.{IsFoundAt, found_at, add_once-missing, add_once-present, rises-insert}
+use Rattle.kr_model.proofs.Numbers.{AreBelow}
+use Rattle.kr_txn.specs.EndedNumbers.{EndedNumbers, union, AreEnded}
+use Rattle.kr_txn.proofs.Unions.{add_once-there, union-add, union-end, ended-add, rises-union}
 use Rattle.kr_txn.proofs.ended.Ended.add.Goals as goal
 
-pub invariant_of-self : goal.invariant_of-self
-invariant_of-self c =
-    let xs = c.self.inside.numbers.items in
-    let found = subst (λ l. IsBinarySearchResult (λ y. nat_cmp y c.args.txn) l c.binary_search.result) c.deref.ensures.value c.binary_search.ensures.position in
-    let at = subst (IsFoundAt xs c.args.txn) c.in-Err.is (found_at xs c.args.txn c.binary_search.result c.self.invariant found) in
-    let room : vec_len c.self.inside.numbers < vec_capacity c.self.inside.numbers = let some = subst (λ (v : EndedNumbers). 0 < v.room) (sym c.self.view_is) c.requires in omega arith in
-    let put = if_ok c.insert.result c.insert.new.self.items (insert xs c.in-Err.place c.args.txn) xs (c.insert.ensures.succeeds room) c.insert.ensures.items in
-    subst IsStrictlyIncreasing (sym put) (rises-insert xs c.args.txn c.in-Err.place c.self.invariant at)
+is_none : (n : ℕ) (b : Bool) → b ≡ (n == 0) → b ≡ true → n ≡ 0
+is_none n b e t = grind (arith, nat_tests)
 
-pub returns-in-Err-clause-numbers : goal.returns-in-Err-clause-numbers
-returns-in-Err-clause-numbers c =
-    let xs = c.self.inside.numbers.items in
-    let found = subst (λ l. IsBinarySearchResult (λ y. nat_cmp y c.args.txn) l c.binary_search.result) c.deref.ensures.value c.binary_search.ensures.position in
-    let at = subst (IsFoundAt xs c.args.txn) c.in-Err.is (found_at xs c.args.txn c.binary_search.result c.self.invariant found) in
-    let room : vec_len c.self.inside.numbers < vec_capacity c.self.inside.numbers = let some = subst (λ (v : EndedNumbers). 0 < v.room) (sym c.self.view_is) c.requires in omega arith in
-    if_ok c.insert.result c.insert.new.self.items (insert xs c.in-Err.place c.args.txn) xs (c.insert.ensures.succeeds room) c.insert.ensures.items
-    ∙ sym (add_once-missing xs c.args.txn c.in-Err.place at)
-    ∙ ap (λ (v : EndedNumbers). add_once c.args.txn v.numbers) c.self.view_is
+pub invariant_of-self-then-not-has : goal.invariant_of-self-then-not-has
+invariant_of-self-then-not-has c =
+    let xs = c.settle.new.recent.items in
+    let ys = c.settle.new.settled.items in
+    let among : ℕ → Bool = λ v. v == c.args.txn in
+    let missing : list_any among (union xs ys) ≡ false =
+    ap (list_any among) c.settle.ensures.numbers ∙ ap (λ (v : EndedNumbers). list_any among v.numbers) c.self.view_is ∙ sym c.has.ensures ∙ c.if-not-has.true in
+    (subst (AreEnded ys) (sym c.put.ensures.items) (ended-add c.args.txn ys xs c.settle.ensures.ended missing), λ _. omega (arith, c.settle.ensures.place, c.put.ensures.capacity))
 
-pub returns-in_default-clause-numbers : goal.returns-in_default-clause-numbers
-returns-in_default-clause-numbers c =
-    let xs = c.self.inside.numbers.items in
-    let found = subst (λ l. IsBinarySearchResult (λ y. nat_cmp y c.args.txn) l c.binary_search.result) c.deref.ensures.value c.binary_search.ensures.position in
-    let at = subst (IsFoundAt xs c.args.txn) c.in_default.is (found_at xs c.args.txn c.binary_search.result c.self.invariant found) in
-    let there : xs ≡ add_once c.args.txn xs = sym (add_once-present xs c.args.txn c.in_default.field-0 c.self.invariant at) in
-    subst (λ (v : EndedNumbers). v.numbers ≡ add_once c.args.txn v.numbers) c.self.view_is there
+pub returns-then-is_past-clause-numbers : goal.returns-then-is_past-clause-numbers
+returns-then-is_past-clause-numbers c =
+    let xs = c.self.inside.recent.items in
+    let ys = c.self.inside.settled.items in
+    let empty : vec_len c.self.inside.recent ≡ 0 = is_none (vec_len c.self.inside.recent) c.is_empty.result c.is_empty.ensures c.if-is_empty.true in
+    let none : xs ≡ [] = nil_from_length xs (omega (arith, empty)) in
+    let below : AreBelow c.args.txn ys (length ys) = subst (λ l. AreBelow c.args.txn l (length l)) c.deref.ensures.value (c.is_past.ensures c.if-is_past.true) in
+    ap (union xs) c.push_reserved.ensures.items ∙ union-end c.args.txn xs ys none below ∙ ap (λ (v : EndedNumbers). add_once c.args.txn v.numbers) c.self.view_is
+
+pub returns-then-not-has-clause-numbers : goal.returns-then-not-has-clause-numbers
+returns-then-not-has-clause-numbers c =
+    let xs = c.settle.new.recent.items in
+    let ys = c.settle.new.settled.items in
+    ap (λ l. union l ys) c.put.ensures.items ∙ union-add c.args.txn xs ys c.settle.ensures.ended.settled_rise
+    ∙ ap (add_once c.args.txn) c.settle.ensures.numbers ∙ ap (λ (v : EndedNumbers). add_once c.args.txn v.numbers) c.self.view_is
+
+pub returns-else-not-has-clause-numbers : goal.returns-else-not-has-clause-numbers
+returns-else-not-has-clause-numbers c =
+    let xs = c.self.inside.recent.items in
+    let ys = c.self.inside.settled.items in
+    let among : ℕ → Bool = λ v. v == c.args.txn in
+    let numbers = ap (λ (v : EndedNumbers). v.numbers) c.self.view_is in
+    let there : list_any among (union xs ys) ≡ true = ap (list_any among) numbers ∙ sym c.has.ensures ∙ c.if-not-has.false in
+    let kept = add_once-there c.args.txn (union xs ys) (rises-union xs ys c.self.invariant.0.settled_rise) there in
+    sym numbers ∙ kept ∙ ap (add_once c.args.txn) numbers

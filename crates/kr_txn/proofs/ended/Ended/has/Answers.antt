@@ -1,16 +1,26 @@
 use Rattle.std.specs.List.{list_any}
-use Rattle.std.specs.List.Sorted.{IsBinarySearchResult}
-use Rattle.std.specs.Ordering.{nat_cmp}
-use Rattle.std.specs.Prelude.{◌==◌}
-use Rattle.std.proofs.Common.{sym, ◌∙◌, ap, subst}
+use Rattle.std.specs.Prelude.{ℕ, Bool, ◌==◌, ◌||◌}
+use Rattle.std.proofs.Common.{sym, ◌∙◌, ap}
 use Rattle.kr_txn.specs.EndedNumbers.{EndedNumbers}
-use Rattle.kr_txn.proofs.EndedLaws.{found_at, any-found}
+use Rattle.kr_txn.proofs.Unions.{any-union}
 use Rattle.kr_txn.proofs.ended.Ended.has.Goals as goal
 
-pub returns : goal.returns
-returns c =
-    let xs = c.self.inside.numbers.items in
-    let found = subst (λ l. IsBinarySearchResult (λ y. nat_cmp y c.args.txn) l c.binary_search.result) c.deref.ensures.value c.binary_search.ensures.position in
-    c.is_ok.ensures.value
-    ∙ sym (any-found xs c.args.txn c.binary_search.result (found_at xs c.args.txn c.binary_search.result c.self.invariant found))
-    ∙ ap (λ (v : EndedNumbers). list_any (λ u. u == c.args.txn) v.numbers) c.self.view_is
+pub returns-then-is_in : goal.returns-then-is_in
+returns-then-is_in c =
+    let xs = c.self.inside.recent.items in
+    let ys = c.self.inside.settled.items in
+    let among : ℕ → Bool = λ u. u == c.args.txn in
+    c.if-is_in.true
+    ∙ sym (ap (λ b. b || list_any among ys) (ap (list_any among) (sym c.deref.ensures.value) ∙ sym c.is_in.ensures ∙ c.if-is_in.true))
+    ∙ sym (any-union among xs ys)
+    ∙ ap (λ (v : EndedNumbers). list_any among v.numbers) c.self.view_is
+
+pub returns-else-is_in : goal.returns-else-is_in
+returns-else-is_in c =
+    let xs = c.self.inside.recent.items in
+    let ys = c.self.inside.settled.items in
+    let among : ℕ → Bool = λ u. u == c.args.txn in
+    c.is_in-else-is_in.ensures ∙ ap (list_any among) c.deref-else-is_in.ensures.value
+    ∙ sym (ap (λ b. b || list_any among ys) (ap (list_any among) (sym c.deref.ensures.value) ∙ sym c.is_in.ensures ∙ c.if-is_in.false))
+    ∙ sym (any-union among xs ys)
+    ∙ ap (λ (v : EndedNumbers). list_any among v.numbers) c.self.view_is
