@@ -1,0 +1,66 @@
+-- What contracts see of what lies under the lock.
+use Rattle.std.specs.Prelude.{◌≡◌, ◌==◌, ℕ, ◌+◌, ◌≤◌, Bool, true, false, not, List, Option, Some, None, All, length, filter, is_some, slice_index_or, if◌then◌else◌, suc, [], ◌∷◌}
+use Rattle.kr_model.specs.declared.Event.{Event}
+use Rattle.kr_model.specs.declared.Op.{Op}
+use Rattle.kr_model.specs.Protocol.{Protocol}
+use Rattle.kr_model.specs.Map.{Map, IsMap}
+use Rattle.kr_model.specs.State.{State, active_of, has_ended}
+use Rattle.kr_model.specs.Step.{is_end}
+use Rattle.kr_places.specs.declared.name.Entry.{Entry}
+use Rattle.kr_engine.specs.declared.kernel.SeatNote.{SeatNote}
+use Rattle.kr_engine.specs.declared.numbers.Number.{Number}
+use Rattle.kr_engine.specs.Histories.{IsHistory, entries_of}
+use Rattle.kr_engine.specs.Numbers.{begun_by, is_begun, was_begun, ends_kept, HaveEnds}
+
+-- The machine's protocol and state, the entries of the used places, the numbers that were begun, each with its seat, what is noted of each seat, how many places are kept for the ends of transactions, and the operations that wait.
+pub record Shown (P : Type 0) : Type 0 where
+  pub protocol : P
+  pub state : State
+  pub entries : List Entry
+  pub numbers : List (ℕ × ℕ)
+  pub seats : List SeatNote
+  pub kept : ℕ
+  pub waiting : List Event
+
+-- What is noted of a seat that was never given.
+abbrev pub no_seat : SeatNote
+no_seat = record { count = 0; last = None; left = false }
+
+abbrev pub seat_at : List SeatNote → ℕ → SeatNote
+seat_at seats k = slice_index_or seats k no_seat
+
+-- Each seat's count is the number of its entries.
+abbrev pub CountsAre : List SeatNote → List Entry → Type 0
+CountsAre seats es = (k : ℕ) → (seat_at seats k).count ≡ entries_of k es
+
+-- How many kept places an operation gives up: one where it ends its transaction.
+abbrev pub freed : Op → ℕ
+freed o = if is_end o then 1 else 0
+
+-- How many of the numbers are of transactions that haven't ended.
+abbrev pub unended : State → List (ℕ × ℕ) → ℕ
+unended s [] = 0
+unended s (n ∷ ns) = if has_ended s n.0 then unended s ns else suc (unended s ns)
+
+-- Whether the transaction is one, and active.
+abbrev pub is_active : State → Option ℕ → Bool
+is_active s None = false
+is_active s (Some t) = is_some (active_of s t)
+
+-- The operations of others than t.
+abbrev pub without : ℕ → List Event → List Event
+without t es = filter (λ e. not (e.txn == t)) es
+
+-- What always holds under the lock, for an engine with this opening map and this row of places.
+pub record IsCore (p : Protocol) (opening : Map) (places : List ℕ) (pending : Option Event) (s : State) (es : List Entry) (numbers : List Number) (seats : List SeatNote) (kept : ℕ) : Type 0 where
+  pub at_rest : pending ≡ None
+  pub is_map : IsMap opening
+  pub history : IsHistory p opening es s
+  pub counts : CountsAre seats es
+  -- each entry's transaction was begun by the entry's seat
+  pub begun : All (λ e. is_begun (begun_by numbers) e.event.txn e.seat ≡ true) es
+  -- a transaction that has ended was begun
+  pub ended : (t : ℕ) → has_ended s t ≡ true → was_begun (begun_by numbers) t ≡ true
+  pub ends : HaveEnds s numbers
+  pub kept_is : kept ≡ ends_kept numbers
+  pub room : length es + kept ≤ length places

@@ -1,0 +1,32 @@
+-- What a fault of a call tells.
+use Rattle.std.specs.Prelude.{◌≡◌, Bool, true, false}
+use Rattle.kr_model.specs.declared.Reply.{Reply}
+use Rattle.kr_model.specs.declared.Reply.TheVariants as reply
+use Rattle.kr_model.specs.declared.Refusal.TheVariants as refusal
+use Rattle.kr_model.specs.Run.{is_granted}
+use Rattle.kr_engine.specs.declared.faults.EngineFault.{EngineFault}
+use Rattle.kr_engine.specs.declared.faults.EngineFault.TheVariants.{Deadlock, RowFull, Refused, Memory, PlaceTaken}
+
+-- The fault that tells a reply which wasn't granted.
+abbrev pub fault_of : Reply → EngineFault
+fault_of (reply.Refused refusal.Memory) = Memory
+fault_of r = Refused r
+
+-- A refusal carries this reply, which isn't granted.
+abbrev pub TellsReply : EngineFault → Reply → Type 0
+TellsReply (Refused r) s = (r ≡ s) × (is_granted r ≡ false)
+TellsReply _ s = Unit {0}
+
+-- Whether it is a fault that one attempt may have: the machine refused it or it was blocked, the row is full, a growth or the place was refused.
+abbrev pub is_of_attempt : EngineFault → Bool
+is_of_attempt (Refused r) = true
+is_of_attempt RowFull = true
+is_of_attempt Memory = true
+is_of_attempt PlaceTaken = true
+is_of_attempt _ = false
+
+-- Whether it is a fault that a wait may have.
+abbrev pub is_of_wait : EngineFault → Bool
+is_of_wait (Deadlock cycle) = true
+is_of_wait Memory = true
+is_of_wait _ = false

@@ -1,0 +1,5 @@
+pub mod Faults
+pub mod Histories
+pub mod Numbers
+pub mod Cores
+pub mod Waits

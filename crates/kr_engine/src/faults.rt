@@ -1,0 +1,45 @@
+//! What a core answers.
+ghost use Rattle.std.specs.Prelude.{◌≡◌};
+ghost use Rattle.kr_engine.specs.Faults.{fault_of as the_fault};
+
+use kr_model::{Event, Refusal, Reply, Txns};
+
+/// Why nothing was done.
+#[derive(Debug, Drop)]
+pub enum EngineFault {
+    /// A cycle of waiting transactions, the asker first: each waits for the next, the last for the asker.
+    Deadlock(Txns),
+    /// All places of the row are used or kept for the ends of transactions.
+    RowFull,
+    /// The machine refused the step, or it was blocked.
+    Refused(Reply),
+    /// A growth was refused.
+    Memory,
+    /// The number was begun before.
+    Taken,
+    /// The seat speaks for no transaction. A seat answers so, and never the core.
+    NotBegun,
+    /// The transaction that the seat began last is active.
+    Open,
+    /// The next place refused the write.
+    PlaceTaken,
+}
+
+/// What a step did: the place of its entry in the row, the event and its reply.
+#[derive(Debug, Drop)]
+pub struct Receipt {
+    /// The place, from 0.
+    pub place: usize,
+    pub event: Event,
+    pub reply: Reply,
+}
+
+/// The fault that tells a reply which wasn't granted.
+pub(crate) fn fault_of(reply: Reply) -> EngineFault
+    ensures { result ≡ the_fault reply }
+{
+    match reply {
+        Reply::Refused(Refusal::Memory) => EngineFault::Memory,
+        reply => EngineFault::Refused(reply),
+    }
+}

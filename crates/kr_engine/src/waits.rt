@@ -1,0 +1,142 @@
+//! Waiting: an operation is noted, unless it closes a cycle of waiting transactions.
+ghost use Rattle.std.specs.Prelude.{◌≡◌, ◌≢◌, ◌≤◌, ◌∷◌, ◌++◌, [], ℕ, List, true, None, IfOk, IfErr, IfSome, IfNone, OnOk, OnErr, vec_len, vec_capacity};
+ghost use Rattle.kr_model.specs.declared.Reply.TheVariants as reply_is;
+ghost use Rattle.kr_model.specs.declared.Refusal.TheVariants as refusal_is;
+ghost use Rattle.kr_model.specs.Step.{blockers_in};
+ghost use Rattle.kr_waits.specs.Waits.{blockers_of, IsCycle};
+ghost use Rattle.kr_engine.specs.Faults.{is_of_wait};
+ghost use Rattle.kr_engine.specs.Histories.{event};
+ghost use Rattle.kr_engine.specs.Cores.{without};
+ghost use Rattle.kr_engine.specs.Waits.{in_the_way, blockers_now, TellsCycle};
+
+use crate::faults::EngineFault;
+use crate::kernel::Core;
+use kr_index::Tree;
+use kr_locks::Buckets;
+use kr_machine::Machine;
+use kr_model::{Event, Op, Refusal, Reply, Txn, Txns};
+use kr_places::EngineName;
+use kr_protocol::Covered;
+use kr_waits::{Waiting, find_cycle};
+use std::alloc::{AllocError, Global};
+
+impl<P: Covered, K: EngineName> Core<P, K> {
+    /// Notes the operation as waiting until the transaction's next attempt, in place of one that was noted; or tells a
+    /// deadlock and notes nothing: a cycle of distinct transactions, the asker first, each with an operation that is
+    /// blocked by the next now, the last by the asker. `Memory` where a growth was refused; then nothing has changed.
+    pub fn wait(&mut self, txn: Txn, op: Op) -> Result<(), EngineFault>
+        ensures cycle { IfErr result (λ f. TellsCycle f (IsCycle (blockers_now (in_the_way (P.table self.old.protocol) self.old.state) (event txn op ∷ self.old.waiting)) txn)) }
+        ensures no_cycle { OnOk result ((cycle : List ℕ) → IsCycle (blockers_now (in_the_way (P.table self.old.protocol) self.old.state) (event txn op ∷ self.old.waiting)) txn cycle → ⊥) }
+        ensures noted { OnOk result (self.new ≡ record self.old { waiting = without txn self.old.waiting ++ event txn op ∷ [] }) }
+        ensures err { OnErr result (self.new ≡ self.old) }
+        ensures faults { IfErr result (λ f. is_of_wait f ≡ true) }
+    {
+        let found = match cycle_of(self.alloc, &mut self.machine, &self.waiting, txn, op) {
+            Ok(found) => found,
+            Err(_) => return Err(EngineFault::Memory),
+        };
+        match found {
+            Some(cycle) => Err(EngineFault::Deadlock(cycle)),
+            None => match note(&mut self.waiting, Event { txn, op }) {
+                Ok(()) => Ok(()),
+                Err(_) => Err(EngineFault::Memory),
+            },
+        }
+    }
+}
+
+/// A cycle of waiting transactions in which this one is first, by its operation and by those noted.
+fn cycle_of<P: Covered>(
+    alloc: Global,
+    machine: &mut Machine<P, Tree, Buckets>,
+    noted: &[Event],
+    txn: Txn,
+    op: Op,
+) -> Result<Option<Txns>, AllocError>
+    requires { machine.old.pending ≡ None }
+    ensures same { machine.new ≡ machine.old }
+    ensures cycle { IfOk result (λ found. IfSome found (IsCycle (blockers_now (in_the_way (P.table machine.old.protocol) machine.old.state) (event txn op ∷ noted.now)) txn)) }
+    ensures none { IfOk result (λ found. IfNone found ((cycle : List ℕ) → IsCycle (blockers_now (in_the_way (P.table machine.old.protocol) machine.old.state) (event txn op ∷ noted.now)) txn cycle → ⊥)) }
+{
+    let waits = entries(alloc, machine, Event { txn, op }, noted)?;
+    match find_cycle(alloc, &waits, txn)? {
+        Some(cycle) => Ok(Some(Txns::from_vec(cycle))),
+        None => Ok(None),
+    }
+}
+
+/// An entry for the asker and then one for each noted operation.
+fn entries<P: Covered>(
+    alloc: Global,
+    machine: &mut Machine<P, Tree, Buckets>,
+    event: Event,
+    noted: &[Event],
+) -> Result<Vec<Waiting>, AllocError>
+    requires { machine.old.pending ≡ None }
+    ensures same { machine.new ≡ machine.old }
+    ensures entries { IfOk result (λ waits. (t : ℕ) → blockers_of waits.items t ≡ blockers_now (in_the_way (P.table machine.old.protocol) machine.old.state) (event ∷ noted.now) t) }
+{
+    let mut waits = Vec::new(alloc);
+    waits.push(Waiting {
+        txn: event.txn,
+        blockers: blockers(alloc, machine, event)?,
+    })?;
+    for &other in noted {
+        waits.push(Waiting {
+            txn: other.txn,
+            blockers: blockers(alloc, machine, other)?,
+        })?;
+    }
+    Ok(waits)
+}
+
+/// Who blocks an operation now; nobody where it isn't blocked. The machine stays.
+fn blockers<P: Covered>(
+    alloc: Global,
+    machine: &mut Machine<P, Tree, Buckets>,
+    event: Event,
+) -> Result<Vec<Txn>, AllocError>
+    requires { machine.old.pending ≡ None }
+    ensures same { machine.new ≡ machine.old }
+    ensures blockers { IfOk result (λ us. us.items ≡ in_the_way (P.table machine.old.protocol) machine.old.state event) }
+{
+    match machine.ready(event.txn, event.op) {
+        Ok(ready) => {
+            machine.cancel(ready);
+            Ok(Vec::new(alloc))
+        }
+        Err(reply) => named_by(alloc, reply),
+    }
+}
+
+/// The transactions that a reply names as blockers, where it doesn't say that memory was refused.
+fn named_by(alloc: Global, reply: Reply) -> Result<Vec<Txn>, AllocError>
+    ensures blockers { IfOk result (λ us. us.items ≡ blockers_in reply) }
+    ensures memory { OnOk result (reply ≢ reply_is.Refused refusal_is.Memory) }
+{
+    match reply {
+        Reply::Blocked(txns) => Ok(txns.into_vec()),
+        Reply::Refused(Refusal::Memory) => Err(AllocError),
+        _ => Ok(Vec::new(alloc)),
+    }
+}
+
+/// Notes an operation in place of one of its transaction.
+fn note(waiting: &mut Vec<Event>, event: Event) -> Result<(), AllocError>
+    ensures ok { OnOk result (waiting.new.items ≡ without event.txn waiting.old.items ++ event ∷ []) }
+    ensures err { OnErr result (waiting.new.items ≡ waiting.old.items) }
+{
+    waiting.reserve(1)?;
+    forget(waiting, event.txn);
+    waiting.push_reserved(event);
+    Ok(())
+}
+
+/// Takes a transaction's operation out.
+pub(crate) fn forget(waiting: &mut Vec<Event>, txn: Txn)
+    ensures items { waiting.new.items ≡ without txn waiting.old.items }
+    ensures bound { vec_len waiting.new ≤ vec_len waiting.old }
+    ensures capacity { vec_capacity waiting.new ≡ vec_capacity waiting.old }
+{
+    waiting.retain(|event| event.txn != txn);
+}
