@@ -1,20 +1,23 @@
 -- A tree's entries: what a loan of a slot leaves, and where a walk through a part of them ends.
-use Rattle.std.specs.Prelude.{◌≡◌, ℕ, suc, Bool, true, false, ◌&&◌, ◌==◌, cond, nat_le, [], ◌∷◌, Option, Some, None, filter, refl, IsSome}
+use Rattle.std.specs.Prelude.{◌≡◌, ℕ, suc, Bool, true, false, ◌&&◌, ◌==◌, cond, nat_le, [], ◌∷◌, Option, Some, None, filter, refl, T, IsSome, is_some}
 use Rattle.std.specs.Ordering.{nat_cmp, is_eq, is_lt, is_le, eq_by_cmp}
-use Rattle.std.specs.FinMap.{find, put}
-use Rattle.std.specs.FinMap.Entries.{find-put, is_sorted-put, same_entries}
+use Rattle.std.specs.declared.cmp.Ordering.{Ordering}
+use Rattle.std.specs.declared.cmp.Ordering.TheVariants.{Less, Equal, Greater}
+use Rattle.std.specs.FinMap.{find, put, is_sorted}
+use Rattle.std.specs.FinMap.Entries.{below_all, find-put, is_sorted-put, same_entries}
 use Rattle.std.specs.BTreeMap.{is_at}
 use Rattle.std.specs.Map.{lookup, set_value}
 use Rattle.std.specs.Cmp.{nat_cmp_total}
 use Rattle.std.proofs.lemmas.Map.Lookups.{exact_unsigned}
 use Rattle.std.proofs.lemmas.Bool.Decides.{nat_tests}
 use Rattle.std.proofs.Common.{sym, ◌∙◌, ap, subst, arith}
-use Rattle.kr_model.specs.declared.Name.TheVariants.{Key}
-use Rattle.kr_model.specs.Map.{at, after}
+use Rattle.kr_model.specs.declared.Name.{Name}
+use Rattle.kr_model.specs.declared.Name.TheVariants.{Key, End}
+use Rattle.kr_model.specs.Map.{Map, get, at, after}
 use Rattle.kr_model.proofs.Trees.{lookup_is_find, written_is_put}
 use Rattle.kr_index.specs.declared.slots.Slot.{Slot}
 use Rattle.kr_index.specs.Slots.{Entries, pairs_of, with_value, least, IsInOrder}
-use Rattle.kr_index.proofs.SlotLaws.{t_in_order}
+use Rattle.kr_index.proofs.SlotLaws.{t_in_order, t_of, first, second, pairs_are_map}
 
 -- a slot that is written where the key has one is put
 pub written : (es fs : Entries) (k : ℕ) (o w : Slot) → IsInOrder es → Some o ≡ lookup (is_at (nat_cmp k)) es → fs ≡ set_value (is_at (nat_cmp k)) es w → fs ≡ put nat_cmp k w es
@@ -90,3 +93,50 @@ at_from (e ∷ es) c = walk_step e.0 c e.1 es (from c es) (is_le (nat_cmp c e.0)
 pub after_past : (es : Entries) (k : ℕ) → after (pairs_of es) k ≡ least (pairs_of (past k es))
 after_past [] k = refl
 after_past (e ∷ es) k = walk_step e.0 (suc k) e.1 es (past k es) (is_lt (nat_cmp k e.0) && true) (nat_le (suc k) e.0) (lt_test k e.0) refl (after_past es k)
+
+-- the name at c is the first key from c on where that has a value
+pub at_first : (es rest : Entries) (c k : ℕ) (s : Slot) → from c es ≡ (k, s) ∷ rest → is_some s.value ≡ true → Key k ≡ at (pairs_of es) c
+at_first es rest c k s is has = sym (at_from es c ∙ ap (λ l. least (pairs_of l)) is ∙ by s.value has)
+  where
+    by : (o : Option ℕ) → is_some o ≡ true → least (with_value k o (pairs_of rest)) ≡ Key k
+    by None h = absurd (cc)
+    by (Some v) h = refl
+
+-- there is no name at c where there is no entry from c on
+pub at_end : (es : Entries) (c : ℕ) → from c es ≡ [] → End ≡ at (pairs_of es) c
+at_end es c is = sym (at_from es c ∙ ap (λ l. least (pairs_of l)) is)
+
+-- What the name at a key says of the key --
+
+abbrev pub is_key : ℕ → Name → Bool
+is_key k (Key x) = x == k
+is_key k End = false
+
+missed_pair : (k x : ℕ) (m : Map) → nat_cmp k x ≡ Less → T (below_all nat_cmp x m) → get m k ≡ None
+missed_pair k x [] e h = refl
+missed_pair k x (f ∷ m) e h = by (nat_cmp k f.0) (below_step k x f.0 e (first _ _ h)) (missed_pair k x m e (second _ _ h))
+  where
+    below_step : (k x y : ℕ) → nat_cmp k x ≡ Less → T (is_lt (nat_cmp x y)) → T (is_lt (nat_cmp k y))
+    below_step k x y e h = grind (arith, nat_tests)
+
+    by : (o : Ordering) → T (is_lt o) → get m k ≡ None → cond (is_eq o) (Some f.1) (get m k) ≡ None
+    by Less p g = g
+    by Equal p g = absurd p
+    by Greater p g = absurd p
+
+-- a key is present exactly where it is the name at itself
+pub present_at : (m : Map) (k : ℕ) → T (is_sorted nat_cmp m) → is_key k (at m k) ≡ is_some (get m k)
+present_at [] k h = refl
+present_at (e ∷ m) k h = by (nat_cmp k e.0) refl (nat_le k e.0) refl (present_at m k (second _ _ h))
+  where
+    by : (o : Ordering) → nat_cmp k e.0 ≡ o → (b : Bool) → nat_le k e.0 ≡ b → is_key k (at m k) ≡ is_some (get m k) → is_key k (cond b (Key e.0) (at m k)) ≡ is_some (cond (is_eq o) (Some e.1) (get m k))
+    by Less t true l r = (grind (arith, nat_tests)) ∙ sym (ap is_some (missed_pair k e.0 m t (first _ _ h)))
+    by Less t false l r = absurd (grind (arith, nat_tests))
+    by Equal t true l r = grind (arith, nat_tests)
+    by Equal t false l r = absurd (grind (arith, nat_tests))
+    by Greater t true l r = absurd (grind (arith, nat_tests))
+    by Greater t false l r = r
+
+-- the same of the pairs of entries in order, by the name that was found
+pub present_in : (es : Entries) (k : ℕ) (n : Name) → IsInOrder es → n ≡ at (pairs_of es) k → is_key k n ≡ is_some (get (pairs_of es) k)
+present_in es k n h e = ap (is_key k) e ∙ present_at (pairs_of es) k (t_of _ (pairs_are_map es h))

@@ -4,7 +4,7 @@
 //! A caller that has to finish what it began pins the key first, while it may still give up.
 #![tactic(auto)]
 
-ghost use Rattle.std.specs.Prelude.{◌≡◌, ℕ, ◌+◌, ◌-◌, ◌<◌, ◌==◌, if◌then◌else◌, OnOk, OnErr, IfOk};
+ghost use Rattle.std.specs.Prelude.{◌≡◌, ℕ, ◌+◌, ◌-◌, ◌<◌, ◌==◌, if◌then◌else◌, is_some, OnOk, OnErr, IfOk};
 ghost use Rattle.kr_model.specs.Map.{Map, IsMap, get, set, without, at, after};
 
 mod slots;
@@ -46,6 +46,13 @@ pub trait Ordered: Drop {
     /// The least present key above `key`, or `End` if there is none.
     fn after(&self, key: u64) -> Name
         ensures { result ≡ after (map self.now) key };
+
+    /// Whether `key` is present, and what `at` answers for it.
+    fn look(&self, key: u64) -> (bool, Name)
+        ensures { result ≡ (is_some (get (map self.now) key), at (map self.now) key) }
+    {
+        (self.get(key).is_some(), self.at(key))
+    }
 
     /// Adds a pin to `key`, which may be present or absent. No value changes.
     ///

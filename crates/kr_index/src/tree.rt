@@ -8,7 +8,7 @@ ghost use Rattle.kr_index.specs.Stretches.{IsRising, AreMarked};
 
 use crate::slots::Slot;
 use crate::stretches::{Stretch, cut, enter, grow, join, leave, shrink, tally};
-use crate::walks::{first_past, make_room, name_from, settle};
+use crate::walks::{first_past, make_room, name_at, settle};
 use crate::{Memory, Ordered};
 use kr_model::{Name, Pairs};
 use std::alloc::{AllocError, Global};
@@ -218,13 +218,21 @@ impl Ordered for Tree {
     }
 
     fn at(&self, from: u64) -> Name {
-        name_from(&self.slots, &self.stretches, from)
+        name_at(&self.slots, &self.stretches, from)
     }
 
     fn after(&self, key: u64) -> Name {
         match key.checked_add(1) {
-            Some(past) => name_from(&self.slots, &self.stretches, past),
+            Some(past) => name_at(&self.slots, &self.stretches, past),
             None => first_past(&self.slots, key),
+        }
+    }
+
+    fn look(&self, key: u64) -> (bool, Name) {
+        let name = name_at(&self.slots, &self.stretches, key);
+        match name {
+            Name::Key(found) => (found == key, name),
+            Name::End => (false, name),
         }
     }
 

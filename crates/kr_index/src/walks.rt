@@ -114,6 +114,25 @@ pub fn name_from(slots: &BTreeMap<u64, Slot>, stretches: &[Stretch], from: u64) 
     }
 }
 
+/// The first key from `from` on that has a value. Stretches are looked at only where the first key with a slot has none.
+pub fn name_at(slots: &BTreeMap<u64, Slot>, stretches: &[Stretch], from: u64) -> Name
+    requires in_order { IsInOrder slots.now.entries }
+    requires rising { IsRising stretches.now }
+    requires marked { AreMarked stretches.now (pairs_of slots.now.entries) }
+    ensures { result ≡ at (pairs_of slots.now.entries) from }
+{
+    let mut items = slots.range(from..);
+    match items.next() {
+        Some((key, slot)) => {
+            if slot.value.is_some() {
+                return Name::Key(*key);
+            }
+            name_from(slots, stretches, from)
+        }
+        None => Name::End,
+    }
+}
+
 /// Looks whether a stretch is bare.
 fn is_bare(slots: &BTreeMap<u64, Slot>, stretches: &[Stretch], place: usize) -> bool
     requires in_order { IsInOrder slots.now.entries }

@@ -8,10 +8,11 @@ use Rattle.kr_model.specs.declared.Event.{Event}
 use Rattle.kr_model.specs.declared.Name.{Name}
 use Rattle.kr_model.specs.declared.Op.{Op}
 use Rattle.kr_model.specs.declared.Op.TheVariants as op
+use Rattle.kr_model.specs.declared.Row.{Row}
 use Rattle.kr_model.specs.State.{Active}
 use Rattle.kr_txn.proofs.Lists.{in_order-put}
 use Rattle.kr_machine.specs.declared.pending.Pending.{Pending}
-use Rattle.kr_machine.specs.Pending.{IsReserved, IsMachine, HasPins, IsEnd, HasRoom}
+use Rattle.kr_machine.specs.Pending.{IsReserved, IsMachine, IsRowOf, HasPins, IsEnd, HasRoom}
 use Rattle.kr_machine.specs.Pins.{changes_of, all_changes_of, taken_pins}
 use Rattle.kr_model.proofs.Keep.{HasNoNone-release, AreWithin-release, IsLocks-release}
 use Rattle.kr_txn.specs.Standings.{active_of, entries}
@@ -51,28 +52,38 @@ all_of_items items P (Ok a) h all is = subst (All P) (sym is) all
 all_of_items items P (Err e) h all is = tt
 
 -- The pins while a step is pending.
-pub pins_now : (pins : ℕ → ℕ) (es : List (ℕ × Active)) (o : Option Pending) (d : Pending) (e : Event) → o ≡ Some d → d.event ≡ e → HasPins o pins es → (q : ℕ) → pins q ≡ all_changes_of es q + changes_of (active_of d.standing).changes q + taken_pins e.op q
+pub pins_now : (pins : ℕ → ℕ) (es : List (ℕ × Active)) (o : Option Pending) (d : Pending) (e : Event) → o ≡ Some d → d.event ≡ e → HasPins o pins es → (q : ℕ) → pins q ≡ all_changes_of es q + changes_of (active_of d.standing).changes q + taken_pins e.op d.plan.row q
 pins_now pins es o d e is same h q =
     let at : HasPins (Some d) pins es = subst (λ x. HasPins x pins es) is h in
-    at q ∙ ap (λ (x : Event). all_changes_of es q + changes_of (active_of d.standing).changes q + taken_pins x.op q) same
+    at q ∙ ap (λ (x : Event). all_changes_of es q + changes_of (active_of d.standing).changes q + taken_pins x.op d.plan.row q) same
 
 -- There is a pin for each change of the transaction whose step is pending.
 pub pins_cover : (pins : ℕ → ℕ) (es : List (ℕ × Active)) (o : Option Pending) (d : Pending) → o ≡ Some d → HasPins o pins es → (q : ℕ) → changes_of (active_of d.standing).changes q ≤ pins q
 pins_cover pins es o d is h q = let e = pins_now pins es o d d.event is refl h q in omega (arith, e)
 
 -- There is the pin that a pending step has taken.
-pub pins_step : (pins : ℕ → ℕ) (es : List (ℕ × Active)) (o : Option Pending) (d : Pending) (e : Event) → o ≡ Some d → d.event ≡ e → HasPins o pins es → (q : ℕ) → taken_pins e.op q ≤ pins q
+pub pins_step : (pins : ℕ → ℕ) (es : List (ℕ × Active)) (o : Option Pending) (d : Pending) (e : Event) → o ≡ Some d → d.event ≡ e → HasPins o pins es → (q : ℕ) → taken_pins e.op d.plan.row q ≤ pins q
 pins_step pins es o d e is same h q = let x = pins_now pins es o d e is same h q in omega (arith, x)
 
 -- The end of a transaction takes no pin.
-pub end_pins : (o : Op) → IsEnd o → (q : ℕ) → taken_pins o q ≡ 0
-end_pins op.Commit is q = refl
-end_pins op.Abort is q = refl
-end_pins (op.Fetch k) is q = refl
-end_pins (op.Insert k v) is q = absurd is
-end_pins (op.Delete k) is q = absurd is
-end_pins op.Go is q = refl
-end_pins (op.Scan lo hi) is q = refl
+pub end_pins : (o : Op) (r : Row) → IsEnd o → (q : ℕ) → taken_pins o r q ≡ 0
+end_pins op.Commit r is q = refl
+end_pins op.Abort r is q = refl
+end_pins (op.Fetch k) r is q = refl
+end_pins (op.Insert k v) r is q = absurd is
+end_pins (op.Delete k) r is q = absurd is
+end_pins op.Go r is q = refl
+end_pins (op.Scan lo hi) r is q = refl
+
+-- The row of the end of a transaction says nothing.
+pub end_row : (m : Map) (o : Op) (r : Row) → IsEnd o → IsRowOf m o r
+end_row m op.Commit r is = tt
+end_row m op.Abort r is = tt
+end_row m (op.Fetch k) r is = absurd is
+end_row m (op.Insert k v) r is = absurd is
+end_row m (op.Delete k) r is = absurd is
+end_row m op.Go r is = tt
+end_row m (op.Scan lo hi) r is = tt
 
 -- The end of a transaction needs no room in the list.
 pub room_end : (active : Vec Standing Global) (s : Standing) (rows : Vec (ℕ × ℕ) Global) (o : Op) → IsEnd o → HasRoom active s rows o
@@ -98,7 +109,7 @@ ended_machine p m n pins left real t ended more active o d e is same end inv roo
       room = omega (arith, now.room_ended, room);
       has_pins = λ q.
           let x = pins_now pins (entries active.items) o d e is same inv.has_pins q in
-          let y = end_pins e.op end q in
+          let y = end_pins e.op d.plan.row end q in
           let z = freed q in
           omega (arith, x, y, z);
       reserved = tt;

@@ -11,18 +11,20 @@ use Rattle.kr_model.specs.declared.Refusal.TheVariants.{Ended, Full}
 use Rattle.kr_model.specs.declared.Reply.TheVariants as reply
 use Rattle.kr_model.specs.Protocol.{Protocol}
 use Rattle.kr_model.specs.declared.Plan.{Plan}
-use Rattle.kr_model.specs.Map.{Map, get}
+use Rattle.kr_model.specs.Map.{Map, get, set, at, after}
 use Rattle.kr_model.specs.Locks.{Locks, Request, blockers, kept}
 use Rattle.kr_model.specs.State.{State, Active, Scan, idle, standing}
-use Rattle.kr_model.specs.Plan.{requests, plan_of}
+use Rattle.kr_model.specs.Plan.{Access, access, requests, plan_of}
 use Rattle.kr_model.specs.declared.Name.{Name}
 use Rattle.kr_model.specs.declared.Name.TheVariants.{Key, End}
+use Rattle.kr_model.specs.declared.Row.{Row}
+use Rattle.kr_model.specs.declared.Row.TheVariants as row
 use Rattle.kr_model.specs.declared.Step.{Step}
-use Rattle.kr_model.specs.Step.{Outcome, Effect, fetched, inserted, deleted, row_read, looked, name_to_look, is_full, refusal_of, step, granted_or_blocked, attempted_scan, unless_refused, after_effect, performed}
+use Rattle.kr_model.specs.Step.{Outcome, Effect, effect, changed, fetched, inserted, deleted, row_read, looked, name_to_look, is_full, refusal_of, step, granted_or_blocked, attempted_scan, unless_refused, after_effect, performed}
 use Rattle.std.specs.Option.{option_map}
 use Rattle.kr_txn.specs.declared.Scan as txn
 use Rattle.kr_txn.specs.Standings.{scan_of}
-use Rattle.kr_machine.specs.Pending.{IsAttempt, IsEnd, end_reply, begun, refusal_in, look_of, attempt_of, look_effect, effect_of, after_op}
+use Rattle.kr_machine.specs.Pending.{IsAttempt, IsEnd, IsRowOf, end_reply, begun, refusal_in, look_of, attempt_of, look_effect, effect_of, after_op}
 
 -- The refusal of an operation whose transaction has not ended, by how it stands.
 abbrev pub refused_by : Option Active → Bool → Op → Option Refusal
@@ -76,6 +78,54 @@ module _ (p : Protocol) (s : State) (t : ℕ) (o : Op) (allowed : refusal_of s t
   -- An attempt that nobody blocks has its effect.
   pub granted_step : IsAttempt o → blockers p s.locks t (asked (attempt_of s.map (standing s t).scan o)) ≡ [] → step p s t o ≡ after_effect p s t (asked (attempt_of s.map (standing s t).scan o)) (effect_of s.map (standing s t) o)
   granted_step is none = attempts is ∙ ap (granted_or_blocked p s t (asked (attempt_of s.map (standing s t).scan o)) (effect_of s.map (standing s t) o)) none
+
+row_by : (b : Bool) (x y : Access) → (cond b x y).row ≡ cond b x.row y.row
+row_by true x y = refl
+row_by false x y = refl
+
+-- The row of a plan says of an operation on one key whether that key is present.
+pub row_of_plan : (p : Protocol) (m : Map) (h : Locks) (t : ℕ) (c : Option Scan) (o : Op) (plan : Plan) → plan ≡ plan_of p m h t (attempt_of m c o) → IsRowOf m o plan.row
+row_of_plan p m h t c (op.Fetch k) plan is = ap (λ (x : Plan). x.row) is ∙ row_by (is_some (get m k)) (access row.FetchHit (Some (Key k)) None) (access row.FetchMiss None (Some (at m k)))
+row_of_plan p m h t c (op.Insert k v) plan is = ap (λ (x : Plan). x.row) is ∙ row_by (is_some (get m k)) (access row.FetchHit (Some (Key k)) None) (access row.Insert (Some (Key k)) (Some (at m k)))
+row_of_plan p m h t c (op.Delete k) plan is = ap (λ (x : Plan). x.row) is ∙ row_by (is_some (get m k)) (access row.Delete (Some (Key k)) (Some (after m k))) (access row.FetchMiss None (Some (at m k)))
+row_of_plan p m h t c (op.Scan lo hi) plan is = tt
+row_of_plan p m h t c op.Go plan is = tt
+row_of_plan p m h t c op.Commit plan is = tt
+row_of_plan p m h t c op.Abort plan is = tt
+
+-- Where the row of an insert isn't insert, it changes nothing, and where it is, the key is absent.
+pub insert_kept : (m : Map) (a : Active) (k v : ℕ) (r : Row) → IsRowOf m (op.Insert k v) r → (r ≡ row.Insert → ⊥) → inserted m a k v (get m k) ≡ effect reply.Duplicate m a
+insert_kept m a k v r is n = by (get m k) is
+  where
+    by : (g : Option ℕ) → r ≡ cond (is_some g) row.FetchHit row.Insert → inserted m a k v g ≡ effect reply.Duplicate m a
+    by None e = absurd (n e)
+    by (Some w) e = refl
+
+pub insert_done : (m : Map) (a : Active) (k v : ℕ) → IsRowOf m (op.Insert k v) row.Insert → inserted m a k v (get m k) ≡ effect reply.Done (set m k v) (changed a k None)
+insert_done m a k v is = by (get m k) is
+  where
+    by : (g : Option ℕ) → row.Insert ≡ cond (is_some g) row.FetchHit row.Insert → inserted m a k v g ≡ effect reply.Done (set m k v) (changed a k None)
+    by None e = refl
+    by (Some w) e = absurd (cc)
+
+-- Where the row of a delete isn't delete, it changes nothing.
+pub delete_kept : (m : Map) (a : Active) (k : ℕ) (r : Row) → IsRowOf m (op.Delete k) r → (r ≡ row.Delete → ⊥) → deleted m a k (get m k) ≡ effect reply.Absent m a
+delete_kept m a k r is n = by (get m k) is
+  where
+    by : (g : Option ℕ) → r ≡ cond (is_some g) row.Delete row.FetchMiss → deleted m a k g ≡ effect reply.Absent m a
+    by None e = refl
+    by (Some w) e = absurd (n e)
+
+pub delete_missed : (m : Map) (a : Active) (k : ℕ) → IsRowOf m (op.Delete k) row.FetchMiss → deleted m a k (get m k) ≡ effect reply.Absent m a
+delete_missed m a k is = delete_kept m a k row.FetchMiss is (λ e. cc)
+
+-- A fetch whose row is fetch miss finds nothing.
+pub fetch_missed : (m : Map) (a : Active) (k : ℕ) → IsRowOf m (op.Fetch k) row.FetchMiss → fetched m a (get m k) ≡ effect reply.None m a
+fetch_missed m a k is = by (get m k) is
+  where
+    by : (g : Option ℕ) → row.FetchMiss ≡ cond (is_some g) row.FetchHit row.FetchMiss → fetched m a g ≡ effect reply.None m a
+    by None e = refl
+    by (Some w) e = absurd (cc)
 
 fetch_reply : (m : Map) (a b : Active) (g : Option ℕ) → (fetched m a g).reply ≡ (fetched m b g).reply
 fetch_reply m a b None = refl

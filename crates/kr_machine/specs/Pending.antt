@@ -1,5 +1,5 @@
 -- What a step that has its memory keeps in the machine, and what contracts see of the state meanwhile.
-use Rattle.std.specs.Prelude.{◌≡◌, ◌≢◌, ℕ, ◌+◌, ◌<◌, ◌≤◌, List, [], Option, Some, None, IfSome, IsTrue, Bool, not, ◌&&◌, if◌then◌else◌, Vec}
+use Rattle.std.specs.Prelude.{◌≡◌, ◌≢◌, ℕ, ◌+◌, ◌<◌, ◌≤◌, List, [], Option, Some, None, IfSome, IsTrue, Bool, not, ◌&&◌, if◌then◌else◌, is_some, Vec}
 use Rattle.std.specs.Vec.{vec_len, vec_capacity}
 use Rattle.std.specs.declared.alloc.Global.{Global}
 use Rattle.std.specs.Ordering.{nat_cmp}
@@ -12,6 +12,8 @@ use Rattle.kr_model.specs.Step.{Effect, effect, fetched, inserted, deleted, look
 use Rattle.kr_model.specs.declared.Name.{Name}
 use Rattle.kr_model.specs.declared.Span.{Span}
 use Rattle.kr_model.specs.declared.Span.TheVariants as span
+use Rattle.kr_model.specs.declared.Row.{Row}
+use Rattle.kr_model.specs.declared.Row.TheVariants as row
 use Rattle.kr_model.specs.declared.Step.{Step}
 use Rattle.kr_model.specs.declared.Step.TheVariants as attempt
 use Rattle.kr_model.specs.declared.Op.{Op}
@@ -41,6 +43,13 @@ IsAttempt (op.Delete k) = Unit {0}
 IsAttempt (op.Scan lo hi) = Unit {0}
 IsAttempt op.Go = Unit {0}
 IsAttempt _ = ⊥
+
+-- The row of an operation on one key says whether that key is present.
+abbrev pub IsRowOf : Map → Op → Row → Type 0
+IsRowOf m (op.Fetch k) r = r ≡ (if is_some (get m k) then row.FetchHit else row.FetchMiss)
+IsRowOf m (op.Insert k v) r = r ≡ (if is_some (get m k) then row.FetchHit else row.Insert)
+IsRowOf m (op.Delete k) r = r ≡ (if is_some (get m k) then row.Delete else row.FetchMiss)
+IsRowOf m _ r = Unit {0}
 
 -- The operations that end their transaction.
 abbrev pub IsEnd : Op → Type 0
@@ -154,6 +163,7 @@ HasRoom active s rows o = (vec_len active < vec_capacity active) × (HasRoomIn s
 pub record IsReserved (p : Protocol) (m : Map) (pins : ℕ → ℕ) (real : Locks) (ended : EndedNumbers) (active : Vec Standing Global) (d : Pending) : Type 0 where
   pub stepped : ◌≡◌ {A = State} (let o = step p (shown (Some d) m real ended.numbers (entries active.items)) d.event.txn d.event.op in o.1) (after_op m real ended.numbers (entries active.items) d.event.txn (active_of d.standing) d.event.op)
   pub itself : d.standing.txn ≡ d.event.txn
+  pub row : IsRowOf m d.event.op d.plan.row
   pub apart : find nat_cmp d.event.txn (entries active.items) ≡ None
   pub next_held : HoldsSide real d.event.txn d.plan.next
   pub current_held : HoldsSide (put_back real d.event.txn d.plan.next d.next_was) d.event.txn d.plan.current
@@ -168,7 +178,7 @@ pub record IsReserved (p : Protocol) (m : Map) (pins : ℕ → ℕ) (real : Lock
 -- Each change of an active transaction has a pin of its key, and a pending step has one of the key that it may change.
 abbrev pub HasPins : Option Pending → (ℕ → ℕ) → List (ℕ × Active) → Type 0
 HasPins None pins es = (q : ℕ) → pins q ≡ all_changes_of es q
-HasPins (Some p) pins es = (q : ℕ) → pins q ≡ all_changes_of es q + changes_of (active_of p.standing).changes q + taken_pins p.event.op q
+HasPins (Some p) pins es = (q : ℕ) → pins q ≡ all_changes_of es q + changes_of (active_of p.standing).changes q + taken_pins p.event.op p.plan.row q
 
 -- What always holds of a machine's parts.
 pub record IsMachine (p : Protocol) (m : Map) (pins : ℕ → ℕ) (real : Locks) (ended : EndedNumbers) (active : Vec Standing Global) (pending : Option Pending) : Type 0 where

@@ -136,9 +136,9 @@ impl<P: Protocol, I: Ordered, L: Holdings> Machine<P, I, L> {
         ensures well_formed { IsState (P.table self.old.protocol) self.old.state }
     {
         let alloc = self.stepper.alloc();
-        let is_active = self.stepper.active(txn);
+        let ends_active = self.stepper.is_end_of_active(txn, op);
         let ready = self.stepper.ready(txn, op)?;
-        match keep(alloc, &mut self.log, txn, op, is_active, ready.reply()) {
+        match keep(alloc, &mut self.log, txn, op, ends_active, ready.reply()) {
             Ok(due) => {
                 self.due = Some(due);
                 Ok(ready)
@@ -159,9 +159,9 @@ impl<P: Protocol, I: Ordered, L: Holdings> Machine<P, I, L> {
     /// - `Refused(Busy)`: a scan of the transaction is in progress, and the operation neither goes on with it nor aborts.
     /// - `Refused(NoScan)`: no scan is in progress to go on with.
     /// - `Refused(BadRange)`: the lower end of the range to scan is above the upper end.
-    /// - `Refused(Memory)`: a growth was refused, and no other refusal applies. So it is for an insert or a delete of a key
-    ///   that the active transactions have changed 4,294,967,295 times. The commit or abort of an active transaction takes
-    ///   no memory.
+    /// - `Refused(Memory)`: a growth was refused, and no other refusal applies. So it is for an insert or a delete that would
+    ///   change a key which the active transactions have changed 4,294,967,295 times. The commit or abort of an active
+    ///   transaction takes no memory.
     /// - `Blocked`: these transactions hold locks that refuse a lock that the step asks for. A transaction that wasn't
     ///   active isn't so after it.
     ///

@@ -49,7 +49,7 @@ pub(crate) fn reserve<P: Protocol, I: Ordered, L: Holdings>(
     room::make_room(ended, active)?;
     let first_rows = scans::first_rows(*active.allocator(), op)?;
     let (standing, was_active) = room::stand(active, txn, op)?;
-    if let Err(refused) = change::reserve(index, op) {
+    if let Err(refused) = change::reserve(index, op, plan.row) {
         room::put_down(active, txn, standing, was_active);
         return Err(refused);
     }
@@ -64,7 +64,7 @@ pub(crate) fn reserve<P: Protocol, I: Ordered, L: Holdings>(
             first_rows,
         }),
         Err(refused) => {
-            change::give_up(index, op);
+            change::give_up(index, op, plan.row);
             room::put_down(active, txn, standing, was_active);
             Err(refused)
         }

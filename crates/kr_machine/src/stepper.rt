@@ -1,7 +1,7 @@
 //! What does the steps of a machine.
-ghost use Rattle.std.specs.Prelude.{All, map, ◌≡◌, ◌≢◌, ℕ, ◌<◌, ◌≤◌, ◌⊎◌, [], None, Some, IfOk, IfErr, OnOk, OnErr, IsTrue, IsOk, true, false, is_some};
+ghost use Rattle.std.specs.Prelude.{All, map, ◌≡◌, ◌≢◌, ℕ, ◌<◌, ◌≤◌, ◌⊎◌, [], None, Some, IfOk, IfErr, OnOk, OnErr, IsTrue, IsOk, true, false, is_some, ◌&&◌};
 ghost use Rattle.kr_model.specs.State.{State, start, active_of};
-ghost use Rattle.kr_model.specs.Step.{step, IsStep, refusal_of};
+ghost use Rattle.kr_model.specs.Step.{step, IsStep, is_end, refusal_of};
 ghost use Rattle.kr_model.specs.Run.{is_granted};
 ghost use Rattle.kr_machine.specs.Pending.{IsAttempt, IsEnd};
 
@@ -80,6 +80,17 @@ impl<P: Protocol, I: Ordered, L: Holdings> Stepper<P, I, L> {
         match kr_txn::position(&self.active, txn) {
             Some(_) => true,
             None => false,
+        }
+    }
+
+    /// Whether an operation is the end of a transaction that is active.
+    pub fn is_end_of_active(&self, txn: Txn, op: Op) -> bool
+        requires { self.now.1.1 ≡ None }
+        ensures { result ≡ (is_end op && is_some (active_of self.now.1.0 txn)) }
+    {
+        match op {
+            Op::Commit | Op::Abort => self.active(txn),
+            Op::Fetch(_) | Op::Scan(_, _) | Op::Go | Op::Insert(_, _) | Op::Delete(_) => false,
         }
     }
 
@@ -189,7 +200,7 @@ impl<P: Protocol, I: Ordered, L: Holdings> Stepper<P, I, L> {
                 Err(_) => return Err(Reply::Refused(Refusal::Memory)),
             }
         }
-        let reply = match change::reply_to(alloc, &self.index, scan, op) {
+        let reply = match change::reply_to(alloc, &self.index, scan, op, attempt, plan.row) {
             Ok(reply) => reply,
             Err(_) => return Err(Reply::Refused(Refusal::Memory)),
         };
@@ -230,7 +241,7 @@ impl<P: Protocol, I: Ordered, L: Holdings> Stepper<P, I, L> {
                 was_active,
                 first_rows: _,
             } = pending;
-            change::give_up(&mut self.index, event.op);
+            change::give_up(&mut self.index, event.op, plan.row);
             holds::give_back(&mut self.locks, event.txn, plan.next, next_was);
             holds::give_back(&mut self.locks, event.txn, plan.current, current_was);
             room::put_down(&mut self.active, event.txn, standing, was_active);
@@ -245,7 +256,7 @@ impl<P: Protocol, I: Ordered, L: Holdings> Stepper<P, I, L> {
         if let Some(pending) = self.pending.take() {
             let Pending {
                 event: _,
-                plan: _,
+                plan,
                 current_was: _,
                 next_was: _,
                 standing,
@@ -263,7 +274,8 @@ impl<P: Protocol, I: Ordered, L: Holdings> Stepper<P, I, L> {
                 }
                 Op::Fetch(_) | Op::Scan(_, _) | Op::Go | Op::Insert(_, _) | Op::Delete(_) => {
                     let op = event.op;
-                    let standing = change::perform(&mut self.index, standing, first_rows, op);
+                    let row = plan.row;
+                    let standing = change::perform(&mut self.index, standing, first_rows, op, row);
                     put_in(&mut self.active, standing);
                 }
             }

@@ -44,17 +44,17 @@ fn names<I: Ordered>(index: &I, step: Step) -> (Row, Option<Name>, Option<Name>)
     ensures { access result.0 result.1 result.2 ≡ access_of (I.map index.now) step }
 {
     match step {
-        Step::Fetch(key) => match index.get(key) {
-            Some(_) => (Row::FetchHit, Some(Name::Key(key)), None),
-            None => (Row::FetchMiss, None, Some(index.at(key))),
+        Step::Fetch(key) => match index.look(key) {
+            (true, _) => (Row::FetchHit, Some(Name::Key(key)), None),
+            (false, next) => (Row::FetchMiss, None, Some(next)),
         },
-        Step::Insert(key) => match index.get(key) {
-            Some(_) => (Row::FetchHit, Some(Name::Key(key)), None),
-            None => (Row::Insert, Some(Name::Key(key)), Some(index.at(key))),
+        Step::Insert(key) => match index.look(key) {
+            (true, _) => (Row::FetchHit, Some(Name::Key(key)), None),
+            (false, next) => (Row::Insert, Some(Name::Key(key)), Some(next)),
         },
-        Step::Delete(key) => match index.get(key) {
-            Some(_) => (Row::Delete, Some(Name::Key(key)), Some(index.after(key))),
-            None => (Row::FetchMiss, None, Some(index.at(key))),
+        Step::Delete(key) => match index.look(key) {
+            (true, _) => (Row::Delete, Some(Name::Key(key)), Some(index.after(key))),
+            (false, next) => (Row::FetchMiss, None, Some(next)),
         },
         Step::Look(Name::Key(key), hi) => {
             if key <= hi {

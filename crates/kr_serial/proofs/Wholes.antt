@@ -1,6 +1,6 @@
 -- Whole operations on a map: how a range of it compares with rows, and what a delete leaves.
 use Rattle.std.specs.Prelude.{◌≡◌, ℕ, zero, suc, ◌<◌, ◌≤◌, Bool, true, false, not, ◌&&◌, ◌==◌, cond, nat_le, List, [], ◌∷◌, Option, Some, None, filter, refl, T, length, get_or, drop}
-use Rattle.std.specs.Ordering.{nat_cmp, is_eq, is_lt, is_le}
+use Rattle.std.specs.Ordering.{nat_cmp, is_lt, is_le}
 use Rattle.std.specs.declared.cmp.Ordering.{Ordering}
 use Rattle.std.specs.declared.cmp.Ordering.TheVariants.{Less, Equal, Greater}
 use Rattle.std.specs.FinMap.Entries.{below_all}

@@ -6,7 +6,7 @@ ghost use Rattle.kr_model.specs.Difference.{difference_in, first_difference};
 ghost use Rattle.kr_serial.specs.declared.verdict.Verdict.TheVariants as verdict;
 ghost use Rattle.kr_serial.specs.Verdicts.{verdict_of};
 
-use crate::whole::{answer, change, is_answer, map_of};
+use crate::whole::{answer, follow, is_answer, map_of};
 use crate::{Ran, Verdict};
 use kr_index::Memory;
 use kr_model::Program;
@@ -66,7 +66,7 @@ fn judge_program(
                 serial: answer(alloc, map, *op)?,
             });
         }
-        change(map, *op)?;
+        follow(map, *op, given)?;
     }
     Ok(Verdict::Serial)
 }

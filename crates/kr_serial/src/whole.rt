@@ -1,5 +1,5 @@
 //! Whole operations on a map.
-ghost use Rattle.std.specs.Prelude.{◌≡◌, ℕ, IfOk, OnOk};
+ghost use Rattle.std.specs.Prelude.{◌≡◌, ℕ, IfOk, OnOk, IsTrue};
 ghost use Rattle.kr_model.specs.Map.{Map, IsMap, pairs_between};
 ghost use Rattle.kr_model.specs.Serial.{found_or_none, whole_insert, whole_delete, whole};
 ghost use Rattle.kr_model.specs.Difference.{same_pairs, same_reply};
@@ -124,23 +124,29 @@ pub fn answer(alloc: Global, map: &BTreeMap<u64, u64>, op: Op) -> Result<Reply, 
     }
 }
 
-/// Does on the map what the operation does, run whole.
-pub fn change(map: &mut BTreeMap<u64, u64>, op: Op) -> Result<(), AllocError>
-    requires { IsMap map.old.entries }
+/// Does on the map what the operation does, run whole, where the answer given is the one that it then has. At an error a
+/// growth was refused, and the map's keys still rise.
+pub fn follow(map: &mut BTreeMap<u64, u64>, op: Op, given: &Reply) -> Result<(), AllocError>
+    requires is_map { IsMap map.old.entries }
+    requires given { IsTrue (same_reply given.now (whole map.old.entries op).0) }
     ensures is_map { IsMap map.new.entries }
     ensures map { OnOk result (map.new.entries ≡ (whole map.old.entries op).1) }
 {
     match op {
-        Op::Insert(key, value) => {
-            if map.get(&key).is_none() {
+        Op::Insert(key, value) => match given {
+            Reply::Done => {
                 map.insert(key, value)?;
+                Ok(())
             }
-            Ok(())
-        }
-        Op::Delete(key) => {
-            let _ = map.remove(&key);
-            Ok(())
-        }
+            _ => Ok(()),
+        },
+        Op::Delete(key) => match given {
+            Reply::Deleted(_) => {
+                let _ = map.remove(&key);
+                Ok(())
+            }
+            _ => Ok(()),
+        },
         Op::Fetch(_) | Op::Scan(_, _) | Op::Go | Op::Commit | Op::Abort => Ok(()),
     }
 }

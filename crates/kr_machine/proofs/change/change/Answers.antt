@@ -12,6 +12,7 @@ pub returns-in-None-clause-map : goal.returns-in-None-clause-map
 returns-in-None-clause-map g c =
     let m = g.I.Ordered.map c.args.index.now in
     let a = active_of c.args.standing in
-    let absent : get m c.in-Delete.key ≡ None = sym c.in-None.ensures.value in
-    c.unpin-in-None.ensures.map ∙ c.take.ensures.map ∙ without_absent m c.in-Delete.key absent
-    ∙ sym (ap (λ o. (effect_of m a o).map) c.in-Delete.is ∙ ap (λ o. (deleted m a c.in-Delete.key o).map) absent)
+    let key = c.in-Delete-Delete.key in
+    let absent : get m key ≡ None = sym c.take.ensures.value ∙ c.in-None.is in
+    c.unpin.ensures.map ∙ c.take.ensures.map ∙ without_absent m key absent
+    ∙ sym (ap (λ o. (effect_of m a o).map) c.in-Delete-Delete.is-0 ∙ ap (λ o. (deleted m a key o).map) absent)

@@ -11,7 +11,8 @@ use Rattle.kr_machine.specs.Pending.{after_op}
 use Rattle.kr_machine.specs.Pins.{changes_of, all_changes_of}
 use Rattle.kr_machine.proofs.Steps.{stepped_end}
 use Rattle.kr_machine.proofs.Pins.{noted-without}
-use Rattle.kr_machine.proofs.Finish.{end_pins, room_end}
+use Rattle.kr_model.specs.declared.Row.TheVariants.{FetchHit}
+use Rattle.kr_machine.proofs.Finish.{end_pins, end_row, room_end}
 use Rattle.kr_machine.proofs.reserve.reserve_end.Goals as goal
 
 pub returns-in-Some-clause-seen_active : goal.returns-in-Some-clause-seen_active
@@ -42,11 +43,12 @@ returns-in-Some-clause-ok g c =
       has_pins = λ q.
           let x = rest.has_pins q in
           let y = noted q in
-          let z = end_pins c.args.op c.requires.end q in
+          let z = end_pins c.args.op FetchHit c.requires.end q in
           omega (arith, x, y, z);
       reserved = record {
         stepped = stepped;
         itself = c.in-Some.ensures.txn;
+        row = end_row m c.args.op FetchHit c.requires.end;
         apart = rw c.take_out.ensures.rest (find-without c.args.txn es);
         next_held = tt;
         current_held = tt;
