@@ -1,5 +1,5 @@
 -- All verdicts are serial exactly where each run is.
-use Rattle.std.proofs.Common.{◌≡◌, zero, suc, Bool, true, false, ◌&&◌, All, List, [], ◌∷◌, refl, arith}
+use Rattle.std.proofs.Common.{◌≡◌, ℕ, zero, suc, Bool, true, false, ◌&&◌, All, List, [], ◌∷◌, length, map, Option, refl, sym, ap, ◌∙◌, arith}
 use Rattle.std.specs.List.{list_all}
 use Rattle.kr_model.specs.Protocol.{Protocol, IsLawful}
 use Rattle.kr_model.specs.Covers.{IsCovered}
@@ -9,7 +9,8 @@ use Rattle.kr_serial.specs.declared.verdict.Verdict.TheVariants.{Serial, NotSeri
 use Rattle.kr_serial.specs.Verdicts.{verdict_of_run}
 use Rattle.kr_serial.proofs.Wholes.{serial_exactly}
 use Rattle.kr_serial.proofs.SerialRuns.{covered_programs}
-use Rattle.kr_script.specs.Script.{Script, IsScript}
+use Rattle.kr_script.specs.Script.{Script}
+use Rattle.kr_batch.specs.Names.{AreNamed}
 use Rattle.kr.specs.Over.{run_of, IsSerialScript}
 use Rattle.kr.specs.Judges.{is_serial, verdicts_on}
 
@@ -42,8 +43,23 @@ module _ (p : Protocol) where
   all_told [] h = refl
   all_told (s ∷ ss) h = rw (told_where_serial s (h zero s (omega arith)), all_told ss (λ k d low. h (suc k) d (omega arith)))
 
-  -- under a covered protocol each run is serial
-  pub all_covered : IsLawful p → IsCovered p → (ss : List Script) → All IsScript ss → All (IsSerialScript p) ss
-  all_covered laws covered [] are k d low = absurd (omega arith)
-  all_covered laws covered (s ∷ ss) are zero d low = let is : IsScript s = are zero d low in covered_programs p laws covered s.opening s.steps is.rising
-  all_covered laws covered (s ∷ ss) are (suc k) d low = all_covered laws covered ss (λ j e l. are (suc j) e (omega arith)) k d (omega arith)
+  -- under a covered protocol each run of a script that a name stands for is serial
+  pub all_covered : IsLawful p → IsCovered p → (may_be : List ℕ → Option (List ℕ) → Type 0) (names : List (List ℕ)) (ss : List Script) → AreNamed may_be names ss → All (IsSerialScript p) ss
+  all_covered laws covered may_be names [] are k d low = absurd (omega arith)
+  all_covered laws covered may_be [] (s ∷ ss) are k d low = absurd are
+  all_covered laws covered may_be (n ∷ ns) (s ∷ ss) are zero d low = covered_programs p laws covered s.opening s.steps are.0.0.rising
+  all_covered laws covered may_be (n ∷ ns) (s ∷ ss) are (suc k) d low = all_covered laws covered may_be ns ss are.1 k d (omega arith)
+
+-- as many scripts as names, and as many verdicts
+pub as_many : {N : Type 0} (f : N → List ℕ) (may_be : List ℕ → Option (List ℕ) → Type 0) (names : List N) (ss : List Script) → AreNamed may_be (map f names) ss → length ss ≡ length names
+as_many f may_be [] [] are = refl
+as_many f may_be [] (s ∷ ss) are = absurd are
+as_many f may_be (n ∷ ns) [] are = absurd are
+as_many f may_be (n ∷ ns) (s ∷ ss) are = ap suc (as_many f may_be ns ss are.1)
+
+many_verdicts : (p : Protocol) (ss : List Script) → length (verdicts_on p ss) ≡ length ss
+many_verdicts p [] = refl
+many_verdicts p (s ∷ ss) = ap suc (many_verdicts p ss)
+
+pub as_many_verdicts : {N : Type 0} (f : N → List ℕ) (p : Protocol) (may_be : List ℕ → Option (List ℕ) → Type 0) (names : List N) (ss : List Script) (vs : List Verdict) → AreNamed may_be (map f names) ss → vs ≡ verdicts_on p ss → length names ≡ length vs
+as_many_verdicts f p may_be names ss vs are told = sym (as_many f may_be names ss are) ∙ sym (many_verdicts p ss) ∙ ap length (sym told)

@@ -1,11 +1,12 @@
 //! The program over its words, files and streams.
-ghost use Rattle.std.specs.Prelude.{◌≡◌, ◌⊎◌, ◌↔◌, ◌≤◌, ℕ, List, true, false, IfOk, IfErr, IfNone, IfSome, IsTrue, length, vec_len, if◌then◌else◌};
+ghost use Rattle.std.specs.Prelude.{◌≡◌, ◌⊎◌, ◌↔◌, ◌≤◌, ℕ, List, All, true, false, IfOk, IfErr, IsTrue, length, map, if◌then◌else◌};
 ghost use Rattle.std.specs.Io.KnownBytes.{Appends};
 ghost use Rattle.kr_model.specs.Protocol.{Protocol, IsLawful};
 ghost use Rattle.kr_model.specs.Covers.{IsCovered};
 ghost use Rattle.kr_script.specs.Puts.{HasCause};
 ghost use Rattle.kr_script.specs.Script.{Script};
 ghost use Rattle.kr.specs.Over.{report_line, IsSerialScript};
+ghost use Rattle.kr.specs.Judges.{judge_lines};
 ghost use Rattle.kr.specs.Program.{Reports, is_output};
 ghost use Rattle.kr.specs.declared.words.Task.{Task};
 ghost use Rattle.kr.specs.declared.program.Ending.TheVariants as ending;
@@ -13,12 +14,12 @@ ghost use Rattle.kr.specs.declared.over.OverFault.TheVariants as fault;
 
 use crate::checks::check_over;
 use crate::files::{FileFault, Files};
-use crate::judges::judge_over;
+use crate::judges::{LinesFault, judge_over};
 use crate::over::{OverFault, run_over};
 use crate::words::{Task, WordsFault, read_words};
-use kr_batch::{ReadFault, read_all};
+use kr_batch::{JudgeFault, TextFault, Texts};
 use kr_protocol::{Im, Kvl, Protocol, RangeKey};
-use kr_script::{Script, ScriptFault, Sink, print};
+use kr_script::{ScriptFault, Sink, print};
 use kr_table::TableFault;
 use std::alloc::{AllocError, Global};
 use std::thread::Threads;
@@ -62,7 +63,9 @@ impl From<OverFault> for Ending {
 
 /// The status of a report: 0 where a table was accepted or each run was serial, and 1 where not.
 fn status(is_well: bool) -> u8
-    ensures { result ≡ (if is_well then 0 else 1) }
+    ensures value { result ≡ (if is_well then 0 else 1) }
+    ensures well { result ≡ 0 → is_well ≡ true }
+    ensures not_well { result ≡ 1 → is_well ≡ false }
 {
     if is_well { 0 } else { 1 }
 }
@@ -73,7 +76,19 @@ fn unreadable(alloc: Global, word: &str) -> Result<Ending, AllocError>
     Ok(Ending::Line(format!(in alloc; "kr: {word}: cannot be read")?))
 }
 
-/// The bytes of the file that a word names, or how the program ends. A word that begins with `@` is never a file.
+/// The bytes of the file that a word names. A word that begins with `@` is never a file.
+fn read_file<R: std::rt::Files + AllocGlobal, F: Files>(
+    rt: &R,
+    word: &str,
+    files: &F,
+) -> Result<Vec<u8>, FileFault> {
+    if word.starts_with('@') {
+        return Err(FileFault::Unreadable);
+    }
+    files.whole(rt, word)
+}
+
+/// The bytes of the file that a word names, or how the program ends.
 fn whole<R: std::rt::Files + AllocGlobal, F: Files>(
     rt: &R,
     word: &str,
@@ -81,14 +96,10 @@ fn whole<R: std::rt::Files + AllocGlobal, F: Files>(
 ) -> Result<Vec<u8>, Ending>
     ensures { IfErr result (λ e. is_output e ≡ false) }
 {
-    let alloc = rt.alloc();
-    if word.starts_with('@') {
-        return Err(unreadable(alloc, word)?);
-    }
-    match files.whole(rt, word) {
+    match read_file(rt, word, files) {
         Ok(bytes) => Ok(bytes),
         Err(FileFault::Memory) => Err(Ending::Memory),
-        Err(FileFault::Unreadable) => Err(unreadable(alloc, word)?),
+        Err(FileFault::Unreadable) => Err(unreadable(rt.alloc(), word)?),
     }
 }
 
@@ -125,63 +136,66 @@ fn run_script<R: std::rt::Files + AllocGlobal, P: Protocol, F: Files, W: Sink>(
     }
 }
 
-/// The bytes of the files that words name, in their order, up to the first that isn't read, and how the program ends at
-/// that one.
-fn read_files<R: std::rt::Files + AllocGlobal, F: Files>(
-    rt: &R,
-    words: &[&str],
-    files: &F,
-) -> (Vec<Vec<u8>>, Option<Ending>)
-    ensures within { vec_len result.0 ≤ length words.now }
-    ensures all { IfNone result.1 (vec_len result.0 ≡ length words.now) }
-    ensures ending { IfSome result.1 (λ e. is_output e ≡ false) }
-{
-    let mut texts = Vec::new(rt.alloc());
-    for word in words {
-        match whole(rt, word, files) {
-            Ok(bytes) => {
-                if texts.push(bytes).is_err() {
-                    return (texts, Some(Ending::Memory));
-                }
-            }
-            Err(ending) => return (texts, Some(ending)),
-        }
-    }
-    (texts, None)
+/// The files that words name, as the texts of scripts.
+#[derive(Drop)]
+struct Scripts<'a, R, F> {
+    rt: &'a R,
+    files: &'a F,
 }
 
-/// The scripts that words name, or how the program ends at the first that has a fault. The files are read one after
-/// another, and then their bytes on several threads; where a file isn't read, a script before it may have a fault, and
-/// then that one is told.
-fn read_scripts<R: std::rt::Files + AllocGlobal + Threads + Sync, F: Files>(
-    rt: &R,
-    words: &[&str],
-    files: &F,
-) -> Result<Vec<Script>, Ending>
-    ensures all { IfOk result (λ scripts. vec_len scripts ≡ length words.now) }
-    ensures ending { IfErr result (λ e. is_output e ≡ false) }
+impl<R: std::rt::Files + AllocGlobal, F: Files> Texts for Scripts<'_, R, F> {
+    ghost may_be = { λ _ _ _. Unit {0} };
+
+    fn text(&self, _alloc: Global, name: &str) -> Result<Vec<u8>, TextFault> {
+        match read_file(self.rt, name, self.files) {
+            Ok(bytes) => Ok(bytes),
+            Err(FileFault::Memory) => Err(TextFault::Memory),
+            Err(FileFault::Unreadable) => Err(TextFault::Unreadable),
+        }
+    }
+}
+
+/// Judges the scripts in the files that words name, writes the lines of their verdicts, and answers whether all are
+/// serial. Each thread reads the files of its scripts; of several faults the first in the order of the words is told.
+fn judge_scripts<
+    R: std::rt::Files + AllocGlobal + Threads + Sync,
+    P: Protocol + Sync,
+    F: Files + Sync,
+    W: Sink,
+>(rt: &R, protocol: &P, words: &[&str], files: &F, out: &mut W) -> Result<bool, Ending>
+where
+    R::File: Send + Sync,
+    R::Dir: Send + Sync,
+    ensures reports { IfOk result (λ serial. (ss : List Script) × ((length ss ≡ length words.now)
+        × (Appends (W.taken out.old) (W.taken out.new) (judge_lines (P.table protocol.now) (map (λ w. w.now) words.now) ss)
+        × (IsTrue serial ↔ All (IsSerialScript (P.table protocol.now)) ss)))) }
+    ensures covered { IsCovered (P.table protocol.now) → IfOk result (λ serial. IsTrue serial) }
+    ensures nothing { IfErr result (λ e. IsTrue (is_output e) ⊎ (out.new ≡ out.old)) }
+    ensures cause { IfErr result (λ e. IsTrue (is_output e) → HasCause (W.failures out.old) (W.failures out.new)) }
 {
     let alloc = rt.alloc();
-    let (texts, ending) = read_files(rt, words, files);
-    match read_all(rt, alloc, texts) {
-        Ok(scripts) => match ending {
-            None => Ok(scripts),
-            Some(ending) => Err(ending),
-        },
-        Err(ReadFault::Script(at, fault)) => Err(at_fault(alloc, words[at], fault)?),
-        Err(ReadFault::Memory) => Err(Ending::Memory),
+    match judge_over(rt, alloc, protocol, &Scripts { rt, files }, words, out) {
+        Ok(serial) => Ok(serial),
+        Err(LinesFault::Print) => Err(Ending::Output),
+        Err(LinesFault::Judge(JudgeFault::Memory)) => Err(Ending::Memory),
+        Err(LinesFault::Judge(JudgeFault::Unreadable(at))) => Err(unreadable(alloc, words[at])?),
+        Err(LinesFault::Judge(JudgeFault::Script(at, fault))) => {
+            Err(at_fault(alloc, words[at], fault)?)
+        }
     }
 }
 
 /// Does a task under a protocol, and answers whether the table is accepted, or each run is serial; under a covered
 /// protocol that is so, whatever the task. At a fault of scripts or memory nothing is written on `out`.
-fn under<R: std::rt::Files + AllocGlobal + Threads + Sync, P: Protocol + Sync, F: Files, W: Sink>(
-    rt: &R,
-    protocol: P,
-    task: &Task,
-    files: &F,
-    out: &mut W,
-) -> Result<bool, Ending>
+fn under<
+    R: std::rt::Files + AllocGlobal + Threads + Sync,
+    P: Protocol + Sync,
+    F: Files + Sync,
+    W: Sink,
+>(rt: &R, protocol: P, task: &Task, files: &F, out: &mut W) -> Result<bool, Ending>
+where
+    R::File: Send + Sync,
+    R::Dir: Send + Sync,
     ensures reports { IfOk result (Reports (P.table protocol) (P.names protocol) task.now (W.taken out.old) (W.taken out.new)) }
     ensures covered { IsCovered (P.table protocol) → IfOk result (λ is_well. IsTrue is_well) }
     ensures nothing { IfErr result (λ e. IsTrue (is_output e) ⊎ (out.new ≡ out.old)) }
@@ -191,30 +205,22 @@ fn under<R: std::rt::Files + AllocGlobal + Threads + Sync, P: Protocol + Sync, F
     match task {
         Task::Check => Ok(check_over(alloc, protocol, out)?),
         Task::Run(script) => run_script(rt, &protocol, script, files, out),
-        Task::Judge(names) => {
-            let scripts = read_scripts(rt, names.as_slice(), files)?;
-            let serial = judge_over(
-                rt,
-                alloc,
-                &protocol,
-                names.as_slice(),
-                scripts.as_slice(),
-                out,
-            )?;
-            Ok(serial)
-        }
+        Task::Judge(words) => judge_scripts(rt, &protocol, words.as_slice(), files, out),
     }
 }
 
 /// Does a task under the table that a word names: one of the bundled tables, or a file. Scripts are read only where
 /// the table is one.
-fn with_table<R: std::rt::Files + AllocGlobal + Threads + Sync, F: Files, W: Sink>(
+fn with_table<R: std::rt::Files + AllocGlobal + Threads + Sync, F: Files + Sync, W: Sink>(
     rt: &R,
     table: &str,
     task: &Task,
     files: &F,
     out: &mut W,
 ) -> Result<bool, Ending>
+where
+    R::File: Send + Sync,
+    R::Dir: Send + Sync,
     ensures reports { IfOk result (λ is_well. (p : Protocol) × (names : List (List ℕ)) × IsLawful p × Reports p names task.now (W.taken out.old) (W.taken out.new) is_well) }
     ensures nothing { IfErr result (λ e. IsTrue (is_output e) ⊎ (out.new ≡ out.old)) }
     ensures cause { IfErr result (λ e. IsTrue (is_output e) → HasCause (W.failures out.old) (W.failures out.new)) }
@@ -228,13 +234,16 @@ fn with_table<R: std::rt::Files + AllocGlobal + Threads + Sync, F: Files, W: Sin
 }
 
 /// Does a task under the table in the file that a word names.
-fn with_file<R: std::rt::Files + AllocGlobal + Threads + Sync, F: Files, W: Sink>(
+fn with_file<R: std::rt::Files + AllocGlobal + Threads + Sync, F: Files + Sync, W: Sink>(
     rt: &R,
     table: &str,
     task: &Task,
     files: &F,
     out: &mut W,
 ) -> Result<bool, Ending>
+where
+    R::File: Send + Sync,
+    R::Dir: Send + Sync,
     ensures reports { IfOk result (λ is_well. (p : Protocol) × (names : List (List ℕ)) × IsLawful p × Reports p names task.now (W.taken out.old) (W.taken out.new) is_well) }
     ensures nothing { IfErr result (λ e. IsTrue (is_output e) ⊎ (out.new ≡ out.old)) }
     ensures cause { IfErr result (λ e. IsTrue (is_output e) → HasCause (W.failures out.old) (W.failures out.new)) }
@@ -252,13 +261,16 @@ fn with_file<R: std::rt::Files + AllocGlobal + Threads + Sync, F: Files, W: Sink
 /// serial, 1 where it refused a table or a run wasn't serial, and 2 where it told a fault on `err`. At 0 and 1 the whole
 /// report of a task under a lawful table is written on `out`; at a fault of words, files, tables, scripts or memory
 /// nothing is.
-pub fn execute<R: std::rt::Files + AllocGlobal + Threads + Sync, F: Files, W: Sink, E: Sink>(
+pub fn execute<R: std::rt::Files + AllocGlobal + Threads + Sync, F: Files + Sync, W: Sink, E: Sink>(
     rt: &R,
     words: &[String],
     files: &F,
     out: &mut W,
     err: &mut E,
 ) -> u8
+where
+    R::File: Send + Sync,
+    R::Dir: Send + Sync,
     ensures within { result ≤ 2 }
     ensures accepts { result ≡ 0 → (p : Protocol) × (names : List (List ℕ)) × (task : Task) × IsLawful p × Reports p names task (W.taken out.old) (W.taken out.new) true }
     ensures refuses { result ≡ 1 → (p : Protocol) × (names : List (List ℕ)) × (task : Task) × IsLawful p × Reports p names task (W.taken out.old) (W.taken out.new) false }

@@ -92,7 +92,11 @@ fn told<R: std::rt::Files + AllocGlobal + Threads + Sync + Abort>(
     out: &str,
     err: &str,
     status: u8,
-) -> Result<(), Fail> {
+) -> Result<(), Fail>
+where
+    R::File: Send + Sync,
+    R::Dir: Send + Sync,
+{
     told_over(rt, words, &Texts { table: "", script }, out, err, status)
 }
 
@@ -104,7 +108,11 @@ fn told_over<R: std::rt::Files + AllocGlobal + Threads + Sync + Abort>(
     out: &str,
     err: &str,
     status: u8,
-) -> Result<(), Fail> {
+) -> Result<(), Fail>
+where
+    R::File: Send + Sync,
+    R::Dir: Send + Sync,
+{
     let script = files.script;
     let ran = run_program(rt, words, files)?;
     assert_eq!(rt; ran.status, status, "{script}");
@@ -125,7 +133,11 @@ fn run_program<R: std::rt::Files + AllocGlobal + Threads + Sync>(
     rt: &R,
     words: &[&str],
     files: &Texts,
-) -> Result<Program, AllocError> {
+) -> Result<Program, AllocError>
+where
+    R::File: Send + Sync,
+    R::Dir: Send + Sync,
+{
     let alloc = rt.alloc();
     let words = owned(alloc, words)?;
     let mut out = Io::new(Vec::new(alloc));
@@ -151,7 +163,11 @@ fn reports<R: std::rt::Files + AllocGlobal + Threads + Sync + Abort>(
     opening: &str,
     steps: &str,
     report: &str,
-) -> Result<(), Fail> {
+) -> Result<(), Fail>
+where
+    R::File: Send + Sync,
+    R::Dir: Send + Sync,
+{
     let alloc = rt.alloc();
     let script = script_of(alloc, opening, steps)?;
     serial_under_each(rt, script.as_str())?;
@@ -183,7 +199,11 @@ struct Expected<'a> {
 fn under_each<R: std::rt::Files + AllocGlobal + Threads + Sync + Abort>(
     rt: &R,
     expected: Expected<'_>,
-) -> Result<(), Fail> {
+) -> Result<(), Fail>
+where
+    R::File: Send + Sync,
+    R::Dir: Send + Sync,
+{
     let Expected {
         opening,
         steps,

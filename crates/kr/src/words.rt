@@ -22,8 +22,8 @@ pub enum Task<'a> {
     Check,
     /// The script that a word names is run: status 0 where the run is serial, and 1 where it isn't.
     Run(&'a str),
-    /// The scripts that words name are judged, where all are read first: status 0 where each run is serial, and 1 where
-    /// one isn't.
+    /// The scripts that words name are judged, and no verdict is shown before all are: status 0 where each run is serial,
+    /// and 1 where one isn't.
     Judge(Vec<&'a str>),
 }
 

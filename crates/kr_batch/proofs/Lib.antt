@@ -1,2 +1,3 @@
 pub mod Collected
 pub mod Readings
+pub mod Names

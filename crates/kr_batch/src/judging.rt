@@ -10,7 +10,7 @@ use std::alloc::{AllocError, Global};
 use std::thread::Threads;
 
 /// The verdict on the run of a script under a protocol.
-fn verdict_on<P: Protocol>(
+pub fn verdict_on<P: Protocol>(
     alloc: Global,
     protocol: &P,
     script: &Script,

@@ -2,9 +2,11 @@
 #![tactic(auto)]
 
 mod judging;
+mod named;
 mod reading;
 #[cfg(test)]
 mod tests;
 
 pub use judging::judge_all;
+pub use named::{JudgeFault, TextFault, Texts, judge_texts};
 pub use reading::{ReadFault, read_all};

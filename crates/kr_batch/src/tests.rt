@@ -3,6 +3,7 @@ ghost use Rattle.std.proofs.Common.{rules};
 ghost use Rattle.kr_model.proofs.Tested.{lawful_by_test};
 
 mod ample;
+mod named;
 mod reading;
 
 use crate::judge_all;

@@ -3,7 +3,7 @@ use Rattle.std.proofs.Common.{◌≡◌, ℕ, zero, suc, ◌+◌, ◌<◌, List,
 use Rattle.std.proofs.Math.Seq.{take-add}
 use Rattle.std.proofs.lemmas.List.{take-append-drop, take_rest}
 use Rattle.std.specs.Io.KnownBytes.{Appends, Keeps}
-use Rattle.kr_script.specs.Puts.{AppendsFront, lines}
+use Rattle.kr_script.specs.Puts.{AppendsFront}
 
 -- bytes that grew by xs and then by ys grew by both
 pub appends_more : (a b c : Option (List ℕ)) (xs ys : List ℕ) → Appends a b xs → Appends b c ys → Appends a c (xs ++ ys)
@@ -34,21 +34,3 @@ appends_kept None b c xs h k = tt
 appends_kept (Some u) None c xs h k = absurd h
 appends_kept (Some u) (Some v) None xs h k = absurd k
 appends_kept (Some u) (Some v) (Some w) xs h k = k ∙ h
-
--- lines up to one, that one, and the lines behind it are all the lines
-lines_around : {A : Type 0} (f : A → List ℕ) (xs : List A) (i : ℕ) (d : A) → i < length xs
-    → lines (map f xs) ≡ (lines (map f (take i xs)) ++ (f (get_or xs i d) ++ 10 ∷ [])) ++ lines (map f (drop (suc i) xs))
-lines_around f [] i d low = absurd (omega arith)
-lines_around f (x ∷ xs) zero d low = refl
-lines_around f (x ∷ xs) (suc i) d low =
-    ap (λ l. (f x ++ 10 ∷ []) ++ l) (lines_around f xs i d (omega arith))
-    ∙ sym (append_assoc (f x ++ 10 ∷ []) (lines (map f (take i xs)) ++ (f (get_or xs i d) ++ 10 ∷ [])) (lines (map f (drop (suc i) xs))))
-    ∙ ap (λ l. l ++ lines (map f (drop (suc i) xs))) (sym (append_assoc (f x ++ 10 ∷ []) (lines (map f (take i xs))) (f (get_or xs i d) ++ 10 ∷ [])))
-
--- bytes that grew by the first i lines, and then by a beginning of the next, grew by a beginning of all lines
-pub front_of_lines : {A : Type 0} (f : A → List ℕ) (a b c : Option (List ℕ)) (xs : List A) (i : ℕ) (d : A) → i < length xs
-    → Appends a b (lines (map f (take i xs))) → AppendsFront b c (f (get_or xs i d) ++ 10 ∷ []) → AppendsFront a c (lines (map f xs))
-front_of_lines f a b c xs i d low h k =
-    let line = f (get_or xs i d) ++ 10 ∷ [] in
-    let more = lines (map f (drop (suc i) xs)) in
-    rw (lines_around f xs i d low) (front_of_more a c (lines (map f (take i xs)) ++ line) more (front_behind a b c (lines (map f (take i xs))) line h k))

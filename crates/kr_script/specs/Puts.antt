@@ -1,6 +1,5 @@
 -- What puts do to a sink.
-use Rattle.std.specs.Prelude.{◌≡◌, ℕ, ◌+◌, ◌-◌, ◌^◌, ◌<◌, ◌⊎◌, ◌&&◌, ◌==◌, List, ◌++◌, [], ◌∷◌, min, nat_lt, if◌then◌else◌, Option, Result, Ok, Err}
-use Rattle.std.specs.List.{flat_map}
+use Rattle.std.specs.Prelude.{◌≡◌, ℕ, ◌+◌, ◌-◌, ◌^◌, ◌<◌, ◌⊎◌, ◌&&◌, ◌==◌, List, ◌++◌, min, nat_lt, if◌then◌else◌, Option, Result, Ok, Err}
 use Rattle.std.specs.Io.KnownBytes.{Appends}
 use Rattle.kr_script.specs.declared.sink.Failed.{Failed}
 
@@ -21,10 +20,6 @@ failures_after (Err e) offered before = one_more before
 -- The known bytes grew by a beginning of bs.
 abbrev pub AppendsFront : Option (List ℕ) → Option (List ℕ) → List ℕ → Type 0
 AppendsFront old new bs = (front rest : List ℕ) × (bs ≡ front ++ rest) × Appends old new front
-
--- Texts in their order, each with a line feed.
-abbrev pub lines : List (List ℕ) → List ℕ
-lines texts = flat_map (λ t. t ++ 10 ∷ []) texts
 
 -- The count of failed puts rose, or has come to its end.
 abbrev pub HasCause : ℕ → ℕ → Type 0

@@ -19,5 +19,5 @@ pub use faults::ScriptFault;
 pub use reading::read_script;
 pub use reports::{report_run, report_verdict};
 pub use script::Script;
-pub use sink::{Failed, Io, PrintFault, Sink, print, print_lines};
+pub use sink::{Failed, Io, PrintFault, Sink, print, put_all};
 pub use steps::one_step_for_each_event;

@@ -1,7 +1,7 @@
 //! Printing on a sink that may take less than it is offered.
-ghost use Rattle.std.specs.Prelude.{◌≡◌, ◌≤◌, ◌++◌, ◌∷◌, [], ℕ, List, Option, length, map, string_bytes, IfOk, OnOk, OnErr};
+ghost use Rattle.std.specs.Prelude.{◌≡◌, ◌≤◌, ◌++◌, ◌∷◌, [], ℕ, List, Option, length, IfOk, OnOk, OnErr};
 ghost use Rattle.std.specs.Io.KnownBytes.{Appends, WriteAppends};
-ghost use Rattle.kr_script.specs.Puts.{Output, AppendsFront, failures_after, lines, HasCause};
+ghost use Rattle.kr_script.specs.Puts.{Output, AppendsFront, failures_after, HasCause};
 
 use std::io::Write;
 use std::marker::Model;
@@ -88,7 +88,9 @@ impl<W: Write> Sink for Io<W> {
     }
 }
 
-fn put_all<W: Sink>(out: &mut W, bytes: &[u8]) -> Result<(), PrintFault>
+/// Puts bytes until all of them are taken. At a fault a beginning of them was taken, no byte is put again that was taken,
+/// and a put has failed in this call or the count of failed puts is at its end.
+pub fn put_all<W: Sink>(out: &mut W, bytes: &[u8]) -> Result<(), PrintFault>
     ensures ok { OnOk result (Appends (W.taken out.old) (W.taken out.new) bytes.now) }
     ensures err { OnErr result (AppendsFront (W.taken out.old) (W.taken out.new) bytes.now) }
     ensures count { OnOk result (W.failures out.new ≡ W.failures out.old) }
@@ -116,19 +118,5 @@ pub fn print<W: Sink>(out: &mut W, text: &str) -> Result<(), PrintFault>
 {
     put_all(out, text.as_bytes())?;
     put_all(out, b"\n")?;
-    Ok(())
-}
-
-/// Prints texts in their order, each with a line feed. At a fault a beginning of the lines was printed, and a put has
-/// failed in this call or the count of failed puts is at its end.
-pub fn print_lines<W: Sink>(out: &mut W, texts: &[String]) -> Result<(), PrintFault>
-    ensures ok { OnOk result (Appends (W.taken out.old) (W.taken out.new) (lines (map string_bytes texts.now))) }
-    ensures err { OnErr result (AppendsFront (W.taken out.old) (W.taken out.new) (lines (map string_bytes texts.now))) }
-    ensures count { OnOk result (W.failures out.new ≡ W.failures out.old) }
-    ensures cause { OnErr result (HasCause (W.failures out.old) (W.failures out.new)) }
-{
-    for text in texts {
-        print(out, text.as_str())?;
-    }
     Ok(())
 }

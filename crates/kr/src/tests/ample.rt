@@ -18,7 +18,11 @@ fn answers<R: std::rt::Files + AllocGlobal + Threads + Sync + Abort>(
     beginning: &str,
     verdict: &str,
     status: u8,
-) -> Result<(), Fail> {
+) -> Result<(), Fail>
+where
+    R::File: Send + Sync,
+    R::Dir: Send + Sync,
+{
     let alloc = rt.alloc();
     let files = Texts {
         table: PLAIN,
@@ -51,7 +55,11 @@ fn answers_at<R: std::rt::Files + AllocGlobal + Threads + Sync + Abort>(
     txn: u32,
     key: u64,
     value: u64,
-) -> Result<(), Fail> {
+) -> Result<(), Fail>
+where
+    R::File: Send + Sync,
+    R::Dir: Send + Sync,
+{
     let alloc = rt.alloc();
     let script = format!(in alloc;
         "{{\"format\":1,\"opening\":[[{key},{value}]],\"steps\":[[{txn},\"fetch\",{key}],[8,\"delete\",{key}],[8,\"commit\"],[{txn},\"commit\"]]}}"

@@ -45,7 +45,11 @@ fn runs<R: std::rt::Files + AllocGlobal + Threads + Sync + Abort>(
     rt: &R,
     script: &str,
     report: &str,
-) -> Result<(), Fail> {
+) -> Result<(), Fail>
+where
+    R::File: Send + Sync,
+    R::Dir: Send + Sync,
+{
     let files = Texts {
         table: ASYMMETRIC,
         script,

@@ -12,7 +12,11 @@ pub fn checks<R: std::rt::Files + AllocGlobal + Threads + Sync + Abort>(
     table: &str,
     report: &str,
     status: u8,
-) -> Result<(), Fail> {
+) -> Result<(), Fail>
+where
+    R::File: Send + Sync,
+    R::Dir: Send + Sync,
+{
     let files = Texts { table, script: "" };
     told_over(
         rt,
@@ -30,7 +34,11 @@ fn accepts<R: std::rt::Files + AllocGlobal + Threads + Sync + Abort>(
     word: &str,
     table: &str,
     report: &str,
-) -> Result<(), Fail> {
+) -> Result<(), Fail>
+where
+    R::File: Send + Sync,
+    R::Dir: Send + Sync,
+{
     told(rt, ["check", word].as_slice(), "", report, "", 0)?;
     checks(rt, table, report, 0)
 }
@@ -75,7 +83,11 @@ fn refuses<R: std::rt::Files + AllocGlobal + Threads + Sync + Abort>(
     table: &str,
     beginning: &str,
     failed: usize,
-) -> Result<String, Fail> {
+) -> Result<String, Fail>
+where
+    R::File: Send + Sync,
+    R::Dir: Send + Sync,
+{
     let alloc = rt.alloc();
     let files = Texts { table, script: "" };
     let ran = run_program(rt, ["check", "table"].as_slice(), &files)?;

@@ -11,7 +11,11 @@ fn faulty<R: std::rt::Files + AllocGlobal + Threads + Sync + Abort>(
     rt: &R,
     script: &str,
     fault: &str,
-) -> Result<(), Fail> {
+) -> Result<(), Fail>
+where
+    R::File: Send + Sync,
+    R::Dir: Send + Sync,
+{
     let line = format!(in rt.alloc(); "kr: s: fault {fault}\n")?;
     told(
         rt,

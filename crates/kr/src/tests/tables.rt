@@ -31,7 +31,11 @@ fn tells<R: std::rt::Files + AllocGlobal + Threads + Sync + Abort>(
     at: usize,
     line: &str,
     fault: &str,
-) -> Result<(), Fail> {
+) -> Result<(), Fail>
+where
+    R::File: Send + Sync,
+    R::Dir: Send + Sync,
+{
     let alloc = rt.alloc();
     let text = changed(alloc, at, line)?;
     let said = format!(in alloc; "kr: table: {fault}\n")?;
@@ -96,7 +100,11 @@ fn says_of_table<R: std::rt::Files + AllocGlobal + Threads + Sync + Abort>(
     rt: &R,
     table: &str,
     said: &str,
-) -> Result<(), Fail> {
+) -> Result<(), Fail>
+where
+    R::File: Send + Sync,
+    R::Dir: Send + Sync,
+{
     let files = Texts {
         table,
         script: PHANTOM,
@@ -134,7 +142,11 @@ fn phantom_under<R: std::rt::Files + AllocGlobal + Threads + Sync + Abort>(
     table: &str,
     word: &str,
     mode: &str,
-) -> Result<(), Fail> {
+) -> Result<(), Fail>
+where
+    R::File: Send + Sync,
+    R::Dir: Send + Sync,
+{
     let alloc = rt.alloc();
     let files = Texts {
         table,

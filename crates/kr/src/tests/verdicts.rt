@@ -125,7 +125,11 @@ fn judged<R: std::rt::Files + AllocGlobal + Threads + Sync + Abort>(
     steps: &str,
     verdict: &str,
     status: u8,
-) -> Result<(), Fail> {
+) -> Result<(), Fail>
+where
+    R::File: Send + Sync,
+    R::Dir: Send + Sync,
+{
     let alloc = rt.alloc();
     let script = script_of(alloc, OPENING, steps)?;
     serial_under_each(rt, script.as_str())?;

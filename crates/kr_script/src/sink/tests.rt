@@ -1,6 +1,6 @@
 ghost use Rattle.std.specs.Prelude.{None};
 
-use crate::{Failed, Io, PrintFault, Sink, print, print_lines};
+use crate::{Failed, Io, PrintFault, Sink, print, put_all};
 use std::alloc::{AllocError, Global};
 use std::io;
 use std::io::{ErrorKind, Write};
@@ -102,17 +102,11 @@ fn shows_its_faults(rt: HostRuntime) -> Result<(), AllocError> {
 }
 
 #[test]
-fn prints_lines_and_stops_within_one(rt: HostRuntime) -> Result<(), AllocError> {
-    let alloc = rt.alloc();
-    let lines = vec![in alloc;
-        String::from_str(alloc, "ab")?,
-        String::from_str(alloc, "c")?,
-    ]?;
-    let mut whole = slow_sink(alloc, 0);
-    assert!(rt; print_lines(&mut whole, lines.as_slice()).is_ok());
+fn puts_bytes_and_stops_within_them(rt: HostRuntime) {
+    let mut whole = slow_sink(rt.alloc(), 0);
+    assert!(rt; put_all(&mut whole, b"ab\nc\n").is_ok());
     assert_eq!(rt; whole.writer().taken.as_slice(), b"ab\nc\n".as_slice());
-    let mut cut = slow_sink(alloc, 4);
-    assert!(rt; print_lines(&mut cut, lines.as_slice()).is_err());
+    let mut cut = slow_sink(rt.alloc(), 4);
+    assert!(rt; put_all(&mut cut, b"ab\nc\n").is_err());
     assert_eq!(rt; cut.writer().taken.as_slice(), b"ab\n".as_slice());
-    Ok(())
 }
