@@ -5,3 +5,7 @@ pub mod Counts
 pub mod Ends
 pub mod Ended
 pub mod Histories
+pub mod Prefixes
+pub mod Showing
+pub mod Copies
+pub mod Waiters

@@ -3,3 +3,5 @@ pub mod Histories
 pub mod Numbers
 pub mod Cores
 pub mod Waits
+pub mod Seats
+pub mod Closed

@@ -1,6 +1,6 @@
-//! What a core answers.
+//! What a core and a seat answer.
 ghost use Rattle.std.specs.Prelude.{◌≡◌};
-ghost use Rattle.kr_engine.specs.Faults.{fault_of as the_fault};
+ghost use Rattle.kr_engine.specs.Faults.{fault_of as the_fault, is_refusal as refusal, is_blocked as blocked};
 
 use kr_model::{Event, Refusal, Reply, Txns};
 
@@ -21,8 +21,24 @@ pub enum EngineFault {
     NotBegun,
     /// The transaction that the seat began last is active.
     Open,
-    /// The next place refused the write.
+    /// The next place refused the write; or, of a seat, the core's record of the seat isn't the seat's.
     PlaceTaken,
+}
+
+impl EngineFault {
+    /// Whether the machine refused or blocked the step.
+    pub(crate) fn is_refusal(&self) -> bool
+        ensures { result ≡ refusal self.now }
+    {
+        matches!(self, EngineFault::Refused(_))
+    }
+
+    /// Whether the step is blocked.
+    pub(crate) fn is_blocked(&self) -> bool
+        ensures { result ≡ blocked self.now }
+    {
+        matches!(self, EngineFault::Refused(Reply::Blocked(_)))
+    }
 }
 
 /// What a step did: the place of its entry in the row, the event and its reply.

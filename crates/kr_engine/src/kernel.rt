@@ -5,7 +5,7 @@ ghost use Rattle.kr_model.specs.State.{start};
 ghost use Rattle.kr_model.specs.Step.{step, is_end as ends, may_lack_memory};
 ghost use Rattle.kr_model.specs.Run.{is_granted};
 ghost use Rattle.kr_engine.specs.declared.faults.EngineFault.TheVariants as fault;
-ghost use Rattle.kr_engine.specs.Faults.{TellsReply, is_of_attempt};
+ghost use Rattle.kr_engine.specs.Faults.{TellsReply, is_of_attempt, is_of_begin};
 ghost use Rattle.kr_engine.specs.Histories.{IsHistory, AreOfOneSeat, IsSerialHistory, entry, event};
 ghost use Rattle.kr_engine.specs.Numbers.{is_begun as begun_by_seat, was_begun as begun_by_some};
 ghost use Rattle.kr_engine.specs.Cores.{CountsAre, seat_at, no_seat, is_active as active_in, freed, unended, without};
@@ -143,6 +143,7 @@ impl<P: Covered, K: EngineName> Core<P, K> {
         ensures only_taken { result ≡ Err fault.Taken → begun_by_some self.old.numbers txn ≡ true }
         ensures full { active_in self.old.state (seat_at self.old.seats seat).last ≡ false → begun_by_some self.old.numbers txn ≡ false → length self.old.entries + self.old.kept ≡ length K.places → result ≡ Err fault.RowFull }
         ensures only_full { result ≡ Err fault.RowFull → length self.old.entries + self.old.kept ≡ length K.places }
+        ensures faults { IfErr result (λ f. is_of_begin f ≡ true) }
     {
         if self.is_open(seat) {
             return Err(EngineFault::Open);

@@ -1,16 +1,27 @@
-//! The core of an engine: the value that its one lock is to hold. Seats do the steps of transactions on one machine, each
-//! step with the write of one place of a row, which is read without the lock.
+//! An engine: seats of threads do the steps of transactions on one machine under one lock, each step with the write of one
+//! place of a row, which is read without the lock.
 #![tactic(auto)]
 
+mod closing;
+#[cfg(test)]
+mod closing_tests;
+mod engine;
+#[cfg(test)]
+mod engine_tests;
 mod faults;
 mod kernel;
 mod numbers;
+mod seat;
+#[cfg(test)]
+mod soak_tests;
 #[cfg(test)]
 mod tests;
 mod waits;
 mod writes;
 
+pub use closing::{CloseFault, History, Share};
+pub use engine::{Engine, Seat};
 pub use faults::{EngineFault, Receipt};
 pub use kernel::{Core, SeatNote};
-pub use kr_model::{Event, Op, Reply, Txn, Txns};
-pub use kr_places::{EngineName, Entry, NewFault, PlaceRow};
+pub use kr_model::{Event, Op, Pairs, Reply, Txn, Txns};
+pub use kr_places::{EngineName, Entry, NewFault, PlaceRow, Watch};

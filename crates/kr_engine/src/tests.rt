@@ -1,7 +1,8 @@
 //! Rows of calls of a core, each with its answer: every call is there, and memory is ample.
 ghost use Rattle.std.specs.Prelude.{◌≡◌, []};
 
-use crate::{Core, EngineFault, EngineName, Op, PlaceRow, Receipt, Reply, Txn};
+use crate::seat::Hand;
+use crate::{CloseFault, Core, EngineFault, EngineName, Op, PlaceRow, Receipt, Reply, Share, Txn};
 use kr_model::Refusal;
 use kr_protocol::Kvl;
 use std::alloc::Global;
@@ -14,12 +15,16 @@ enum Ask {
     Begin,
     Do(Op),
     Wait(Op),
+    /// Who waits.
+    Who,
+    /// A close with the share of a seat of this number that has done nothing.
+    Close,
     Leave,
 }
 
 /// What a core answered, in short.
 #[derive(Clone, Copy, PartialEq, Eq, Debug)]
-enum Short {
+pub(crate) enum Short {
     /// Begun, noted as waiting, or left.
     Ok,
     /// A place, and the reply.
@@ -31,15 +36,21 @@ enum Short {
     /// Blocked by one transaction, or a cycle of two, of which this is the last.
     Blocked(Txn),
     Deadlock(Txn),
+    /// Nobody waits, or from one transaction to another, these two or one.
+    Nobody,
+    Waits(Txn, Txn),
     Ended,
+    Full,
     RowFull,
     Taken,
     Open,
     NotBegun,
+    /// A share doesn't fit.
+    Misfit,
     Other,
 }
 
-fn of_fault(fault: &EngineFault) -> Short {
+pub(crate) fn of_fault(fault: &EngineFault) -> Short {
     match fault {
         EngineFault::Deadlock(cycle) if cycle.as_slice().len() == 2 => Short::Deadlock(
             cycle.as_slice()[1],
@@ -48,14 +59,16 @@ fn of_fault(fault: &EngineFault) -> Short {
             txns.as_slice()[0],
         ),
         EngineFault::Refused(Reply::Refused(Refusal::Ended)) => Short::Ended,
+        EngineFault::Refused(Reply::Refused(Refusal::Full)) => Short::Full,
         EngineFault::RowFull => Short::RowFull,
         EngineFault::Taken => Short::Taken,
         EngineFault::Open => Short::Open,
+        EngineFault::NotBegun => Short::NotBegun,
         _ => Short::Other,
     }
 }
 
-fn of_receipt(receipt: &Receipt) -> Short {
+pub(crate) fn of_receipt(receipt: &Receipt) -> Short {
     match &receipt.reply {
         Reply::None => Short::Nothing(receipt.place),
         Reply::Done => Short::Done(receipt.place),
@@ -106,6 +119,34 @@ fn wait<K: EngineName>(core: &mut Core<Kvl, K>, txn: Txn, op: Op) -> Short {
     }
 }
 
+/// Who waits: none, one or two.
+fn who<K: EngineName>(core: &mut Core<Kvl, K>) -> Short {
+    let Ok(txns) = core.waiting() else {
+        return Short::Other;
+    };
+    match txns.as_slice() {
+        [] => Short::Nobody,
+        [txn] => Short::Waits(*txn, *txn),
+        [first, last] => Short::Waits(*first, *last),
+        _ => Short::Other,
+    }
+}
+
+/// A close with the share of a seat of this number that has done nothing.
+fn close<K: EngineName>(core: &mut Core<Kvl, K>, row: &PlaceRow, seat: usize) -> Short
+    requires { row.now ≡ K.places }
+{
+    let mut shares = Vec::new(core.alloc);
+    if shares.push(Share::of(Hand::new(seat, row))).is_err() {
+        return Short::Other;
+    }
+    match core.close(row, &shares) {
+        Ok(_) => Short::Ok,
+        Err(CloseFault::Place) => Short::Misfit,
+        Err(CloseFault::Memory) => Short::Other,
+    }
+}
+
 /// A seat leaves, and it is noted.
 fn leave<K: EngineName>(core: &mut Core<Kvl, K>, seat: usize) -> Short {
     if seat >= core.seats.len() {
@@ -132,6 +173,8 @@ fn answer<K: EngineName>(
         Ask::Begin => begin(core, row, seat, txn),
         Ask::Do(op) => attempt(core, row, seat, txn, op),
         Ask::Wait(op) => wait(core, txn, op),
+        Ask::Who => who(core),
+        Ask::Close => close(core, row, seat),
         Ask::Leave => leave(core, seat),
     }
 }
@@ -240,11 +283,44 @@ fn a_deadlock(rt: HostRuntime) -> Result<(), Fail> {
         (0, 1, Ask::Do(Op::Fetch(10)), Short::Nothing(0)),
         (1, 2, Ask::Do(Op::Fetch(20)), Short::Nothing(1)),
         (0, 1, Ask::Do(Op::Insert(10, 1)), Short::Blocked(2)),
+        (0, 1, Ask::Who, Short::Nobody),
         (0, 1, Ask::Wait(Op::Insert(10, 1)), Short::Ok),
+        (0, 1, Ask::Who, Short::Waits(1, 1)),
         (1, 2, Ask::Do(Op::Insert(20, 2)), Short::Blocked(1)),
         (1, 2, Ask::Wait(Op::Insert(20, 2)), Short::Deadlock(1)),
         (1, 2, Ask::Do(Op::Abort), Short::Aborted(2)),
+        (0, 1, Ask::Who, Short::Waits(1, 1)),
+        (0, 1, Ask::Do(Op::Insert(10, 1)), Short::Done(3)),
+        (0, 1, Ask::Who, Short::Nobody),
         (1, 2, Ask::Leave, Short::Ok),
+    ];
+    assert!(rt; plays(rt.alloc(), 10, &lines)?);
+    Ok(())
+}
+
+/// Who waits is told in order of number, and each once, in whatever order they came.
+#[test]
+fn two_wait(rt: HostRuntime) -> Result<(), Fail> {
+    let lines = [
+        (0, 7, Ask::Wait(Op::Fetch(10)), Short::Ok),
+        (0, 3, Ask::Wait(Op::Fetch(20)), Short::Ok),
+        (0, 7, Ask::Wait(Op::Fetch(30)), Short::Ok),
+        (0, 0, Ask::Who, Short::Waits(3, 7)),
+    ];
+    assert!(rt; plays(rt.alloc(), 10, &lines)?);
+    Ok(())
+}
+
+/// A share fits only where its seat was given and has as many entries as the share has receipts.
+#[test]
+fn shares(rt: HostRuntime) -> Result<(), Fail> {
+    let lines = [
+        (0, 1, Ask::Close, Short::Ok),
+        (0, 1, Ask::Begin, Short::Ok),
+        (0, 1, Ask::Do(Op::Fetch(10)), Short::Nothing(0)),
+        (0, 1, Ask::Close, Short::Misfit),
+        (1, 2, Ask::Close, Short::Ok),
+        (2, 3, Ask::Close, Short::Misfit),
     ];
     assert!(rt; plays(rt.alloc(), 10, &lines)?);
     Ok(())

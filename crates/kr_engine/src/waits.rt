@@ -3,11 +3,13 @@ ghost use Rattle.std.specs.Prelude.{◌≡◌, ◌≢◌, ◌≤◌, ◌∷◌, 
 ghost use Rattle.kr_model.specs.declared.Reply.TheVariants as reply_is;
 ghost use Rattle.kr_model.specs.declared.Refusal.TheVariants as refusal_is;
 ghost use Rattle.kr_model.specs.Step.{blockers_in};
+ghost use Rattle.kr_model.specs.Locks.{add_once};
+ghost use Rattle.std.specs.List.Sorted.{IsStrictlyIncreasing};
 ghost use Rattle.kr_waits.specs.Waits.{blockers_of, IsCycle};
 ghost use Rattle.kr_engine.specs.Faults.{is_of_wait};
 ghost use Rattle.kr_engine.specs.Histories.{event};
 ghost use Rattle.kr_engine.specs.Cores.{without};
-ghost use Rattle.kr_engine.specs.Waits.{in_the_way, blockers_now, TellsCycle};
+ghost use Rattle.kr_engine.specs.Waits.{in_the_way, blockers_now, TellsCycle, AreTxnsOf};
 
 use crate::faults::EngineFault;
 use crate::kernel::Core;
@@ -23,7 +25,8 @@ use std::alloc::{AllocError, Global};
 impl<P: Covered, K: EngineName> Core<P, K> {
     /// Notes the operation as waiting until the transaction's next attempt, in place of one that was noted; or tells a
     /// deadlock and notes nothing: a cycle of distinct transactions, the asker first, each with an operation that is
-    /// blocked by the next now, the last by the asker. `Memory` where a growth was refused; then nothing has changed.
+    /// blocked by the next now, the last by the asker. `Memory` where a growth was refused; then nothing has changed. Machine and
+    /// history stay. An operation that isn't blocked is noted too.
     pub fn wait(&mut self, txn: Txn, op: Op) -> Result<(), EngineFault>
         ensures cycle { IfErr result (λ f. TellsCycle f (IsCycle (blockers_now (in_the_way (P.table self.old.protocol) self.old.state) (event txn op ∷ self.old.waiting)) txn)) }
         ensures no_cycle { OnOk result ((cycle : List ℕ) → IsCycle (blockers_now (in_the_way (P.table self.old.protocol) self.old.state) (event txn op ∷ self.old.waiting)) txn cycle → ⊥) }
@@ -43,6 +46,36 @@ impl<P: Covered, K: EngineName> Core<P, K> {
             },
         }
     }
+
+    /// The transactions whose operations are noted as waiting, rising, or an error where a growth is refused.
+    pub fn waiting(&self) -> Result<Txns, AllocError>
+        ensures { IfOk result (λ txns. AreTxnsOf txns self.now.waiting) }
+    {
+        let txns = txns_of(self.alloc, &self.waiting)?;
+        Ok(Txns::from_vec(txns))
+    }
+}
+
+/// The transactions of operations, rising.
+fn txns_of(alloc: Global, events: &[Event]) -> Result<Vec<Txn>, AllocError>
+    ensures { IfOk result (λ txns. AreTxnsOf txns.items events.now) }
+{
+    let mut txns = Vec::new(alloc);
+    for event in events {
+        put_once(&mut txns, event.txn)?;
+    }
+    Ok(txns)
+}
+
+/// Puts a number among rising ones; one that is there stays.
+fn put_once(txns: &mut Vec<Txn>, txn: Txn) -> Result<(), AllocError>
+    requires { IsStrictlyIncreasing txns.old.items }
+    ensures { OnOk result (txns.new.items ≡ add_once txn txns.old.items) }
+{
+    if let Err(place) = txns.binary_search(&txn) {
+        txns.insert(place, txn)?;
+    }
+    Ok(())
 }
 
 /// A cycle of waiting transactions in which this one is first, by its operation and by those noted.

@@ -1,0 +1,5 @@
+use Rattle.kr_engine.proofs.Copies.{copied}
+use Rattle.kr_engine.proofs.closing.copies.Goals as goal
+
+pub loop-place-preserved : goal.loop-place-preserved
+loop-place-preserved g c = copied c.args.view.now c.loop-place.entries.items c.push.new.self.items c.loop-place.place _ c.in_ok-copy.copy c.loop-place.invariant c.entry_at.ensures c.in_ok-copy.ensures c.in_ok-push.ensures.items

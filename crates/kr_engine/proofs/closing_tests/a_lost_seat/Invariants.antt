@@ -1,0 +1,5 @@
+use Rattle.kr_engine.proofs.closing_tests.a_lost_seat.Given as goal
+
+-- this engine's row, and its opening
+abbrev pub ghosts-a_lost_seat_of : goal.ghosts-a_lost_seat_of
+ghosts-a_lost_seat_of g a = record { places = a.row; opening = a.opening.now }

@@ -1,0 +1,219 @@
+//! What a closed engine shows, and what a seat that left lends to it.
+ghost use Rattle.std.specs.Prelude.{◌≡◌, ◌<◌, true, false, length, map, Some, Err, IfOk, All, slice_get};
+ghost use Rattle.std.specs.List.{list_all};
+ghost use Rattle.kr_engine.specs.declared.closing.CloseFault.TheVariants as fault;
+ghost use Rattle.kr_engine.specs.Closed.{lent, fits, StandsIn, IsClosed};
+
+use crate::kernel::{Core, SeatNote};
+use crate::seat::Hand;
+use kr_model::{Pairs, Txns};
+use kr_places::{EngineName, Entry, Known, PlaceRow, Seen};
+use kr_protocol::Covered;
+use std::alloc::{AllocError, Global};
+use std::marker::Model;
+
+/// What a seat that left keeps, and lends to the closing of its engine.
+#[derive(Drop)]
+pub struct Share<K: EngineName> {
+    seat: usize,
+    count: u64,
+    last: Option<usize>,
+    view: Seen<K>,
+}
+
+impl<K: EngineName> Model for Share<K> {
+    ghost use Rattle.std.specs.Prelude.{◌≡◌};
+    ghost use Rattle.kr_engine.specs.Histories.{entries_of};
+    ghost use Rattle.kr_engine.specs.Closed.{Lent};
+
+    ghost Value = { Lent };
+
+    ghost view = { λ s. record { seat = s.seat; count = s.count; last = s.last; view = s.view } };
+
+    ghost invariant = { λ s. entries_of s.seat s.view ≡ s.count };
+}
+
+impl<K: EngineName> Share<K> {
+    /// What a seat keeps of its own part where it leaves.
+    pub(crate) fn of(hand: Hand<K>) -> Share<K>
+        ensures { result ≡ lent hand }
+    {
+        let Hand {
+            seat,
+            speaks: _,
+            count,
+            last,
+            view,
+        } = hand;
+        Share {
+            seat,
+            count,
+            last,
+            view,
+        }
+    }
+
+    /// The seat's number, from 0.
+    pub fn seat(&self) -> usize
+        ensures { result ≡ self.now.seat }
+    {
+        self.seat
+    }
+
+    /// How many receipts the seat has.
+    pub fn count(&self) -> u64
+        ensures { result ≡ self.now.count }
+    {
+        self.count
+    }
+
+    /// The place of the seat's last receipt, if it has one.
+    pub fn last_place(&self) -> Option<usize>
+        ensures { result ≡ self.now.last }
+    {
+        self.last
+    }
+}
+
+/// The history of an engine.
+#[derive(Debug, Drop)]
+pub struct History {
+    /// The entries in order of place.
+    pub entries: Vec<Entry>,
+    /// The index after them, keys rising.
+    pub index: Pairs,
+    /// The transactions that are active after them, rising.
+    pub unfinished: Txns,
+    /// What is noted of each seat, by its number.
+    pub seats: Vec<SeatNote>,
+}
+
+/// Why an engine's history isn't shown.
+#[derive(Debug, Drop)]
+pub enum CloseFault {
+    /// A growth was refused.
+    Memory,
+    /// A share doesn't fit the engine: its seat wasn't given, the entries of its seat are more or fewer than its receipts,
+    /// or it has seen more than there is.
+    Place,
+}
+
+impl<P: Covered, K: EngineName> Core<P, K> {
+    /// The whole history with what is noted of each seat, compared with what seats that left have seen. Nothing changes.
+    ///
+    /// - `Place`, before anything else, exactly where a share doesn't fit.
+    /// - `Memory`: a growth was refused.
+    pub(crate) fn close(&self, row: &PlaceRow, shares: &[Share<K>]) -> Result<History, CloseFault>
+        requires { row.now ≡ K.places }
+        ensures entries { IfOk result (λ h. h.entries.items ≡ self.now.entries) }
+        ensures index { IfOk result (λ h. h.index ≡ self.now.state.map) }
+        ensures unfinished { IfOk result (λ h. h.unfinished ≡ map (λ a. a.0) self.now.state.active) }
+        ensures seats { IfOk result (λ h. h.seats.items ≡ self.now.seats) }
+        ensures closed { IfOk result (λ h. IsClosed P.table K.opening h shares.now) }
+        ensures place { list_all (fits self.now.seats self.now.entries) shares.now ≡ false → result ≡ Err fault.Place }
+        ensures only_place { result ≡ Err fault.Place → list_all (fits self.now.seats self.now.entries) shares.now ≡ false }
+    {
+        self.law();
+        if !self.fits_all(shares) {
+            return Err(CloseFault::Place);
+        }
+        match self.history_from(row) {
+            Ok(history) => Ok(history),
+            Err(_) => Err(CloseFault::Memory),
+        }
+    }
+
+    /// A copy of all that is known of the history.
+    fn history_from(&self, row: &PlaceRow) -> Result<History, AllocError>
+        requires { row.now ≡ K.places }
+        ensures entries { IfOk result (λ h. h.entries.items ≡ self.now.entries) }
+        ensures index { IfOk result (λ h. h.index ≡ self.now.state.map) }
+        ensures unfinished { IfOk result (λ h. h.unfinished ≡ map (λ a. a.0) self.now.state.active) }
+        ensures seats { IfOk result (λ h. h.seats.items ≡ self.now.seats) }
+    {
+        let entries = copies(self.alloc, row, &self.history)?;
+        let index = self.machine.index()?;
+        let unfinished = self.machine.unfinished()?;
+        let seats = self.seats.as_slice().to_vec(self.alloc)?;
+        Ok(History {
+            entries,
+            index,
+            unfinished,
+            seats,
+        })
+    }
+
+    /// Whether these shares fit. Where they do, each stands in the history.
+    fn fits_all(&self, shares: &[Share<K>]) -> bool
+        ensures fits { result ≡ list_all (fits self.now.seats self.now.entries) shares.now }
+        ensures stand { result ≡ true → All (StandsIn self.now.seats self.now.entries) shares.now }
+    {
+        for share in shares {
+            if !self.is_fitting(share) {
+                return false;
+            }
+        }
+        true
+    }
+
+    /// Whether a share fits. Where it does, it stands in the history.
+    fn is_fitting(&self, share: &Share<K>) -> bool
+        ensures fits { result ≡ fits self.now.seats self.now.entries share.now }
+        ensures stands { result ≡ true → StandsIn self.now.seats self.now.entries share.now }
+    {
+        self.law();
+        if share.seat >= self.seats.len() {
+            return false;
+        }
+        if self.seats[share.seat].count != share.count {
+            return false;
+        }
+        if share.view.len() > self.history.len() {
+            return false;
+        }
+        self.compare(&share.view);
+        true
+    }
+}
+
+/// A copy of each entry that is known, in order of place.
+fn copies<K: EngineName>(
+    alloc: Global,
+    row: &PlaceRow,
+    view: &Seen<K>,
+) -> Result<Vec<Entry>, AllocError>
+    requires { row.now ≡ K.places }
+    ensures { IfOk result (λ es. es.items ≡ view.now) }
+{
+    let known = view.len();
+    let mut entries = Vec::with_capacity(alloc, known)?;
+    for place in 0..known {
+        let copy = copy_of(alloc, entry_at(row, view, place))?;
+        entries.push(copy)?;
+    }
+    Ok(entries)
+}
+
+/// What stands at a place that is known.
+fn entry_at<'a, K: EngineName>(row: &'a PlaceRow, view: &Seen<K>, place: usize) -> &'a Entry
+    requires row { row.now ≡ K.places }
+    requires place { place < length view.now }
+    ensures { slice_get view.now place ≡ Some result.now }
+{
+    let _within = view.len();
+    let cell = row.cell(place);
+    let mut note = cell.note();
+    Known::inform(&mut note, &view.at(place));
+    cell.get_as(&mut note).unwrap()
+}
+
+/// A copy of an entry.
+fn copy_of(alloc: Global, entry: &Entry) -> Result<Entry, AllocError>
+    ensures { IfOk result (λ copy. copy ≡ entry.now) }
+{
+    Ok(Entry {
+        seat: entry.seat,
+        event: entry.event,
+        reply: entry.reply.try_copy(alloc)?,
+    })
+}

@@ -1,0 +1,286 @@
+//! One lock over the core, and the seats that threads hold.
+ghost use Rattle.std.specs.Prelude.{◌≡◌, ◌≢◌, true, false, length, IfOk, IfErr, OnOk, OnErr, Some, None, Err, []};
+ghost use mathlib.Core.List.{IsPrefix};
+ghost use Rattle.kr_model.specs.Map.{IsMap};
+ghost use Rattle.kr_model.specs.Step.{is_end as ends};
+ghost use Rattle.kr_places.specs.Notes.{KnowsAll, KnowsNoneFrom};
+ghost use Rattle.kr_engine.specs.declared.faults.EngineFault.TheVariants as fault;
+ghost use Rattle.kr_engine.specs.Faults.{is_unbegun, is_blocked, is_of_begin, is_of_try, is_of_call};
+ghost use Rattle.std.specs.List.Sorted.{IsStrictlyIncreasing};
+ghost use Rattle.kr_engine.specs.declared.closing.CloseFault.TheVariants as close_fault;
+ghost use Rattle.kr_engine.specs.Closed.{lent, IsClosed};
+ghost use Rattle.kr_engine.specs.Seats.{Shows, SeesFault, ToldFault, IsOpen, IsIdle};
+
+use crate::closing::{CloseFault, History, Share};
+use crate::faults::{EngineFault, Receipt};
+use crate::kernel::Core;
+use crate::seat::Hand;
+use kr_model::{Op, Txn, Txns};
+use kr_places::{EngineName, PlaceRow, Watch};
+use kr_protocol::Covered;
+use std::alloc::{AllocError, Global};
+use std::marker::Model;
+use std::sync::{Condvar, Mutex, Wait};
+
+/// A machine under one lock, with a row of places for its history. Threads do the steps of transactions by its seats, and
+/// read the row by watches.
+#[derive(Drop)]
+pub struct Engine<P: Covered, K: EngineName> {
+    alloc: Global,
+    row: PlaceRow,
+    pub(crate) core: Mutex<Core<P, K>>,
+    /// Told after each step, so that all who wait try again.
+    changed: Condvar,
+    ghost row_is: { row ≡ K.places },
+}
+
+impl<P: Covered, K: EngineName> Engine<P, K> {
+    /// An engine without seats and history, with this row and an opening whose keys rise; or an error where a growth is
+    /// refused.
+    pub fn new(
+        alloc: Global,
+        protocol: P,
+        opening: &[(u64, u64)],
+        row: PlaceRow,
+    ) -> Result<Engine<P, K>, AllocError>
+        requires row { row ≡ K.places }
+        requires opening { opening.now ≡ K.opening }
+        requires is_map { IsMap opening.now }
+    {
+        let core = Core::new(alloc, protocol, opening, &row)?;
+        Ok(Engine {
+            alloc,
+            row,
+            core: Mutex::new(core),
+            changed: Condvar::new(),
+        })
+    }
+
+    /// Gives a seat, which has done and seen nothing. Seats are numbered from 0, in the order in which they are given. An
+    /// error where a growth is refused; then none was given.
+    pub fn seat<R: Wait>(&self, rt: &R) -> Result<Seat<'_, P, K>, AllocError>
+        ensures { IfOk result (λ s. s ≡ record { seat = s.seat; speaks = None; count = 0; last = None; view = [] }) }
+    {
+        let mut core = self.core.lock(rt);
+        let number = core.new_seat()?;
+        Ok(Seat {
+            engine: self,
+            hand: Hand::new(number, &self.row),
+        })
+    }
+
+    /// A watch that knows nothing yet. It takes no lock, so it reads while others call; an error where a growth is refused.
+    pub fn watch(&self) -> Result<Watch<'_, K>, AllocError>
+        ensures { IfOk result (λ w. KnowsNoneFrom w 0) }
+    {
+        Watch::new(self.alloc, &self.row)
+    }
+
+    /// The history of the engine, compared with what these seats saw which left: the entries in order of place, the index
+    /// and the unfinished transactions after them, and what is noted of each seat. Nothing changes.
+    ///
+    /// - `Place`, before anything else: a share doesn't fit the engine. Never where there are no shares.
+    /// - `Memory`: a growth was refused.
+    pub fn close(&mut self, shares: &[Share<K>]) -> Result<History, CloseFault>
+        ensures closed { IfOk result (λ h. IsClosed P.table K.opening h shares.now) }
+        ensures place { result ≡ Err close_fault.Place → shares.now ≢ [] }
+    {
+        let core = self.core.get_mut();
+        core.close(&self.row, shares)
+    }
+
+    /// The transactions whose calls are noted as waiting now, rising; or an error where a growth is refused. It waits for
+    /// the lock alone.
+    pub fn waiting<R: Wait>(&self, rt: &R) -> Result<Txns, AllocError>
+        ensures { IfOk result (λ txns. IsStrictlyIncreasing txns) }
+    {
+        self.core.lock(rt).waiting()
+    }
+
+    /// Notes that a seat left, and gives out its share.
+    fn part<R: Wait>(&self, rt: &R, hand: Hand<K>) -> Share<K>
+        ensures { result ≡ lent hand }
+    {
+        let mut core = self.core.lock(rt);
+        if core.fits(&hand) {
+            core.leave(hand.seat);
+        }
+        Share::of(hand)
+    }
+
+    /// Begins a number for a seat.
+    fn begin<R: Wait>(&self, rt: &R, hand: &mut Hand<K>, txn: Txn) -> Result<(), EngineFault>
+        ensures ok { OnOk result (hand.new ≡ record hand.old { speaks = Some txn }) }
+        ensures err { OnErr result (hand.new ≡ hand.old) }
+        ensures faults { IfErr result (λ f. f ≢ fault.PlaceTaken → is_of_begin f ≡ true) }
+        ensures only_open { result ≡ Err fault.Open → IsOpen P.table K.opening hand.old }
+    {
+        let mut core = self.core.lock(rt);
+        if !core.fits(hand) {
+            return Err(EngineFault::PlaceTaken);
+        }
+        core.compare(&hand.view);
+        core.law();
+        match core.begin(&self.row, hand.seat, txn) {
+            Ok(()) => {
+                hand.speaks = Some(txn);
+                Ok(())
+            }
+            Err(fault) => Err(fault),
+        }
+    }
+
+    /// One attempt of a seat.
+    fn attempt<R: Wait>(&self, rt: &R, hand: &mut Hand<K>, op: Op) -> Result<Receipt, EngineFault>
+        ensures seat { (hand.new.seat ≡ hand.old.seat) × (hand.new.speaks ≡ hand.old.speaks) }
+        ensures begins { IsPrefix hand.old.view hand.new.view }
+        ensures done { IfOk result (λ r. Shows P.table K.opening hand.old hand.new op r) }
+        ensures fault { IfErr result (λ f. SeesFault P.table K.opening hand.old hand.new op f) }
+        ensures faults { IfErr result (λ f. is_of_try f ≡ true) }
+        ensures unbegun { hand.old.speaks ≡ None → result ≡ Err fault.NotBegun }
+        ensures only_unbegun { IfErr result (λ f. is_unbegun f ≡ true → hand.old.speaks ≡ None) }
+        ensures only_full { result ≡ Err fault.RowFull → ends op ≡ false }
+        ensures memory { result ≡ Err fault.Memory → ends op ≡ true → IsIdle P.table K.opening hand.old }
+    {
+        let mut core = self.core.lock(rt);
+        let result = core.serve(&self.row, hand, op);
+        if result.is_ok() {
+            self.changed.notify_all();
+        }
+        result
+    }
+
+    /// Attempts of a seat, one after each change, until one isn't blocked.
+    fn attend<R: Wait>(&self, rt: &R, hand: &mut Hand<K>, op: Op) -> Result<Receipt, EngineFault>
+        ensures seat { (hand.new.seat ≡ hand.old.seat) × (hand.new.speaks ≡ hand.old.speaks) }
+        ensures begins { IsPrefix hand.old.view hand.new.view }
+        ensures done { IfOk result (λ r. Shows P.table K.opening hand.old hand.new op r) }
+        ensures fault { IfErr result (λ f. ToldFault P.table K.opening hand.old hand.new op f) }
+        ensures faults { IfErr result (λ f. is_of_call f ≡ true) }
+        ensures unbegun { hand.old.speaks ≡ None → result ≡ Err fault.NotBegun }
+        ensures only_unbegun { IfErr result (λ f. is_unbegun f ≡ true → hand.old.speaks ≡ None) }
+        ensures only_full { result ≡ Err fault.RowFull → ends op ≡ false }
+        ensures memory { result ≡ Err fault.Memory → ends op ≡ true → IsIdle P.table K.opening hand.old }
+        ensures free { IfErr result (λ f. is_blocked f ≡ false) }
+    {
+        let mut core = self.core.lock(rt);
+        for _ in rt.forever() {
+            match core.serve_or_wait(&self.row, hand, op) {
+                Ok(receipt) => {
+                    self.changed.notify_all();
+                    return Ok(receipt);
+                }
+                Err(fault) => {
+                    if !fault.is_blocked() {
+                        return Err(fault);
+                    }
+                }
+            }
+            core = self.changed.wait(rt, core);
+        }
+        unreachable!()
+    }
+}
+
+/// A seat of an engine, by which one thread does the steps of transactions, one transaction after another. Contracts see
+/// what it keeps of its own.
+#[derive(Drop)]
+pub struct Seat<'a, P: Covered, K: EngineName> {
+    engine: &'a Engine<P, K>,
+    hand: Hand<K>,
+}
+
+impl<'a, P: Covered, K: EngineName> Model for Seat<'a, P, K> {
+    ghost use Rattle.kr_engine.specs.Seats.{Held};
+
+    ghost Value = { Held };
+
+    ghost view = { λ s. s.hand };
+}
+
+impl<'a, P: Covered, K: EngineName> Seat<'a, P, K> {
+    /// Begins a transaction's number, for which the seat speaks from then on. It waits for the lock alone.
+    ///
+    /// The first of these that applies is answered, and nothing has changed:
+    ///
+    /// - `Open`: the transaction that the seat speaks for is active.
+    /// - `Taken`: the number was begun before, by whichever seat.
+    /// - `RowFull`: the used and the kept places are all places of the row.
+    /// - `Memory`: a growth was refused.
+    ///
+    /// `PlaceTaken`, where the core's record of the seat isn't the seat's, comes before these, and only by a fault of the
+    /// engine.
+    pub fn begin<R: Wait>(&mut self, rt: &R, txn: Txn) -> Result<(), EngineFault>
+        ensures ok { OnOk result (self.new ≡ record self.old { speaks = Some txn }) }
+        ensures err { OnErr result (self.new ≡ self.old) }
+        ensures faults { IfErr result (λ f. f ≢ fault.PlaceTaken → is_of_begin f ≡ true) }
+        ensures only_open { result ≡ Err fault.Open → IsOpen P.table K.opening self.old }
+    {
+        let engine = self.engine;
+        engine.begin(rt, &mut self.hand, txn)
+    }
+
+    /// One attempt at an operation of the transaction that the seat speaks for. It waits for the lock alone: where the step
+    /// is blocked it answers `Refused`.
+    ///
+    /// At Ok the step is done and its entry written, and at a refusal nothing was done; in both the seat has then seen the
+    /// whole history. At any other fault the seat is as it was:
+    ///
+    /// - `NotBegun`: the seat has begun no number.
+    /// - `RowFull`: the used and the kept places are all places, and the operation is neither commit nor abort.
+    /// - `Memory`: a growth was refused. The end of an active transaction never answers so.
+    /// - `PlaceTaken`: the next place refused the write, or the core's record of the seat isn't the seat's.
+    pub fn try_call<R: Wait>(&mut self, rt: &R, op: Op) -> Result<Receipt, EngineFault>
+        ensures seat { (self.new.seat ≡ self.old.seat) × (self.new.speaks ≡ self.old.speaks) }
+        ensures begins { IsPrefix self.old.view self.new.view }
+        ensures done { IfOk result (λ r. Shows P.table K.opening self.old self.new op r) }
+        ensures fault { IfErr result (λ f. SeesFault P.table K.opening self.old self.new op f) }
+        ensures faults { IfErr result (λ f. is_of_try f ≡ true) }
+        ensures unbegun { self.old.speaks ≡ None → result ≡ Err fault.NotBegun }
+        ensures only_unbegun { IfErr result (λ f. is_unbegun f ≡ true → self.old.speaks ≡ None) }
+        ensures only_full { result ≡ Err fault.RowFull → ends op ≡ false }
+        ensures memory { result ≡ Err fault.Memory → ends op ≡ true → IsIdle P.table K.opening self.old }
+    {
+        let engine = self.engine;
+        engine.attempt(rt, &mut self.hand, op)
+    }
+
+    /// The same, but while the step is blocked it waits, and attempts it again after each step that another seat does.
+    /// Where the wait would close a cycle of waiting transactions it answers `Deadlock` at once. At a fault that isn't a
+    /// refusal the seat may have seen more. It never answers that the step is blocked.
+    pub fn call<R: Wait>(&mut self, rt: &R, op: Op) -> Result<Receipt, EngineFault>
+        ensures seat { (self.new.seat ≡ self.old.seat) × (self.new.speaks ≡ self.old.speaks) }
+        ensures begins { IsPrefix self.old.view self.new.view }
+        ensures done { IfOk result (λ r. Shows P.table K.opening self.old self.new op r) }
+        ensures fault { IfErr result (λ f. ToldFault P.table K.opening self.old self.new op f) }
+        ensures faults { IfErr result (λ f. is_of_call f ≡ true) }
+        ensures unbegun { self.old.speaks ≡ None → result ≡ Err fault.NotBegun }
+        ensures only_unbegun { IfErr result (λ f. is_unbegun f ≡ true → self.old.speaks ≡ None) }
+        ensures only_full { result ≡ Err fault.RowFull → ends op ≡ false }
+        ensures memory { result ≡ Err fault.Memory → ends op ≡ true → IsIdle P.table K.opening self.old }
+        ensures free { IfErr result (λ f. is_blocked f ≡ false) }
+    {
+        let engine = self.engine;
+        engine.attend(rt, &mut self.hand, op)
+    }
+
+    /// A watch that knows what the seat has seen, and nothing else yet. It takes no lock; an error where a growth is
+    /// refused.
+    pub fn watch(&self) -> Result<Watch<'a, K>, AllocError>
+        ensures all { IfOk result (λ w. KnowsAll w self.now.view) }
+        ensures others { IfOk result (λ w. KnowsNoneFrom w (length self.now.view)) }
+    {
+        let engine = self.engine;
+        Watch::of(engine.alloc, &engine.row, &self.hand.view)
+    }
+
+    /// Leaves the engine, which notes it, and gives out the seat's share of the history: its number, how many receipts it
+    /// has, the place of the last, and what it has seen. A transaction that it leaves active stays so, and its locks are
+    /// held for good. It waits for the lock alone.
+    pub fn leave<R: Wait>(self, rt: &R) -> Share<K>
+        ensures { result ≡ lent self.entry }
+    {
+        let Seat { engine, hand } = self;
+        engine.part(rt, hand)
+    }
+}
