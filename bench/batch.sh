@@ -1,7 +1,6 @@
 #!/usr/bin/env bash
 # Wall time and processor time of `kr judge @kvl` on 4,096 scripts of 50 steps, on 1, 2 and 4 processors: the best of 20
-# runs of the whole process, reading included. "reading alone" is the same with a last script that isn't there, so that
-# no script is judged. The scripts are the same each time. Build first, by any run of ./kr.
+# runs of the whole process, reading included. The scripts are the same each time. Build first, by any run of ./kr.
 set -eu
 top=$(cd "$(dirname "${BASH_SOURCE[0]}")/.." && pwd)
 kr=$top/crates/kr/out/kr
@@ -49,4 +48,3 @@ echo "verdicts: $("$kr" judge @kvl *.json | grep -c '"verdict":\["serial"\]') of
 for processors in 0 0,1 0-3; do
   echo "processors $processors: $(best "$processors" *.json)"
 done
-echo "processors 0, reading alone: $(best 0 *.json none)"
