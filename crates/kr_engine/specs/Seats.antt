@@ -52,7 +52,7 @@ pub record IsRefused {P : Type 0} (table : P → Protocol) (opening : Map) (old 
   pub not_granted : is_granted r ≡ false
   pub others : new ≡ record old { view = new.view }
 
--- At the end of a history that begins with all that the seat had seen, each transaction of the cycle has an operation that waits for the next, the last for the first; the first is the seat's, with the operation asked. It is then what the seat has seen.
+-- At the end of a history that begins with all that the seat had seen, each transaction of the cycle has an operation that the next blocks, the last's blocked by the first; the first is the seat's, with the operation asked. It is then what the seat has seen.
 pub record IsDeadlock {P : Type 0} (table : P → Protocol) (opening : Map) (old new : Held) (o : Op) (cycle : List ℕ) : Type 0 where
   pub protocol : P
   pub state : State
