@@ -22,18 +22,17 @@ use Rattle.kr_engine.proofs.Prefixes.{prefix_front}
 pub own_more : (seat count : ℕ) (es : List Entry) (e : Entry) → e.seat ≡ seat → entries_of seat es ≡ count → entries_of seat (es ++ e ∷ []) ≡ count + 1
 own_more seat count es e mine is = count_more seat es e true (eq-eqb e.seat seat mine) ∙ ap (λ (n : ℕ). n + 1) is
 
-pub shows : {P : Type 0} (table : P → Protocol) (opening : Map) (p : P) (s : State) (old new : Held) (o : Op) (r : Receipt) (txn : ℕ) (es es' : List Entry)
-    → IsHistory (table p) opening es' s → old.speaks ≡ Some txn → es' ≡ es ++ entry old.seat (event txn o) r.reply ∷ [] → r.event ≡ event txn o → r.place ≡ length es
+pub shows : (p : Protocol) (opening : Map) (s : State) (old new : Held) (o : Op) (r : Receipt) (txn : ℕ) (es es' : List Entry)
+    → IsHistory p opening es' s → old.speaks ≡ Some txn → es' ≡ es ++ entry old.seat (event txn o) r.reply ∷ [] → r.event ≡ event txn o → r.place ≡ length es
     → length old.view ≤ length es → IsPrefix old.view es' → new.view ≡ es' → new ≡ record old { count = old.count + 1; last = Some r.place; view = new.view } → entries_of old.seat es ≡ old.count
-    → Shows table opening old new o r
-shows table opening p s old new o r txn es es' run speaks more ev place le pre all others own =
+    → Shows p opening old new o r
+shows p opening s old new o r txn es es' run speaks more ev place le pre all others own =
     let front = prefix_front old.view es (entry old.seat (event txn o) r.reply) (subst (λ (l : List Entry). IsPrefix old.view l) more pre) le in
     record {
-      protocol = p;
       state = s;
       txn = txn;
       between = front.0;
-      run = subst (λ (l : List Entry). IsHistory (table p) opening l s) (sym all) run;
+      run = subst (λ (l : List Entry). IsHistory p opening l s) (sym all) run;
       speaks = speaks;
       view = all ∙ more ∙ ap (λ (l : List Entry). l ++ entry old.seat (event txn o) r.reply ∷ []) front.1;
       event_is = ev;
@@ -53,52 +52,51 @@ blocked_refusal Open is = is
 blocked_refusal PlaceTaken is = is
 
 -- What an attempt tells, a call that didn't wait tells too.
-pub told : {P : Type 0} (table : P → Protocol) (opening : Map) (old new : Held) (o : Op) (f : EngineFault) → is_of_try f ≡ true → SeesFault table opening old new o f → ToldFault table opening old new o f
-told table opening old new o (Refused r) is sees = sees
-told table opening old new o (Deadlock c) is sees = absurd (cc (is))
-told table opening old new o RowFull is sees = ap (λ (h : Held). record h { view = new.view }) sees
-told table opening old new o Memory is sees = ap (λ (h : Held). record h { view = new.view }) sees
-told table opening old new o Taken is sees = ap (λ (h : Held). record h { view = new.view }) sees
-told table opening old new o NotBegun is sees = ap (λ (h : Held). record h { view = new.view }) sees
-told table opening old new o Open is sees = ap (λ (h : Held). record h { view = new.view }) sees
-told table opening old new o PlaceTaken is sees = ap (λ (h : Held). record h { view = new.view }) sees
+pub told : (p : Protocol) (opening : Map) (old new : Held) (o : Op) (f : EngineFault) → is_of_try f ≡ true → SeesFault p opening old new o f → ToldFault p opening old new o f
+told p opening old new o (Refused r) is sees = sees
+told p opening old new o (Deadlock c) is sees = absurd (cc (is))
+told p opening old new o RowFull is sees = ap (λ (h : Held). record h { view = new.view }) sees
+told p opening old new o Memory is sees = ap (λ (h : Held). record h { view = new.view }) sees
+told p opening old new o Taken is sees = ap (λ (h : Held). record h { view = new.view }) sees
+told p opening old new o NotBegun is sees = ap (λ (h : Held). record h { view = new.view }) sees
+told p opening old new o Open is sees = ap (λ (h : Held). record h { view = new.view }) sees
+told p opening old new o PlaceTaken is sees = ap (λ (h : Held). record h { view = new.view }) sees
 
 -- What a wait tells that wasn't noted.
-pub waited : {P : Type 0} (table : P → Protocol) (opening : Map) (old new : Held) (o : Op) (f : EngineFault) (p : P) (s : State) (waiting : List Event) (txn : ℕ) → is_of_wait f ≡ true
-    → TellsCycle f (IsCycle (blockers_now (in_the_way (table p) s) (event txn o ∷ waiting)) txn) → IsHistory (table p) opening new.view s → IsPrefix old.view new.view → old.speaks ≡ Some txn → new ≡ record old { view = new.view }
-    → ToldFault table opening old new o f
-waited table opening old new o (Deadlock c) p s waiting txn is tells run begins speaks others = record { protocol = p; state = s; txn = txn; waiting = waiting; run = run; begins = begins; speaks = speaks; is_cycle = tells; others = others }
-waited table opening old new o Memory p s waiting txn is tells run begins speaks others = others
-waited table opening old new o (Refused r) p s waiting txn is tells run begins speaks others = absurd (cc (is))
-waited table opening old new o RowFull p s waiting txn is tells run begins speaks others = others
-waited table opening old new o Taken p s waiting txn is tells run begins speaks others = others
-waited table opening old new o NotBegun p s waiting txn is tells run begins speaks others = others
-waited table opening old new o Open p s waiting txn is tells run begins speaks others = others
-waited table opening old new o PlaceTaken p s waiting txn is tells run begins speaks others = others
+pub waited : (p : Protocol) (opening : Map) (old new : Held) (o : Op) (f : EngineFault) (s : State) (waiting : List Event) (txn : ℕ) → is_of_wait f ≡ true
+    → TellsCycle f (IsCycle (blockers_now (in_the_way p s) (event txn o ∷ waiting)) txn) → IsHistory p opening new.view s → IsPrefix old.view new.view → old.speaks ≡ Some txn → new ≡ record old { view = new.view }
+    → ToldFault p opening old new o f
+waited p opening old new o (Deadlock c) s waiting txn is tells run begins speaks others = record { state = s; txn = txn; waiting = waiting; run = run; begins = begins; speaks = speaks; is_cycle = tells; others = others }
+waited p opening old new o Memory s waiting txn is tells run begins speaks others = others
+waited p opening old new o (Refused r) s waiting txn is tells run begins speaks others = absurd (cc (is))
+waited p opening old new o RowFull s waiting txn is tells run begins speaks others = others
+waited p opening old new o Taken s waiting txn is tells run begins speaks others = others
+waited p opening old new o NotBegun s waiting txn is tells run begins speaks others = others
+waited p opening old new o Open s waiting txn is tells run begins speaks others = others
+waited p opening old new o PlaceTaken s waiting txn is tells run begins speaks others = others
 
 -- At a fault of a call the seat has at most seen more.
-pub only_saw : {P : Type 0} (table : P → Protocol) (opening : Map) (old new : Held) (o : Op) (f : EngineFault) → ToldFault table opening old new o f → new ≡ record old { view = new.view }
-only_saw table opening old new o (Refused r) t = t.others
-only_saw table opening old new o (Deadlock c) t = t.others
-only_saw table opening old new o RowFull t = t
-only_saw table opening old new o Memory t = t
-only_saw table opening old new o Taken t = t
-only_saw table opening old new o NotBegun t = t
-only_saw table opening old new o Open t = t
-only_saw table opening old new o PlaceTaken t = t
+pub only_saw : (p : Protocol) (opening : Map) (old new : Held) (o : Op) (f : EngineFault) → ToldFault p opening old new o f → new ≡ record old { view = new.view }
+only_saw p opening old new o (Refused r) t = t.others
+only_saw p opening old new o (Deadlock c) t = t.others
+only_saw p opening old new o RowFull t = t
+only_saw p opening old new o Memory t = t
+only_saw p opening old new o Taken t = t
+only_saw p opening old new o NotBegun t = t
+only_saw p opening old new o Open t = t
+only_saw p opening old new o PlaceTaken t = t
 
 -- At a blocked step the seat has at most seen more.
-pub blocked_saw : {P : Type 0} (table : P → Protocol) (opening : Map) (old new : Held) (o : Op) (f : EngineFault) → is_of_try f ≡ true → SeesFault table opening old new o f → new ≡ record old { view = new.view }
-blocked_saw table opening old new o f is sees = only_saw table opening old new o f (told table opening old new o f is sees)
+pub blocked_saw : (p : Protocol) (opening : Map) (old new : Held) (o : Op) (f : EngineFault) → is_of_try f ≡ true → SeesFault p opening old new o f → new ≡ record old { view = new.view }
+blocked_saw p opening old new o f is sees = only_saw p opening old new o f (told p opening old new o f is sees)
 
 -- A call that tried before, and saw more each time.
-pub shows_from : {P : Type 0} (table : P → Protocol) (opening : Map) (old mid new : Held) (o : Op) (r : Receipt)
-    → mid ≡ record old { view = mid.view } → IsPrefix old.view mid.view → Shows table opening mid new o r → Shows table opening old new o r
-shows_from table opening old mid new o r same begins s =
+pub shows_from : (p : Protocol) (opening : Map) (old mid new : Held) (o : Op) (r : Receipt)
+    → mid ≡ record old { view = mid.view } → IsPrefix old.view mid.view → Shows p opening mid new o r → Shows p opening old new o r
+shows_from p opening old mid new o r same begins s =
     let seat : mid.seat ≡ old.seat = ap (λ (h : Held). h.seat) same in
     let there : mid.view ++ s.between ≡ old.view ++ (begins.0 ++ s.between) = ap (λ (l : List Entry). l ++ s.between) (sym begins.1) ∙ append_assoc old.view begins.0 s.between in
     record {
-      protocol = s.protocol;
       state = s.state;
       txn = s.txn;
       between = begins.0 ++ s.between;

@@ -32,11 +32,10 @@ pub record StandsIn (seats : List SeatNote) (es : List Entry) (s : Lent) : Type 
   pub begins : IsPrefix s.view es
   pub own : entries_of s.seat es ≡ s.count
 
--- The entries are a run of granted steps under a protocol of this type from the opening map; the index and the unfinished transactions are those of its end; each seat's count is the number of its entries. All entries of one transaction are of one seat, and the transactions that committed are serial in commit order. Each of the shares stands in it.
-pub record IsClosed {P : Type 0} (table : P → Protocol) (opening : Map) (h : History) (shares : List Lent) : Type 0 where
-  pub protocol : P
+-- The entries are a run of granted steps under the engine's table from the opening map; the index and the unfinished transactions are those of its end; each seat's count is the number of its entries. All entries of one transaction are of one seat, and the transactions that committed are serial in commit order. Each of the shares stands in it.
+pub record IsClosed (p : Protocol) (opening : Map) (h : History) (shares : List Lent) : Type 0 where
   pub state : State
-  pub run : IsHistory (table protocol) opening h.entries.items state
+  pub run : IsHistory p opening h.entries.items state
   pub index : h.index ≡ state.map
   pub unfinished : h.unfinished ≡ map (λ a. a.0) state.active
   pub counts : CountsAre h.seats.items h.entries.items

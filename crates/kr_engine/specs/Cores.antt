@@ -51,8 +51,9 @@ is_active s (Some t) = is_some (active_of s t)
 abbrev pub without : ℕ → List Event → List Event
 without t es = filter (λ e. not (e.txn == t)) es
 
--- What always holds under the lock, for an engine with this opening map and this row of places.
-pub record IsCore (p : Protocol) (opening : Map) (places : List ℕ) (pending : Option Event) (s : State) (es : List Entry) (numbers : List Number) (seats : List SeatNote) (kept : ℕ) : Type 0 where
+-- What always holds under the lock, for an engine with this table, this opening map and this row of places; own is the table of the machine's protocol.
+pub record IsCore (p : Protocol) (opening : Map) (places : List ℕ) (own : Protocol) (pending : Option Event) (s : State) (es : List Entry) (numbers : List Number) (seats : List SeatNote) (kept : ℕ) : Type 0 where
+  pub table : own ≡ p
   pub at_rest : pending ≡ None
   pub is_map : IsMap opening
   pub history : IsHistory p opening es s

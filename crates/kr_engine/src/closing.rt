@@ -109,7 +109,7 @@ impl<P: Covered, K: EngineName> Core<P, K> {
         ensures index { IfOk result (λ h. h.index ≡ self.now.state.map) }
         ensures unfinished { IfOk result (λ h. h.unfinished ≡ map (λ a. a.0) self.now.state.active) }
         ensures seats { IfOk result (λ h. h.seats.items ≡ self.now.seats) }
-        ensures closed { IfOk result (λ h. IsClosed P.table K.opening h shares.now) }
+        ensures closed { IfOk result (λ h. IsClosed K.table K.opening h shares.now) }
         ensures place { list_all (fits self.now.seats self.now.entries) shares.now ≡ false → result ≡ Err fault.Place }
         ensures only_place { result ≡ Err fault.Place → list_all (fits self.now.seats self.now.entries) shares.now ≡ false }
     {

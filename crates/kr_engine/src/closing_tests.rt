@@ -1,6 +1,7 @@
 //! A seat that is lost, and two threads that wait for each other.
 ghost use Rattle.std.specs.Prelude.{◌≡◌};
 ghost use Rattle.kr_model.specs.Map.{IsMap};
+ghost use Rattle.kr_model.specs.Kvl.{kvl};
 
 use crate::{
     Engine, EngineFault, EngineName, History, Op, PlaceRow, Receipt, Reply, Seat, Share, Txn,
@@ -95,6 +96,7 @@ fn a_lost_seat_of<K: EngineName, R: Wait + Abort>(
 ) -> Result<(), Fail>
     requires row { row ≡ K.places }
     requires opening { opening.now ≡ K.opening }
+    requires table { kvl ≡ K.table }
     requires is_map { IsMap opening.now }
 {
     let mut engine = Engine::<Kvl, K>::new(alloc, Kvl, opening, row)?;
@@ -165,6 +167,7 @@ fn a_deadlock_of<K: EngineName + Send + Sync, R: Threads + Wait + Abort + Sync>(
 ) -> Result<(), Fail>
     requires row { row ≡ K.places }
     requires opening { opening.now ≡ K.opening }
+    requires table { kvl ≡ K.table }
     requires is_map { IsMap opening.now }
 {
     let engine = Engine::<Kvl, K>::new(alloc, Kvl, opening, row)?;

@@ -35,8 +35,8 @@ pub struct Engine<P: Covered, K: EngineName> {
 }
 
 impl<P: Covered, K: EngineName> Engine<P, K> {
-    /// An engine without seats and history, with this row and an opening whose keys rise; or an error where a growth is
-    /// refused.
+    /// An engine without seats and history, with this protocol, this row and an opening whose keys rise; or an error where
+    /// a growth is refused.
     pub fn new(
         alloc: Global,
         protocol: P,
@@ -45,6 +45,7 @@ impl<P: Covered, K: EngineName> Engine<P, K> {
     ) -> Result<Engine<P, K>, AllocError>
         requires row { row ≡ K.places }
         requires opening { opening.now ≡ K.opening }
+        requires table { P.table protocol ≡ K.table }
         requires is_map { IsMap opening.now }
     {
         let core = Core::new(alloc, protocol, opening, &row)?;
@@ -82,7 +83,7 @@ impl<P: Covered, K: EngineName> Engine<P, K> {
     /// - `Place`, before anything else: a share doesn't fit the engine. Never where there are no shares.
     /// - `Memory`: a growth was refused.
     pub fn close(&mut self, shares: &[Share<K>]) -> Result<History, CloseFault>
-        ensures closed { IfOk result (λ h. IsClosed P.table K.opening h shares.now) }
+        ensures closed { IfOk result (λ h. IsClosed K.table K.opening h shares.now) }
         ensures place { result ≡ Err close_fault.Place → shares.now ≢ [] }
     {
         let core = self.core.get_mut();
@@ -113,7 +114,7 @@ impl<P: Covered, K: EngineName> Engine<P, K> {
         ensures ok { OnOk result (hand.new ≡ record hand.old { speaks = Some txn }) }
         ensures err { OnErr result (hand.new ≡ hand.old) }
         ensures faults { IfErr result (λ f. f ≢ fault.PlaceTaken → is_of_begin f ≡ true) }
-        ensures only_open { result ≡ Err fault.Open → IsOpen P.table K.opening hand.old }
+        ensures only_open { result ≡ Err fault.Open → IsOpen K.table K.opening hand.old }
     {
         let mut core = self.core.lock(rt);
         if !core.fits(hand) {
@@ -134,13 +135,13 @@ impl<P: Covered, K: EngineName> Engine<P, K> {
     fn attempt<R: Wait>(&self, rt: &R, hand: &mut Hand<K>, op: Op) -> Result<Receipt, EngineFault>
         ensures seat { (hand.new.seat ≡ hand.old.seat) × (hand.new.speaks ≡ hand.old.speaks) }
         ensures begins { IsPrefix hand.old.view hand.new.view }
-        ensures done { IfOk result (λ r. Shows P.table K.opening hand.old hand.new op r) }
-        ensures fault { IfErr result (λ f. SeesFault P.table K.opening hand.old hand.new op f) }
+        ensures done { IfOk result (λ r. Shows K.table K.opening hand.old hand.new op r) }
+        ensures fault { IfErr result (λ f. SeesFault K.table K.opening hand.old hand.new op f) }
         ensures faults { IfErr result (λ f. is_of_try f ≡ true) }
         ensures unbegun { hand.old.speaks ≡ None → result ≡ Err fault.NotBegun }
         ensures only_unbegun { IfErr result (λ f. is_unbegun f ≡ true → hand.old.speaks ≡ None) }
         ensures only_full { result ≡ Err fault.RowFull → ends op ≡ false }
-        ensures memory { result ≡ Err fault.Memory → ends op ≡ true → IsIdle P.table K.opening hand.old }
+        ensures memory { result ≡ Err fault.Memory → ends op ≡ true → IsIdle K.table K.opening hand.old }
     {
         let mut core = self.core.lock(rt);
         let result = core.serve(&self.row, hand, op);
@@ -154,13 +155,13 @@ impl<P: Covered, K: EngineName> Engine<P, K> {
     fn attend<R: Wait>(&self, rt: &R, hand: &mut Hand<K>, op: Op) -> Result<Receipt, EngineFault>
         ensures seat { (hand.new.seat ≡ hand.old.seat) × (hand.new.speaks ≡ hand.old.speaks) }
         ensures begins { IsPrefix hand.old.view hand.new.view }
-        ensures done { IfOk result (λ r. Shows P.table K.opening hand.old hand.new op r) }
-        ensures fault { IfErr result (λ f. ToldFault P.table K.opening hand.old hand.new op f) }
+        ensures done { IfOk result (λ r. Shows K.table K.opening hand.old hand.new op r) }
+        ensures fault { IfErr result (λ f. ToldFault K.table K.opening hand.old hand.new op f) }
         ensures faults { IfErr result (λ f. is_of_call f ≡ true) }
         ensures unbegun { hand.old.speaks ≡ None → result ≡ Err fault.NotBegun }
         ensures only_unbegun { IfErr result (λ f. is_unbegun f ≡ true → hand.old.speaks ≡ None) }
         ensures only_full { result ≡ Err fault.RowFull → ends op ≡ false }
-        ensures memory { result ≡ Err fault.Memory → ends op ≡ true → IsIdle P.table K.opening hand.old }
+        ensures memory { result ≡ Err fault.Memory → ends op ≡ true → IsIdle K.table K.opening hand.old }
         ensures free { IfErr result (λ f. is_blocked f ≡ false) }
     {
         let mut core = self.core.lock(rt);
@@ -214,7 +215,7 @@ impl<'a, P: Covered, K: EngineName> Seat<'a, P, K> {
         ensures ok { OnOk result (self.new ≡ record self.old { speaks = Some txn }) }
         ensures err { OnErr result (self.new ≡ self.old) }
         ensures faults { IfErr result (λ f. f ≢ fault.PlaceTaken → is_of_begin f ≡ true) }
-        ensures only_open { result ≡ Err fault.Open → IsOpen P.table K.opening self.old }
+        ensures only_open { result ≡ Err fault.Open → IsOpen K.table K.opening self.old }
     {
         let engine = self.engine;
         engine.begin(rt, &mut self.hand, txn)
@@ -233,13 +234,13 @@ impl<'a, P: Covered, K: EngineName> Seat<'a, P, K> {
     pub fn try_call<R: Wait>(&mut self, rt: &R, op: Op) -> Result<Receipt, EngineFault>
         ensures seat { (self.new.seat ≡ self.old.seat) × (self.new.speaks ≡ self.old.speaks) }
         ensures begins { IsPrefix self.old.view self.new.view }
-        ensures done { IfOk result (λ r. Shows P.table K.opening self.old self.new op r) }
-        ensures fault { IfErr result (λ f. SeesFault P.table K.opening self.old self.new op f) }
+        ensures done { IfOk result (λ r. Shows K.table K.opening self.old self.new op r) }
+        ensures fault { IfErr result (λ f. SeesFault K.table K.opening self.old self.new op f) }
         ensures faults { IfErr result (λ f. is_of_try f ≡ true) }
         ensures unbegun { self.old.speaks ≡ None → result ≡ Err fault.NotBegun }
         ensures only_unbegun { IfErr result (λ f. is_unbegun f ≡ true → self.old.speaks ≡ None) }
         ensures only_full { result ≡ Err fault.RowFull → ends op ≡ false }
-        ensures memory { result ≡ Err fault.Memory → ends op ≡ true → IsIdle P.table K.opening self.old }
+        ensures memory { result ≡ Err fault.Memory → ends op ≡ true → IsIdle K.table K.opening self.old }
     {
         let engine = self.engine;
         engine.attempt(rt, &mut self.hand, op)
@@ -251,13 +252,13 @@ impl<'a, P: Covered, K: EngineName> Seat<'a, P, K> {
     pub fn call<R: Wait>(&mut self, rt: &R, op: Op) -> Result<Receipt, EngineFault>
         ensures seat { (self.new.seat ≡ self.old.seat) × (self.new.speaks ≡ self.old.speaks) }
         ensures begins { IsPrefix self.old.view self.new.view }
-        ensures done { IfOk result (λ r. Shows P.table K.opening self.old self.new op r) }
-        ensures fault { IfErr result (λ f. ToldFault P.table K.opening self.old self.new op f) }
+        ensures done { IfOk result (λ r. Shows K.table K.opening self.old self.new op r) }
+        ensures fault { IfErr result (λ f. ToldFault K.table K.opening self.old self.new op f) }
         ensures faults { IfErr result (λ f. is_of_call f ≡ true) }
         ensures unbegun { self.old.speaks ≡ None → result ≡ Err fault.NotBegun }
         ensures only_unbegun { IfErr result (λ f. is_unbegun f ≡ true → self.old.speaks ≡ None) }
         ensures only_full { result ≡ Err fault.RowFull → ends op ≡ false }
-        ensures memory { result ≡ Err fault.Memory → ends op ≡ true → IsIdle P.table K.opening self.old }
+        ensures memory { result ≡ Err fault.Memory → ends op ≡ true → IsIdle K.table K.opening self.old }
         ensures free { IfErr result (λ f. is_blocked f ≡ false) }
     {
         let engine = self.engine;

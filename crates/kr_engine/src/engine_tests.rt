@@ -1,6 +1,7 @@
 //! Rows of calls of an engine's seats, each with its answer, and a watch beside a hold. Memory is ample.
 ghost use Rattle.std.specs.Prelude.{◌≡◌};
 ghost use Rattle.kr_model.specs.Map.{IsMap};
+ghost use Rattle.kr_model.specs.Kvl.{kvl};
 
 use crate::tests::{Short, of_fault, of_receipt};
 use crate::{Engine, EngineFault, EngineName, Op, PlaceRow, Receipt, Reply, Seat, Txn, Watch};
@@ -87,6 +88,7 @@ fn has_answers<K: EngineName, R: Wait>(
 ) -> Result<bool, AllocError>
     requires row { row ≡ K.places }
     requires opening { opening.now ≡ K.opening }
+    requires table { kvl ≡ K.table }
     requires is_map { IsMap opening.now }
 {
     let engine = Engine::<Kvl, K>::new(alloc, Kvl, opening, row)?;
@@ -188,6 +190,7 @@ fn inserts<K: EngineName, R: Wait>(
 ) -> Result<bool, AllocError>
     requires row { row ≡ K.places }
     requires opening { opening.now ≡ K.opening }
+    requires table { kvl ≡ K.table }
     requires is_map { IsMap opening.now }
 {
     let engine = Engine::<Kvl, K>::new(alloc, Kvl, opening, row)?;
@@ -240,6 +243,7 @@ fn crowds<K: EngineName, R: Wait>(
 ) -> Result<bool, AllocError>
     requires row { row ≡ K.places }
     requires opening { opening.now ≡ K.opening }
+    requires table { kvl ≡ K.table }
     requires is_map { IsMap opening.now }
 {
     let engine = Engine::<Kvl, K>::new(alloc, Kvl, opening, row)?;
@@ -269,6 +273,7 @@ fn steps<K: EngineName, R: Wait>(
 ) -> Result<bool, AllocError>
     requires row { row ≡ K.places }
     requires opening { opening.now ≡ K.opening }
+    requires table { kvl ≡ K.table }
     requires is_map { IsMap opening.now }
 {
     let engine = Engine::<Kvl, K>::new(alloc, Kvl, opening, row)?;
@@ -334,6 +339,7 @@ fn reads_beside<K: EngineName + Send + Sync, R: Threads + Wait + Sync>(
 ) -> Result<bool, AllocError>
     requires row { row ≡ K.places }
     requires opening { opening.now ≡ K.opening }
+    requires table { kvl ≡ K.table }
     requires is_map { IsMap opening.now }
 {
     let engine = Engine::<Kvl, K>::new(alloc, Kvl, opening, row)?;

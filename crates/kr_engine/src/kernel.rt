@@ -61,12 +61,12 @@ impl<P: Covered, K: EngineName> Model for Core<P, K> {
 
     ghost view = { λ c. record { protocol = c.machine.protocol; state = c.machine.state; entries = c.history; numbers = begun_by c.numbers; seats = c.seats.items; kept = c.kept; waiting = c.waiting.items } };
 
-    ghost invariant = { λ c. IsCore (P.table c.machine.protocol) K.opening K.places c.machine.pending c.machine.state c.history c.numbers c.seats.items c.kept };
+    ghost invariant = { λ c. IsCore K.table K.opening K.places (P.table c.machine.protocol) c.machine.pending c.machine.state c.history c.numbers c.seats.items c.kept };
 }
 
 impl<P: Covered, K: EngineName> Core<P, K> {
-    /// A core without seats and history, for this row and an opening whose keys rise; or an error where a growth is
-    /// refused.
+    /// A core without seats and history, for this protocol, this row and an opening whose keys rise; or an error where a
+    /// growth is refused.
     pub fn new(
         alloc: Global,
         protocol: P,
@@ -75,6 +75,7 @@ impl<P: Covered, K: EngineName> Core<P, K> {
     ) -> Result<Core<P, K>, AllocError>
         requires row { row.now ≡ K.places }
         requires opening { opening.now ≡ K.opening }
+        requires table { P.table protocol ≡ K.table }
         requires is_map { IsMap opening.now }
         ensures { IfOk result (λ c. c ≡ record { protocol = protocol; state = start opening.now; entries = []; numbers = []; seats = []; kept = 0; waiting = [] }) }
     {
@@ -91,12 +92,14 @@ impl<P: Covered, K: EngineName> Core<P, K> {
         })
     }
 
-    /// What holds of every core. The used places are a run of granted steps from the opening map, and the machine is where
-    /// it ends; all entries of one transaction are of one seat, and each seat's count is the number of its entries; the
-    /// main theorem holds of the run, so the transactions that committed are serial in commit order; and one place is kept
-    /// for each number whose transaction hasn't ended, with room for all of them in the row.
+    /// What holds of every core. Its protocol's table is the engine's; the used places are a run of granted steps under it
+    /// from the opening map, and the machine is where it ends; all entries of one transaction are of one seat, and each
+    /// seat's count is the number of its entries; the main theorem holds of the run, so the transactions that committed are
+    /// serial in commit order; and one place is kept for each number whose transaction hasn't ended, with room for all of
+    /// them in the row.
     pub fn law(&self)
-        ensures run { IsHistory (P.table self.now.protocol) K.opening self.now.entries self.now.state }
+        ensures table { P.table self.now.protocol ≡ K.table }
+        ensures run { IsHistory K.table K.opening self.now.entries self.now.state }
         ensures one_seat { AreOfOneSeat self.now.entries }
         ensures counts { CountsAre self.now.seats self.now.entries }
         ensures serial { IsSerialHistory K.opening self.now.entries self.now.state }

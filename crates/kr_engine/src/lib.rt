@@ -13,8 +13,6 @@ mod kernel;
 mod numbers;
 mod seat;
 #[cfg(test)]
-mod soak_tests;
-#[cfg(test)]
 mod tests;
 mod waits;
 mod writes;

@@ -71,13 +71,13 @@ impl<P: Covered, K: EngineName> Core<P, K> {
         requires row { row.now ≡ K.places }
         ensures seat { (hand.new.seat ≡ hand.old.seat) × (hand.new.speaks ≡ hand.old.speaks) }
         ensures begins { IsPrefix hand.old.view hand.new.view }
-        ensures done { IfOk result (λ r. Shows P.table K.opening hand.old hand.new op r) }
-        ensures fault { IfErr result (λ f. SeesFault P.table K.opening hand.old hand.new op f) }
+        ensures done { IfOk result (λ r. Shows K.table K.opening hand.old hand.new op r) }
+        ensures fault { IfErr result (λ f. SeesFault K.table K.opening hand.old hand.new op f) }
         ensures faults { IfErr result (λ f. is_of_try f ≡ true) }
         ensures unbegun { hand.old.speaks ≡ None → result ≡ Err fault.NotBegun }
         ensures only_unbegun { IfErr result (λ f. is_unbegun f ≡ true → hand.old.speaks ≡ None) }
         ensures only_full { result ≡ Err fault.RowFull → ends op ≡ false }
-        ensures memory { result ≡ Err fault.Memory → ends op ≡ true → IsIdle P.table K.opening hand.old }
+        ensures memory { result ≡ Err fault.Memory → ends op ≡ true → IsIdle K.table K.opening hand.old }
         ensures seen { IfErr result (λ f. is_refusal f ≡ true → hand.new.view ≡ self.new.entries) }
     {
         let Some(txn) = hand.speaks else {
@@ -120,13 +120,13 @@ impl<P: Covered, K: EngineName> Core<P, K> {
         requires row { row.now ≡ K.places }
         ensures seat { (hand.new.seat ≡ hand.old.seat) × (hand.new.speaks ≡ hand.old.speaks) }
         ensures begins { IsPrefix hand.old.view hand.new.view }
-        ensures done { IfOk result (λ r. Shows P.table K.opening hand.old hand.new op r) }
-        ensures fault { IfErr result (λ f. ToldFault P.table K.opening hand.old hand.new op f) }
+        ensures done { IfOk result (λ r. Shows K.table K.opening hand.old hand.new op r) }
+        ensures fault { IfErr result (λ f. ToldFault K.table K.opening hand.old hand.new op f) }
         ensures faults { IfErr result (λ f. is_of_call f ≡ true) }
         ensures unbegun { hand.old.speaks ≡ None → result ≡ Err fault.NotBegun }
         ensures only_unbegun { IfErr result (λ f. is_unbegun f ≡ true → hand.old.speaks ≡ None) }
         ensures only_full { result ≡ Err fault.RowFull → ends op ≡ false }
-        ensures memory { result ≡ Err fault.Memory → ends op ≡ true → IsIdle P.table K.opening hand.old }
+        ensures memory { result ≡ Err fault.Memory → ends op ≡ true → IsIdle K.table K.opening hand.old }
         ensures noted { IfErr result (λ f. is_blocked f ≡ true → IsNoted self.new.waiting hand.old.speaks op) }
     {
         let Some(txn) = hand.speaks else {
@@ -173,7 +173,7 @@ impl<P: Covered, K: EngineName> Core<P, K> {
         requires { length view.old ≤ length self.now.entries }
         ensures begins { IsPrefix view.old view.new }
         ensures all { view.new ≡ self.now.entries }
-        ensures run { IsHistory (P.table self.now.protocol) K.opening self.now.entries self.now.state }
+        ensures run { IsHistory K.table K.opening self.now.entries self.now.state }
     {
         view.learn(&self.history);
     }

@@ -1,5 +1,6 @@
 //! Rows of calls of a core, each with its answer: every call is there, and memory is ample.
 ghost use Rattle.std.specs.Prelude.{◌≡◌, []};
+ghost use Rattle.kr_model.specs.Kvl.{kvl};
 
 use crate::seat::Hand;
 use crate::{CloseFault, Core, EngineFault, EngineName, Op, PlaceRow, Receipt, Reply, Share, Txn};
@@ -209,6 +210,7 @@ fn has_answers<K: EngineName>(
 ) -> Result<bool, Fail>
     requires row { row.now ≡ K.places }
     requires opening { opening.now ≡ K.opening }
+    requires table { kvl ≡ K.table }
     requires empty { opening.now ≡ [] }
 {
     let mut core = Core::<Kvl, K>::new(alloc, Kvl, opening, row)?;

@@ -16,6 +16,7 @@ invariant_of-self g c =
     let never : was_begun (begun_by ns) c.args.txn ≡ false = sym c.has.ensures ∙ c.if-has.false in
     let seat : c.args.seat < length c.self.inside.seats.items = rw (ap (λ (v : _). length v.seats) c.self.view_is) c.requires.seat in
     record {
+      table = i.table;
       at_rest = i.at_rest;
       is_map = i.is_map;
       history = i.history;

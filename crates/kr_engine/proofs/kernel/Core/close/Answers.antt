@@ -13,9 +13,8 @@ returns-in-Ok-clause-closed g c =
     let core = c.args.self.now in
     let law = c.law.ensures in
     record {
-      protocol = core.protocol;
       state = core.state;
-      run = subst (λ (es : List Entry). IsHistory (g.P.Protocol.table core.protocol) g.K.EngineName.opening es core.state) (sym h.entries) law.run;
+      run = subst (λ (es : List Entry). IsHistory g.K.EngineName.table g.K.EngineName.opening es core.state) (sym h.entries) law.run;
       index = h.index;
       unfinished = h.unfinished;
       counts = subst (λ (es : List Entry). CountsAre c.in-Ok.history.seats.items es) (sym h.entries) (subst (λ (ns : List SeatNote). CountsAre ns core.entries) (sym h.seats) law.counts);

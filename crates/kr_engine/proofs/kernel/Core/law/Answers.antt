@@ -1,4 +1,6 @@
 use Rattle.std.proofs.Common.{◌≡◌, ◌≤◌, ◌+◌, ◌∙◌, length, subst}
+use Rattle.kr_model.specs.Protocol.{IsLawful}
+use Rattle.kr_model.specs.Covers.{IsCovered}
 use Rattle.kr_engine.specs.Histories.{IsHistory, AreOfOneSeat, IsSerialHistory}
 use Rattle.kr_engine.specs.Cores.{CountsAre, unended}
 use Rattle.kr_engine.proofs.Ended.{kept_unended}
@@ -10,11 +12,12 @@ returns g c =
     let i = c.self.invariant in
     let p = c.self.inside.machine.protocol in
     record {
-      run = subst (λ v. IsHistory (g.P.Protocol.table v.protocol) g.K.EngineName.opening v.entries v.state) c.self.view_is i.history;
+      table = subst (λ v. g.P.Protocol.table v.protocol ≡ g.K.EngineName.table) c.self.view_is i.table;
+      run = subst (λ v. IsHistory g.K.EngineName.table g.K.EngineName.opening v.entries v.state) c.self.view_is i.history;
       one_seat = subst (λ v. AreOfOneSeat v.entries) c.self.view_is (of_one_seat c.self.inside.numbers c.self.inside.history c.law.ensures i.begun);
       counts = subst (λ v. CountsAre v.seats v.entries) c.self.view_is i.counts;
       kept = subst (λ v. v.kept ≡ unended v.state v.numbers) c.self.view_is (i.kept_is ∙ kept_unended c.self.inside.machine.state c.self.inside.numbers i.ends);
       room = subst (λ v. length v.entries + v.kept ≤ length g.K.EngineName.places) c.self.view_is i.room;
       serial = subst (λ v. IsSerialHistory g.K.EngineName.opening v.entries v.state) c.self.view_is
-          (serial_history (g.P.Protocol.table p) (g.met.P.Protocol.lawful p) (g.met.P.Covered.covered p) g.K.EngineName.opening c.self.inside.history c.self.inside.machine.state i.is_map i.history);
+          (serial_history g.K.EngineName.table (subst IsLawful i.table (g.met.P.Protocol.lawful p)) (subst IsCovered i.table (g.met.P.Covered.covered p)) g.K.EngineName.opening c.self.inside.history c.self.inside.machine.state i.is_map i.history);
     }

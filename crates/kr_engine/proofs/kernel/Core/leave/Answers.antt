@@ -7,6 +7,7 @@ invariant_of-self g c =
     let i = c.self.invariant in
     let seat : c.args.seat < length c.self.inside.seats.items = rw (ap (λ (v : _). length v.seats) c.self.view_is) c.requires in
     record {
+      table = i.table;
       at_rest = i.at_rest;
       is_map = i.is_map;
       history = i.history;

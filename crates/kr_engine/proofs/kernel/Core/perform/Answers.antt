@@ -1,6 +1,7 @@
 use Rattle.std.proofs.Common.{◌≡◌, ◌+◌, ◌<◌, ◌≤◌, ◌++◌, ◌∷◌, [], length, ℕ, List, true, All, sym, ap, ◌∙◌, subst, arith, refl, length-append, ⊎_elim}
 use Rattle.std.proofs.lemmas.List.Elements.{All-push}
 use Rattle.std.specs.Prelude.{slice_set}
+use Rattle.kr_model.specs.Protocol.{Protocol}
 use Rattle.kr_model.specs.State.{State}
 use Rattle.kr_engine.specs.declared.kernel.SeatNote.{SeatNote}
 use Rattle.kr_model.specs.Step.{step}
@@ -35,7 +36,7 @@ invariant_of-self-2 g c =
     let p = g.P.Protocol.table in
     let e : Entry = entry c.args.seat (event c.args.txn c.args.op) c.in-Ok.done.0 in
     let es = c.self.inside.history in
-    let after : State = (step (p old.protocol) old.state c.args.txn c.args.op).1 in
+    let after : State = (step g.K.EngineName.table old.state c.args.txn c.args.op).1 in
     let more : c.add.new.self ≡ es ++ e ∷ [] = some_has (λ (x : Entry). c.add.new.self ≡ es ++ x ∷ []) c.in-Ok.done.1.known e s.note.1 c.add.ensures in
     let seat : c.args.seat < length c.self.inside.seats.items = rw (ap (λ (v : _). length v.seats) c.self.view_is) c.requires.seat in
     let longer : length c.add.new.self ≡ length es + 1 = ap (λ (l : List Entry). length l) more ∙ length-append es (e ∷ []) in
@@ -43,6 +44,7 @@ invariant_of-self-2 g c =
     let granted : is_granted (step (p old.protocol) old.state c.args.txn c.args.op).0 ≡ true = sym (ap is_granted s.reply.0) ∙ s.reply.1 in
     let up : SeatNote = record { count = c.index_mut.result.now.count + 1; last = c.index_mut.result.now.last; left = c.index_mut.result.now.left } in
     record {
+      table = ap p s.protocol ∙ i.table;
       at_rest = s.at_rest;
       is_map = i.is_map;
       begun =
@@ -54,9 +56,9 @@ invariant_of-self-2 g c =
           (ended_after (p old.protocol) old.state new.state c.args.txn c.args.op granted s.state t h);
       ends = s.ends;
       history =
-          subst (λ (x : State). IsHistory (p new.protocol) g.K.EngineName.opening c.add.new.self x) (sym s.state)
-          (subst (λ q. IsHistory (p q) g.K.EngineName.opening c.add.new.self after) (sym s.protocol)
-          (subst (λ (l : List Entry). IsHistory (p old.protocol) g.K.EngineName.opening l after) (sym more) (history_more (p old.protocol) g.K.EngineName.opening es old.state e i.history s.reply.0 s.reply.1)));
+          subst (λ (x : State). IsHistory g.K.EngineName.table g.K.EngineName.opening c.add.new.self x) (sym (s.state ∙ ap (λ (q : Protocol). (step q old.state c.args.txn c.args.op).1) i.table))
+          (subst (λ (l : List Entry). IsHistory g.K.EngineName.table g.K.EngineName.opening l after) (sym more)
+          (history_more g.K.EngineName.table g.K.EngineName.opening es old.state e i.history (s.reply.0 ∙ ap (λ (q : Protocol). (step q old.state c.args.txn c.args.op).0) i.table) s.reply.1));
       counts = subst (λ (l : List Entry). CountsAre (slice_set c.self.inside.seats.items c.args.seat up) l) (sym more) (counts_more c.self.inside.seats.items es e c.args.seat c.index_mut.result.now up i.counts refl seat c.index_mut.ensures.value refl);
       kept_is = omega (arith, c.kept_after-self-inside.ensures, s.freed.0, i.kept_is);
       room = omega (arith, c.kept_after-self-inside.ensures, s.freed.0, s.freed.1, i.kept_is, longer, c.len-place.ensures.length, ap (λ (l : List ℕ). length l) c.requires.row);

@@ -35,4 +35,4 @@ returns-in-Ok-clause-done g c =
     let core = c.perform-result.new.self in
     let more : core.entries ≡ c.args.self.now.entries ++ entry c.args.hand.now.seat (event c.in-Some.txn c.args.op) c.in-Ok.receipt.reply ∷ [] = s.entry ∙ (λ i. c.args.self.now.entries ++ entry (seat i) (event c.in-Some.txn c.args.op) c.in-Ok.receipt.reply ∷ []) in
     let begins : IsPrefix c.args.hand.now.view core.entries = subst (λ (x : List Entry × List Entry). IsPrefix x.0 x.1) (λ i. (view i, c.teach.ensures.all i)) c.teach.ensures.begins in
-    shows g.P.Protocol.table g.K.EngineName.opening core.protocol core.state c.args.hand.now new c.args.op c.in-Ok.receipt c.in-Some.txn c.args.self.now.entries core.entries c.teach.ensures.run speaks more s.receipt.1 s.receipt.0 f.0 begins c.teach.ensures.all others f.2
+    shows g.K.EngineName.table g.K.EngineName.opening core.state c.args.hand.now new c.args.op c.in-Ok.receipt c.in-Some.txn c.args.self.now.entries core.entries c.teach.ensures.run speaks more s.receipt.1 s.receipt.0 f.0 begins c.teach.ensures.all others f.2
