@@ -6,4 +6,5 @@ pub mod Steps
 pub mod Faults
 pub mod Reading
 pub mod CheckReport
+pub mod ThreadsReport
 pub mod Tokens

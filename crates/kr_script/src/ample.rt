@@ -2,9 +2,15 @@
 //! numbers, long scripts, and reports of runs, verdicts and checks of each size, each compared with what it is made of.
 ghost use Rattle.std.specs.Prelude.{◌≡◌};
 
-use crate::{Script, read_script, report_check, report_run, report_verdict};
+use crate::{
+    Answered, Script, Threaded, read_script, report_check, report_run, report_threads,
+    report_verdict,
+};
 use kr_cases::FailedCase;
-use kr_model::{Cover, Event, Mode, Op, Origin, Pairs, Place, Reply, Row, Rule, Side, Txn};
+use kr_follows::{Cause, StepFault};
+use kr_model::{
+    Cover, Event, Mode, Op, Origin, Pairs, Place, Refusal, Reply, Row, Rule, Side, Txn, Txns,
+};
 use kr_protocol::Kvl;
 use kr_serial::{Verdict, run_any};
 use std::alloc::{AllocError, Global};
@@ -65,14 +71,13 @@ fn comma(i: usize) -> &'static str {
 
 /// That step as it is written in a script.
 fn step_at(alloc: Global, i: usize) -> Result<String, AllocError> {
-    let comma = comma(i);
     let txn = NUMBERS[i % 3];
     let (word, numbers) = WORDS[i % 7];
     let (key, value) = numbers_at(i);
     match numbers {
-        0 => format!(in alloc; "{comma}[{txn},\"{word}\"]"),
-        1 => format!(in alloc; "{comma}[{txn},\"{word}\",{key}]"),
-        _ => format!(in alloc; "{comma}[{txn},\"{word}\",{key},{value}]"),
+        0 => format!(in alloc; "[{txn},\"{word}\"]"),
+        1 => format!(in alloc; "[{txn},\"{word}\",{key}]"),
+        _ => format!(in alloc; "[{txn},\"{word}\",{key},{value}]"),
     }
 }
 
@@ -91,6 +96,7 @@ fn opening_of(alloc: Global, pairs: usize) -> Result<String, AllocError> {
 fn steps_of(alloc: Global, steps: usize) -> Result<String, AllocError> {
     let mut text = String::new(alloc);
     for i in 0..steps {
+        text.push_str(comma(i))?;
         text.push_str(step_at(alloc, i)?.as_str())?;
     }
     Ok(text)
@@ -225,6 +231,76 @@ fn verdicts_of_each_size(rt: HostRuntime) -> Result<(), Fail> {
             "{count}"
         );
     }
+    Ok(())
+}
+
+/// A step that wasn't done, with boundary numbers: for a deadlock of two, or refused.
+fn fault_at(alloc: Global, i: usize) -> Result<StepFault, AllocError> {
+    let txn = NUMBERS[i % 3];
+    let cause = if i % 2 == 0 {
+        Cause::Deadlock(Txns::from_vec(vec![in alloc; txn, 8]?))
+    } else {
+        Cause::Refused(Reply::Refused(Refusal::Busy))
+    };
+    Ok(StepFault {
+        txn,
+        step: KEYS[i % 4],
+        op: event_at(i).op,
+        cause,
+    })
+}
+
+/// That step as it is printed.
+fn missed_at(alloc: Global, i: usize) -> Result<String, AllocError> {
+    let (comma, txn, step) = (comma(i), NUMBERS[i % 3], KEYS[i % 4]);
+    if i % 2 == 0 {
+        format!(in alloc; "{comma}[{txn},{step},[\"deadlock\",[{txn},8]]]")
+    } else {
+        format!(in alloc; "{comma}[{txn},{step},[\"refused\",2,\"Busy\"]]")
+    }
+}
+
+/// A run in several threads, with so many steps that were done and as many that weren't.
+fn threaded(alloc: Global, count: usize) -> Result<Threaded, AllocError> {
+    let mut history = Vec::new(alloc);
+    let mut faults = Vec::new(alloc);
+    for i in 0..count {
+        history.push(Answered {
+            event: event_at(i),
+            reply: Reply::Found(KEYS[i % 4]),
+        })?;
+        faults.push(fault_at(alloc, i)?)?;
+    }
+    Ok(Threaded {
+        history,
+        ran: run_any(alloc, &Kvl, &[(7, 0)], &[])?,
+        faults,
+    })
+}
+
+/// Whether the report of that run is this.
+fn is_threaded(alloc: Global, count: usize) -> Result<bool, AllocError> {
+    let mut history = String::new(alloc);
+    let mut faults = String::new(alloc);
+    for i in 0..count {
+        let (comma, step, value) = (comma(i), step_at(alloc, i)?, KEYS[i % 4]);
+        let done = format!(in alloc; "{comma}[{step},[\"found\",{value}]]")?;
+        history.push_str(done.as_str())?;
+        faults.push_str(missed_at(alloc, i)?.as_str())?;
+    }
+    let text = report_threads(alloc, &threaded(alloc, count)?, &Verdict::Serial)?;
+    let wanted = format!(in alloc;
+        "{{\"faults\":[{faults}],\"history\":[{history}],\"index\":[[7,0]],\"unfinished\":[],\"verdict\":[\"serial\"]}}"
+    )?;
+    Ok(text.as_str() == wanted.as_str())
+}
+
+#[test]
+fn runs_in_threads_of_each_size(rt: HostRuntime) -> Result<(), Fail> {
+    for count in 0..100 {
+        assert!(rt; is_threaded(rt.alloc(), count)?, "{count}");
+    }
+    assert!(rt; is_threaded(rt.alloc(), 400)?);
     Ok(())
 }
 

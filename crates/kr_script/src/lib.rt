@@ -1,4 +1,4 @@
-//! Scripts of transactions' steps: read from JSON, and the reports of their run and of checks, printed on a sink.
+//! Scripts of transactions' steps: read from JSON, and the reports of their runs and of checks, printed on a sink.
 #![tactic(auto)]
 
 #[cfg(test)]
@@ -12,6 +12,8 @@ mod reports;
 mod script;
 mod sink;
 mod steps;
+mod threaded;
+mod threads_reports;
 mod writing;
 
 pub use check_reports::report_check;
@@ -21,3 +23,5 @@ pub use reports::{report_run, report_verdict};
 pub use script::Script;
 pub use sink::{Failed, Io, PrintFault, Sink, print, put_all};
 pub use steps::one_step_for_each_event;
+pub use threaded::{Answered, Threaded};
+pub use threads_reports::report_threads;

@@ -1,22 +1,23 @@
 //! Parts of reports, each written behind what a text has.
-ghost use Rattle.std.specs.Prelude.{◌≡◌, ◌++◌, ◌∷◌, [], codes, decimal, IfOk, OnOk, string_bytes};
+ghost use Rattle.std.specs.Prelude.{◌≡◌, ◌++◌, ◌∷◌, [], true, codes, decimal, IfOk, OnOk, string_bytes};
 ghost use Rattle.serde_json.specs.Data.{string};
-ghost use Rattle.serde_json.specs.Written.{comma_if, compact_text};
+ghost use Rattle.serde_json.specs.Written.{comma_if, compact_text, items_text};
 ghost use Rattle.kr_model.specs.declared.Reply.TheVariants as reply;
 ghost use Rattle.kr_model.specs.ModeNames.{name_of};
 ghost use Rattle.kr_model.specs.Difference.{refusal_number};
+ghost use Rattle.kr_script.specs.Steps.{items_of_op, step_of};
 ghost use Rattle.kr_script.specs.Report.{numbers_data, pair_data, pairs_data, refusal_name, reply_data, replies_data, name_data, locks_data, verdict_data};
 
 use crate::reports::mode_name;
 use itoa::Buffer;
-use kr_model::{Mode, Name, Refusal, Reply, Txn};
+use kr_model::{Event, Mode, Name, Op, Refusal, Reply, Txn};
 use kr_protocol::Protocol;
 use kr_serial::Verdict;
 use serde_json::Value;
 use std::alloc::{AllocError, Global};
 
 /// The comma before what isn't the first element.
-fn separator(later: bool) -> &'static str
+pub fn separator(later: bool) -> &'static str
     ensures { result.now ≡ comma_if later }
 {
     if later { "," } else { "" }
@@ -75,6 +76,20 @@ fn write_with_number(out: &mut String, beginning: &str, number: u64) -> Result<(
     out.push_str("]")
 }
 
+/// Writes the beginning of an array, an array of transactions' numbers and the closing bracket.
+pub fn write_with_numbers(
+    out: &mut String,
+    beginning: &str,
+    numbers: &[Txn],
+) -> Result<(), AllocError>
+    ensures { OnOk result (string_bytes out.new
+        ≡ string_bytes out.old ++ (beginning.now ++ (compact_text (numbers_data numbers.now) ++ codes "]"))) }
+{
+    out.push_str(beginning)?;
+    write_numbers(out, numbers)?;
+    out.push_str("]")
+}
+
 fn number_of(refusal: Refusal) -> u64
     ensures { result ≡ refusal_number refusal }
 {
@@ -114,8 +129,9 @@ fn write_refusal(out: &mut String, refusal: Refusal) -> Result<(), AllocError>
     out.push_str("]")
 }
 
+/// Writes a reply.
 #[tactic(auto, unfolding(serde_json::proofs::OnLiterals::serde_json_on_literals))]
-fn write_reply(out: &mut String, reply: &Reply) -> Result<(), AllocError>
+pub fn write_reply(out: &mut String, reply: &Reply) -> Result<(), AllocError>
     ensures { OnOk result (string_bytes out.new ≡ string_bytes out.old ++ compact_text (reply_data reply.now)) }
 {
     match reply {
@@ -133,11 +149,7 @@ fn write_reply(out: &mut String, reply: &Reply) -> Result<(), AllocError>
         Reply::Absent => out.push_str(r#"["absent"]"#),
         Reply::Committed => out.push_str(r#"["committed"]"#),
         Reply::Aborted => out.push_str(r#"["aborted"]"#),
-        Reply::Blocked(txns) => {
-            out.push_str(r#"["blocked","#)?;
-            write_numbers(out, txns.as_slice())?;
-            out.push_str("]")
-        }
+        Reply::Blocked(txns) => write_with_numbers(out, r#"["blocked","#, txns.as_slice()),
         Reply::Refused(refusal) => write_refusal(out, *refusal),
     }
 }
@@ -214,8 +226,9 @@ pub fn write_locks<P: Protocol>(
     out.push_str("]")
 }
 
-/// Writes the beginning of an array, the number of a transaction and that of an operation, and a comma behind each.
-fn write_place(
+/// Writes the beginning of an array, the number of a transaction and that of one of its operations or steps, and a comma
+/// behind each.
+pub fn write_place(
     out: &mut String,
     beginning: &str,
     txn: Txn,
@@ -259,4 +272,46 @@ pub fn write_verdict(out: &mut String, verdict: &Verdict) -> Result<(), AllocErr
             write_both(out, given, serial)
         }
     }
+}
+
+/// Writes the beginning of an array, two numbers with a comma between, and the closing bracket.
+fn write_with_two_numbers(
+    out: &mut String,
+    beginning: &str,
+    first: u64,
+    second: u64,
+) -> Result<(), AllocError>
+    ensures { OnOk result (string_bytes out.new ≡ string_bytes out.old
+        ++ beginning.now ++ decimal first ++ codes "," ++ decimal second ++ codes "]") }
+{
+    out.push_str(beginning)?;
+    write_number(out, first)?;
+    out.push_str(",")?;
+    write_number(out, second)?;
+    out.push_str("]")
+}
+
+/// Writes what stands behind the transaction in a step: the word and the numbers of the operation, and the closing bracket.
+#[tactic(auto, unfolding(serde_json::proofs::OnLiterals::serde_json_on_literals))]
+fn write_op(out: &mut String, op: Op) -> Result<(), AllocError>
+    ensures { OnOk result (string_bytes out.new ≡ string_bytes out.old ++ items_text true (items_of_op op)) }
+{
+    match op {
+        Op::Fetch(key) => write_with_number(out, r#","fetch","#, key),
+        Op::Scan(lo, hi) => write_with_two_numbers(out, r#","scan","#, lo, hi),
+        Op::Go => out.push_str(r#","go"]"#),
+        Op::Insert(key, value) => write_with_two_numbers(out, r#","insert","#, key, value),
+        Op::Delete(key) => write_with_number(out, r#","delete","#, key),
+        Op::Commit => out.push_str(r#","commit"]"#),
+        Op::Abort => out.push_str(r#","abort"]"#),
+    }
+}
+
+/// Writes a step as scripts have it.
+pub fn write_step(out: &mut String, step: Event) -> Result<(), AllocError>
+    ensures { OnOk result (string_bytes out.new ≡ string_bytes out.old ++ compact_text (step_of step)) }
+{
+    out.push_str("[")?;
+    write_number(out, u64::from(step.txn))?;
+    write_op(out, step.op)
 }

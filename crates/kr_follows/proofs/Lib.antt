@@ -1,0 +1,5 @@
+pub mod Hands
+pub mod Firsts
+pub mod FaultPlaces
+pub mod Operations
+pub mod Whole

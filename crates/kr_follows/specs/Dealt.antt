@@ -1,0 +1,65 @@
+-- Operations by their transactions.
+use Rattle.std.specs.Prelude.{◌≡◌, ◌≢◌, ◌↔◌, ◌==◌, ◌<◌, AllPairs, Contains, length, ℕ, not, List, [], ◌∷◌, Option, Some, None, filter, map, if◌then◌else◌, option_map}
+use Rattle.std.specs.BTreeMap.{BTreeMap, get}
+use Rattle.std.specs.Global.{Vec}
+use Rattle.std.specs.Ordering.{nat_cmp}
+use Rattle.kr_model.specs.declared.Event.{Event}
+use Rattle.kr_model.specs.declared.Op.{Op}
+use Rattle.kr_follows.specs.declared.faults.StepFault.{StepFault}
+use Rattle.kr_follows.specs.Follows.{ops_of, op_at, done_from, closed}
+
+-- The transactions that occur, each once, in order of first appearance.
+abbrev pub firsts : List Event → List ℕ
+firsts [] = []
+firsts (e ∷ es) = e.txn ∷ filter (λ t. not (t == e.txn)) (firsts es)
+
+-- Transactions, and operations by their transactions.
+pub record Dealing : Type 0 where
+  pub txns : List ℕ
+  pub hands : List (ℕ × List Op)
+
+-- The operations that stand with a transaction first, or none.
+abbrev pub hand_of : ℕ → List (ℕ × List Op) → List Op
+hand_of t [] = []
+hand_of t (h ∷ hs) = if h.0 == t then h.1 else hand_of t hs
+
+-- The operations of a transaction.
+abbrev pub ops_in : Dealing → ℕ → List Op
+ops_in d t = hand_of t d.hands
+
+-- The events by their transactions: those that occur, each once, in order of first appearance, and the operations of each.
+pub record AreDealt (events : List Event) (d : Dealing) : Type 0 where
+  pub txns : d.txns ≡ firsts events
+  pub occur : (t : ℕ) → Contains d.txns t ↔ (ops_of t events ≢ [])
+  pub each_once : AllPairs (λ t u. t ≢ u) d.txns
+  pub ops : (t : ℕ) → ops_in d t ≡ ops_of t events
+
+-- In a map --
+
+-- The transactions of a map, each with its operations.
+abbrev pub hands_of : BTreeMap ℕ (Vec Op) → List (ℕ × List Op)
+hands_of m = map (λ e. (e.0, e.1.items)) m.entries
+
+-- The operations of a transaction that occurs.
+abbrev pub some_ops : List Op → Option (List Op)
+some_ops [] = None
+some_ops (o ∷ os) = Some (o ∷ os)
+
+-- The transactions in order of first appearance, and the map has the operations of each.
+pub record AreHands (events : List Event) (txns : List ℕ) (hands : BTreeMap ℕ (Vec Op)) : Type 0 where
+  pub firsts_are : txns ≡ firsts events
+  pub each : (t : ℕ) → option_map (λ v. v.items) (get nat_cmp hands t) ≡ some_ops (ops_of t events)
+
+-- Tests --
+
+-- The transaction did what it was to do.
+abbrev pub IsDone : Dealing → List StepFault → Dealing → ℕ → Type 0
+IsDone script faults done t = ops_in done t ≡ closed (done_from faults t 1 (ops_in script t))
+
+-- The transaction has operations.
+abbrev pub IsKnown : Dealing → ℕ → Type 0
+IsKnown script t = 0 < length (ops_in script t)
+
+-- The fault's operation is the one at its number of its transaction's own.
+abbrev pub IsAsked : Dealing → StepFault → Type 0
+IsAsked script f = op_at f.step (ops_in script f.txn) ≡ Some f.op

@@ -1,0 +1,12 @@
+//! What a run of a script in several threads did: the steps that it left out, and whether its history follows the script.
+#![tactic(auto)]
+
+mod dealt;
+mod faults;
+mod following;
+#[cfg(test)]
+mod tests;
+
+pub use dealt::Dealt;
+pub use faults::{Cause, StepFault};
+pub use following::follows;

@@ -1,0 +1,25 @@
+//! What a run of a script in several threads did.
+
+use kr_follows::StepFault;
+use kr_model::{Event, Reply};
+use kr_serial::Ran;
+
+/// A step that was done, and its reply.
+#[derive(Debug, Drop)]
+pub struct Answered {
+    /// The step.
+    pub event: Event,
+    /// What it was answered.
+    pub reply: Reply,
+}
+
+/// A run of a script in several threads. Nothing here says that its parts belong to one run: it is a plain record.
+#[derive(Debug, Drop)]
+pub struct Threaded {
+    /// The steps that were done, with their replies, in the order of their places in the run's history.
+    pub history: Vec<Answered>,
+    /// The run of these steps, in the same order.
+    pub ran: Ran,
+    /// The steps that weren't done, rising by transaction, then by number.
+    pub faults: Vec<StepFault>,
+}
