@@ -1,0 +1,69 @@
+-- What is told of the steps that weren't done.
+use Rattle.std.proofs.Common.{◌≡◌, ℕ, List, [], ◌∷◌, ◌++◌, Some, ap, sym, ◌∙◌, subst, map, append-nil, append_assoc}
+use Rattle.std.proofs.lemmas.List.Elements.{All-weaker, All-push}
+use Rattle.std.proofs.lemmas.List.{map-append}
+use mathlib.Core.List.{IsPrefix}
+use Rattle.kr_model.specs.declared.Op.{Op}
+use Rattle.kr_model.specs.declared.Reply.{Reply}
+use Rattle.kr_model.specs.Protocol.{Protocol}
+use Rattle.kr_model.specs.Map.{Map}
+use Rattle.kr_model.specs.Step.{step}
+use Rattle.kr_waits.specs.Waits.{IsCycle}
+use Rattle.kr_places.specs.declared.name.Entry.{Entry}
+use Rattle.kr_engine.specs.Histories.{event, events_with_replies}
+use Rattle.kr_engine.specs.Waits.{in_the_way, blockers_now}
+use Rattle.kr_engine.specs.Seats.{Held, IsRefused, IsDeadlock}
+use Rattle.kr_follows.specs.declared.faults.Cause.TheVariants.{Deadlock, Refused}
+use Rattle.kr_follows.specs.declared.faults.StepFault.{StepFault}
+use Rattle.kr_threads.specs.Told.{IsTold, AreTold}
+
+some_same : {A : Type 0} (a b : A) → Some a ≡ Some b → a ≡ b
+some_same a b is = cc (is)
+
+prefix_self : {A : Type 0} (xs : List A) → IsPrefix xs xs
+prefix_self xs = ([], append-nil xs)
+
+prefix_more : {A : Type 0} (xs ys zs : List A) → IsPrefix xs ys → IsPrefix ys zs → IsPrefix xs zs
+prefix_more xs ys zs p q = (p.0 ++ q.0, sym (append_assoc xs p.0 q.0) ∙ ap (λ l. l ++ q.0) p.1 ∙ q.1)
+
+prefix_map : {A B : Type 0} (f : A → B) (xs ys : List A) → IsPrefix xs ys → IsPrefix (map f xs) (map f ys)
+prefix_map f xs ys p = (map f p.0, sym (map-append f xs p.0) ∙ ap (map f) p.1)
+
+-- A refusal is told at the end of what the seat then has seen.
+pub told_refused : (p : Protocol) (opening : Map) (old new : Held) (o : Op) (r : Reply) (txn n : ℕ) → old.speaks ≡ Some txn → IsRefused p opening old new o r
+    → IsTold p opening (events_with_replies new.view) (record { txn = txn; step = n; op = o; cause = Refused r })
+told_refused p opening old new o r txn n speaks h = record {
+  before = events_with_replies new.view;
+  state = h.state;
+  begins = prefix_self (events_with_replies new.view);
+  run = h.run.run;
+  cause = (h.reply_is ∙ ap (λ (t : ℕ). (step p h.state t o).0) (some_same h.txn txn (sym h.speaks ∙ speaks)), h.not_granted);
+}
+
+-- So is a deadlock.
+pub told_deadlock : (p : Protocol) (opening : Map) (old new : Held) (o : Op) (cycle : List ℕ) (txn n : ℕ) → old.speaks ≡ Some txn → IsDeadlock p opening old new o cycle
+    → IsTold p opening (events_with_replies new.view) (record { txn = txn; step = n; op = o; cause = Deadlock cycle })
+told_deadlock p opening old new o cycle txn n speaks h = record {
+  before = events_with_replies new.view;
+  state = h.state;
+  begins = prefix_self (events_with_replies new.view);
+  run = h.run.run;
+  cause = (h.waiting, subst (λ (t : ℕ). IsCycle (blockers_now (in_the_way p h.state) (event t o ∷ h.waiting)) t cycle) (some_same h.txn txn (sym h.speaks ∙ speaks)) h.is_cycle);
+}
+
+-- What was told stays told.
+pub told_more : (p : Protocol) (opening : Map) (es es' : List Entry) (f : StepFault) → IsPrefix es es' → IsTold p opening (events_with_replies es) f → IsTold p opening (events_with_replies es') f
+told_more p opening es es' f more t = record {
+  before = t.before;
+  state = t.state;
+  begins = prefix_more t.before (events_with_replies es) (events_with_replies es') t.begins (prefix_map _ es es' more);
+  run = t.run;
+  cause = t.cause;
+}
+
+pub all_told_more : (p : Protocol) (opening : Map) (es es' : List Entry) (fs : List StepFault) → IsPrefix es es' → AreTold p opening es fs → AreTold p opening es' fs
+all_told_more p opening es es' fs more h = All-weaker (IsTold p opening (events_with_replies es)) (IsTold p opening (events_with_replies es')) (λ f t. told_more p opening es es' f more t) fs h
+
+-- One fault more.
+pub all_told_push : (p : Protocol) (opening : Map) (es : List Entry) (fs : List StepFault) (f : StepFault) → AreTold p opening es fs → IsTold p opening (events_with_replies es) f → AreTold p opening es (fs ++ f ∷ [])
+all_told_push p opening es fs f h t = All-push (IsTold p opening (events_with_replies es)) fs f h t

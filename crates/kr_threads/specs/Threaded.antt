@@ -1,0 +1,46 @@
+-- Runs of scripts in several threads.
+use Rattle.std.specs.Prelude.{◌≡◌, true, List, [], map, All}
+use Rattle.kr_model.specs.declared.Event.{Event}
+use Rattle.kr_model.specs.Protocol.{Protocol}
+use Rattle.kr_model.specs.Map.{Map}
+use Rattle.kr_model.specs.State.{State}
+use Rattle.kr_model.specs.Serial.{AreSerial}
+use Rattle.kr_model.specs.Run as model
+use Rattle.kr_places.specs.declared.name.Entry.{Entry}
+use Rattle.kr_serial.specs.declared.ran.Ran.{Ran}
+use Rattle.kr_follows.specs.Follows.{Follows}
+use Rattle.kr_script.specs.declared.threaded.Answered.{Answered}
+use Rattle.kr_script.specs.declared.threaded.Threaded.{Threaded}
+use Rattle.kr_threads.specs.Told.{IsTold}
+
+-- An entry as a step with its reply.
+abbrev pub answered : Entry → Answered
+answered e = record { event = e.event; reply = e.reply }
+
+-- The steps of a history.
+abbrev pub steps_of : List Answered → List Event
+steps_of h = map (λ a. a.event) h
+
+-- Its steps with their replies.
+abbrev pub with_replies : List Answered → List model.Entry
+with_replies h = map (λ a. (a.event, a.reply)) h
+
+-- A run from the opening map with this history, at whose end in this state no transaction is active: the replies are the history's, index and locks are the state's, and the programs are the history's, and serial.
+pub record IsRanOf (opening : Map) (history : List model.Entry) (state : State) (ran : Ran) : Type 0 where
+  pub opening_is : ran.opening ≡ opening
+  pub replies : ran.replies ≡ model.replies_of history
+  pub index : ran.index ≡ state.map
+  pub locks : ran.locks ≡ state.locks
+  pub programs : ran.programs ≡ model.programs history
+  pub unfinished : ran.unfinished ≡ []
+  pub serial : AreSerial ran.opening ran.programs
+
+-- What a run of a script in several threads shows: its history is a run of granted steps under the table from the opening map, and ends in a state with no active transaction. It follows the script's steps, but for the faults. Each fault is told at the end of a beginning of the history. The run that is shown beside it has this history.
+pub record IsThreaded (p : Protocol) (opening : Map) (steps : List Event) (d : Threaded) : Type 0 where
+  pub state : State
+  pub run : model.IsRun p opening (with_replies d.history.items) state
+  pub granted : All (λ a. model.is_granted a.reply ≡ true) d.history.items
+  pub ended : state.active ≡ []
+  pub follows : Follows steps d.faults.items (steps_of d.history.items)
+  pub told : All (IsTold p opening (with_replies d.history.items)) d.faults.items
+  pub ran : IsRanOf opening (with_replies d.history.items) state d.ran

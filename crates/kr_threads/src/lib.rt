@@ -1,0 +1,14 @@
+//! A script's transactions run by several threads over one engine.
+#![tactic(auto)]
+
+mod gate;
+mod history;
+mod run;
+#[cfg(test)]
+mod soak_tests;
+#[cfg(test)]
+mod tests;
+mod work;
+
+pub use gate::{Gate, Passage};
+pub use run::{RunFault, run_threads};

@@ -1,0 +1,239 @@
+//! A run of a script in several threads.
+ghost use Rattle.std.specs.Prelude.{◌≡◌, ◌<◌, ◌≤◌, All, IfOk, OnOk};
+ghost use Rattle.kr_model.specs.Map.{IsMap};
+ghost use Rattle.kr_engine.specs.Closed.{IsClosed};
+ghost use Rattle.kr_threads.specs.Told.{IsToldToOne, IsWorked};
+ghost use Rattle.kr_threads.specs.Threaded.{IsThreaded};
+
+use crate::gate::Gate;
+use crate::history::{answers, events};
+use crate::work::{Report, Worker, work};
+use kr_engine::{CloseFault, Engine, EngineName, Entry, History, NewFault, PlaceRow, Share};
+use kr_follows::{Dealt, StepFault, follows};
+use kr_model::Event;
+use kr_protocol::Covered;
+use kr_script::{Script, Threaded};
+use kr_serial::run;
+use std::alloc::{AllocError, Global};
+use std::marker::Brand;
+use std::sync::Wait;
+use std::thread;
+use std::thread::Threads;
+
+/// Why a run shows nothing.
+#[derive(Debug, Drop)]
+pub enum RunFault {
+    /// A growth was refused.
+    Memory,
+    /// A place refused a write or there were too few, a number was taken, open or not begun, an abort was refused, a share
+    /// doesn't fit the history, a transaction is active at its end, or it doesn't follow the script: only by a fault of the
+    /// engine or of the run.
+    Place,
+}
+
+impl From<AllocError> for RunFault {
+    fn from(_e: AllocError) -> RunFault {
+        RunFault::Memory
+    }
+}
+
+impl From<NewFault> for RunFault {
+    fn from(fault: NewFault) -> RunFault {
+        match fault {
+            NewFault::Memory => RunFault::Memory,
+            NewFault::Places => RunFault::Place,
+        }
+    }
+}
+
+impl From<CloseFault> for RunFault {
+    fn from(fault: CloseFault) -> RunFault {
+        match fault {
+            CloseFault::Memory => RunFault::Memory,
+            CloseFault::Place => RunFault::Place,
+        }
+    }
+}
+
+/// What the workers did: the entries of the history, and the steps that were left out.
+#[derive(Drop)]
+struct Worked {
+    entries: Vec<Entry>,
+    faults: Vec<StepFault>,
+}
+
+/// Runs a script under a covered protocol in as many threads as there are workers, 1 to 64.
+///
+/// The transactions are dealt to the workers in turn, in the order in which they first appear. A worker does its
+/// transactions one after another, the steps of each in script order. A step that is refused is noted as a fault and left
+/// out. At a deadlock the step is noted as a fault, and the rest of its transaction's steps is dropped. A transaction that
+/// is active after that is aborted. The gate stands before and after each call.
+///
+/// It returns where all workers do: a worker waits for the locks of others' transactions, and for the gate.
+///
+/// - `Memory`: a growth was refused, to a worker or after all were done.
+/// - `Place`: the engine answered what it doesn't answer here, or the history isn't that of the script; only by a fault of
+///   the engine or of the run.
+pub fn run_threads<P: Covered + Sync, G: Gate + Sync, R: Threads + Wait + Sync>(
+    rt: &R,
+    alloc: Global,
+    protocol: &P,
+    script: &Script,
+    workers: usize,
+    gate: &G,
+) -> Result<Threaded, RunFault>
+    requires workers { (0 < workers) × (workers ≤ 64) }
+    ensures { IfOk result (λ d. IsThreaded (P.table protocol.now) script.now.opening script.now.steps d) }
+{
+    let steps = script.steps();
+    let opening = script.opening();
+    let dealt = Dealt::new(alloc, steps)?;
+    let places = steps.len() as u64 + dealt.txns().len() as u64 + 1;
+    let row = PlaceRow::new(alloc, places)?;
+    let worked = run_named::<&P, Brand, G, R>(
+        rt, alloc, protocol, opening, row, &dealt, workers, gate,
+    )?;
+    compared(alloc, protocol, opening, steps, worked)
+}
+
+/// The run over an engine that has this row.
+fn run_named<
+    P: Covered + Send,
+    K: EngineName + Send + Sync,
+    G: Gate + Sync,
+    R: Threads + Wait + Sync,
+>(
+    rt: &R,
+    alloc: Global,
+    protocol: P,
+    opening: &[(u64, u64)],
+    row: PlaceRow,
+    dealt: &Dealt,
+    workers: usize,
+    gate: &G,
+) -> Result<Worked, RunFault>
+    requires row { row ≡ K.places }
+    requires opening { opening.now ≡ K.opening }
+    requires table { P.table protocol ≡ K.table }
+    requires is_map { IsMap opening.now }
+    requires workers { 0 < workers }
+    ensures { IfOk result (λ w. IsWorked K.table K.opening w.entries.items w.faults.items) }
+{
+    let mut engine = Engine::<P, K>::new(alloc, protocol, opening, row)?;
+    let jobs = hired(rt, alloc, &engine, workers)?;
+    let reports = thread::map_vec(
+        rt,
+        jobs,
+        &|job: Worker<'_, P, K>| -> Report<K>
+            requires { 0 < workers }
+        { work(rt, dealt, workers, gate, job) },
+    )?;
+    let (shares, faults) = gather(alloc, reports)?;
+    let history = engine.close(&shares)?;
+    finished(history, &shares, faults)
+}
+
+/// As many workers, each with a seat of its own.
+fn hired<'a, P: Covered, K: EngineName, R: Wait>(
+    rt: &R,
+    alloc: Global,
+    engine: &'a Engine<P, K>,
+    workers: usize,
+) -> Result<Vec<Worker<'a, P, K>>, AllocError> {
+    let mut all = Vec::new(alloc);
+    for number in 0..workers {
+        let seat = engine.seat(rt)?;
+        all.push(Worker {
+            number,
+            seat,
+            calls: 0,
+            faults: Vec::new(alloc),
+        })?;
+    }
+    Ok(all)
+}
+
+/// The shares of all workers and their faults, or why the first worker gave up that did.
+fn gather<K: EngineName>(
+    alloc: Global,
+    reports: Vec<Report<K>>,
+) -> Result<(Vec<Share<K>>, Vec<StepFault>), RunFault>
+    ensures { IfOk result (λ r. All (IsToldToOne K.table K.opening r.0.items) r.1.items) }
+{
+    let mut shares = Vec::new(alloc);
+    let mut faults = Vec::new(alloc);
+    for report in reports {
+        add(&mut shares, &mut faults, report)?;
+    }
+    Ok((shares, faults))
+}
+
+/// Adds what one worker hands back.
+#[tactic(auto, using(crate::proofs::Gathered::all_told_both))]
+fn add<K: EngineName>(
+    shares: &mut Vec<Share<K>>,
+    faults: &mut Vec<StepFault>,
+    report: Report<K>,
+) -> Result<(), RunFault>
+    requires { All (IsToldToOne K.table K.opening shares.old.items) faults.old.items }
+    ensures { OnOk result (All (IsToldToOne K.table K.opening shares.new.items) faults.new.items) }
+{
+    let Report {
+        share,
+        faults: mut more,
+        failed,
+    } = report;
+    if let Some(fault) = failed {
+        return Err(fault);
+    }
+    if shares.push(share).is_err() {
+        return Err(RunFault::Memory);
+    }
+    faults.append(&mut more)?;
+    Ok(())
+}
+
+/// The closed history with the faults by transaction, then by number; or `Place` where a transaction is active.
+fn finished<K: EngineName>(
+    history: History,
+    shares: &[Share<K>],
+    faults: Vec<StepFault>,
+) -> Result<Worked, RunFault>
+    requires closed { IsClosed K.table K.opening history shares.now }
+    requires told { All (IsToldToOne K.table K.opening shares.now) faults.items }
+    ensures { IfOk result (λ w. IsWorked K.table K.opening w.entries.items w.faults.items) }
+{
+    if !history.unfinished.as_slice().is_empty() {
+        return Err(RunFault::Place);
+    }
+    let mut faults = faults;
+    faults.sort_unstable_by_key(|f| (f.txn, f.step));
+    let entries = history.entries;
+    Ok(Worked { entries, faults })
+}
+
+/// The history with the run of its steps, compared with the script: `Place` where it doesn't follow it.
+fn compared<P: Covered>(
+    alloc: Global,
+    protocol: &P,
+    opening: &[(u64, u64)],
+    steps: &[Event],
+    worked: Worked,
+) -> Result<Threaded, RunFault>
+    requires is_map { IsMap opening.now }
+    requires worked { IsWorked (P.table protocol.now) opening.now worked.entries.items worked.faults.items }
+    ensures { IfOk result (λ d. IsThreaded (P.table protocol.now) opening.now steps.now d) }
+{
+    let Worked { entries, faults } = worked;
+    let events = events(alloc, &entries)?;
+    if !follows(alloc, steps, &faults, &events)? {
+        return Err(RunFault::Place);
+    }
+    let ran = run(alloc, protocol, opening, &events)?;
+    let history = answers(alloc, entries)?;
+    Ok(Threaded {
+        history,
+        ran,
+        faults,
+    })
+}

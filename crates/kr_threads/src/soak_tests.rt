@@ -1,0 +1,189 @@
+//! Eight threads of a thousand transactions each, on sixteen keys: the closed history is that of one run, and serial.
+ghost use Rattle.std.specs.Prelude.{◌≡◌};
+ghost use Rattle.kr_model.specs.Map.{IsMap};
+ghost use Rattle.kr_model.specs.Kvl.{kvl};
+
+use kr_engine::{
+    Engine, EngineFault, EngineName, Entry, History, Op, PlaceRow, Reply, Seat, Share, Txn,
+};
+use kr_model::Event;
+use kr_protocol::Kvl;
+use kr_serial::{judge, run};
+use std::alloc::{AllocError, Global};
+use std::marker::Brand;
+use std::process::Abort;
+use std::sync::Wait;
+use std::test::Fail;
+use std::thread;
+use std::thread::Threads;
+
+/// The number after this one, in a row that looks random.
+fn next(number: u64) -> u64 {
+    number
+        .wrapping_mul(6_364_136_223_846_793_005)
+        .wrapping_add(1_442_695_040_888_963_407)
+}
+
+/// An operation on one of sixteen keys.
+fn operation_of(number: u64) -> Op {
+    let key = (number >> 33) % 16;
+    match (number >> 40) % 4 {
+        0 => Op::Insert(key, number >> 50),
+        1 => Op::Delete(key),
+        _ => Op::Fetch(key),
+    }
+}
+
+/// Four operations of a transaction and its commit, or an abort where a deadlock is told. Whether each was done.
+fn transact<K: EngineName, R: Wait>(rt: &R, seat: &mut Seat<'_, Kvl, K>, txn: Txn) -> bool {
+    if seat.begin(rt, txn).is_err() {
+        return false;
+    }
+    let mut number = next(txn as u64);
+    for _ in 0..4u32 {
+        number = next(number);
+        match seat.call(rt, operation_of(number)) {
+            Ok(_) => {}
+            Err(EngineFault::Deadlock(_)) => return seat.call(rt, Op::Abort).is_ok(),
+            Err(_) => {
+                // Others would wait for its locks.
+                let _ = seat.call(rt, Op::Abort);
+                return false;
+            }
+        }
+    }
+    seat.call(rt, Op::Commit).is_ok()
+}
+
+/// A seat, and the first of its thousand numbers.
+#[derive(Drop)]
+struct Job<'a, K: EngineName> {
+    first: Txn,
+    seat: Seat<'a, Kvl, K>,
+}
+
+/// A seat's transactions, one after another. Its share, if each was ended.
+fn work<K: EngineName, R: Wait>(rt: &R, job: Job<'_, K>) -> Option<Share<K>> {
+    let Job { first, mut seat } = job;
+    for number in 0..1000u32 {
+        if !transact(rt, &mut seat, first.wrapping_add(number)) {
+            return None;
+        }
+    }
+    Some(seat.leave(rt))
+}
+
+/// Eight seats, with a thousand numbers each.
+fn jobs_of<'a, K: EngineName, R: Wait>(
+    rt: &R,
+    alloc: Global,
+    engine: &'a Engine<Kvl, K>,
+) -> Result<Vec<Job<'a, K>>, AllocError> {
+    let mut jobs = Vec::new(alloc);
+    for worker in 0..8u32 {
+        jobs.push(Job {
+            first: worker * 1000,
+            seat: engine.seat(rt)?,
+        })?;
+    }
+    Ok(jobs)
+}
+
+/// The shares, if all are there.
+fn all_of<K: EngineName>(
+    alloc: Global,
+    shares: Vec<Option<Share<K>>>,
+) -> Result<Option<Vec<Share<K>>>, AllocError> {
+    let mut all = Vec::new(alloc);
+    for share in shares {
+        match share {
+            Some(share) => all.push(share)?,
+            None => return Ok(None),
+        }
+    }
+    Ok(Some(all))
+}
+
+fn events_of(alloc: Global, entries: &[Entry]) -> Result<Vec<Event>, AllocError> {
+    let mut events = Vec::with_capacity(alloc, entries.len())?;
+    for entry in entries {
+        events.push(entry.event)?;
+    }
+    Ok(events)
+}
+
+/// Whether two replies, neither of them a list, are the same.
+fn is_same(one: &Reply, other: &Reply) -> bool {
+    match (one, other) {
+        (Reply::Found(value), Reply::Found(found)) => value == found,
+        (Reply::Deleted(value), Reply::Deleted(deleted)) => value == deleted,
+        (Reply::None, Reply::None)
+        | (Reply::Done, Reply::Done)
+        | (Reply::Duplicate, Reply::Duplicate)
+        | (Reply::Absent, Reply::Absent)
+        | (Reply::Committed, Reply::Committed)
+        | (Reply::Aborted, Reply::Aborted) => true,
+        (_, _) => false,
+    }
+}
+
+/// Whether the entries have these replies.
+fn have_replies(entries: &[Entry], replies: &[Reply]) -> bool {
+    if entries.len() != replies.len() {
+        return false;
+    }
+    for place in 0..entries.len() {
+        if !is_same(&entries[place].reply, &replies[place]) {
+            return false;
+        }
+    }
+    true
+}
+
+/// Whether a history is the run of its events from the opening, with the same replies and index, and a serial one.
+fn is_replayed(alloc: Global, opening: &[(u64, u64)], history: &History) -> Result<bool, Fail>
+    requires { IsMap opening.now }
+{
+    let entries = history.entries.as_slice();
+    let events = events_of(alloc, entries)?;
+    let ran = run(alloc, &Kvl, opening, events.as_slice())
+        .ok()
+        .ok_or("run")?;
+    let verdict = judge(alloc, &ran).ok().ok_or("judge")?;
+    Ok(
+        verdict.is_serial()
+            && have_replies(entries, ran.replies.as_slice())
+            && ran.index.as_slice() == history.index.as_slice()
+            && ran.unfinished.as_slice().is_empty()
+            && history.unfinished.as_slice().is_empty(),
+    )
+}
+
+/// Whether all of this is so of an engine in which eight threads have done their transactions.
+fn soaks<K: EngineName + Send + Sync, R: Threads + Wait + Sync>(
+    rt: &R,
+    alloc: Global,
+    opening: &[(u64, u64)],
+    row: PlaceRow,
+) -> Result<bool, Fail>
+    requires row { row ≡ K.places }
+    requires opening { opening.now ≡ K.opening }
+    requires table { kvl ≡ K.table }
+    requires is_map { IsMap opening.now }
+{
+    let mut engine = Engine::<Kvl, K>::new(alloc, Kvl, opening, row)?;
+    let jobs = jobs_of(rt, alloc, &engine)?;
+    let shares = thread::map_vec(rt, jobs, &|job| work(rt, job))?;
+    let Some(shares) = all_of(alloc, shares)? else {
+        return Ok(false);
+    };
+    let history = engine.close(&shares).ok().ok_or("closed")?;
+    is_replayed(alloc, opening, &history)
+}
+
+#[test]
+fn eight_threads(rt: HostRuntime) -> Result<(), Fail> {
+    let row = PlaceRow::new(rt.alloc(), 50_000).ok().ok_or("row")?;
+    assert!(rt; soaks::<Brand, _>(&rt, rt.alloc(), &[(3, 1), (7, 2), (11, 3)], row)?);
+    Ok(())
+}

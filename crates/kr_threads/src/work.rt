@@ -1,0 +1,230 @@
+//! What one worker does.
+ghost use Rattle.std.specs.Prelude.{◌≡◌, ◌<◌, Some, IfErr};
+ghost use mathlib.Core.List.{IsPrefix};
+ghost use Rattle.kr_model.specs.Step.{is_end as ends};
+ghost use Rattle.kr_engine.specs.Histories.{events_with_replies};
+ghost use Rattle.kr_engine.specs.Seats.{ToldFault};
+ghost use Rattle.kr_threads.specs.Told.{IsTold};
+
+use crate::gate::Gate;
+use crate::run::RunFault;
+use kr_engine::{EngineFault, EngineName, Receipt, Seat, Share};
+use kr_follows::{Cause, Dealt, StepFault};
+use kr_model::{Op, Txn};
+use kr_protocol::Covered;
+use std::marker::Model;
+use std::sync::Wait;
+
+/// A worker: its number, from 0, its seat, how many calls it has made, and the steps that it left out, each told at the
+/// end of a beginning of what its seat has seen.
+#[derive(Drop)]
+pub(crate) struct Worker<'a, P: Covered, K: EngineName> {
+    pub number: usize,
+    pub seat: Seat<'a, P, K>,
+    pub calls: u64,
+    pub faults: Vec<StepFault>,
+}
+
+impl<'a, P: Covered, K: EngineName> Model for Worker<'a, P, K> {
+    ghost use Rattle.kr_threads.specs.Told.{Working, AreTold};
+
+    ghost Value = { Working };
+
+    ghost view = { λ w. record { seat = w.seat; faults = w.faults.items } };
+
+    ghost invariant = { λ w. AreTold K.table K.opening w.seat.view w.faults.items };
+}
+
+/// What a worker hands back: its seat's share, the steps that it left out, each told at the end of a beginning of what
+/// the share has seen, and why it gave up, where it did.
+#[derive(Drop)]
+pub(crate) struct Report<K: EngineName> {
+    pub share: Share<K>,
+    pub faults: Vec<StepFault>,
+    pub failed: Option<RunFault>,
+}
+
+impl<K: EngineName> Model for Report<K> {
+    ghost use Rattle.kr_threads.specs.Told.{Reported, AreTold};
+
+    ghost Value = { Reported };
+
+    ghost view = { λ r. record { share = r.share; faults = r.faults.items } };
+
+    ghost invariant = { λ r. AreTold K.table K.opening r.share.view r.faults.items };
+}
+
+/// What became of a step.
+#[derive(Clone, Copy)]
+enum Outcome {
+    Done,
+    Refused,
+    Stuck,
+}
+
+/// Does the transactions that are dealt to a worker, one after another, and leaves. It gives up where a growth is refused,
+/// and where the engine answers anything but a receipt, a refusal or a deadlock.
+pub(crate) fn work<P: Covered, K: EngineName, G: Gate, R: Wait>(
+    rt: &R,
+    dealt: &Dealt,
+    workers: usize,
+    gate: &G,
+    worker: Worker<'_, P, K>,
+) -> Report<K>
+    requires { 0 < workers }
+{
+    let mut worker = worker;
+    let mut failed = None;
+    let txns = dealt.txns();
+    for i in 0..txns.len() {
+        if i % workers != worker.number {
+            continue;
+        }
+        let txn = txns[i];
+        if let Err(fault) = worker.transact(rt, gate, txn, dealt.ops(txn)) {
+            failed = Some(fault);
+            break;
+        }
+    }
+    let Worker {
+        number: _,
+        seat,
+        calls: _,
+        faults,
+    } = worker;
+    Report {
+        share: seat.leave(rt),
+        faults,
+        failed,
+    }
+}
+
+impl<P: Covered, K: EngineName> Worker<'_, P, K> {
+    /// Does the steps of one transaction in order, and aborts it where it is active after them, also where the worker gives
+    /// up: others would wait for its locks.
+    fn transact<G: Gate, R: Wait>(
+        &mut self,
+        rt: &R,
+        gate: &G,
+        txn: Txn,
+        ops: &[Op],
+    ) -> Result<(), RunFault> {
+        if let Err(fault) = self.seat.begin(rt, txn) {
+            return Err(failure(&fault));
+        }
+        let (active, done) = self.do_steps(rt, gate, txn, ops);
+        if !active {
+            return done;
+        }
+        let closed = self.call(rt, gate, Op::Abort);
+        done?;
+        match closed {
+            Ok(_) => Ok(()),
+            Err(fault) => Err(failure(&fault)),
+        }
+    }
+
+    /// Does the steps of the transaction that the seat speaks for. A refused step is noted and left out; a deadlock is
+    /// noted, and the rest left out. Answers whether the transaction is active after them, and why the worker gives up, if
+    /// it does.
+    fn do_steps<G: Gate, R: Wait>(
+        &mut self,
+        rt: &R,
+        gate: &G,
+        txn: Txn,
+        ops: &[Op],
+    ) -> (bool, Result<(), RunFault>)
+        requires { self.old.seat.speaks ≡ Some txn }
+    {
+        let mut active = false;
+        for i in 0..ops.len() {
+            match self.do_step(rt, gate, txn, i as u64 + 1, ops[i]) {
+                Ok(Outcome::Done) => active = !is_end(ops[i]),
+                Ok(Outcome::Refused) => {}
+                Ok(Outcome::Stuck) => return (active, Ok(())),
+                Err(fault) => return (active, Err(fault)),
+            }
+        }
+        (active, Ok(()))
+    }
+
+    /// One step of the transaction that the seat speaks for, which is noted where it is left out.
+    #[tactic(auto, using(crate::proofs::Told::told_refused, crate::proofs::Told::told_deadlock))]
+    fn do_step<G: Gate, R: Wait>(
+        &mut self,
+        rt: &R,
+        gate: &G,
+        txn: Txn,
+        step: u64,
+        op: Op,
+    ) -> Result<Outcome, RunFault>
+        requires { self.old.seat.speaks ≡ Some txn }
+        ensures { self.new.seat.speaks ≡ Some txn }
+    {
+        match self.call(rt, gate, op) {
+            Ok(_) => Ok(Outcome::Done),
+            Err(EngineFault::Deadlock(cycle)) => {
+                let cause = Cause::Deadlock(cycle);
+                self.note(StepFault {
+                    txn,
+                    step,
+                    op,
+                    cause,
+                })?;
+                Ok(Outcome::Stuck)
+            }
+            Err(EngineFault::Refused(reply)) => {
+                let cause = Cause::Refused(reply);
+                self.note(StepFault {
+                    txn,
+                    step,
+                    op,
+                    cause,
+                })?;
+                Ok(Outcome::Refused)
+            }
+            Err(fault) => Err(failure(&fault)),
+        }
+    }
+
+    /// Notes a step that is left out.
+    #[tactic(auto, using(crate::proofs::Told::all_told_push))]
+    fn note(&mut self, fault: StepFault) -> Result<(), RunFault>
+        requires { IsTold K.table K.opening (events_with_replies self.old.seat.view) fault }
+        ensures { self.new.seat ≡ self.old.seat }
+    {
+        match self.faults.push(fault) {
+            Ok(()) => Ok(()),
+            Err(_) => Err(RunFault::Memory),
+        }
+    }
+
+    /// One call of the seat between its gates.
+    fn call<G: Gate, R: Wait>(&mut self, rt: &R, gate: &G, op: Op) -> Result<Receipt, EngineFault>
+        ensures speaks { self.new.seat.speaks ≡ self.old.seat.speaks }
+        ensures begins { IsPrefix self.old.seat.view self.new.seat.view }
+        ensures faults { self.new.faults ≡ self.old.faults }
+        ensures fault { IfErr result (λ f. ToldFault K.table K.opening self.old.seat self.new.seat op f) }
+    {
+        gate.before(rt, self.number, self.calls);
+        let result = self.seat.call(rt, op);
+        gate.after(rt, self.number, self.calls);
+        self.calls = self.calls.saturating_add(1);
+        result
+    }
+}
+
+/// Whether the operation ends its transaction.
+fn is_end(op: Op) -> bool
+    ensures { result ≡ ends op }
+{
+    matches!(op, Op::Commit | Op::Abort)
+}
+
+/// Why a worker gives up at this fault: `Memory` where a growth was refused.
+fn failure(fault: &EngineFault) -> RunFault {
+    match fault {
+        EngineFault::Memory => RunFault::Memory,
+        _ => RunFault::Place,
+    }
+}
