@@ -16,8 +16,9 @@ line_of p names failed = check_text p names failed ++ 10 ∷ []
 abbrev pub check_line : Protocol → List (List ℕ) → List ℕ
 check_line p names = line_of p names (failed_cases p)
 
--- No fault is of a script, and a fault of printing has its cause in the sink, which took a beginning of the line.
+-- No fault is of a script or a place, and a fault of printing has its cause in the sink, which took a beginning of the line.
 abbrev pub ExplainsLine : List ℕ → Option (List ℕ) → Option (List ℕ) → ℕ → ℕ → OverFault → Type 0
 ExplainsLine line old new before after (fault.Script f) = ⊥
 ExplainsLine line old new before after fault.Memory = Unit {0}
+ExplainsLine line old new before after fault.Place = ⊥
 ExplainsLine line old new before after fault.Print = HasCause before after × AppendsFront old new line

@@ -34,8 +34,9 @@ abbrev pub over_fault : ScriptFault → OverFault
 over_fault told_as.Memory = fault.Memory
 over_fault f = fault.Script f
 
--- A fault of the script is that of its bytes, and a fault of printing has its cause in the sink, which took a beginning of the report.
+-- A fault of the script is that of its bytes, no place is refused, and a fault of printing has its cause in the sink, which took a beginning of the report.
 abbrev pub Explains : Protocol → List (List ℕ) → List ℕ → Option (List ℕ) → Option (List ℕ) → ℕ → ℕ → OverFault → Type 0
 Explains p names bytes old new before after (fault.Script f) = (x : Fault) × ((fault_of f ≡ Some x) × (reading bytes ≡ Err x))
 Explains p names bytes old new before after fault.Memory = Unit {0}
+Explains p names bytes old new before after fault.Place = ⊥
 Explains p names bytes old new before after fault.Print = HasCause before after × ((s : Script) × ((reading bytes ≡ Ok s) × AppendsFront old new (report_line p names s)))

@@ -12,7 +12,7 @@ use kr_script::{Sink, print, report_check};
 use std::alloc::Global;
 
 /// Writes the report of a check with its failed cases, and a line feed, and answers whether there are none.
-fn write_check<P: Protocol, W: Sink>(
+pub fn write_check<P: Protocol, W: Sink>(
     alloc: Global,
     protocol: &P,
     failed: &[FailedCase],

@@ -8,6 +8,7 @@ mod over;
 mod program;
 #[cfg(test)]
 mod tests;
+mod threads;
 mod words;
 
 use crate::files::Disk;

@@ -26,6 +26,9 @@ pub enum OverFault {
     /// A growth was refused.
     #[error("out of memory")]
     Memory,
+    /// A place of the history was refused. Only a run by several threads has this fault.
+    #[error("place refused")]
+    Place,
     /// The sink didn't take the whole report.
     #[error("output")]
     Print,

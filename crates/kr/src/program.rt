@@ -7,21 +7,27 @@ ghost use Rattle.kr_script.specs.Puts.{HasCause};
 ghost use Rattle.kr_script.specs.Script.{Script};
 ghost use Rattle.kr.specs.Over.{report_line, IsSerialScript};
 ghost use Rattle.kr.specs.Judges.{judge_lines};
-ghost use Rattle.kr.specs.Program.{Reports, is_output};
+ghost use Rattle.kr.specs.Program.{Reports, ThreadsReported, is_output};
+ghost use Rattle.kr.specs.Threads.{threads_line};
+ghost use Rattle.kr_script.specs.declared.threaded.Threaded.{Threaded};
+ghost use Rattle.kr_threads.specs.Threaded.{IsThreaded};
 ghost use Rattle.kr.specs.declared.words.Task.{Task};
 ghost use Rattle.kr.specs.declared.program.Ending.TheVariants as ending;
 ghost use Rattle.kr.specs.declared.over.OverFault.TheVariants as fault;
 
-use crate::checks::check_over;
+use crate::checks::{check_over, write_check};
 use crate::files::{FileFault, Files};
 use crate::judges::{LinesFault, judge_over};
 use crate::over::{OverFault, run_over};
-use crate::words::{Task, WordsFault, read_words};
+use crate::threads::threads_over;
+use crate::words::{Task, WordsFault, Workers, read_words};
 use kr_batch::{JudgeFault, TextFault, Texts};
-use kr_protocol::{Im, Kvl, Protocol, RangeKey};
+use kr_cases::{Cause, Rejected, check};
+use kr_protocol::{Covered, Im, Kvl, Protocol, RangeKey};
 use kr_script::{ScriptFault, Sink, print};
 use kr_table::TableFault;
 use std::alloc::{AllocError, Global};
+use std::sync::Wait;
 use std::thread::Threads;
 
 /// The line for want of memory.
@@ -37,6 +43,8 @@ enum Ending {
     Line(String),
     /// With the line for want of memory.
     Memory,
+    /// With the line for a place that was refused.
+    Place,
     /// With the line for output that can't be written.
     Output,
 }
@@ -56,6 +64,7 @@ impl From<OverFault> for Ending {
     fn from(fault: OverFault) -> Ending {
         match fault {
             OverFault::Print => Ending::Output,
+            OverFault::Place => Ending::Place,
             OverFault::Script(_) | OverFault::Memory => Ending::Memory,
         }
     }
@@ -185,10 +194,73 @@ where
     }
 }
 
+/// Runs the script in the file that a word names by several threads, writes the report of what they did, and answers whether
+/// the run of its history is serial, which it is.
+fn thread_script<
+    R: std::rt::Files + AllocGlobal + Threads + Wait + Sync,
+    P: Covered + Sync,
+    F: Files,
+    W: Sink,
+>(
+    rt: &R,
+    protocol: &P,
+    script: &str,
+    workers: Workers,
+    files: &F,
+    out: &mut W,
+) -> Result<bool, Ending>
+    ensures reports { IfOk result (λ serial. IsTrue serial × ((s : Script) × ((d : Threaded) × (IsThreaded (P.table protocol.now) s.opening s.steps d
+        × Appends (W.taken out.old) (W.taken out.new) (threads_line d))))) }
+    ensures nothing { IfErr result (λ e. IsTrue (is_output e) ⊎ (out.new ≡ out.old)) }
+    ensures cause { IfErr result (λ e. IsTrue (is_output e) → HasCause (W.failures out.old) (W.failures out.new)) }
+{
+    let alloc = rt.alloc();
+    let bytes = whole(rt, script, files)?;
+    match threads_over(rt, alloc, protocol, bytes.as_slice(), workers.count(), out) {
+        Ok(answer) => Ok(answer),
+        Err(OverFault::Script(fault)) => Err(at_fault(alloc, script, fault)?),
+        Err(fault) => Err(Ending::from(fault)),
+    }
+}
+
+/// Checks a table, and where it is accepted runs the script in the file that a word names by several threads under it. Where
+/// it is refused the report of the check is written, and the script isn't read.
+fn check_and_thread<
+    R: std::rt::Files + AllocGlobal + Threads + Wait + Sync,
+    P: Protocol + Sync,
+    F: Files,
+    W: Sink,
+>(
+    rt: &R,
+    protocol: P,
+    script: &str,
+    workers: Workers,
+    files: &F,
+    out: &mut W,
+) -> Result<bool, Ending>
+    ensures reports { IfOk result (ThreadsReported (P.table protocol) (P.names protocol) (W.taken out.old) (W.taken out.new)) }
+    ensures covered { IsCovered (P.table protocol) → IfOk result (λ is_well. IsTrue is_well) }
+    ensures nothing { IfErr result (λ e. IsTrue (is_output e) ⊎ (out.new ≡ out.old)) }
+    ensures cause { IfErr result (λ e. IsTrue (is_output e) → HasCause (W.failures out.old) (W.failures out.new)) }
+{
+    match check(rt.alloc(), protocol) {
+        Ok(checked) => thread_script(rt, &checked, script, workers, files, out),
+        Err(Rejected { protocol, cause }) => match cause {
+            Cause::Failed(failed) => Ok(write_check(
+                rt.alloc(),
+                &protocol,
+                failed.as_slice(),
+                out,
+            )?),
+            Cause::Memory => Err(Ending::Memory),
+        },
+    }
+}
+
 /// Does a task under a protocol, and answers whether the table is accepted, or each run is serial; under a covered
 /// protocol that is so, whatever the task. At a fault of scripts or memory nothing is written on `out`.
 fn under<
-    R: std::rt::Files + AllocGlobal + Threads + Sync,
+    R: std::rt::Files + AllocGlobal + Threads + Wait + Sync,
     P: Protocol + Sync,
     F: Files + Sync,
     W: Sink,
@@ -206,12 +278,15 @@ where
         Task::Check => Ok(check_over(alloc, protocol, out)?),
         Task::Run(script) => run_script(rt, &protocol, script, files, out),
         Task::Judge(words) => judge_scripts(rt, &protocol, words.as_slice(), files, out),
+        Task::Threads(script, workers) => check_and_thread(
+            rt, protocol, script, *workers, files, out,
+        ),
     }
 }
 
 /// Does a task under the table that a word names: one of the bundled tables, or a file. Scripts are read only where
 /// the table is one.
-fn with_table<R: std::rt::Files + AllocGlobal + Threads + Sync, F: Files + Sync, W: Sink>(
+fn with_table<R: std::rt::Files + AllocGlobal + Threads + Wait + Sync, F: Files + Sync, W: Sink>(
     rt: &R,
     table: &str,
     task: &Task,
@@ -234,7 +309,7 @@ where
 }
 
 /// Does a task under the table in the file that a word names.
-fn with_file<R: std::rt::Files + AllocGlobal + Threads + Sync, F: Files + Sync, W: Sink>(
+fn with_file<R: std::rt::Files + AllocGlobal + Threads + Wait + Sync, F: Files + Sync, W: Sink>(
     rt: &R,
     table: &str,
     task: &Task,
@@ -261,13 +336,12 @@ where
 /// serial, 1 where it refused a table or a run wasn't serial, and 2 where it told a fault on `err`. At 0 and 1 the whole
 /// report of a task under a lawful table is written on `out`; at a fault of words, files, tables, scripts or memory
 /// nothing is.
-pub fn execute<R: std::rt::Files + AllocGlobal + Threads + Sync, F: Files + Sync, W: Sink, E: Sink>(
-    rt: &R,
-    words: &[String],
-    files: &F,
-    out: &mut W,
-    err: &mut E,
-) -> u8
+pub fn execute<
+    R: std::rt::Files + AllocGlobal + Threads + Wait + Sync,
+    F: Files + Sync,
+    W: Sink,
+    E: Sink,
+>(rt: &R, words: &[String], files: &F, out: &mut W, err: &mut E) -> u8
 where
     R::File: Send + Sync,
     R::Dir: Send + Sync,
@@ -288,6 +362,7 @@ where
         Ok(is_well) => return status(*is_well),
         Err(Ending::Line(line)) => line.as_str(),
         Err(Ending::Memory) => OUT_OF_MEMORY,
+        Err(Ending::Place) => "kr: place refused",
         Err(Ending::Output) => "kr: output: cannot be written",
     };
     let _ = print(err, line);

@@ -1,5 +1,5 @@
 //! What the words ask.
-ghost use Rattle.std.specs.Prelude.{◌≡◌};
+ghost use Rattle.std.specs.Prelude.{◌≡◌, ◌<◌, ◌≤◌, IfSome};
 ghost use Rattle.kr.specs.declared.words.WordsFault.TheVariants as fault;
 
 use clap::error::ErrorKind;
@@ -25,6 +25,57 @@ pub enum Task<'a> {
     /// The scripts that words name are judged, and no verdict is shown before all are: status 0 where each run is serial,
     /// and 1 where one isn't.
     Judge(Vec<&'a str>),
+    /// The table is checked, and then the script that a word names is run by so many workers, each a thread: status 0 where
+    /// the run is serial, and 1 where it isn't or the table is refused.
+    Threads(&'a str, Workers),
+}
+
+/// How many workers there are: 1 to 64.
+#[derive(Clone, Copy, Debug, PartialEq, Eq)]
+pub struct Workers {
+    count: usize,
+    ghost bounds: { (0 < count) × (count ≤ 64) },
+}
+
+impl Workers {
+    /// As many as there are where no word says how many.
+    const USUAL: usize = 4;
+
+    /// The number that a word is: 1 to 64 in decimal digits, without a leading zero.
+    fn of(word: &str) -> Option<Workers> {
+        let count = match word.as_bytes() {
+            [digit] => digit_of(*digit)?,
+            [tens, digit] => {
+                let tens = digit_of(*tens)?;
+                if tens == 0 {
+                    return None;
+                }
+                tens * 10 + digit_of(*digit)?
+            }
+            _ => return None,
+        };
+        if count == 0 || count > 64 {
+            return None;
+        }
+        Some(Workers { count })
+    }
+
+    /// How many there are.
+    pub fn count(self) -> usize
+        ensures { (0 < result) × (result ≤ 64) }
+    {
+        self.count
+    }
+}
+
+/// The number that a decimal digit is.
+fn digit_of(byte: u8) -> Option<usize>
+    ensures { IfSome result (λ d. d < 10) }
+{
+    match byte {
+        b'0'..=b'9' => Some((byte - b'0') as usize),
+        _ => None,
+    }
 }
 
 /// Why nothing is asked.
@@ -60,6 +111,9 @@ fn command<'a>(alloc: Global) -> Result<Command<'a>, AllocError> {
     let judge = Command::new(alloc, "judge")
         .arg(positional(alloc, "table"))?
         .arg(scripts)?;
+    let threads = Command::new(alloc, "threads")
+        .arg(positional(alloc, "table"))?
+        .arg(positional(alloc, "script"))?;
     Command::new(alloc, "kr")
         .no_binary_name(true)
         .disable_help_flag(true)
@@ -67,17 +121,35 @@ fn command<'a>(alloc: Global) -> Result<Command<'a>, AllocError> {
         .subcommand_required(true)
         .subcommand(check)?
         .subcommand(run)?
-        .subcommand(judge)
+        .subcommand(judge)?
+        .subcommand(threads)
 }
 
-/// Whether no word begins with a hyphen: none of the forms has such a word.
+/// The words that are left where `--workers` and its number, which stand last in a form that has them, are taken away; and
+/// how many workers there are. Nothing where that word is no such number.
+fn without_workers(words: &[String]) -> Option<(&[String], Workers)> {
+    if words.len() == 5 && words[0].as_str() == "threads" && words[3].as_str() == "--workers" {
+        let workers = Workers::of(words[4].as_str())?;
+        return Some((&words[..3], workers));
+    }
+    let usual = Workers {
+        count: Workers::USUAL,
+    };
+    Some((words, usual))
+}
+
+/// Whether no word begins with a hyphen: but for `--workers`, none of the forms has such a word.
 fn has_form(words: &[String]) -> bool {
     words.iter().all(|word| !word.as_str().starts_with('-'))
 }
 
-/// What the words ask, the program's name left out: `check TABLE`, `run TABLE SCRIPT`, or `judge TABLE SCRIPT..` with one script
-/// or more.
+/// What the words ask, the program's name left out: `check TABLE`, `run TABLE SCRIPT`, `judge TABLE SCRIPT..` with one script
+/// or more, or `threads TABLE SCRIPT --workers N` with N from 1 to 64, where the last two words may be left out, and N is
+/// then 4.
 pub fn read_words<'a>(alloc: Global, words: &'a [String]) -> Result<Asked<'a>, WordsFault> {
+    let Some((words, workers)) = without_workers(words) else {
+        return Err(WordsFault::NotUnderstood);
+    };
     if !has_form(words) {
         return Err(WordsFault::NotUnderstood);
     }
@@ -106,6 +178,10 @@ pub fn read_words<'a>(alloc: Global, words: &'a [String]) -> Result<Asked<'a>, W
         return Ok(Asked { table, task });
     }
     match given.get_str("script") {
+        Some(script) if name == "threads" => Ok(Asked {
+            table,
+            task: Task::Threads(script, workers),
+        }),
         Some(script) => Ok(Asked {
             table,
             task: Task::Run(script),

@@ -1,9 +1,7 @@
 //! A table that tells which way it is read: U may be asked for beside a held S, and S not beside a held U; S with U gives U, and U with S gives X.
 use super::checks::{checks, with};
-use super::{Texts, told_over};
-use std::process::Abort;
+use super::{Runs, Texts, told_over};
 use std::test::Fail;
-use std::thread::Threads;
 
 /// A fetch asks for S on what it finds, and a scan for U on what it reads.
 const ASYMMETRIC: &str = r#"format = 1
@@ -41,15 +39,7 @@ current = [{ mode = "X", span = "instant" }]
 "#;
 
 /// Runs a script under that table, and compares the report.
-fn runs<R: std::rt::Files + AllocGlobal + Threads + Sync + Abort>(
-    rt: &R,
-    script: &str,
-    report: &str,
-) -> Result<(), Fail>
-where
-    R::File: Send + Sync,
-    R::Dir: Send + Sync,
-{
+fn runs<R: Runs>(rt: &R, script: &str, report: &str) -> Result<(), Fail> {
     let files = Texts {
         table: ASYMMETRIC,
         script,

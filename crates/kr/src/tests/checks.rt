@@ -1,22 +1,12 @@
 //! Checks of tables, bundled and from files.
-use super::{Texts, run_program, told, told_over};
+use super::{Runs, Texts, told, told_over};
 use kr_table::texts::{IM, KVL, RANGE_KEY};
 use std::alloc::{AllocError, Global};
 use std::process::Abort;
 use std::test::Fail;
-use std::thread::Threads;
 
 /// Checks a table in a file, and compares the report.
-pub fn checks<R: std::rt::Files + AllocGlobal + Threads + Sync + Abort>(
-    rt: &R,
-    table: &str,
-    report: &str,
-    status: u8,
-) -> Result<(), Fail>
-where
-    R::File: Send + Sync,
-    R::Dir: Send + Sync,
-{
+pub fn checks<R: Runs>(rt: &R, table: &str, report: &str, status: u8) -> Result<(), Fail> {
     let files = Texts { table, script: "" };
     told_over(
         rt,
@@ -29,16 +19,7 @@ where
 }
 
 /// Checks a bundled table, by its word and from its file, and compares the report.
-fn accepts<R: std::rt::Files + AllocGlobal + Threads + Sync + Abort>(
-    rt: &R,
-    word: &str,
-    table: &str,
-    report: &str,
-) -> Result<(), Fail>
-where
-    R::File: Send + Sync,
-    R::Dir: Send + Sync,
-{
+fn accepts<R: Runs>(rt: &R, word: &str, table: &str, report: &str) -> Result<(), Fail> {
     told(rt, ["check", word].as_slice(), "", report, "", 0)?;
     checks(rt, table, report, 0)
 }
@@ -78,19 +59,10 @@ fn count(text: &str, part: &str) -> usize {
 }
 
 /// Checks a table that is refused: the report begins with the first failed case, and this many fail.
-fn refuses<R: std::rt::Files + AllocGlobal + Threads + Sync + Abort>(
-    rt: &R,
-    table: &str,
-    beginning: &str,
-    failed: usize,
-) -> Result<String, Fail>
-where
-    R::File: Send + Sync,
-    R::Dir: Send + Sync,
-{
+fn refuses<R: Runs>(rt: &R, table: &str, beginning: &str, failed: usize) -> Result<String, Fail> {
     let alloc = rt.alloc();
     let files = Texts { table, script: "" };
-    let ran = run_program(rt, ["check", "table"].as_slice(), &files)?;
+    let ran = rt.run_program(["check", "table"].as_slice(), &files)?;
     assert_eq!(rt; ran.status, 1);
     assert!(rt; ran.err.is_empty());
     let report = String::from_utf8(ran.out).map_err(|_| "no text")?;
@@ -139,17 +111,21 @@ fn insert_n_x(rt: HostRuntime) -> Result<(), Fail> {
     Ok(())
 }
 
+/// Key-value locking whose deletes give the lock on the next name up at once.
+pub fn deletes_next_instant(alloc: Global) -> Result<String, Fail> {
+    let commit = r#"next = [{ mode = "X", span = "commit" }]"#;
+    let instant = r#"next = [{ mode = "X", span = "instant" }]"#;
+    with(alloc, KVL, commit, instant)
+}
+
+/// The report of its check.
+pub const DELETES_NEXT_INSTANT: &str =
+    r#"{"accepted":false,"cases":244,"failed":[{"case":"G8","cover":"DG","from":["none"],"mode":"none","open":["fetch-miss","next","none","none"]},{"case":"G8","cover":"DG","from":["IS"],"mode":"IS","open":["fetch-miss","next","none","none"]},{"case":"G8","cover":"DG","from":["IX"],"mode":"IX","open":["insert","next","none","none"]},{"case":"G8","cover":"DG","from":["S"],"mode":"S","open":["fetch-miss","next","none","none"]}],"modes":5}"#;
+
 #[test]
 fn next_lock_of_deletes_instant(rt: HostRuntime) -> Result<(), Fail> {
-    let table = with(
-        rt.alloc(),
-        KVL,
-        r#"next = [{ mode = "X", span = "commit" }]"#,
-        r#"next = [{ mode = "X", span = "instant" }]"#,
-    )?;
-    let report =
-        r#"{"accepted":false,"cases":244,"failed":[{"case":"G8","cover":"DG","from":["none"],"mode":"none","open":["fetch-miss","next","none","none"]},{"case":"G8","cover":"DG","from":["IS"],"mode":"IS","open":["fetch-miss","next","none","none"]},{"case":"G8","cover":"DG","from":["IX"],"mode":"IX","open":["insert","next","none","none"]},{"case":"G8","cover":"DG","from":["S"],"mode":"S","open":["fetch-miss","next","none","none"]}],"modes":5}"#;
-    let line = format!(in rt.alloc(); "{report}\n")?;
+    let table = deletes_next_instant(rt.alloc())?;
+    let line = format!(in rt.alloc(); "{DELETES_NEXT_INSTANT}\n")?;
     checks(&rt, table.as_str(), line.as_str(), 1)
 }
 

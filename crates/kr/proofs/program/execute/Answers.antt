@@ -5,3 +5,6 @@ use Rattle.kr.proofs.program.execute.Goals.{in-Ok+in-Judge-1, in-Ok+in-Check-1, 
 -- The report is that of the task that was done, whichever it was.
 pub returns-in-Ok-done-clause-refuses : goal.returns-in-Ok-done-clause-refuses
 returns-in-Ok-done-clause-refuses g c one = elim c.match-read_words.branch [ in-Ok+in-Judge-1 w ↦ search rules | in-Ok+in-Check-1 w ↦ search rules | in-Err-Memory w ↦ search rules ]
+
+pub returns-in-Ok-done-clause-accepts : goal.returns-in-Ok-done-clause-accepts
+returns-in-Ok-done-clause-accepts g c zero = elim c.match-read_words.branch [ in-Ok+in-Judge-1 w ↦ search rules | in-Ok+in-Check-1 w ↦ search rules | in-Err-Memory w ↦ search rules ]
