@@ -87,28 +87,36 @@ fn owned(alloc: Global, words: &[&str]) -> Result<Vec<String>, AllocError> {
 }
 
 /// What the program writes on its two streams, and its status, where there is no table.
-fn told<R: Runs>(
+fn told<R: std::rt::Files + AllocGlobal + Threads + Wait + Sync + Abort>(
     rt: &R,
     words: &[&str],
     script: &str,
     out: &str,
     err: &str,
     status: u8,
-) -> Result<(), Fail> {
+) -> Result<(), Fail>
+where
+    R::File: Send + Sync,
+    R::Dir: Send + Sync,
+{
     told_over(rt, words, &Texts { table: "", script }, out, err, status)
 }
 
 /// What the program writes on its two streams, and its status.
-fn told_over<R: Runs>(
+fn told_over<R: std::rt::Files + AllocGlobal + Threads + Wait + Sync + Abort>(
     rt: &R,
     words: &[&str],
     files: &Texts,
     out: &str,
     err: &str,
     status: u8,
-) -> Result<(), Fail> {
+) -> Result<(), Fail>
+where
+    R::File: Send + Sync,
+    R::Dir: Send + Sync,
+{
     let script = files.script;
-    let ran = rt.run_program(words, files)?;
+    let ran = run_program(rt, words, files)?;
     assert_eq!(rt; ran.status, status, "{script}");
     assert_eq!(rt; ran.out.as_slice(), out.as_bytes(), "{script}");
     assert_eq!(rt; ran.err.as_slice(), err.as_bytes(), "{script}");
@@ -123,29 +131,25 @@ struct Program {
     err: Vec<u8>,
 }
 
-/// Where the program runs.
-trait Runs: AllocGlobal + Abort {
-    /// Runs the program on words, and gives what it left.
-    fn run_program(&self, words: &[&str], files: &Texts) -> Result<Program, AllocError>;
-}
-
-impl<R: std::rt::Files + AllocGlobal + Threads + Wait + Sync + Abort> Runs for R
+fn run_program<R: std::rt::Files + AllocGlobal + Threads + Wait + Sync>(
+    rt: &R,
+    words: &[&str],
+    files: &Texts,
+) -> Result<Program, AllocError>
 where
     R::File: Send + Sync,
     R::Dir: Send + Sync,
 {
-    fn run_program(&self, words: &[&str], files: &Texts) -> Result<Program, AllocError> {
-        let alloc = self.alloc();
-        let words = owned(alloc, words)?;
-        let mut out = Io::new(Vec::new(alloc));
-        let mut err = Io::new(Vec::new(alloc));
-        let status = execute(self, words.as_slice(), files, &mut out, &mut err);
-        Ok(Program {
-            status,
-            out: out.writer().to_vec(alloc)?,
-            err: err.writer().to_vec(alloc)?,
-        })
-    }
+    let alloc = rt.alloc();
+    let words = owned(alloc, words)?;
+    let mut out = Io::new(Vec::new(alloc));
+    let mut err = Io::new(Vec::new(alloc));
+    let status = execute(rt, words.as_slice(), files, &mut out, &mut err);
+    Ok(Program {
+        status,
+        out: out.writer().to_vec(alloc)?,
+        err: err.writer().to_vec(alloc)?,
+    })
 }
 
 /// The text of a script.
@@ -155,13 +159,17 @@ fn script_of(alloc: Global, opening: &str, steps: &str) -> Result<String, AllocE
 
 /// Runs steps on an opening map under a bundled table, and compares the report; they are serial under each, with the same
 /// replies at each index with each lock table.
-fn reports<R: Runs>(
+fn reports<R: std::rt::Files + AllocGlobal + Threads + Wait + Sync + Abort>(
     rt: &R,
     table: &str,
     opening: &str,
     steps: &str,
     report: &str,
-) -> Result<(), Fail> {
+) -> Result<(), Fail>
+where
+    R::File: Send + Sync,
+    R::Dir: Send + Sync,
+{
     let alloc = rt.alloc();
     let script = script_of(alloc, opening, steps)?;
     serial_under_each(rt, script.as_str())?;
@@ -190,7 +198,14 @@ struct Expected<'a> {
 }
 
 /// Runs steps under each of the bundled tables, and compares the reports.
-fn under_each<R: Runs>(rt: &R, expected: Expected<'_>) -> Result<(), Fail> {
+fn under_each<R: std::rt::Files + AllocGlobal + Threads + Wait + Sync + Abort>(
+    rt: &R,
+    expected: Expected<'_>,
+) -> Result<(), Fail>
+where
+    R::File: Send + Sync,
+    R::Dir: Send + Sync,
+{
     let Expected {
         opening,
         steps,

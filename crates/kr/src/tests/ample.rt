@@ -1,22 +1,29 @@
 //! Runs and verdicts with ample memory, none of which ends with want of memory: scripts at boundary keys, values and numbers, under a
 //! table that asks for nothing and under key-value locking.
 use super::verdicts::PLAIN;
-use super::{Runs, Texts, told_over};
+use super::{Texts, told_over};
+use std::process::Abort;
+use std::sync::Wait;
 use std::test::Fail;
+use std::thread::Threads;
 
 /// Keys and values at which a number turns.
 const KEYS: [u64; 4] = [0, 7, 1 << 63, u64::MAX];
 
 /// Runs a script and judges it under a table, and compares the report, which begins so and ends with the verdict, and the
 /// line of the verdict.
-fn answers<R: Runs>(
+fn answers<R: std::rt::Files + AllocGlobal + Threads + Wait + Sync + Abort>(
     rt: &R,
     table: &str,
     script: &str,
     beginning: &str,
     verdict: &str,
     status: u8,
-) -> Result<(), Fail> {
+) -> Result<(), Fail>
+where
+    R::File: Send + Sync,
+    R::Dir: Send + Sync,
+{
     let alloc = rt.alloc();
     let files = Texts {
         table: PLAIN,
@@ -44,7 +51,16 @@ fn answers<R: Runs>(
 
 /// A fetch of a key, which another transaction then deletes, and commits first. Without locks the answer isn't the one of the
 /// commit order; under key-value locking the delete is blocked.
-fn answers_at<R: Runs>(rt: &R, txn: u32, key: u64, value: u64) -> Result<(), Fail> {
+fn answers_at<R: std::rt::Files + AllocGlobal + Threads + Wait + Sync + Abort>(
+    rt: &R,
+    txn: u32,
+    key: u64,
+    value: u64,
+) -> Result<(), Fail>
+where
+    R::File: Send + Sync,
+    R::Dir: Send + Sync,
+{
     let alloc = rt.alloc();
     let script = format!(in alloc;
         "{{\"format\":1,\"opening\":[[{key},{value}]],\"steps\":[[{txn},\"fetch\",{key}],[8,\"delete\",{key}],[8,\"commit\"],[{txn},\"commit\"]]}}"

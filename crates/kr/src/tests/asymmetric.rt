@@ -1,7 +1,10 @@
 //! A table that tells which way it is read: U may be asked for beside a held S, and S not beside a held U; S with U gives U, and U with S gives X.
 use super::checks::{checks, with};
-use super::{Runs, Texts, told_over};
+use super::{Texts, told_over};
+use std::process::Abort;
+use std::sync::Wait;
 use std::test::Fail;
+use std::thread::Threads;
 
 /// A fetch asks for S on what it finds, and a scan for U on what it reads.
 const ASYMMETRIC: &str = r#"format = 1
@@ -39,7 +42,15 @@ current = [{ mode = "X", span = "instant" }]
 "#;
 
 /// Runs a script under that table, and compares the report.
-fn runs<R: Runs>(rt: &R, script: &str, report: &str) -> Result<(), Fail> {
+fn runs<R: std::rt::Files + AllocGlobal + Threads + Wait + Sync + Abort>(
+    rt: &R,
+    script: &str,
+    report: &str,
+) -> Result<(), Fail>
+where
+    R::File: Send + Sync,
+    R::Dir: Send + Sync,
+{
     let files = Texts {
         table: ASYMMETRIC,
         script,

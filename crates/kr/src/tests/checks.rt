@@ -1,12 +1,23 @@
 //! Checks of tables, bundled and from files.
-use super::{Runs, Texts, told, told_over};
+use super::{Texts, run_program, told, told_over};
 use kr_table::texts::{IM, KVL, RANGE_KEY};
 use std::alloc::{AllocError, Global};
 use std::process::Abort;
+use std::sync::Wait;
 use std::test::Fail;
+use std::thread::Threads;
 
 /// Checks a table in a file, and compares the report.
-pub fn checks<R: Runs>(rt: &R, table: &str, report: &str, status: u8) -> Result<(), Fail> {
+pub fn checks<R: std::rt::Files + AllocGlobal + Threads + Wait + Sync + Abort>(
+    rt: &R,
+    table: &str,
+    report: &str,
+    status: u8,
+) -> Result<(), Fail>
+where
+    R::File: Send + Sync,
+    R::Dir: Send + Sync,
+{
     let files = Texts { table, script: "" };
     told_over(
         rt,
@@ -19,7 +30,16 @@ pub fn checks<R: Runs>(rt: &R, table: &str, report: &str, status: u8) -> Result<
 }
 
 /// Checks a bundled table, by its word and from its file, and compares the report.
-fn accepts<R: Runs>(rt: &R, word: &str, table: &str, report: &str) -> Result<(), Fail> {
+fn accepts<R: std::rt::Files + AllocGlobal + Threads + Wait + Sync + Abort>(
+    rt: &R,
+    word: &str,
+    table: &str,
+    report: &str,
+) -> Result<(), Fail>
+where
+    R::File: Send + Sync,
+    R::Dir: Send + Sync,
+{
     told(rt, ["check", word].as_slice(), "", report, "", 0)?;
     checks(rt, table, report, 0)
 }
@@ -59,10 +79,19 @@ fn count(text: &str, part: &str) -> usize {
 }
 
 /// Checks a table that is refused: the report begins with the first failed case, and this many fail.
-fn refuses<R: Runs>(rt: &R, table: &str, beginning: &str, failed: usize) -> Result<String, Fail> {
+fn refuses<R: std::rt::Files + AllocGlobal + Threads + Wait + Sync + Abort>(
+    rt: &R,
+    table: &str,
+    beginning: &str,
+    failed: usize,
+) -> Result<String, Fail>
+where
+    R::File: Send + Sync,
+    R::Dir: Send + Sync,
+{
     let alloc = rt.alloc();
     let files = Texts { table, script: "" };
-    let ran = rt.run_program(["check", "table"].as_slice(), &files)?;
+    let ran = run_program(rt, ["check", "table"].as_slice(), &files)?;
     assert_eq!(rt; ran.status, 1);
     assert!(rt; ran.err.is_empty());
     let report = String::from_utf8(ran.out).map_err(|_| "no text")?;

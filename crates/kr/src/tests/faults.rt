@@ -1,11 +1,22 @@
 //! Faults of words, files and scripts, and the lines that tell them.
-use super::{Broken, OPENING, PHANTOM, Runs, Texts, owned, told};
+use super::{Broken, OPENING, PHANTOM, Texts, owned, told};
 use crate::program::execute;
 use kr_script::Io;
+use std::process::Abort;
+use std::sync::Wait;
 use std::test::Fail;
+use std::thread::Threads;
 
 /// Runs a script that has a fault, and compares what is told of it.
-fn faulty<R: Runs>(rt: &R, script: &str, fault: &str) -> Result<(), Fail> {
+fn faulty<R: std::rt::Files + AllocGlobal + Threads + Wait + Sync + Abort>(
+    rt: &R,
+    script: &str,
+    fault: &str,
+) -> Result<(), Fail>
+where
+    R::File: Send + Sync,
+    R::Dir: Send + Sync,
+{
     let line = format!(in rt.alloc(); "kr: s: fault {fault}\n")?;
     told(
         rt,

@@ -1,8 +1,11 @@
 //! Tables from files.
-use super::{OPENING, PHANTOM, Runs, Texts, told_over};
+use super::{OPENING, PHANTOM, Texts, told_over};
 use kr_table::texts::{IM, KVL, RANGE_KEY};
 use std::alloc::{AllocError, Global};
+use std::process::Abort;
+use std::sync::Wait;
 use std::test::Fail;
+use std::thread::Threads;
 
 /// The lines of a table of one mode that asks for nothing.
 const PLAIN: [&str; 5] = [
@@ -24,7 +27,16 @@ fn changed(alloc: Global, at: usize, changed: &str) -> Result<String, AllocError
 }
 
 /// Whether the program says this of that table with the line at an index changed, before it looks at the script.
-fn tells<R: Runs>(rt: &R, at: usize, line: &str, fault: &str) -> Result<(), Fail> {
+fn tells<R: std::rt::Files + AllocGlobal + Threads + Wait + Sync + Abort>(
+    rt: &R,
+    at: usize,
+    line: &str,
+    fault: &str,
+) -> Result<(), Fail>
+where
+    R::File: Send + Sync,
+    R::Dir: Send + Sync,
+{
     let alloc = rt.alloc();
     let text = changed(alloc, at, line)?;
     let said = format!(in alloc; "kr: table: {fault}\n")?;
@@ -85,7 +97,15 @@ fn faults_of_matrices_and_rules(rt: HostRuntime) -> Result<(), Fail> {
 }
 
 /// What the program says of a table, with a script that is one.
-fn says_of_table<R: Runs>(rt: &R, table: &str, said: &str) -> Result<(), Fail> {
+fn says_of_table<R: std::rt::Files + AllocGlobal + Threads + Wait + Sync + Abort>(
+    rt: &R,
+    table: &str,
+    said: &str,
+) -> Result<(), Fail>
+where
+    R::File: Send + Sync,
+    R::Dir: Send + Sync,
+{
     let files = Texts {
         table,
         script: PHANTOM,
@@ -118,7 +138,16 @@ fn a_long_table(rt: HostRuntime) -> Result<(), Fail> {
 }
 
 /// Compares the reports of the phantom under a table in a file and under a bundled one, with the mode that is held on 20.
-fn phantom_under<R: Runs>(rt: &R, table: &str, word: &str, mode: &str) -> Result<(), Fail> {
+fn phantom_under<R: std::rt::Files + AllocGlobal + Threads + Wait + Sync + Abort>(
+    rt: &R,
+    table: &str,
+    word: &str,
+    mode: &str,
+) -> Result<(), Fail>
+where
+    R::File: Send + Sync,
+    R::Dir: Send + Sync,
+{
     let alloc = rt.alloc();
     let files = Texts {
         table,

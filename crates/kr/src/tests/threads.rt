@@ -1,8 +1,11 @@
 //! Runs of scripts by several threads.
 use super::checks::{DELETES_NEXT_INSTANT, deletes_next_instant};
-use super::{Runs, Texts, told, told_over};
+use super::{Texts, told, told_over};
 use kr_table::texts::KVL;
+use std::process::Abort;
+use std::sync::Wait;
 use std::test::Fail;
+use std::thread::Threads;
 
 /// One transaction, which inserts and commits.
 const ONE: &str =
@@ -19,13 +22,17 @@ const LEFT_OUT_REPORT: &str =
     "{\"faults\":[[1,1,[\"refused\",3,\"NoScan\"]],[1,4,[\"refused\",1,\"Ended\"]]],\"history\":[[[1,\"delete\",10],[\"deleted\",1]],[[1,\"commit\"],[\"committed\"]],[[2,\"fetch\",10],[\"none\"]],[[2,\"abort\"],[\"aborted\"]]],\"index\":[],\"unfinished\":[],\"verdict\":[\"serial\"]}\n";
 
 /// Runs a script by so many workers, and compares the report.
-fn threads<R: Runs>(
+fn threads<R: std::rt::Files + AllocGlobal + Threads + Wait + Sync + Abort>(
     rt: &R,
     table: &str,
     workers: &str,
     script: &str,
     report: &str,
-) -> Result<(), Fail> {
+) -> Result<(), Fail>
+where
+    R::File: Send + Sync,
+    R::Dir: Send + Sync,
+{
     let words = ["threads", table, "s", "--workers", workers];
     told(rt, words.as_slice(), script, report, "", 0)
 }
@@ -93,7 +100,14 @@ fn words_of_no_form(rt: HostRuntime) -> Result<(), Fail> {
     not_understood(&rt, ["judge", "@kvl", "s", "--workers", "4"].as_slice())
 }
 
-fn not_understood<R: Runs>(rt: &R, words: &[&str]) -> Result<(), Fail> {
+fn not_understood<R: std::rt::Files + AllocGlobal + Threads + Wait + Sync + Abort>(
+    rt: &R,
+    words: &[&str],
+) -> Result<(), Fail>
+where
+    R::File: Send + Sync,
+    R::Dir: Send + Sync,
+{
     told(rt, words, ONE, "", "kr: words not understood\n", 2)
 }
 

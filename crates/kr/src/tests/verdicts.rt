@@ -1,9 +1,12 @@
 //! Verdicts on runs.
 use super::checks::always_ix;
 use super::covered::serial_under_each;
-use super::{OPENING, Runs, SPLIT, Texts, reports, script_of, told, told_over};
+use super::{OPENING, SPLIT, Texts, reports, script_of, told, told_over};
 use std::alloc::{AllocError, Global};
+use std::process::Abort;
+use std::sync::Wait;
 use std::test::Fail;
+use std::thread::Threads;
 
 #[test]
 fn a_split_that_is_not_serial(rt: HostRuntime) -> Result<(), Fail> {
@@ -118,7 +121,16 @@ pub const PLAIN: &str =
     "format = 1\nmodes = [\"A\"]\ncompatible = { A = [] }\nconvert = { A = { A = \"A\" } }\nrules = {}\n";
 
 /// The verdict on steps under that table; under each bundled table they are serial.
-fn judged<R: Runs>(rt: &R, steps: &str, verdict: &str, status: u8) -> Result<(), Fail> {
+fn judged<R: std::rt::Files + AllocGlobal + Threads + Wait + Sync + Abort>(
+    rt: &R,
+    steps: &str,
+    verdict: &str,
+    status: u8,
+) -> Result<(), Fail>
+where
+    R::File: Send + Sync,
+    R::Dir: Send + Sync,
+{
     let alloc = rt.alloc();
     let script = script_of(alloc, OPENING, steps)?;
     serial_under_each(rt, script.as_str())?;
