@@ -22,7 +22,7 @@ and_parts true true h = (refl, refl)
 and_parts true false h = absurd (cc)
 and_parts false b h = absurd (cc)
 
-or_second : (a b : Bool) → b ≡ true → (a || b) ≡ true
+pub or_second : (a b : Bool) → b ≡ true → (a || b) ≡ true
 or_second true b h = refl
 or_second false b h = h
 

@@ -6,6 +6,8 @@ use Rattle.kr_model.specs.Map.{Map}
 use Rattle.kr_model.specs.State.{State, start}
 use Rattle.kr_model.specs.Step.{step}
 use Rattle.kr_model.specs.Run as model
+use Rattle.kr_model.specs.Log.{Log, no_log, logged, log_after}
+use Rattle.kr_model.proofs.LogLaws.{log_of_run, log_after_one}
 use Rattle.kr_places.specs.declared.name.Entry.{Entry}
 use Rattle.kr_model.specs.Map.{IsMap}
 use Rattle.kr_model.specs.Protocol.{IsLawful}
@@ -58,6 +60,17 @@ history_more p opening es s e h is granted = record {
       subst (λ l. model.IsRun p opening l new) (sym (map_more es e)) (run_of_next p (start opening) h' new (next_more p (start opening) (events_with_replies es) s (e.event, e.reply) (next_of_run p (start opening) (events_with_replies es) s h.run) is));
   granted = All-push (λ (e : Entry). model.is_granted e.reply ≡ true) es e h.granted granted;
 }
+
+-- The log of a longer history has one entry more.
+pub log_more : (es : List Entry) (e : Entry) (l new : Log) → l ≡ log_after no_log (events_with_replies es) → new ≡ logged l (e.event, e.reply) → new ≡ log_after no_log (events_with_replies (es ++ e ∷ []))
+log_more es e l new is more =
+    more ∙ ap (λ (m : Log). logged m (e.event, e.reply)) is ∙ sym (log_after_one no_log (events_with_replies es) (e.event, e.reply)) ∙ ap (log_after no_log) (sym (map_more es e))
+
+-- The committed programs of a history's log are those of the history.
+pub programs_of_history : (p : Protocol) (opening : Map) (es : List Entry) (s : State) (l : Log) → IsHistory p opening es s → l ≡ log_after no_log (events_with_replies es) → l.committed ≡ model.programs (events_with_replies es)
+programs_of_history p opening es s l h is =
+    ap (λ (m : Log). m.committed) is
+    ∙ subst (λ (r : model.Trace). (log_after no_log r.history).committed ≡ model.programs r.history) h.run (ap (λ (m : Log). m.committed) (log_of_run p opening (model.events_of (events_with_replies es))))
 
 -- At the start there is no history.
 pub no_history : (p : Protocol) (opening : Map) → IsHistory p opening [] (start opening)

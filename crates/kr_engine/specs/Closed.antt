@@ -4,10 +4,11 @@ use mathlib.Core.List.{IsPrefix}
 use Rattle.kr_model.specs.Protocol.{Protocol}
 use Rattle.kr_model.specs.Map.{Map}
 use Rattle.kr_model.specs.State.{State}
+use Rattle.kr_model.specs.Run.{programs}
 use Rattle.kr_places.specs.declared.name.Entry.{Entry}
 use Rattle.kr_engine.specs.declared.kernel.SeatNote.{SeatNote}
 use Rattle.kr_engine.specs.declared.closing.History.{History}
-use Rattle.kr_engine.specs.Histories.{IsHistory, AreOfOneSeat, IsSerialHistory, entries_of}
+use Rattle.kr_engine.specs.Histories.{IsHistory, AreOfOneSeat, IsSerialHistory, entries_of, events_with_replies}
 use Rattle.kr_engine.specs.Cores.{CountsAre, seat_at}
 use Rattle.kr_engine.specs.Seats.{Held}
 
@@ -32,12 +33,14 @@ pub record StandsIn (seats : List SeatNote) (es : List Entry) (s : Lent) : Type 
   pub begins : IsPrefix s.view es
   pub own : entries_of s.seat es ≡ s.count
 
--- The entries are a run of granted steps under the engine's table from the opening map; the index and the unfinished transactions are those of its end; each seat's count is the number of its entries. All entries of one transaction are of one seat, and the transactions that committed are serial in commit order. Each of the shares stands in it.
+-- The entries are a run of granted steps under the engine's table from the opening map; the index, the unfinished transactions and the locks are those of its end, and the programs are those that committed in it, in commit order; each seat's count is the number of its entries. All entries of one transaction are of one seat, and the transactions that committed are serial in commit order. Each of the shares stands in it.
 pub record IsClosed (p : Protocol) (opening : Map) (h : History) (shares : List Lent) : Type 0 where
   pub state : State
   pub run : IsHistory p opening h.entries.items state
   pub index : h.index ≡ state.map
   pub unfinished : h.unfinished ≡ map (λ a. a.0) state.active
+  pub locks : h.locks.items ≡ state.locks
+  pub programs : h.programs ≡ programs (events_with_replies h.entries.items)
   pub counts : CountsAre h.seats.items h.entries.items
   pub one_seat : AreOfOneSeat h.entries.items
   pub serial : IsSerialHistory opening h.entries.items state

@@ -6,10 +6,11 @@ use Rattle.kr_model.specs.Protocol.{Protocol}
 use Rattle.kr_model.specs.Map.{Map, IsMap}
 use Rattle.kr_model.specs.State.{State, active_of, has_ended}
 use Rattle.kr_model.specs.Step.{is_end}
+use Rattle.kr_model.specs.Log.{Log, no_log, log_after}
 use Rattle.kr_places.specs.declared.name.Entry.{Entry}
 use Rattle.kr_engine.specs.declared.kernel.SeatNote.{SeatNote}
 use Rattle.kr_engine.specs.declared.numbers.Number.{Number}
-use Rattle.kr_engine.specs.Histories.{IsHistory, entries_of}
+use Rattle.kr_engine.specs.Histories.{IsHistory, entries_of, events_with_replies}
 use Rattle.kr_engine.specs.Numbers.{begun_by, is_begun, was_begun, ends_kept, HaveEnds}
 
 -- The machine's protocol and state, the entries of the used places, the numbers that were begun, each with its seat, what is noted of each seat, how many places are kept for the ends of transactions, and the operations that wait.
@@ -52,11 +53,13 @@ abbrev pub without : ℕ → List Event → List Event
 without t es = filter (λ e. not (e.txn == t)) es
 
 -- What always holds under the lock, for an engine with this table, this opening map and this row of places; own is the table of the machine's protocol.
-pub record IsCore (p : Protocol) (opening : Map) (places : List ℕ) (own : Protocol) (pending : Option Event) (s : State) (es : List Entry) (numbers : List Number) (seats : List SeatNote) (kept : ℕ) : Type 0 where
+pub record IsCore (p : Protocol) (opening : Map) (places : List ℕ) (own : Protocol) (pending : Option Event) (s : State) (log : Log) (es : List Entry) (numbers : List Number) (seats : List SeatNote) (kept : ℕ) : Type 0 where
   pub table : own ≡ p
   pub at_rest : pending ≡ None
   pub is_map : IsMap opening
   pub history : IsHistory p opening es s
+  -- the machine's log is that of the entries
+  pub log_is : log ≡ log_after no_log (events_with_replies es)
   pub counts : CountsAre seats es
   -- each entry's transaction was begun by the entry's seat
   pub begun : All (λ e. is_begun (begun_by numbers) e.event.txn e.seat ≡ true) es

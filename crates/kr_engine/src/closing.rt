@@ -2,11 +2,13 @@
 ghost use Rattle.std.specs.Prelude.{◌≡◌, ◌<◌, true, false, length, map, Some, Err, IfOk, All, slice_get};
 ghost use Rattle.std.specs.List.{list_all};
 ghost use Rattle.kr_engine.specs.declared.closing.CloseFault.TheVariants as fault;
+ghost use Rattle.kr_model.specs.Run.{programs};
+ghost use Rattle.kr_engine.specs.Histories.{events_with_replies};
 ghost use Rattle.kr_engine.specs.Closed.{lent, fits, StandsIn, IsClosed};
 
 use crate::kernel::{Core, SeatNote};
 use crate::seat::Hand;
-use kr_model::{Pairs, Txns};
+use kr_model::{Mode, Name, Pairs, Programs, Txn, Txns};
 use kr_places::{EngineName, Entry, Known, PlaceRow, Seen};
 use kr_protocol::Covered;
 use std::alloc::{AllocError, Global};
@@ -84,6 +86,10 @@ pub struct History {
     pub index: Pairs,
     /// The transactions that are active after them, rising.
     pub unfinished: Txns,
+    /// The locks that are held after them, each with its mode, by name, the end last, and then by transaction.
+    pub locks: Vec<((Name, Txn), Mode)>,
+    /// The programs of the transactions that committed, in commit order.
+    pub programs: Programs,
     /// What is noted of each seat, by its number.
     pub seats: Vec<SeatNote>,
 }
@@ -108,6 +114,8 @@ impl<P: Covered, K: EngineName> Core<P, K> {
         ensures entries { IfOk result (λ h. h.entries.items ≡ self.now.entries) }
         ensures index { IfOk result (λ h. h.index ≡ self.now.state.map) }
         ensures unfinished { IfOk result (λ h. h.unfinished ≡ map (λ a. a.0) self.now.state.active) }
+        ensures locks { IfOk result (λ h. h.locks.items ≡ self.now.state.locks) }
+        ensures programs { IfOk result (λ h. h.programs ≡ programs (events_with_replies self.now.entries)) }
         ensures seats { IfOk result (λ h. h.seats.items ≡ self.now.seats) }
         ensures closed { IfOk result (λ h. IsClosed K.table K.opening h shares.now) }
         ensures place { list_all (fits self.now.seats self.now.entries) shares.now ≡ false → result ≡ Err fault.Place }
@@ -129,16 +137,22 @@ impl<P: Covered, K: EngineName> Core<P, K> {
         ensures entries { IfOk result (λ h. h.entries.items ≡ self.now.entries) }
         ensures index { IfOk result (λ h. h.index ≡ self.now.state.map) }
         ensures unfinished { IfOk result (λ h. h.unfinished ≡ map (λ a. a.0) self.now.state.active) }
+        ensures locks { IfOk result (λ h. h.locks.items ≡ self.now.state.locks) }
+        ensures programs { IfOk result (λ h. h.programs ≡ programs (events_with_replies self.now.entries)) }
         ensures seats { IfOk result (λ h. h.seats.items ≡ self.now.seats) }
     {
         let entries = copies(self.alloc, row, &self.history)?;
         let index = self.machine.index()?;
         let unfinished = self.machine.unfinished()?;
+        let locks = self.machine.locks()?;
+        let programs = self.machine.programs()?;
         let seats = self.seats.as_slice().to_vec(self.alloc)?;
         Ok(History {
             entries,
             index,
             unfinished,
+            locks,
+            programs,
             seats,
         })
     }

@@ -6,6 +6,7 @@ ghost use Rattle.kr_model.specs.Kvl.{kvl};
 use crate::{
     Engine, EngineFault, EngineName, History, Op, PlaceRow, Receipt, Reply, Seat, Share, Txn,
 };
+use kr_model::Name;
 use kr_protocol::Kvl;
 use std::alloc::Global;
 use std::marker::Brand;
@@ -69,6 +70,22 @@ fn commit_and_leave<K: EngineName, R: Wait>(
     }
 }
 
+/// Whether the first's insert alone is locked, and the second's program alone committed, which found 1 at key 10.
+fn has_lock_and_program(history: &History) -> bool {
+    let locked = history.locks.as_slice() == [((Name::Key(15), 1), 2)].as_slice();
+    let committed = match history.programs.as_slice() {
+        [program] => {
+            program.txn == 2
+                && matches!(
+                    program.operations.as_slice(),
+                    [(Op::Fetch(10), Reply::Found(1))]
+                )
+        }
+        _ => false,
+    };
+    locked && committed
+}
+
 /// Whether a history is that of the two.
 fn is_theirs(history: &History) -> bool {
     let seats = match history.seats.as_slice() {
@@ -79,6 +96,7 @@ fn is_theirs(history: &History) -> bool {
         && history.entries.len() == 3
         && history.index.as_slice() == [(10, 1), (15, 5), (20, 2), (30, 3)].as_slice()
         && history.unfinished.as_slice() == [1].as_slice()
+        && has_lock_and_program(history)
 }
 
 /// A seat is lost with its transaction active: its entry and its locks stay, and the closed engine names it.

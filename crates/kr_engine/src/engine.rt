@@ -14,13 +14,15 @@ ghost use Rattle.kr_engine.specs.Seats.{Shows, SeesFault, ToldFault, IsOpen, IsI
 use crate::closing::{CloseFault, History, Share};
 use crate::faults::{EngineFault, Receipt};
 use crate::kernel::Core;
+use crate::queues::Queues;
 use crate::seat::Hand;
+use crate::wakes::{Change, change_of};
 use kr_model::{Op, Txn, Txns};
 use kr_places::{EngineName, PlaceRow, Watch};
 use kr_protocol::Covered;
 use std::alloc::{AllocError, Global};
 use std::marker::Model;
-use std::sync::{Condvar, Mutex, Wait};
+use std::sync::{Mutex, Wait};
 
 /// A machine under one lock, with a row of places for its history. Threads do the steps of transactions by its seats, and
 /// read the row by watches.
@@ -29,8 +31,8 @@ pub struct Engine<P: Covered, K: EngineName> {
     alloc: Global,
     row: PlaceRow,
     pub(crate) core: Mutex<Core<P, K>>,
-    /// Told after each step, so that all who wait try again.
-    changed: Condvar,
+    /// Where calls sleep whose steps are blocked.
+    queues: Queues,
     ghost row_is: { row ≡ K.places },
 }
 
@@ -49,11 +51,12 @@ impl<P: Covered, K: EngineName> Engine<P, K> {
         requires is_map { IsMap opening.now }
     {
         let core = Core::new(alloc, protocol, opening, &row)?;
+        let queues = Queues::new(alloc)?;
         Ok(Engine {
             alloc,
             row,
             core: Mutex::new(core),
-            changed: Condvar::new(),
+            queues,
         })
     }
 
@@ -77,8 +80,9 @@ impl<P: Covered, K: EngineName> Engine<P, K> {
         Watch::new(self.alloc, &self.row)
     }
 
-    /// The history of the engine, compared with what these seats saw which left: the entries in order of place, the index
-    /// and the unfinished transactions after them, and what is noted of each seat. Nothing changes.
+    /// The history of the engine, compared with what these seats saw which left: the entries in order of place, the index,
+    /// the unfinished transactions and the locks after them, the programs that committed, and what is noted of each seat.
+    /// Nothing changes.
     ///
     /// - `Place`, before anything else: a share doesn't fit the engine. Never where there are no shares.
     /// - `Memory`: a growth was refused.
@@ -145,13 +149,13 @@ impl<P: Covered, K: EngineName> Engine<P, K> {
     {
         let mut core = self.core.lock(rt);
         let result = core.serve(&self.row, hand, op);
-        if result.is_ok() {
-            self.changed.notify_all();
+        if let Ok(receipt) = &result {
+            self.pass_on(&mut core, change_of(&receipt.reply));
         }
         result
     }
 
-    /// Attempts of a seat, one after each change, until one isn't blocked.
+    /// Attempts of a seat, one each time that it is woken, until one isn't blocked.
     fn attend<R: Wait>(&self, rt: &R, hand: &mut Hand<K>, op: Op) -> Result<Receipt, EngineFault>
         ensures seat { (hand.new.seat ≡ hand.old.seat) × (hand.new.speaks ≡ hand.old.speaks) }
         ensures begins { IsPrefix hand.old.view hand.new.view }
@@ -164,22 +168,50 @@ impl<P: Covered, K: EngineName> Engine<P, K> {
         ensures memory { result ≡ Err fault.Memory → ends op ≡ true → IsIdle K.table K.opening hand.old }
         ensures free { IfErr result (λ f. is_blocked f ≡ false) }
     {
+        let txn = hand.speaks.unwrap_or(0);
+        let mut least = Change::Nothing;
         let mut core = self.core.lock(rt);
         for _ in rt.forever() {
             match core.serve_or_wait(&self.row, hand, op) {
                 Ok(receipt) => {
-                    self.changed.notify_all();
+                    self.pass_on(&mut core, change_of(&receipt.reply).or(least));
                     return Ok(receipt);
                 }
                 Err(fault) => {
+                    self.pass_on(&mut core, least);
                     if !fault.is_blocked() {
                         return Err(fault);
                     }
                 }
             }
-            core = self.changed.wait(rt, core);
+            core = self.queues.sleep(rt, txn, core);
+            // The wake was for one call, and others may be free.
+            least = Change::Locks;
         }
         unreachable!()
+    }
+
+    /// Wakes the first call that a change may have let go on, which wakes the next; and where the index is another, each
+    /// that may be in a deadlock now. The core stays.
+    fn pass_on(&self, core: &mut Core<P, K>, change: Change)
+        ensures { core.new ≡ core.old }
+    {
+        if change == Change::Nothing || core.has_no_waiter() {
+            return;
+        }
+        if let Some(txn) = core.first_free() {
+            self.queues.wake(txn);
+        }
+        if change == Change::Index {
+            match core.entangled() {
+                Ok(waits) => {
+                    for wait in &waits {
+                        self.queues.wake(wait.txn);
+                    }
+                }
+                Err(_) => self.queues.wake_all(),
+            }
+        }
     }
 }
 
@@ -246,8 +278,8 @@ impl<'a, P: Covered, K: EngineName> Seat<'a, P, K> {
         engine.attempt(rt, &mut self.hand, op)
     }
 
-    /// The same, but while the step is blocked it waits, and attempts it again after each step that another seat does.
-    /// Where the wait would close a cycle of waiting transactions it answers `Deadlock` at once. At a fault that isn't a
+    /// The same, but while the step is blocked it waits, and attempts it again when a step of another seat may have let it
+    /// go on, or closed a cycle. Where the wait would close a cycle of waiting transactions it answers `Deadlock` at once. At a fault that isn't a
     /// refusal the seat may have seen more. It never answers that the step is blocked.
     pub fn call<R: Wait>(&mut self, rt: &R, op: Op) -> Result<Receipt, EngineFault>
         ensures seat { (self.new.seat ≡ self.old.seat) × (self.new.speaks ≡ self.old.speaks) }

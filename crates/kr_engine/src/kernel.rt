@@ -61,7 +61,7 @@ impl<P: Covered, K: EngineName> Model for Core<P, K> {
 
     ghost view = { λ c. record { protocol = c.machine.protocol; state = c.machine.state; entries = c.history; numbers = begun_by c.numbers; seats = c.seats.items; kept = c.kept; waiting = c.waiting.items } };
 
-    ghost invariant = { λ c. IsCore K.table K.opening K.places (P.table c.machine.protocol) c.machine.pending c.machine.state c.history c.numbers c.seats.items c.kept };
+    ghost invariant = { λ c. IsCore K.table K.opening K.places (P.table c.machine.protocol) c.machine.pending c.machine.state c.machine.log c.history c.numbers c.seats.items c.kept };
 }
 
 impl<P: Covered, K: EngineName> Core<P, K> {

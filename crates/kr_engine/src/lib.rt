@@ -11,15 +11,19 @@ mod engine_tests;
 mod faults;
 mod kernel;
 mod numbers;
+mod queues;
 mod seat;
 #[cfg(test)]
 mod tests;
 mod waits;
+mod wakes;
+#[cfg(test)]
+mod waking_tests;
 mod writes;
 
 pub use closing::{CloseFault, History, Share};
 pub use engine::{Engine, Seat};
 pub use faults::{EngineFault, Receipt};
 pub use kernel::{Core, SeatNote};
-pub use kr_model::{Event, Op, Pairs, Reply, Txn, Txns};
+pub use kr_model::{Event, Mode, Name, Op, Pairs, Programs, Reply, Txn, Txns};
 pub use kr_places::{EngineName, Entry, NewFault, PlaceRow, Watch};

@@ -1,5 +1,6 @@
 //! Waiting: an operation is noted, unless it closes a cycle of waiting transactions.
-ghost use Rattle.std.specs.Prelude.{◌≡◌, ◌≢◌, ◌≤◌, ◌∷◌, ◌++◌, [], ℕ, List, true, None, IfOk, IfErr, IfSome, IfNone, OnOk, OnErr, vec_len, vec_capacity};
+ghost use Rattle.std.specs.List.{list_any};
+ghost use Rattle.std.specs.Prelude.{◌≡◌, ◌==◌, ◌||◌, ◌≢◌, ◌≤◌, ◌∷◌, ◌++◌, [], ℕ, List, true, None, IfOk, IfErr, IfSome, IfNone, OnOk, OnErr, vec_len, vec_capacity};
 ghost use Rattle.kr_model.specs.declared.Reply.TheVariants as reply_is;
 ghost use Rattle.kr_model.specs.declared.Refusal.TheVariants as refusal_is;
 ghost use Rattle.kr_model.specs.Step.{blockers_in};
@@ -91,28 +92,58 @@ fn cycle_of<P: Covered>(
     ensures cycle { IfOk result (λ found. IfSome found (IsCycle (blockers_now (in_the_way (P.table machine.old.protocol) machine.old.state) (event txn op ∷ noted.now)) txn)) }
     ensures none { IfOk result (λ found. IfNone found ((cycle : List ℕ) → IsCycle (blockers_now (in_the_way (P.table machine.old.protocol) machine.old.state) (event txn op ∷ noted.now)) txn cycle → ⊥)) }
 {
-    let waits = entries(alloc, machine, Event { txn, op }, noted)?;
+    let own = blockers(alloc, machine, Event { txn, op })?;
+    if !may_close(txn, &own, noted) {
+        return Ok(None);
+    }
+    let waits = entries(alloc, machine, Event { txn, op }, own, noted)?;
     match find_cycle(alloc, &waits, txn)? {
         Some(cycle) => Ok(Some(Txns::from_vec(cycle))),
         None => Ok(None),
     }
 }
 
-/// An entry for the asker and then one for each noted operation.
+/// Whether one of those that block a transaction is it, or has a noted operation. Else there is no cycle.
+fn may_close(txn: Txn, own: &[Txn], noted: &[Event]) -> bool
+    ensures { result ≡ list_any (λ u. (u == txn) || list_any (λ e. e.txn == u) noted.now) own.now }
+{
+    for &blocker in own {
+        if blocker == txn || is_noted(noted, blocker) {
+            return true;
+        }
+    }
+    false
+}
+
+/// Whether one of these operations is of the transaction.
+fn is_noted(noted: &[Event], txn: Txn) -> bool
+    ensures { result ≡ list_any (λ e. e.txn == txn) noted.now }
+{
+    for event in noted {
+        if event.txn == txn {
+            return true;
+        }
+    }
+    false
+}
+
+/// An entry for the asker, whom these block, and then one for each noted operation.
 fn entries<P: Covered>(
     alloc: Global,
     machine: &mut Machine<P, Tree, Buckets>,
     event: Event,
+    own: Vec<Txn>,
     noted: &[Event],
 ) -> Result<Vec<Waiting>, AllocError>
-    requires { machine.old.pending ≡ None }
+    requires at_rest { machine.old.pending ≡ None }
+    requires own { own.items ≡ in_the_way (P.table machine.old.protocol) machine.old.state event }
     ensures same { machine.new ≡ machine.old }
     ensures entries { IfOk result (λ waits. (t : ℕ) → blockers_of waits.items t ≡ blockers_now (in_the_way (P.table machine.old.protocol) machine.old.state) (event ∷ noted.now) t) }
 {
     let mut waits = Vec::new(alloc);
     waits.push(Waiting {
         txn: event.txn,
-        blockers: blockers(alloc, machine, event)?,
+        blockers: own,
     })?;
     for &other in noted {
         waits.push(Waiting {
@@ -124,7 +155,7 @@ fn entries<P: Covered>(
 }
 
 /// Who blocks an operation now; nobody where it isn't blocked. The machine stays.
-fn blockers<P: Covered>(
+pub(crate) fn blockers<P: Covered>(
     alloc: Global,
     machine: &mut Machine<P, Tree, Buckets>,
     event: Event,

@@ -2,6 +2,7 @@
 ghost use Rattle.std.specs.Prelude.{◌≡◌, ◌≢◌, ◌+◌, ◌<◌, ◌≤◌, true, false, length, None, Some, Err, IfOk, IfErr, OnOk, OnErr, IsTrue, slice_index_or};
 ghost use Rattle.kr_model.specs.Step.{step, is_end as ends, may_lack_memory};
 ghost use Rattle.kr_model.specs.Run.{is_granted};
+ghost use Rattle.kr_model.specs.Log.{logged};
 ghost use Rattle.kr_machine.specs.Pending.{end_reply as the_end_reply};
 ghost use Rattle.kr_engine.specs.declared.faults.EngineFault.TheVariants as fault;
 ghost use Rattle.kr_engine.specs.Faults.{TellsReply, is_of_attempt};
@@ -56,6 +57,7 @@ pub(crate) fn write_step<P: Covered>(
     ensures protocol { machine.new.protocol ≡ machine.old.protocol }
     ensures at_rest { machine.new.pending ≡ None }
     ensures state { OnOk result (machine.new.state ≡ (step (P.table machine.old.protocol) machine.old.state txn op).1) }
+    ensures log { IfOk result (λ r. machine.new.log ≡ logged machine.old.log (event txn op, r.0)) }
     ensures reply { IfOk result (λ r. (r.0 ≡ (step (P.table machine.old.protocol) machine.old.state txn op).0) × (is_granted r.0 ≡ true)) }
     ensures note { IfOk result (λ r. (r.1.cell ≡ slice_index_or row.now place 0) × (r.1.known ≡ Some (entry seat (event txn op) r.0))) }
     ensures err { OnErr result (machine.new ≡ machine.old) }
@@ -114,6 +116,7 @@ pub(crate) fn write_end<P: Covered>(
     ensures protocol { machine.new.protocol ≡ machine.old.protocol }
     ensures at_rest { machine.new.pending ≡ None }
     ensures state { OnOk result (machine.new.state ≡ (step (P.table machine.old.protocol) machine.old.state txn op).1) }
+    ensures log { IfOk result (λ r. machine.new.log ≡ logged machine.old.log (event txn op, r.0)) }
     ensures reply { IfOk result (λ r. (r.0 ≡ (step (P.table machine.old.protocol) machine.old.state txn op).0) × (is_granted r.0 ≡ true)) }
     ensures note { IfOk result (λ r. (r.1.cell ≡ slice_index_or row.now place 0) × (r.1.known ≡ Some (entry seat (event txn op) r.0))) }
     ensures err { OnErr result (machine.new ≡ machine.old) }
@@ -175,6 +178,7 @@ pub(crate) fn write<P: Covered>(
     ensures protocol { machine.new.protocol ≡ machine.old.protocol }
     ensures at_rest { machine.new.pending ≡ None }
     ensures state { OnOk result (machine.new.state ≡ (step (P.table machine.old.protocol) machine.old.state txn op).1) }
+    ensures log { IfOk result (λ r. machine.new.log ≡ logged machine.old.log (event txn op, r.0)) }
     ensures reply { IfOk result (λ r. (r.0 ≡ (step (P.table machine.old.protocol) machine.old.state txn op).0) × (is_granted r.0 ≡ true)) }
     ensures note { IfOk result (λ r. (r.1.cell ≡ slice_index_or row.now place 0) × (r.1.known ≡ Some (entry seat (event txn op) r.0))) }
     ensures err { OnErr result (machine.new ≡ machine.old) }

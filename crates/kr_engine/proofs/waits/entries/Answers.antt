@@ -9,10 +9,10 @@ pub loop-other-preserved : goal.loop-other-preserved
 loop-other-preserved g c =
     let nothing : Event = record { txn = 0; op = op.Fetch 0 } in
     record {
-      same = c.in_ok-blockers-2.ensures.same ∙ c.loop-other.invariant.same;
+      same = c.in_ok-blockers.ensures.same ∙ c.loop-other.invariant.same;
       entries = entries_push (in_the_way (g.P.Protocol.table c.args.machine.now.protocol) c.args.machine.now.state) c.args.event c.args.noted.now c.loop-other.other-index nothing c.loop-other.waits.items _ _ c.loop-other.invariant.entries c.loop-other-test.true (record {
         txn = refl;
-        blockers_are = c.in_ok-blockers-2.ensures.blockers ∙ ap (λ m. in_the_way (g.P.Protocol.table m.protocol) m.state (get_or c.args.noted.now c.loop-other.other-index nothing)) c.loop-other.invariant.same;
+        blockers_are = c.in_ok-blockers.ensures.blockers ∙ ap (λ m. in_the_way (g.P.Protocol.table m.protocol) m.state (get_or c.args.noted.now c.loop-other.other-index nothing)) c.loop-other.invariant.same;
       }) c.in_ok-push-2.ensures.items;
     }
 

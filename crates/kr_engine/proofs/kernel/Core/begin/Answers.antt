@@ -20,6 +20,7 @@ invariant_of-self g c =
       at_rest = i.at_rest;
       is_map = i.is_map;
       history = i.history;
+      log_is = i.log_is;
       counts = counts_stay c.self.inside.seats.items c.self.inside.history c.args.seat c.index_mut.result.now _ i.counts seat c.index_mut.ensures.value refl;
       begun = subst (λ (l : List Number). All (λ e. is_begun (begun_by l) e.event.txn e.seat ≡ true) c.self.inside.history) (sym more) (begun_with ns n c.self.inside.history i.begun);
       ended = λ t h. ap (λ (l : List Number). was_begun (begun_by l) t) more ∙ ended_with_one s ns n i.ended t h;

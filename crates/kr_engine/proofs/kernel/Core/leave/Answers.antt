@@ -11,6 +11,7 @@ invariant_of-self g c =
       at_rest = i.at_rest;
       is_map = i.is_map;
       history = i.history;
+      log_is = i.log_is;
       counts = counts_stay c.self.inside.seats.items c.self.inside.history c.args.seat c.index_mut.result.now _ i.counts seat c.index_mut.ensures.value refl;
       begun = i.begun;
       ended = i.ended;
