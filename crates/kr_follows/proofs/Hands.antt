@@ -100,57 +100,56 @@ pub none_are : (os : List Op) → None ≡ some_ops os → os ≡ []
 none_are [] is = refl
 none_are (o ∷ os) is = absurd (cc)
 
--- The operations of each transaction after one more, in a map from which its transaction's were taken and put back with it.
-each_more : (events : List Event) (e : Event) (m n w : Hands) (v : Hand)
+-- The operations of each transaction after one more, in a map in which its transaction has them with it.
+each_more : (events : List Event) (e : Event) (m w : Hands) (v : Hand)
     → ((t : ℕ) → option_map (λ (h : Hand). h.items) (get nat_cmp m t) ≡ some_ops (ops_of t events))
-    → ((q : ℕ) → get nat_cmp n q ≡ cond (is_at (nat_cmp e.txn) q) None (get nat_cmp m q))
     → v.items ≡ ops_of e.txn events ++ e.op ∷ []
-    → ((q : ℕ) → get nat_cmp w q ≡ cond (is_at (nat_cmp e.txn) q) (Some v) (get nat_cmp n q))
+    → ((q : ℕ) → get nat_cmp w q ≡ cond (is_at (nat_cmp e.txn) q) (Some v) (get nat_cmp m q))
     → (t : ℕ) → option_map (λ (h : Hand). h.items) (get nat_cmp w t) ≡ some_ops (ops_of t (events ++ e ∷ []))
-each_more events e m n w v each taken longer put t =
-    ap (option_map (λ (h : Hand). h.items)) (put t ∙ ap (cond (is_at (nat_cmp e.txn) t) (Some v)) (taken t))
+each_more events e m w v each longer put t =
+    ap (option_map (λ (h : Hand). h.items)) (put t)
     ∙ by (e.txn == t) refl (same_test e.txn t ∙ swapped t e.txn)
     ∙ ap some_ops (sym (ops_more events e t))
   where
     by : (b : Bool) → (e.txn == t) ≡ b → is_at (nat_cmp e.txn) t ≡ b
-        → option_map (λ (h : Hand). h.items) (cond (is_at (nat_cmp e.txn) t) (Some v) (cond (is_at (nat_cmp e.txn) t) None (get nat_cmp m t))) ≡ some_ops (ops_of t events ++ cond b (e.op ∷ []) [])
+        → option_map (λ (h : Hand). h.items) (cond (is_at (nat_cmp e.txn) t) (Some v) (get nat_cmp m t)) ≡ some_ops (ops_of t events ++ cond b (e.op ∷ []) [])
     by true is at =
-        ap (λ (c : Bool). option_map (λ (h : Hand). h.items) (cond c (Some v) (cond c None (get nat_cmp m t)))) at
+        ap (λ (c : Bool). option_map (λ (h : Hand). h.items) (cond c (Some v) (get nat_cmp m t))) at
         ∙ ap Some (longer ∙ ap (λ (u : ℕ). ops_of u events ++ e.op ∷ []) (eqb-true e.txn t is))
         ∙ sym (some_more (ops_of t events) e.op)
     by false is at =
-        ap (λ (c : Bool). option_map (λ (h : Hand). h.items) (cond c (Some v) (cond c None (get nat_cmp m t)))) at
+        ap (λ (c : Bool). option_map (λ (h : Hand). h.items) (cond c (Some v) (get nat_cmp m t))) at
         ∙ each t ∙ ap some_ops (sym (append-nil (ops_of t events)))
 
 -- An event of a transaction that has occurred.
-pub dealt_again : (events : List Event) (e : Event) (txns : List ℕ) (m n w : Hands) (u v : Hand)
+pub dealt_again : (events : List Event) (e : Event) (txns : List ℕ) (m w : Hands) (u v : Hand)
     → AreHands events txns m
     → Some u ≡ get nat_cmp m e.txn
-    → ((q : ℕ) → get nat_cmp n q ≡ cond (is_at (nat_cmp e.txn) q) None (get nat_cmp m q))
     → v.items ≡ u.items ++ e.op ∷ []
-    → ((q : ℕ) → get nat_cmp w q ≡ cond (is_at (nat_cmp e.txn) q) (Some v) (get nat_cmp n q))
+    → ((q : ℕ) → get nat_cmp w q ≡ cond (is_at (nat_cmp e.txn) q) (Some v) (get nat_cmp m q))
     → AreHands (events ++ e ∷ []) txns w
-dealt_again events e txns m n w u v hands found taken longer put =
+dealt_again events e txns m w u v hands found longer put =
     let there : Some u.items ≡ some_ops (ops_of e.txn events) = ap (option_map (λ (h : Hand). h.items)) found ∙ hands.each e.txn in
     record {
       firsts_are = hands.firsts_are ∙ sym (firsts_more events e ∙ ap (λ (ts : List ℕ). firsts events ++ ts) (not_first (ops_of e.txn events) u.items e.txn there) ∙ append-nil (firsts events));
-      each = each_more events e m n w v hands.each taken (longer ∙ ap (λ (os : List Op). os ++ e.op ∷ []) (some_are (ops_of e.txn events) u.items there)) put;
+      each = each_more events e m w v hands.each (longer ∙ ap (λ (os : List Op). os ++ e.op ∷ []) (some_are (ops_of e.txn events) u.items there)) put;
     }
 
--- An event of a transaction that hasn't.
-pub dealt_first : (events : List Event) (e : Event) (txns : List ℕ) (m n w : Hands) (v : Hand)
+-- A transaction that the map doesn't find has no operations.
+pub dealt_none : (events : List Event) (t : ℕ) (txns : List ℕ) (m : Hands) → AreHands events txns m → None ≡ get nat_cmp m t → ops_of t events ≡ []
+dealt_none events t txns m hands found = none_are (ops_of t events) (ap (option_map (λ (h : Hand). h.items)) found ∙ hands.each t)
+
+-- An event of a transaction that hasn't occurred.
+pub dealt_first : (events : List Event) (e : Event) (txns : List ℕ) (m w : Hands) (v : Hand)
+    → ops_of e.txn events ≡ []
     → AreHands events txns m
-    → None ≡ get nat_cmp m e.txn
-    → ((q : ℕ) → get nat_cmp n q ≡ cond (is_at (nat_cmp e.txn) q) None (get nat_cmp m q))
     → v.items ≡ e.op ∷ []
-    → ((q : ℕ) → get nat_cmp w q ≡ cond (is_at (nat_cmp e.txn) q) (Some v) (get nat_cmp n q))
+    → ((q : ℕ) → get nat_cmp w q ≡ cond (is_at (nat_cmp e.txn) q) (Some v) (get nat_cmp m q))
     → AreHands (events ++ e ∷ []) (txns ++ e.txn ∷ []) w
-dealt_first events e txns m n w v hands found taken longer put =
-    let none : ops_of e.txn events ≡ [] = none_are (ops_of e.txn events) (ap (option_map (λ (h : Hand). h.items)) found ∙ hands.each e.txn) in
-    record {
-      firsts_are = ap (λ (ts : List ℕ). ts ++ e.txn ∷ []) hands.firsts_are ∙ sym (firsts_more events e ∙ ap (λ (os : List Op). firsts events ++ first_of os e.txn) none);
-      each = each_more events e m n w v hands.each taken (longer ∙ ap (λ (os : List Op). os ++ e.op ∷ []) (sym none)) put;
-    }
+dealt_first events e txns m w v none hands longer put = record {
+  firsts_are = ap (λ (ts : List ℕ). ts ++ e.txn ∷ []) hands.firsts_are ∙ sym (firsts_more events e ∙ ap (λ (os : List Op). firsts events ++ first_of os e.txn) none);
+  each = each_more events e m w v hands.each (longer ∙ ap (λ (os : List Op). os ++ e.op ∷ []) (sym none)) put;
+}
 
 -- The hands of all events are the dealing.
 pub hands_are : (events : List Event) (txns : List ℕ) (m : Hands) → AreHands events txns m → (t : ℕ) → hand_of t (hands_of m) ≡ ops_of t events

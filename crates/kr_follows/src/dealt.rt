@@ -1,6 +1,7 @@
 //! Operations by their transactions.
-ghost use Rattle.std.specs.Prelude.{◌≡◌, List, ◌++◌, ◌∷◌, [], IfOk, OnOk};
+ghost use Rattle.std.specs.Prelude.{◌≡◌, ℕ, false, IsTrue, List, ◌++◌, ◌∷◌, [], IfOk, OnOk};
 ghost use Rattle.kr_model.specs.declared.Event.{Event};
+ghost use Rattle.kr_follows.specs.Follows.{ops_of};
 ghost use Rattle.kr_follows.specs.Dealt.{ops_in, AreDealt, AreHands};
 
 use kr_model::{Event, Op, Txn};
@@ -59,7 +60,8 @@ impl Dealt {
     }
 }
 
-/// Adds an operation behind those of its transaction, which comes last where it is new.
+/// Adds an operation behind those of its transaction, which comes last where it is new. It takes one look at the map, and a
+/// second one where the transaction is new.
 fn add(
     alloc: Global,
     txns: &mut Vec<Txn>,
@@ -68,18 +70,36 @@ fn add(
 ) -> Result<(), AllocError>
     ensures { OnOk result ((events : List Event) → AreHands events txns.old.items hands.old → AreHands (events ++ event ∷ []) txns.new.items hands.new) }
 {
-    match hands.remove(&event.txn) {
-        Some(mut ops) => {
-            ops.push(event.op)?;
-            hands.insert(event.txn, ops)?;
-            Ok(())
-        }
-        None => {
-            txns.push(event.txn)?;
-            let mut ops = Vec::new(alloc);
-            ops.push(event.op)?;
-            hands.insert(event.txn, ops)?;
-            Ok(())
-        }
+    if add_again(hands, event)? {
+        return Ok(());
     }
+    txns.push(event.txn)?;
+    add_first(alloc, hands, event)?;
+    Ok(())
+}
+
+/// Adds an operation of a transaction that has some, and tells whether it has.
+fn add_again(hands: &mut BTreeMap<Txn, Vec<Op>>, event: Event) -> Result<bool, AllocError>
+    ensures again { IfOk result (λ there. IsTrue there → (events : List Event) (txns : List ℕ) → AreHands events txns hands.old → AreHands (events ++ event ∷ []) txns hands.new) }
+    ensures absent { IfOk result (λ there. there ≡ false → (events : List Event) (txns : List ℕ) → AreHands events txns hands.old → (ops_of event.txn events ≡ []) × AreHands events txns hands.new) }
+{
+    if let Some(ops) = hands.get_mut(&event.txn) {
+        ops.push(event.op)?;
+        return Ok(true);
+    }
+    Ok(false)
+}
+
+/// Adds the first operation of a transaction.
+fn add_first(
+    alloc: Global,
+    hands: &mut BTreeMap<Txn, Vec<Op>>,
+    event: Event,
+) -> Result<(), AllocError>
+    ensures { OnOk result ((events : List Event) (txns : List ℕ) → ops_of event.txn events ≡ [] → AreHands events txns hands.old → AreHands (events ++ event ∷ []) (txns ++ event.txn ∷ []) hands.new) }
+{
+    let mut ops = Vec::new(alloc);
+    ops.push(event.op)?;
+    hands.insert(event.txn, ops)?;
+    Ok(())
 }

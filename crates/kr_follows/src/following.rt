@@ -1,8 +1,9 @@
 //! Whether a history follows a script.
-ghost use Rattle.std.specs.Prelude.{◌≡◌, Decides, IfOk, All};
+ghost use Rattle.std.specs.Prelude.{◌≡◌, List, Decides, IfOk, All};
+ghost use Rattle.kr_model.specs.declared.Event.{Event};
 ghost use Rattle.kr_model.specs.Step.{is_end};
 ghost use Rattle.kr_follows.specs.Follows.{Follows, AreRising, is_before, is_of, stays_active, closed, done_from};
-ghost use Rattle.kr_follows.specs.Dealt.{IsDone, IsAsked, IsKnown};
+ghost use Rattle.kr_follows.specs.Dealt.{AreDealt, IsDone, IsAsked, IsKnown};
 ghost use Rattle.kr_follows.specs.Fates.{fate_of, IsPlace};
 
 use crate::dealt::Dealt;
@@ -10,32 +11,32 @@ use crate::faults::{Cause, StepFault};
 use kr_model::{Event, Op, Txn};
 use std::alloc::{AllocError, Global};
 
-/// Whether the events follow the steps with these faults: each transaction does its own steps in order, without those
-/// that have a fault, up to its first deadlock, and then aborts where it is still active; each fault's operation is the
-/// one at its number of its transaction's own steps; and the faults rise by transaction, and then by number.
+/// Whether the events follow the steps of a script, which are given as they were dealt, with these faults: each
+/// transaction does its own steps in order, without those that have a fault, up to its first deadlock, and then aborts
+/// where it is still active; each fault's operation is the one at its number of its transaction's own steps; and the faults
+/// rise by transaction, and then by number.
 ///
 /// It takes O(n log n), where n counts the steps, the faults and the events, and answers an error where a growth is
 /// refused.
 pub fn follows(
     alloc: Global,
-    steps: &[Event],
+    script: &Dealt,
     faults: &[StepFault],
     events: &[Event],
 ) -> Result<bool, AllocError>
-    ensures { IfOk result (λ yes. Decides yes (Follows steps.now faults.now events.now)) }
+    ensures { IfOk result (λ yes. (steps : List Event) → AreDealt steps script.now → Decides yes (Follows steps faults.now events.now)) }
 {
     if !are_rising(faults) {
         return Ok(false);
     }
-    let script = Dealt::new(alloc, steps)?;
-    if !are_asked(&script, faults) {
+    if !are_asked(script, faults) {
         return Ok(false);
     }
     let done = Dealt::new(alloc, events)?;
-    if !are_known(&script, done.txns()) {
+    if !are_known(script, done.txns()) {
         return Ok(false);
     }
-    are_done(alloc, &script, faults, &done)
+    are_done(alloc, script, faults, &done)
 }
 
 /// Whether each fault comes before all later ones.

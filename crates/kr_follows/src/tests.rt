@@ -71,7 +71,8 @@ fn faults(alloc: Global) -> Result<Vec<StepFault>, AllocError> {
 /// Whether these events follow the script with its faults.
 fn does_follow(alloc: Global, events: &[Event]) -> Result<bool, AllocError> {
     let faults = faults(alloc)?;
-    follows(alloc, &script(), faults.as_slice(), events)
+    let dealt = Dealt::new(alloc, &script())?;
+    follows(alloc, &dealt, faults.as_slice(), events)
 }
 
 /// Whether the history follows the script with these faults.
@@ -79,7 +80,8 @@ fn follows_with(alloc: Global, one: StepFault, other: StepFault) -> Result<bool,
     let mut faults = Vec::new(alloc);
     faults.push(one)?;
     faults.push(other)?;
-    follows(alloc, &script(), faults.as_slice(), &history())
+    let dealt = Dealt::new(alloc, &script())?;
+    follows(alloc, &dealt, faults.as_slice(), &history())
 }
 
 #[test]
@@ -107,8 +109,9 @@ fn each_transaction_may_go_at_another_pace(rt: HostRuntime) -> Result<(), AllocE
 
 #[test]
 fn nothing_follows_no_steps(rt: HostRuntime) -> Result<(), AllocError> {
-    assert!(rt; follows(rt.alloc(), &[], &[], &[])?);
-    assert!(rt; !follows(rt.alloc(), &[], &[], &[by(1, Op::Abort)])?);
+    let dealt = Dealt::new(rt.alloc(), &[])?;
+    assert!(rt; follows(rt.alloc(), &dealt, &[], &[])?);
+    assert!(rt; !follows(rt.alloc(), &dealt, &[], &[by(1, Op::Abort)])?);
     Ok(())
 }
 
@@ -162,9 +165,10 @@ fn an_operation_of_another_transaction_does_not_follow(rt: HostRuntime) -> Resul
 
 #[test]
 fn a_step_is_missed_only_with_a_fault(rt: HostRuntime) -> Result<(), AllocError> {
-    assert!(rt; !follows(rt.alloc(), &script(), &[], &history())?);
+    let dealt = Dealt::new(rt.alloc(), &script())?;
+    assert!(rt; !follows(rt.alloc(), &dealt, &[], &history())?);
     let fault = [refused(2, 1, Op::Go)];
-    assert!(rt; !follows(rt.alloc(), &script(), &fault, &history())?);
+    assert!(rt; !follows(rt.alloc(), &dealt, &fault, &history())?);
     Ok(())
 }
 
@@ -189,8 +193,9 @@ fn faults_rise(rt: HostRuntime) -> Result<(), AllocError> {
     assert!(rt; !follows_with(alloc, one, refused(2, 1, Op::Go))?);
     let steps = [by(1, Op::Go), by(1, Op::Commit)];
     let twice = [refused(1, 1, Op::Go), refused(1, 1, Op::Go)];
-    assert!(rt; follows(alloc, &steps, &twice[..1], &steps[1..])?);
-    assert!(rt; !follows(alloc, &steps, &twice, &steps[1..])?);
+    let dealt = Dealt::new(alloc, &steps)?;
+    assert!(rt; follows(alloc, &dealt, &twice[..1], &steps[1..])?);
+    assert!(rt; !follows(alloc, &dealt, &twice, &steps[1..])?);
     Ok(())
 }
 
