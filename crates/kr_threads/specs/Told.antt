@@ -9,11 +9,12 @@ use Rattle.kr_model.specs.State.{State}
 use Rattle.kr_model.specs.Step.{step}
 use Rattle.kr_model.specs.Run as model
 use Rattle.kr_waits.specs.Waits.{IsCycle}
-use Rattle.kr_engine.specs.Histories.{IsHistory, event, events_with_replies}
+use Rattle.kr_engine.specs.Histories.{event, events_with_replies}
 use Rattle.kr_engine.specs.Waits.{in_the_way, blockers_now}
 use Rattle.kr_places.specs.declared.name.Entry.{Entry}
 use Rattle.kr_engine.specs.Seats.{Held}
-use Rattle.kr_engine.specs.Closed.{Lent}
+use Rattle.kr_engine.specs.declared.closing.History.{History}
+use Rattle.kr_engine.specs.Closed.{Lent, IsClosed}
 use Rattle.kr_follows.specs.declared.faults.Cause.{Cause}
 use Rattle.kr_follows.specs.declared.faults.Cause.TheVariants.{Deadlock, Refused}
 use Rattle.kr_follows.specs.declared.faults.StepFault.{StepFault}
@@ -51,9 +52,9 @@ pub record Reported : Type 0 where
   pub share : Lent
   pub faults : List StepFault
 
--- The entries are a run of granted steps from the opening map, after which no transaction is active, and each fault is told at the end of a beginning of it.
-pub record IsWorked (p : Protocol) (opening : Map) (es : List Entry) (fs : List StepFault) : Type 0 where
-  pub state : State
-  pub run : IsHistory p opening es state
-  pub ended : state.active ≡ []
-  pub told : AreTold p opening es fs
+-- The history is a closed engine's, no transaction is active at its end, and each fault is told at the end of a beginning of it.
+pub record IsWorked (p : Protocol) (opening : Map) (h : History) (fs : List StepFault) : Type 0 where
+  pub shares : List Lent
+  pub closed : IsClosed p opening h shares
+  pub ended : h.unfinished ≡ []
+  pub told : AreTold p opening h.entries.items fs

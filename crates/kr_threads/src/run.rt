@@ -1,19 +1,20 @@
 //! A run of a script in several threads.
-ghost use Rattle.std.specs.Prelude.{◌≡◌, ◌<◌, ◌≤◌, All, IfOk, OnOk};
+ghost use Rattle.std.specs.Prelude.{◌≡◌, ◌<◌, ◌≤◌, List, All, IfOk, OnOk};
+ghost use Rattle.kr_model.specs.declared.Event.{Event};
+ghost use Rattle.kr_model.specs.Protocol.{Protocol, IsLawful};
 ghost use Rattle.kr_model.specs.Map.{IsMap};
 ghost use Rattle.kr_engine.specs.Closed.{IsClosed};
+ghost use Rattle.kr_follows.specs.Dealt.{AreDealt};
 ghost use Rattle.kr_threads.specs.Told.{IsToldToOne, IsWorked};
 ghost use Rattle.kr_threads.specs.Threaded.{IsThreaded};
 
 use crate::gate::Gate;
-use crate::history::{answers, events};
+use crate::history::{answers, ran_of, steps_and_replies};
 use crate::work::{Report, Worker, work};
-use kr_engine::{CloseFault, Engine, EngineName, Entry, History, NewFault, PlaceRow, Share};
+use kr_engine::{CloseFault, Engine, EngineName, History, NewFault, PlaceRow, Share};
 use kr_follows::{Dealt, StepFault, follows};
-use kr_model::Event;
 use kr_protocol::Covered;
 use kr_script::{Script, Threaded};
-use kr_serial::run;
 use std::alloc::{AllocError, Global};
 use std::marker::Brand;
 use std::sync::Wait;
@@ -55,10 +56,10 @@ impl From<CloseFault> for RunFault {
     }
 }
 
-/// What the workers did: the entries of the history, and the steps that were left out.
+/// What the workers did: the closed history, in which no transaction is active at the end, and the steps that were left out.
 #[derive(Drop)]
 struct Worked {
-    entries: Vec<Entry>,
+    history: History,
     faults: Vec<StepFault>,
 }
 
@@ -93,7 +94,7 @@ pub fn run_threads<P: Covered + Sync, G: Gate + Sync, R: Threads + Wait + Sync>(
     let worked = run_named::<&P, Brand, G, R>(
         rt, alloc, protocol, opening, row, &dealt, workers, gate,
     )?;
-    compared(alloc, protocol, opening, steps, worked)
+    compared(alloc, opening, &dealt, worked)
 }
 
 /// The run over an engine that has this row.
@@ -117,7 +118,8 @@ fn run_named<
     requires table { P.table protocol ≡ K.table }
     requires is_map { IsMap opening.now }
     requires workers { 0 < workers }
-    ensures { IfOk result (λ w. IsWorked K.table K.opening w.entries.items w.faults.items) }
+    ensures worked { IfOk result (λ w. IsWorked K.table K.opening w.history w.faults.items) }
+    ensures is_map { IfOk result (λ w. IsMap w.history.index) }
 {
     let mut engine = Engine::<P, K>::new(alloc, protocol, opening, row)?;
     let jobs = hired(rt, alloc, &engine, workers)?;
@@ -199,37 +201,38 @@ fn finished<K: EngineName>(
     shares: &[Share<K>],
     faults: Vec<StepFault>,
 ) -> Result<Worked, RunFault>
+    requires lawful { IsLawful K.table }
+    requires is_map { IsMap K.opening }
     requires closed { IsClosed K.table K.opening history shares.now }
     requires told { All (IsToldToOne K.table K.opening shares.now) faults.items }
-    ensures { IfOk result (λ w. IsWorked K.table K.opening w.entries.items w.faults.items) }
+    ensures worked { IfOk result (λ w. IsWorked K.table K.opening w.history w.faults.items) }
+    ensures is_map { IfOk result (λ w. IsMap w.history.index) }
 {
     if !history.unfinished.as_slice().is_empty() {
         return Err(RunFault::Place);
     }
     let mut faults = faults;
     faults.sort_unstable_by_key(|f| (f.txn, f.step));
-    let entries = history.entries;
-    Ok(Worked { entries, faults })
+    Ok(Worked { history, faults })
 }
 
-/// The history with the run of its steps, compared with the script: `Place` where it doesn't follow it.
-fn compared<P: Covered>(
+/// The history with what it leaves, compared with the script: `Place` where it doesn't follow it.
+fn compared(
     alloc: Global,
-    protocol: &P,
     opening: &[(u64, u64)],
-    steps: &[Event],
+    script: &Dealt,
     worked: Worked,
 ) -> Result<Threaded, RunFault>
-    requires is_map { IsMap opening.now }
-    requires worked { IsWorked (P.table protocol.now) opening.now worked.entries.items worked.faults.items }
-    ensures { IfOk result (λ d. IsThreaded (P.table protocol.now) opening.now steps.now d) }
+    requires opening { IsMap opening.now }
+    requires index { IsMap worked.history.index }
+    ensures { IfOk result (λ d. (p : Protocol) (steps : List Event) → IsWorked p opening.now worked.history worked.faults.items → AreDealt steps script.now → IsThreaded p opening.now steps d) }
 {
-    let Worked { entries, faults } = worked;
-    let events = events(alloc, &entries)?;
-    if !follows(alloc, steps, &faults, &events)? {
+    let Worked { history, faults } = worked;
+    let (steps, replies) = steps_and_replies(alloc, &history.entries)?;
+    if !follows(alloc, script, &faults, &steps)? {
         return Err(RunFault::Place);
     }
-    let ran = run(alloc, protocol, opening, &events)?;
+    let (entries, ran) = ran_of(alloc, opening, replies, history)?;
     let history = answers(alloc, entries)?;
     Ok(Threaded {
         history,

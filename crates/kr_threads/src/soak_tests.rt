@@ -140,7 +140,8 @@ fn have_replies(entries: &[Entry], replies: &[Reply]) -> bool {
     true
 }
 
-/// Whether a history is the run of its events from the opening, with the same replies and index, and a serial one.
+/// Whether a history is the run of its events from the opening, with the same replies, index, locks and programs, and a
+/// serial one.
 fn is_replayed(alloc: Global, opening: &[(u64, u64)], history: &History) -> Result<bool, Fail>
     requires { IsMap opening.now }
 {
@@ -150,10 +151,14 @@ fn is_replayed(alloc: Global, opening: &[(u64, u64)], history: &History) -> Resu
         .ok()
         .ok_or("run")?;
     let verdict = judge(alloc, &ran).ok().ok_or("judge")?;
+    let programs = format!(in alloc; "{:?}", ran.programs)?;
+    let committed = format!(in alloc; "{:?}", history.programs)?;
     Ok(
         verdict.is_serial()
             && have_replies(entries, ran.replies.as_slice())
             && ran.index.as_slice() == history.index.as_slice()
+            && ran.locks.as_slice() == history.locks.as_slice()
+            && programs == committed
             && ran.unfinished.as_slice().is_empty()
             && history.unfinished.as_slice().is_empty(),
     )

@@ -4,10 +4,10 @@ mod deadlock;
 mod gates;
 mod many;
 
-use crate::{Passage, run_threads};
+use crate::{Gate, Passage, run_threads};
 use kr_protocol::Kvl;
-use kr_script::{Script, read_script, report_threads};
-use kr_serial::judge;
+use kr_script::{Script, Threaded, read_script, report_threads};
+use kr_serial::{judge, run};
 use std::alloc::Global;
 use std::sync::Wait;
 use std::test::Fail;
@@ -21,6 +21,40 @@ fn script_of(alloc: Global, steps: &str) -> Result<Script, Fail> {
     Ok(read_script(alloc, text.as_bytes()).ok().ok_or("script")?)
 }
 
+/// Whether what is shown beside the history is what a run of its steps leaves, one after another: the replies, the
+/// programs, the index and the locks.
+fn is_replayed(alloc: Global, script: &Script, done: &Threaded) -> Result<bool, Fail> {
+    let mut steps = Vec::new(alloc);
+    for answered in &done.history {
+        steps.push(answered.event)?;
+    }
+    let ran = run(alloc, &Kvl, script.opening(), &steps)
+        .ok()
+        .ok_or("replay")?;
+    Ok(format!(in alloc; "{:?}", done.ran)? == format!(in alloc; "{ran:?}")?)
+}
+
+/// What a run of these steps shows, which is compared with a replay.
+fn done_by<G: Gate + Sync, R: Threads + Wait + Sync>(
+    rt: &R,
+    alloc: Global,
+    steps: &str,
+    workers: usize,
+    gate: &G,
+) -> Result<Threaded, Fail>
+    requires { (0 < workers) × (workers ≤ 64) }
+{
+    let script = script_of(alloc, steps)?;
+    let done = run_threads(rt, alloc, &Kvl, &script, workers, gate)
+        .ok()
+        .ok_or("runs")?;
+    if is_replayed(alloc, &script, &done)? {
+        Ok(done)
+    } else {
+        Err("replayed")?
+    }
+}
+
 /// The report of a run of these steps.
 fn report_of<R: Threads + Wait + Sync>(
     rt: &R,
@@ -30,10 +64,7 @@ fn report_of<R: Threads + Wait + Sync>(
 ) -> Result<String, Fail>
     requires { (0 < workers) × (workers ≤ 64) }
 {
-    let script = script_of(alloc, steps)?;
-    let done = run_threads(rt, alloc, &Kvl, &script, workers, &Passage)
-        .ok()
-        .ok_or("runs")?;
+    let done = done_by(rt, alloc, steps, workers, &Passage)?;
     let verdict = judge(alloc, &done.ran)?;
     Ok(report_threads(alloc, &done, &verdict)?)
 }

@@ -1,8 +1,7 @@
-use super::script_of;
-use crate::{Gate, run_threads};
+use super::done_by;
+use crate::Gate;
 use kr_follows::Cause;
 use kr_model::{Event, Op, Txn};
-use kr_protocol::Kvl;
 use kr_script::Answered;
 use kr_serial::judge;
 use std::sync::{Mutex, Wait};
@@ -57,13 +56,9 @@ fn a_deadlock_in_a_run(rt: HostRuntime) -> Result<(), Fail> {
         answered: Mutex::new(0),
         failed: Mutex::new(false),
     };
-    let script = script_of(
-        alloc,
-        "[[1,\"fetch\",10],[2,\"fetch\",20],[1,\"delete\",20],[2,\"delete\",10],[1,\"commit\"],[2,\"commit\"]]",
-    )?;
-    let done = run_threads(&rt, alloc, &Kvl, &script, 2, &gate)
-        .ok()
-        .ok_or("runs")?;
+    let steps =
+        "[[1,\"fetch\",10],[2,\"fetch\",20],[1,\"delete\",20],[2,\"delete\",10],[1,\"commit\"],[2,\"commit\"]]";
+    let done = done_by(&rt, alloc, steps, 2, &gate)?;
     assert!(rt; !*gate.failed.lock(&rt));
     assert_eq!(rt; done.faults.len(), 1);
     let fault = &done.faults[0];

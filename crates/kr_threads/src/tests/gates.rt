@@ -1,6 +1,5 @@
-use super::script_of;
-use crate::{Gate, run_threads};
-use kr_protocol::Kvl;
+use super::done_by;
+use crate::Gate;
 use std::sync::{Mutex, Wait};
 use std::test::Fail;
 use std::thread;
@@ -50,13 +49,9 @@ fn numbered_calls(rt: HostRuntime) -> Result<(), Fail> {
         second: Mutex::new(0),
         in_order: Mutex::new(true),
     };
-    let script = script_of(
-        alloc,
-        "[[9,\"fetch\",10],[4,\"fetch\",30],[5,\"fetch\",10],[5,\"commit\"],[4,\"go\"],[4,\"commit\"]]",
-    )?;
-    let done = run_threads(&rt, alloc, &Kvl, &script, 2, &gate)
-        .ok()
-        .ok_or("runs")?;
+    let steps =
+        "[[9,\"fetch\",10],[4,\"fetch\",30],[5,\"fetch\",10],[5,\"commit\"],[4,\"go\"],[4,\"commit\"]]";
+    let done = done_by(&rt, alloc, steps, 2, &gate)?;
     assert!(rt; *gate.in_order.lock(&rt));
     assert_eq!(rt; *gate.first.lock(&rt), 4);
     assert_eq!(rt; *gate.second.lock(&rt), 3);
@@ -102,13 +97,8 @@ fn workers_at_once(rt: HostRuntime) -> Result<(), Fail> {
         count: Mutex::new(0),
         failed: Mutex::new(false),
     };
-    let script = script_of(
-        alloc,
-        "[[1,\"fetch\",10],[2,\"fetch\",20],[1,\"commit\"],[2,\"commit\"]]",
-    )?;
-    let done = run_threads(&rt, alloc, &Kvl, &script, 2, &gate)
-        .ok()
-        .ok_or("runs")?;
+    let steps = "[[1,\"fetch\",10],[2,\"fetch\",20],[1,\"commit\"],[2,\"commit\"]]";
+    let done = done_by(&rt, alloc, steps, 2, &gate)?;
     assert!(rt; !*gate.failed.lock(&rt));
     assert_eq!(rt; done.history.len(), 4);
     Ok(())

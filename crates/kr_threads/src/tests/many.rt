@@ -1,8 +1,7 @@
-use super::script_of;
-use crate::{Passage, run_threads};
+use super::done_by;
+use crate::Passage;
 use kr_follows::{Cause, StepFault};
 use kr_model::Op;
-use kr_protocol::Kvl;
 use kr_script::Answered;
 use kr_serial::judge;
 use std::alloc::Global;
@@ -55,10 +54,8 @@ fn are_deadlocks(faults: &[StepFault]) -> bool {
 #[test]
 fn many_transactions(rt: HostRuntime) -> Result<(), Fail> {
     let alloc = rt.alloc();
-    let script = script_of(alloc, steps_of(alloc, 2000)?.as_str())?;
-    let done = run_threads(&rt, alloc, &Kvl, &script, 8, &Passage)
-        .ok()
-        .ok_or("runs")?;
+    let steps = steps_of(alloc, 2000)?;
+    let done = done_by(&rt, alloc, steps.as_str(), 8, &Passage)?;
     assert!(rt; are_deadlocks(&done.faults));
     assert_eq!(rt;
         commits(&done.history).saturating_add(done.faults.len()),
