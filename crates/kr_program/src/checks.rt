@@ -1,0 +1,56 @@
+//! From a lock protocol to the report of its check on a sink.
+ghost use Rattle.std.specs.Prelude.{◌≡◌, ◌⊎◌, ◌↔◌, [], IfOk, IfErr, IsTrue};
+ghost use Rattle.std.specs.Io.KnownBytes.{Appends};
+ghost use Rattle.kr_model.specs.Covers.{IsCovered};
+ghost use Rattle.kr_program.specs.Checks.{line_of, check_line, ExplainsLine};
+ghost use Rattle.kr_program.specs.declared.over.OverFault.TheVariants as fault;
+
+use crate::over::OverFault;
+use kr_cases::{Cause, FailedCase, Rejected, check};
+use kr_protocol::Protocol;
+use kr_script::{Sink, print, report_check};
+use std::alloc::Global;
+
+/// Writes the report of a check with its failed cases, and a line feed, and answers whether there are none.
+pub fn write_check<P: Protocol, W: Sink>(
+    alloc: Global,
+    protocol: &P,
+    failed: &[FailedCase],
+    out: &mut W,
+) -> Result<bool, OverFault>
+    ensures ok { IfOk result (λ _. Appends (W.taken out.old) (W.taken out.new)
+        (line_of (P.table protocol.now) (P.names protocol.now) failed.now)) }
+    ensures accepted { IfOk result (λ accepted. IsTrue accepted ↔ (failed.now ≡ [])) }
+    ensures err { IfErr result (ExplainsLine (line_of (P.table protocol.now) (P.names protocol.now) failed.now)
+        (W.taken out.old) (W.taken out.new) (W.failures out.old) (W.failures out.new)) }
+    ensures nothing { IfErr result (λ e. (e ≡ fault.Print) ⊎ (out.new ≡ out.old)) }
+{
+    let text = report_check(alloc, protocol, failed)?;
+    match print(out, text.as_str()) {
+        Ok(()) => Ok(failed.is_empty()),
+        Err(_) => Err(OverFault::Print),
+    }
+}
+
+/// Checks a protocol, writes the report of the check and a line feed, and answers whether every case holds. Where a
+/// growth was refused, nothing is written; where printing fails, a beginning of the report was.
+pub fn check_over<P: Protocol, W: Sink>(
+    alloc: Global,
+    protocol: P,
+    out: &mut W,
+) -> Result<bool, OverFault>
+    ensures ok { IfOk result (λ _.
+        Appends (W.taken out.old) (W.taken out.new) (check_line (P.table protocol) (P.names protocol))) }
+    ensures accepted { IfOk result (λ accepted. IsTrue accepted ↔ IsCovered (P.table protocol)) }
+    ensures err { IfErr result (ExplainsLine (check_line (P.table protocol) (P.names protocol))
+        (W.taken out.old) (W.taken out.new) (W.failures out.old) (W.failures out.new)) }
+    ensures nothing { IfErr result (λ e. (e ≡ fault.Print) ⊎ (out.new ≡ out.old)) }
+{
+    match check(alloc, protocol) {
+        Ok(checked) => write_check(alloc, checked.protocol(), &[], out),
+        Err(Rejected { protocol, cause }) => match cause {
+            Cause::Failed(failed) => write_check(alloc, &protocol, failed.as_slice(), out),
+            Cause::Memory => Err(OverFault::Memory),
+        },
+    }
+}

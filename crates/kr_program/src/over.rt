@@ -1,0 +1,102 @@
+//! From the bytes of a script to its report on a sink.
+ghost use Rattle.std.specs.Prelude.{◌≡◌, ◌⊎◌, ◌↔◌, IfOk, IfErr, IsTrue, Ok, string_bytes};
+ghost use Rattle.std.specs.Io.KnownBytes.{Appends};
+ghost use Rattle.kr_model.specs.Covers.{IsCovered};
+ghost use Rattle.kr_model.specs.Difference.{first_difference};
+ghost use Rattle.kr_model.specs.Serial.{AreSerial};
+ghost use Rattle.kr_serial.specs.Verdicts.{verdict_of};
+ghost use Rattle.kr_script.specs.Script.{Script};
+ghost use Rattle.kr_script.specs.Reading.{reading};
+ghost use Rattle.kr_script.specs.Report.{run_text};
+ghost use Rattle.kr_program.specs.Over.{report_line, IsSerialScript, over_fault, Explains};
+ghost use Rattle.kr_program.specs.declared.over.OverFault.TheVariants as fault;
+
+use kr_protocol::Protocol;
+use kr_script::{PrintFault, ScriptFault, Sink, print, read_script, report_run};
+use kr_serial::{Ran, judge, run_any};
+use std::alloc::{AllocError, Global};
+use thiserror::Error;
+
+/// Why nothing, or not all, was written.
+#[derive(Debug, Drop, Error)]
+pub enum OverFault {
+    /// The bytes are no script. The fault is never `Memory`.
+    #[error("{0}")]
+    Script(ScriptFault),
+    /// A growth was refused.
+    #[error("out of memory")]
+    Memory,
+    /// A place of the history was refused. Only a run by several threads has this fault.
+    #[error("place refused")]
+    Place,
+    /// The sink didn't take the whole report.
+    #[error("output")]
+    Print,
+}
+
+impl From<AllocError> for OverFault {
+    ghost from_gives = { λ _ e. e ≡ fault.Memory };
+
+    fn from(_e: AllocError) -> OverFault {
+        OverFault::Memory
+    }
+}
+
+impl From<PrintFault> for OverFault {
+    ghost from_gives = { λ _ e. e ≡ fault.Print };
+
+    fn from(_e: PrintFault) -> OverFault {
+        OverFault::Print
+    }
+}
+
+impl From<ScriptFault> for OverFault {
+    ghost from_gives = { λ f e. e ≡ over_fault f };
+
+    fn from(f: ScriptFault) -> OverFault {
+        match f {
+            ScriptFault::Memory => OverFault::Memory,
+            f => OverFault::Script(f),
+        }
+    }
+}
+
+/// The report of a run with its verdict, and whether it is serial.
+fn report_of<P: Protocol>(
+    alloc: Global,
+    protocol: &P,
+    ran: &Ran,
+) -> Result<(String, bool), AllocError>
+    ensures text { IfOk result (λ told. string_bytes told.0 ≡ run_text (P.names protocol.now) ran.now.index ran.now.locks
+        ran.now.replies ran.now.unfinished (verdict_of (first_difference ran.now.opening ran.now.programs))) }
+    ensures serial { IfOk result (λ told. IsTrue told.1 ↔ AreSerial ran.now.opening ran.now.programs) }
+{
+    let verdict = judge(alloc, ran)?;
+    let text = report_run(alloc, protocol, ran, &verdict)?;
+    Ok((text, verdict.is_serial()))
+}
+
+/// Runs the script that the bytes are under a protocol, writes the report of the run with its verdict and a line feed, and
+/// answers whether the run is serial; under a covered protocol it is. Where the bytes are no script, or a growth was
+/// refused, nothing is written; where printing fails, a beginning of the report was.
+pub fn run_over<P: Protocol, W: Sink>(
+    alloc: Global,
+    protocol: &P,
+    script: &[u8],
+    out: &mut W,
+) -> Result<bool, OverFault>
+    ensures ok { IfOk result (λ _. (s : Script) × ((reading script.now ≡ Ok s)
+        × Appends (W.taken out.old) (W.taken out.new) (report_line (P.table protocol.now) (P.names protocol.now) s))) }
+    ensures serial { IfOk result (λ serial. IfOk (reading script.now)
+        (λ s. IsTrue serial ↔ IsSerialScript (P.table protocol.now) s)) }
+    ensures covered { IsCovered (P.table protocol.now) → IfOk result (λ serial. IsTrue serial) }
+    ensures err { IfErr result (Explains (P.table protocol.now) (P.names protocol.now) script.now
+        (W.taken out.old) (W.taken out.new) (W.failures out.old) (W.failures out.new)) }
+    ensures nothing { IfErr result (λ e. (e ≡ fault.Print) ⊎ (out.new ≡ out.old)) }
+{
+    let script = read_script(alloc, script)?;
+    let ran = run_any(alloc, protocol, script.opening(), script.steps())?;
+    let (text, is_serial) = report_of(alloc, protocol, &ran)?;
+    print(out, text.as_str())?;
+    Ok(is_serial)
+}

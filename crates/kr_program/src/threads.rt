@@ -1,0 +1,62 @@
+//! From the bytes of a script to the report of its run by several threads, on a sink.
+ghost use Rattle.std.specs.Prelude.{◌≡◌, ◌⊎◌, ◌↔◌, ◌<◌, ◌≤◌, ◌++◌, ◌∷◌, [], Ok, IfOk, IfErr, IsTrue, string_bytes};
+ghost use Rattle.kr_model.specs.Serial.{AreSerial};
+ghost use Rattle.std.specs.Io.KnownBytes.{Appends};
+ghost use Rattle.kr_script.specs.Reading.{reading};
+ghost use Rattle.kr_script.specs.Script.{Script};
+ghost use Rattle.kr_script.specs.declared.threaded.Threaded.{Threaded as Outcome};
+ghost use Rattle.kr_threads.specs.Threaded.{IsThreaded};
+ghost use Rattle.kr_program.specs.Threads.{threads_line, ExplainsThreads};
+ghost use Rattle.kr_program.specs.declared.over.OverFault.TheVariants as fault;
+
+use crate::over::OverFault;
+use kr_protocol::Covered;
+use kr_script::{Sink, Threaded, print, read_script, report_threads};
+use kr_serial::judge;
+use kr_threads::{Passage, RunFault, run_threads};
+use std::alloc::{AllocError, Global};
+use std::sync::Wait;
+use std::thread::Threads;
+
+/// The report of what several threads did with the verdict on the run of its history, and whether that run is serial.
+fn report_of(alloc: Global, threaded: &Threaded) -> Result<(String, bool), AllocError>
+    ensures text { IfOk result (λ told. string_bytes told.0 ++ 10 ∷ [] ≡ threads_line threaded.now) }
+    ensures serial { IfOk result (λ told. IsTrue told.1 ↔ AreSerial threaded.now.ran.opening threaded.now.ran.programs) }
+{
+    let verdict = judge(alloc, &threaded.ran)?;
+    let text = report_threads(alloc, threaded, &verdict)?;
+    Ok((text, verdict.is_serial()))
+}
+
+/// Runs the script that the bytes are under a covered protocol, its transactions shared out to so many workers, each a
+/// thread; writes the report of what they did, with the verdict on the run of its history and a line feed; and answers
+/// whether that run is serial, which it is. Where the bytes are no script, or a growth or a place was refused, nothing is
+/// written; where printing fails, a beginning of the report was.
+pub fn threads_over<P: Covered + Sync, W: Sink>(
+    rt: &(impl Threads + Wait + Sync),
+    alloc: Global,
+    protocol: &P,
+    script: &[u8],
+    workers: usize,
+    out: &mut W,
+) -> Result<bool, OverFault>
+    requires workers { (0 < workers) × (workers ≤ 64) }
+    ensures ok { IfOk result (λ _. (s : Script) × ((d : Outcome) × ((reading script.now ≡ Ok s) × (IsThreaded (P.table protocol.now) s.opening s.steps d
+        × Appends (W.taken out.old) (W.taken out.new) (threads_line d))))) }
+    ensures serial { IfOk result (λ serial. IsTrue serial) }
+    ensures err { IfErr result (ExplainsThreads (P.table protocol.now) script.now
+        (W.taken out.old) (W.taken out.new) (W.failures out.old) (W.failures out.new)) }
+    ensures nothing { IfErr result (λ e. (e ≡ fault.Print) ⊎ (out.new ≡ out.old)) }
+{
+    let script = read_script(alloc, script)?;
+    let threaded = match run_threads(rt, alloc, protocol, &script, workers, &Passage) {
+        Ok(threaded) => threaded,
+        Err(RunFault::Memory) => return Err(OverFault::Memory),
+        Err(RunFault::Place) => return Err(OverFault::Place),
+    };
+    let (text, is_serial) = report_of(alloc, &threaded)?;
+    match print(out, text.as_str()) {
+        Ok(()) => Ok(is_serial),
+        Err(_) => Err(OverFault::Print),
+    }
+}
