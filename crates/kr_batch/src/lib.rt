@@ -4,8 +4,6 @@
 mod judging;
 mod named;
 mod reading;
-#[cfg(test)]
-mod tests;
 
 pub use judging::judge_all;
 pub use named::{JudgeFault, TextFault, Texts, judge_texts};

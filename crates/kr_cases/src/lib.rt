@@ -4,8 +4,6 @@
 mod checker;
 mod finder;
 mod holes;
-#[cfg(test)]
-mod tests;
 
 pub use checker::{Cause, Checked, Memory, Rejected, cases, check};
 pub use kr_model::FailedCase;

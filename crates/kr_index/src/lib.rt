@@ -10,8 +10,6 @@ ghost use Rattle.kr_model.specs.Map.{Map, IsMap, get, set, without, at, after};
 mod slots;
 mod sorted;
 mod stretches;
-#[cfg(test)]
-mod tests;
 mod tree;
 mod walks;
 

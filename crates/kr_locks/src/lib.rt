@@ -10,8 +10,6 @@ mod buckets;
 mod holders;
 mod list;
 mod names;
-#[cfg(test)]
-mod tests;
 
 pub use buckets::Buckets;
 pub use kr_model::{Mode, Name, Txn};

@@ -12,8 +12,6 @@ mod reserve;
 mod room;
 mod scans;
 mod stepper;
-#[cfg(test)]
-mod tests;
 
 pub use kr_model::{Mode, Name, Txn};
 pub use machine::Machine;

@@ -5,8 +5,6 @@
 mod copies;
 mod lists;
 mod programs;
-#[cfg(test)]
-mod tests;
 
 pub use lists::{Pairs, Txns};
 pub use programs::{Answers, Programs};

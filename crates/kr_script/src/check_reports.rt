@@ -10,9 +10,6 @@ use kr_protocol::Protocol;
 use serde_json::{Value, json};
 use std::alloc::{AllocError, Global};
 
-#[cfg(test)]
-mod tests;
-
 fn rule_name(rule: Rule) -> &'static str
     ensures { result.now ≡ rule_name rule }
 {

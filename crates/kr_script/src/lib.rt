@@ -1,8 +1,6 @@
 //! Scripts of transactions' steps: read from JSON, and the reports of their runs and of checks, printed on a sink.
 #![tactic(auto)]
 
-#[cfg(test)]
-mod ample;
 mod check_reports;
 mod faults;
 mod parts;

@@ -17,9 +17,6 @@ use kr_model::Event;
 use serde_json::{Map, Value};
 use std::alloc::Global;
 
-#[cfg(test)]
-mod tests;
-
 const MAX_BYTES: usize = 16_777_216;
 
 pub const MAX_ELEMENTS: usize = 100_000;

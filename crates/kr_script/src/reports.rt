@@ -11,9 +11,6 @@ use kr_protocol::Protocol;
 use kr_serial::{Ran, Verdict};
 use std::alloc::{AllocError, Global};
 
-#[cfg(test)]
-mod tests;
-
 /// The name of a mode; a number beyond the modes has none, which is the empty text.
 pub fn mode_name<P: Protocol>(protocol: &P, mode: Mode) -> &str
     ensures { result.now ≡ name_of (P.names protocol.now) mode }

@@ -7,9 +7,6 @@ use std::io::Write;
 use std::marker::Model;
 use thiserror::Error;
 
-#[cfg(test)]
-mod tests;
-
 /// A put failed, and took nothing.
 #[derive(Clone, Copy, Debug, PartialEq, Eq, Error)]
 #[error("a put failed")]

@@ -12,9 +12,6 @@ use kr_follows::{Cause, StepFault};
 use kr_serial::Verdict;
 use std::alloc::{AllocError, Global};
 
-#[cfg(test)]
-mod tests;
-
 /// Writes a step that was done, with its reply.
 #[tactic(auto, unfolding(serde_json::proofs::OnLiterals::serde_json_on_literals))]
 fn write_answered(out: &mut String, answered: &Answered) -> Result<(), AllocError>

@@ -8,8 +8,6 @@ mod lists;
 mod ran;
 mod runs;
 mod steps;
-#[cfg(test)]
-mod tests;
 mod verdict;
 mod whole;
 

@@ -13,6 +13,3 @@ pub use faults::TableFault;
 pub use reading::read;
 pub use table::Table;
 pub use writing::{WriteFault, write};
-
-#[cfg(test)]
-mod tests;

@@ -1,0 +1,91 @@
+ghost use Rattle.std.specs.Prelude.{max, [], ◌∷◌, None, true, codes, refl};
+ghost use Rattle.std.proofs.Common.{rules};
+ghost use Rattle.kr_model.proofs.Tested.{lawful_by_test};
+
+mod ample;
+mod named;
+mod reading;
+
+use kr_batch::judge_all;
+use kr_model::{Mode, Row, Side, Span};
+use kr_protocol::Protocol;
+use kr_script::{read_script, report_verdict};
+use std::alloc::AllocError;
+use std::test::Fail;
+
+// One mode, which is never asked for.
+#[derive(Drop)]
+struct Plain;
+
+impl Protocol for Plain {
+    ghost table = { λ _. record { count = 1; ok = λ q h. true; convert = λ h q. max h q; ask = λ row side own. None } };
+
+    ghost names = { λ _. codes "A" ∷ [] };
+
+    fn count(&self) -> Mode {
+        1
+    }
+
+    fn ok(&self, _requested: Mode, _held: Mode) -> bool {
+        true
+    }
+
+    fn row(&self, _requested: Mode) -> u16 {
+        0
+    }
+
+    fn convert(&self, held: Mode, requested: Mode) -> Mode {
+        held.max(requested)
+    }
+
+    fn name(&self, mode: Mode) -> &str {
+        match mode {
+            0 => "none",
+            _ => "A",
+        }
+    }
+
+    fn ask(&self, _row: Row, _side: Side, _own_next: Mode) -> Option<(Mode, Span)> {
+        None
+    }
+
+    ghost lawful = { λ _. lawful_by_test (record { count = 1; ok = λ q h. true; convert = λ h q. max h q; ask = λ row side own. None }) refl };
+
+    ghost named = { λ _. Prim.search rules };
+}
+
+#[test]
+fn no_scripts(rt: HostRuntime) -> Result<(), AllocError> {
+    let verdicts = judge_all(&rt, rt.alloc(), &Plain, &[])?;
+    assert!(rt; verdicts.is_empty());
+    Ok(())
+}
+
+/// Reads a key twice in one transaction, with nothing between.
+const SERIAL: &[u8] =
+    br#"{"format":1,"opening":[[20,2]],"steps":[[1,"fetch",20],[1,"fetch",20],[1,"commit"]]}"#;
+
+/// Reads a key which another transaction then deletes, that commits first.
+const NOT_SERIAL: &[u8] =
+    br#"{"format":1,"opening":[[20,2]],"steps":[[1,"fetch",20],[2,"delete",20],[2,"commit"],[1,"commit"]]}"#;
+
+#[test]
+fn verdicts_in_order(rt: HostRuntime) -> Result<(), Fail> {
+    let alloc = rt.alloc();
+    let first = read_script(alloc, SERIAL).ok().ok_or("no script")?;
+    let second = read_script(alloc, NOT_SERIAL).ok().ok_or("no script")?;
+    let scripts = vec![in alloc; first, second]?;
+    let verdicts = judge_all(&rt, alloc, &Plain, scripts.as_slice())?;
+    assert_eq!(rt; verdicts.len(), 2);
+    let serial = report_verdict(alloc, "first", &verdicts[0])?;
+    assert_eq!(rt;
+        serial.as_str(),
+        r#"{"script":"first","verdict":["serial"]}"#
+    );
+    let not_serial = report_verdict(alloc, "second", &verdicts[1])?;
+    assert_eq!(rt;
+        not_serial.as_str(),
+        r#"{"script":"second","verdict":["not-serial",1,1,["found",2],["none"]]}"#
+    );
+    Ok(())
+}

@@ -1,0 +1,6 @@
+use Rattle.std.proofs.Common.{◌≡◌, None}
+use Rattle.kr_machine_tests.proofs.tests.fills_up.Given as goal
+
+-- No step is pending.
+abbrev pub invariant-loop-txn : goal.invariant-loop-txn
+invariant-loop-txn g l = l.machine.pending ≡ None

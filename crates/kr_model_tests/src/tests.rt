@@ -1,0 +1,123 @@
+use kr_model::{
+    Answers, Cover, Event, FailedCase, Name, Op, Origin, Pairs, Place, Program, Programs, Reply,
+    Row, Rule, Side, Txns,
+};
+use std::alloc::{AllocError, Global};
+
+#[test]
+fn lists_are_made_of_vectors_and_give_them_back(rt: HostRuntime) -> Result<(), AllocError> {
+    let pairs = Pairs::from_vec(vec![in rt.alloc(); (10, 1), (20, 2)]?);
+    assert_eq!(rt; pairs.as_slice().len(), 2);
+    assert_eq!(rt; pairs.as_slice()[1], (20, 2));
+    let list = pairs.into_vec();
+    assert_eq!(rt; list.len(), 2);
+    assert_eq!(rt; list[0], (10, 1));
+    let txns = Txns::from_vec(vec![in rt.alloc(); 3, 7]?);
+    assert_eq!(rt; txns.as_slice().len(), 2);
+    assert_eq!(rt; txns.as_slice()[0], 3);
+    let list = txns.into_vec();
+    assert_eq!(rt; list[1], 7);
+    Ok(())
+}
+
+#[test]
+fn the_end_is_past_all_keys(rt: HostRuntime) {
+    assert!(rt; Name::Key(u64::MAX) < Name::End);
+    assert!(rt; Name::Key(10) < Name::Key(20));
+}
+
+#[test]
+fn words_compare_by_their_parts(rt: HostRuntime) {
+    let event = Event {
+        txn: 1,
+        op: Op::Insert(15, 5),
+    };
+    assert!(rt;
+        event
+            == Event {
+                txn: 1,
+                op: Op::Insert(15, 5)
+            }
+    );
+    assert!(rt;
+        event
+            != Event {
+                txn: 2,
+                op: Op::Insert(15, 5)
+            }
+    );
+    let hole = Place {
+        row: Row::Insert,
+        side: Side::Next,
+        own: 0,
+        own_next: 0,
+    };
+    let failed = FailedCase {
+        case: Rule::Split,
+        cover: Cover::ReadGap,
+        from: Origin::Two(3, 0),
+        mode: 2,
+        hole,
+    };
+    assert!(rt;
+        failed
+            != FailedCase {
+                from: Origin::One(3),
+                ..failed
+            }
+    );
+}
+
+/// Two programs: a fetch and a scan of transaction 3, and nothing of transaction 9.
+fn two_programs(alloc: Global) -> Result<Programs, AllocError> {
+    let rows = Pairs::from_vec(vec![in alloc; (10, 1), (20, 2)]?);
+    let operations = vec![in alloc;
+        (Op::Fetch(5), Reply::None),
+        (Op::Scan(10, 20), Reply::Rows(rows)),
+    ]?;
+    let first = Program {
+        txn: 3,
+        operations: Answers::from_vec(operations),
+    };
+    let second = Program {
+        txn: 9,
+        operations: Answers::from_vec(Vec::new(alloc)),
+    };
+    Ok(Programs::from_vec(vec![in alloc; first, second]?))
+}
+
+#[test]
+fn programs_are_copied_whole(rt: HostRuntime) -> Result<(), AllocError> {
+    let programs = two_programs(rt.alloc())?;
+    let copy = programs.try_copy(rt.alloc())?;
+    assert_eq!(rt; programs.as_slice().len(), 2);
+    let list = copy.into_vec();
+    assert_eq!(rt; list.len(), 2);
+    assert_eq!(rt; list[0].txn, 3);
+    assert_eq!(rt; list[1].txn, 9);
+    let first = list[0].try_copy(rt.alloc())?;
+    let operations = first.operations.try_copy(rt.alloc())?;
+    assert_eq!(rt; operations.as_slice().len(), 2);
+    let answers = operations.into_vec();
+    assert!(rt; answers[0].0 == Op::Fetch(5));
+    assert!(rt; matches!(&answers[0].1, Reply::None));
+    match &answers[1].1 {
+        Reply::Rows(rows) => assert_eq!(rt; rows.as_slice(), [(10, 1), (20, 2)].as_slice()),
+        _ => panic!(rt; "no rows"),
+    }
+    Ok(())
+}
+
+#[test]
+fn replies_are_copied_whole(rt: HostRuntime) -> Result<(), AllocError> {
+    let txns = Txns::from_vec(vec![in rt.alloc(); 3, 7]?);
+    let copy = txns.try_copy(rt.alloc())?;
+    assert_eq!(rt; copy.as_slice(), [3, 7].as_slice());
+    let pairs = Pairs::from_vec(vec![in rt.alloc(); (1, 2)]?);
+    assert_eq!(rt; pairs.try_copy(rt.alloc())?.as_slice(), [(1, 2)].as_slice());
+    match Reply::Blocked(copy).try_copy(rt.alloc())? {
+        Reply::Blocked(by) => assert_eq!(rt; by.as_slice(), [3, 7].as_slice()),
+        _ => panic!(rt; "not blocked"),
+    }
+    Ok(())
+}

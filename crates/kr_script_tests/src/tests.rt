@@ -1,0 +1,7 @@
+//! Scripts that are read, and reports and faults that are printed.
+mod ample;
+mod check_reports;
+mod reading;
+mod reports;
+mod sink;
+mod threads_reports;
