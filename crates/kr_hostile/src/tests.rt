@@ -1,0 +1,6 @@
+mod batches;
+mod input;
+mod runs;
+mod seats;
+mod steps;
+mod tables;
