@@ -1,0 +1,180 @@
+#!/usr/bin/env python3
+"""Refuses growths, reads and writes of kr, one by one, and compares what it then does with what it does undisturbed:
+bench/refused-memory.py [KR [TESTS]], by default crates/kr/out/kr and crates/kr_hostile/out/kr_hostile_tests. Needs a C
+compiler, `cc`, for refuse.c beside it. Build first: any run of ./kr builds the program, and `rt test` in
+crates/kr_hostile the tests.
+
+The words are each form of the program's on the shipped tables and scripts. For each of them
+
+  memory    the k-th growth is refused, and then again with all after it, for k counted up until a run meets no refusal.
+            Each run ends with the right answer, or with 'kr: out of memory', status 2 and nothing on standard output
+  reads     the k-th read and all after it fail: a file that cannot be read, so told, or the fault that comes before it
+  writes    the k-th write to standard output and all after it fail, or take nothing, and one byte moves at a time; standard
+            output is full (/dev/full), a closed pipe, or closed. Right where all was taken; else a beginning of the
+            right answer, 'kr: output: cannot be written', status 2
+
+and each test of kr_hostile but those of input is run with each of its growths refused, and has to pass. It is run alone,
+and a test whose name begins with 'takes_none' has to meet no refusal at all. Prints a line for each of these parts, with
+how many runs there were; status 1 where a run went wrong, each of which is told.
+"""
+import glob
+import os
+import subprocess
+import sys
+import tempfile
+from concurrent.futures import ThreadPoolExecutor
+
+TOP = os.path.dirname(os.path.dirname(os.path.abspath(__file__)))
+KR = os.path.abspath(sys.argv[1] if len(sys.argv) > 1 else f"{TOP}/crates/kr/out/kr")
+TESTS = os.path.abspath(sys.argv[2] if len(sys.argv) > 2 else f"{TOP}/crates/kr_hostile/out/kr_hostile_tests")
+AT_ONCE = 3
+OUT_OF_MEMORY = (2, b"", b"kr: out of memory\n")
+UNWRITTEN = b"kr: output: cannot be written\n"
+
+
+def all_words():
+    """Each form of the words, over the shipped tables and scripts."""
+    tables = ["@kvl", "@im", "@range-key"]
+    files = sorted(glob.glob("tables/*.toml") + glob.glob("examples/**/*.toml", recursive=True))
+    scripts = sorted(glob.glob("examples/**/*.json", recursive=True))
+    yield from ([], ["jump"], ["run", "@kvl", "none.json"], ["check", "none.toml"], ["check", scripts[0]])
+    yield from (["check", table] for table in tables + files)
+    yield from (["run", tables[i % 3], script] for i, script in enumerate(scripts))
+    for script in sorted(glob.glob("examples/wrong/*.json")):
+        yield ["run", script.replace(".json", ".toml"), script]
+    yield from (["judge", table, *scripts[:3]] for table in ["@kvl", "tables/range-key.toml", files[0]])
+    yield ["judge", "@im", *[it for it in scripts if "faulty" not in it]]
+    yield ["threads", "@kvl", "examples/wrong/split.json", "--workers", "1"]
+    yield ["threads", "examples/wrong/split.toml", "examples/wrong/split.json", "--workers", "1"]
+
+
+def run(words, shim=None, out=subprocess.PIPE, **refused):
+    """Status, standard output and standard error of a run, and whether something was refused."""
+    told, tell = os.pipe()
+    environment = {name: str(value) for name, value in refused.items()}
+    if shim:
+        environment |= {"LD_PRELOAD": shim, "TOLD": str(tell)}
+    try:
+        ran = subprocess.run(
+            words, stdin=subprocess.DEVNULL, stdout=out, stderr=subprocess.PIPE, env=environment, pass_fds=[tell], timeout=60
+        )
+    finally:
+        os.close(tell)
+    with os.fdopen(told, "rb") as it:
+        return (ran.returncode, ran.stdout, ran.stderr), bool(it.read())
+
+
+class Part:
+    """The runs of one part, and those that went wrong."""
+
+    def __init__(self, name):
+        self.name, self.runs, self.wrong, self.notes = name, 0, 0, {}
+
+    def count(self, is_right, words, how, ended):
+        self.runs += 1
+        if not is_right:
+            self.wrong += 1
+            print(f"wrong: {' '.join(words)} with {how}: {ended}", flush=True)
+
+    def note(self, name):
+        self.notes[name] = self.notes.get(name, 0) + 1
+
+    def tell(self):
+        notes = "".join(f", {count} {name}" for name, count in sorted(self.notes.items()))
+        print(f"{self.name}: {self.runs} runs, {self.wrong} wrong{notes}", flush=True)
+        return self.wrong
+
+
+def refuse_memory(part, shim, words, right):
+    for kind in ["GROWTH", "GROWTHS"]:
+        for k in range(1, 100_000):
+            ended, was_refused = run([KR, *words], shim, **{kind: k})
+            part.count(ended in ([right, OUT_OF_MEMORY] if was_refused else [right]), words, f"{kind}={k}", ended)
+            if not was_refused:
+                break
+            part.note("out of memory" if ended == OUT_OF_MEMORY else "right all the same")
+
+
+def fail_reads(part, shim, words, right):
+    unread = [(2, b"", f"kr: {word}: cannot be read\n".encode()) for word in words[1:]]
+    for k in range(1, 100_000):
+        ended, was_refused = run([KR, *words], shim, READ=k)
+        is_right = ended in unread or (right[0] == 2 and ended == right) if was_refused else ended == right
+        part.count(is_right, words, f"READ={k}", ended)
+        if not was_refused:
+            break
+    ended, _ = run([KR, *words], shim, ONE_BYTE=1)
+    part.count(ended == right, words, "ONE_BYTE=1", ended)
+
+
+def is_cut(ended, right):
+    """Whether output failed after a beginning of the right answer."""
+    return ended[0] == 2 and right[1].startswith(ended[1]) and ended[1] != right[1] and ended[2] == UNWRITTEN
+
+
+def fail_writes(part, shim, words, right):
+    for kind in ["WRITE", "NO_WRITE"]:
+        for one_byte in [0, 1]:
+            for k in range(1, 100_000):
+                ended, was_refused = run([KR, *words], shim, ONE_BYTE=one_byte, **{kind: k})
+                part.count(is_cut(ended, right) if was_refused else ended == right, words, f"{kind}={k}", ended)
+                if not was_refused:
+                    break
+                if k > 40:  # of the writes of one byte these are enough
+                    break
+    fail_outputs(part, words, right)
+
+
+def fail_outputs(part, words, right):
+    unwritten = (2, None, UNWRITTEN)
+    with open("/dev/full", "wb") as full:
+        ended, _ = run([KR, *words], out=full)
+        part.count(ended == unwritten, words, "/dev/full", ended)
+    pipe, closed = os.pipe()
+    os.close(pipe)
+    ended, _ = run([KR, *words], out=closed)
+    os.close(closed)
+    part.count(ended == unwritten, words, "a closed pipe", ended)
+    ended, _ = run(["sh", "-c", 'exec "$@" >&-', "sh", KR, *words])
+    part.count(ended == (2, b"", UNWRITTEN), words, "standard output closed", ended)
+    ended, _ = run(["sh", "-c", 'exec "$@" 2>&-', "sh", KR, *words])
+    part.count(ended == right, words, "standard error closed", ended)
+
+
+def refuse_tests(part, shim, test):
+    for k in range(1, 100_000):
+        ended, was_refused = run([TESTS, test], shim, GROWTH=k)
+        is_right = ended[0] == 0 and not (was_refused and "takes_none" in test)
+        part.count(is_right, [test], f"GROWTH={k}", ended)
+        if not was_refused:
+            part.note("tests")
+            return
+
+
+def tests_of():
+    listed = subprocess.run([TESTS, "--list"], capture_output=True, text=True, check=True).stdout
+    names = [line.removesuffix(": test") for line in listed.splitlines() if line.endswith(": test")]
+    return [name for name in names if "::input::" not in name]
+
+
+def main():
+    os.chdir(TOP)
+    parts = memory, reads, writes, tests = [Part(it) for it in ["memory", "reads", "writes", "tests"]]
+    with tempfile.TemporaryDirectory() as folder, ThreadPoolExecutor(AT_ONCE) as pool:
+        shim = f"{folder}/refuse.so"
+        subprocess.run(["cc", "-shared", "-fPIC", "-O1", "-o", shim, f"{TOP}/bench/refuse.c"], check=True)
+        going = []
+        if os.path.exists(TESTS):
+            going += [pool.submit(refuse_tests, tests, shim, test) for test in tests_of()]
+        for words in all_words() if os.path.exists(KR) else []:
+            right, _ = run([KR, *words])
+            going.append(pool.submit(refuse_memory, memory, shim, words, right))
+            going.append(pool.submit(fail_reads, reads, shim, words, right))
+            if right[1]:
+                going.append(pool.submit(fail_writes, writes, shim, words, right))
+        for it in going:
+            it.result()
+    sys.exit(1 if sum([part.tell() for part in parts]) else 0)
+
+
+main()
