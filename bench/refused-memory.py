@@ -12,6 +12,7 @@ The words are each form of the program's on the shipped tables and scripts. For 
   writes    the k-th write to standard output and all after it fail, or take nothing, and one byte moves at a time; standard
             output is full (/dev/full), a closed pipe, or closed. Right where all was taken; else a beginning of the
             right answer, 'kr: output: cannot be written', status 2
+  files     files that are deep, long, empty or no files, each with its fault
 
 and each test of kr_hostile but those of input is run with each of its growths refused, and has to pass. It is run alone,
 and a test whose name begins with 'takes_none' has to meet no refusal at all. Prints a line for each of these parts, with
@@ -30,6 +31,8 @@ TESTS = os.path.abspath(sys.argv[2] if len(sys.argv) > 2 else f"{TOP}/crates/kr_
 AT_ONCE = 3
 OUT_OF_MEMORY = (2, b"", b"kr: out of memory\n")
 UNWRITTEN = b"kr: output: cannot be written\n"
+READER, CLOSED_PIPE = os.pipe()
+os.close(READER)  # before any child is made, which would hold it for a moment
 
 
 def all_words():
@@ -37,7 +40,7 @@ def all_words():
     tables = ["@kvl", "@im", "@range-key"]
     files = sorted(glob.glob("tables/*.toml") + glob.glob("examples/**/*.toml", recursive=True))
     scripts = sorted(glob.glob("examples/**/*.json", recursive=True))
-    yield from ([], ["jump"], ["run", "@kvl", "none.json"], ["check", "none.toml"], ["check", scripts[0]])
+    yield from ([], ["jump"], ["run", "@kvl", "none.json"], ["check", "none.toml"], ["check", "tables"])
     yield from (["check", table] for table in tables + files)
     yield from (["run", tables[i % 3], script] for i, script in enumerate(scripts))
     for script in sorted(glob.glob("examples/wrong/*.json")):
@@ -130,10 +133,7 @@ def fail_outputs(part, words, right):
     with open("/dev/full", "wb") as full:
         ended, _ = run([KR, *words], out=full)
         part.count(ended == unwritten, words, "/dev/full", ended)
-    pipe, closed = os.pipe()
-    os.close(pipe)
-    ended, _ = run([KR, *words], out=closed)
-    os.close(closed)
+    ended, _ = run([KR, *words], out=CLOSED_PIPE)
     part.count(ended == unwritten, words, "a closed pipe", ended)
     ended, _ = run(["sh", "-c", 'exec "$@" >&-', "sh", KR, *words])
     part.count(ended == (2, b"", UNWRITTEN), words, "standard output closed", ended)
@@ -151,6 +151,33 @@ def refuse_tests(part, shim, test):
             return
 
 
+def odd_files():
+    """Names, bytes and the faults that are told of them."""
+    deep, empty = 100_000, b'{"format":1,"opening":[],"steps":[]}'
+    yield "deep.json", b"[" * deep + b"]" * deep, "fault 2 NotJson"
+    yield "open.json", b"[" * deep, "fault 2 NotJson"
+    yield "members.json", b'{"a":' * deep + b"1" + b"}" * deep, "fault 2 NotJson"
+    yield "longest.json", empty + b" " * (16_777_216 - len(empty)), None
+    yield "too-long.json", empty + b" " * (16_777_217 - len(empty)), "fault 1 TooLong"
+    yield "empty.json", b"", "fault 2 NotJson"
+    yield "deep.toml", b"modes = " + b"[" * 32_000 + b"]" * 32_000, "fault 2 NotToml"
+    yield "tables.toml", b"modes = " + b"{a=" * 16_000 + b"1" + b"}" * 16_000, "fault 2 NotToml"
+    yield "names.toml", b"[a" + b".a" * 32_000 + b"]", "fault 2 NotToml"
+    yield "too-long.toml", b"#" * 65_537, "fault 1 TooLong"
+    yield "empty.toml", b"", "fault 4 Field at format"
+
+
+def read_odd_files(part, folder):
+    for name, text, fault in odd_files():
+        with open(f"{folder}/{name}", "wb") as it:
+            it.write(text)
+        for task in ["check"] if name.endswith(".toml") else ["run", "judge", "threads"]:
+            words = [task, *([] if task == "check" else ["@kvl"]), f"{folder}/{name}"]
+            ended, _ = run([KR, *words])
+            told = (2, b"", f"kr: {words[-1]}: {fault}\n".encode())
+            part.count(ended == told if fault else (ended[0], ended[2]) == (0, b""), words, "odd bytes", ended)
+
+
 def tests_of():
     listed = subprocess.run([TESTS, "--list"], capture_output=True, text=True, check=True).stdout
     names = [line.removesuffix(": test") for line in listed.splitlines() if line.endswith(": test")]
@@ -159,13 +186,15 @@ def tests_of():
 
 def main():
     os.chdir(TOP)
-    parts = memory, reads, writes, tests = [Part(it) for it in ["memory", "reads", "writes", "tests"]]
+    parts = memory, reads, writes, files, tests = [Part(it) for it in ["memory", "reads", "writes", "files", "tests"]]
     with tempfile.TemporaryDirectory() as folder, ThreadPoolExecutor(AT_ONCE) as pool:
         shim = f"{folder}/refuse.so"
         subprocess.run(["cc", "-shared", "-fPIC", "-O1", "-o", shim, f"{TOP}/bench/refuse.c"], check=True)
         going = []
         if os.path.exists(TESTS):
             going += [pool.submit(refuse_tests, tests, shim, test) for test in tests_of()]
+        if os.path.exists(KR):
+            going.append(pool.submit(read_odd_files, files, folder))
         for words in all_words() if os.path.exists(KR) else []:
             right, _ = run([KR, *words])
             going.append(pool.submit(refuse_memory, memory, shim, words, right))
