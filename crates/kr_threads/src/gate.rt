@@ -11,6 +11,11 @@ pub trait Gate {
 
     /// After a call, also where it was refused.
     fn after<R: Wait>(&self, rt: &R, worker: usize, call: u64);
+
+    /// Whether it may wait. Where it never does, a worker makes some calls before another gets in.
+    fn may_wait(&self) -> bool {
+        true
+    }
 }
 
 /// A gate that is always open.
@@ -21,4 +26,8 @@ impl Gate for Passage {
     fn before<R: Wait>(&self, _rt: &R, _worker: usize, _call: u64) {}
 
     fn after<R: Wait>(&self, _rt: &R, _worker: usize, _call: u64) {}
+
+    fn may_wait(&self) -> bool {
+        false
+    }
 }

@@ -8,6 +8,7 @@ mod run;
 mod soak_tests;
 #[cfg(test)]
 mod tests;
+mod turn;
 mod work;
 
 pub use gate::{Gate, Passage};

@@ -17,7 +17,7 @@ use kr_protocol::Covered;
 use kr_script::{Script, Threaded};
 use std::alloc::{AllocError, Global};
 use std::marker::Brand;
-use std::sync::Wait;
+use std::sync::{Mutex, Wait};
 use std::thread;
 use std::thread::Threads;
 
@@ -123,12 +123,13 @@ fn run_named<
 {
     let mut engine = Engine::<P, K>::new(alloc, protocol, opening, row)?;
     let jobs = hired(rt, alloc, &engine, workers)?;
+    let turns = Mutex::new(());
     let reports = thread::map_vec(
         rt,
         jobs,
         &|job: Worker<'_, P, K>| -> Report<K>
             requires { 0 < workers }
-        { work(rt, dealt, workers, gate, job) },
+        { work(rt, dealt, workers, gate, &turns, job) },
     )?;
     let (shares, faults) = gather(alloc, reports)?;
     let history = engine.close(&shares)?;

@@ -1,5 +1,6 @@
 //! What one worker does.
-ghost use Rattle.std.specs.Prelude.{◌≡◌, ◌<◌, Some, IfErr};
+ghost use Rattle.std.specs.Prelude.{◌≡◌, ◌<◌, false, Some, IfErr, OnOk};
+ghost use Rattle.kr_engine.specs.Faults.{is_blocked as blocked};
 ghost use mathlib.Core.List.{IsPrefix};
 ghost use Rattle.kr_model.specs.Step.{is_end as ends};
 ghost use Rattle.kr_engine.specs.Histories.{events_with_replies};
@@ -8,12 +9,13 @@ ghost use Rattle.kr_threads.specs.Told.{IsTold};
 
 use crate::gate::Gate;
 use crate::run::RunFault;
+use crate::turn::Turn;
 use kr_engine::{EngineFault, EngineName, Receipt, Seat, Share};
 use kr_follows::{Cause, Dealt, StepFault};
-use kr_model::{Op, Txn};
+use kr_model::{Op, Reply, Txn};
 use kr_protocol::Covered;
 use std::marker::Model;
-use std::sync::Wait;
+use std::sync::{Mutex, Wait};
 
 /// A worker: its number, from 0, its seat, how many calls it has made, and the steps that it left out, each told at the
 /// end of a beginning of what its seat has seen.
@@ -69,11 +71,13 @@ pub(crate) fn work<P: Covered, K: EngineName, G: Gate, R: Wait>(
     dealt: &Dealt,
     workers: usize,
     gate: &G,
+    turns: &Mutex<()>,
     worker: Worker<'_, P, K>,
 ) -> Report<K>
     requires { 0 < workers }
 {
     let mut worker = worker;
+    let mut turn = Turn::new(turns);
     let mut failed = None;
     let txns = dealt.txns();
     for i in 0..txns.len() {
@@ -81,7 +85,7 @@ pub(crate) fn work<P: Covered, K: EngineName, G: Gate, R: Wait>(
             continue;
         }
         let txn = txns[i];
-        if let Err(fault) = worker.transact(rt, gate, txn, dealt.ops(txn)) {
+        if let Err(fault) = worker.transact(rt, gate, &mut turn, txn, dealt.ops(txn)) {
             failed = Some(fault);
             break;
         }
@@ -106,17 +110,21 @@ impl<P: Covered, K: EngineName> Worker<'_, P, K> {
         &mut self,
         rt: &R,
         gate: &G,
+        turn: &mut Turn<'_>,
         txn: Txn,
         ops: &[Op],
     ) -> Result<(), RunFault> {
+        if !gate.may_wait() {
+            turn.take(rt);
+        }
         if let Err(fault) = self.seat.begin(rt, txn) {
             return Err(failure(&fault));
         }
-        let (active, done) = self.do_steps(rt, gate, txn, ops);
+        let (active, done) = self.do_steps(rt, gate, turn, txn, ops);
         if !active {
             return done;
         }
-        let closed = self.call(rt, gate, Op::Abort);
+        let closed = self.call(rt, gate, turn, Op::Abort);
         done?;
         match closed {
             Ok(_) => Ok(()),
@@ -131,6 +139,7 @@ impl<P: Covered, K: EngineName> Worker<'_, P, K> {
         &mut self,
         rt: &R,
         gate: &G,
+        turn: &mut Turn<'_>,
         txn: Txn,
         ops: &[Op],
     ) -> (bool, Result<(), RunFault>)
@@ -138,7 +147,7 @@ impl<P: Covered, K: EngineName> Worker<'_, P, K> {
     {
         let mut active = false;
         for i in 0..ops.len() {
-            match self.do_step(rt, gate, txn, i as u64 + 1, ops[i]) {
+            match self.do_step(rt, gate, turn, txn, i as u64 + 1, ops[i]) {
                 Ok(Outcome::Done) => active = !is_end(ops[i]),
                 Ok(Outcome::Refused) => {}
                 Ok(Outcome::Stuck) => return (active, Ok(())),
@@ -154,6 +163,7 @@ impl<P: Covered, K: EngineName> Worker<'_, P, K> {
         &mut self,
         rt: &R,
         gate: &G,
+        turn: &mut Turn<'_>,
         txn: Txn,
         step: u64,
         op: Op,
@@ -161,7 +171,7 @@ impl<P: Covered, K: EngineName> Worker<'_, P, K> {
         requires { self.old.seat.speaks ≡ Some txn }
         ensures { self.new.seat.speaks ≡ Some txn }
     {
-        match self.call(rt, gate, op) {
+        match self.call(rt, gate, turn, op) {
             Ok(_) => Ok(Outcome::Done),
             Err(EngineFault::Deadlock(cycle)) => {
                 let cause = Cause::Deadlock(cycle);
@@ -199,19 +209,62 @@ impl<P: Covered, K: EngineName> Worker<'_, P, K> {
         }
     }
 
-    /// One call of the seat between its gates.
-    fn call<G: Gate, R: Wait>(&mut self, rt: &R, gate: &G, op: Op) -> Result<Receipt, EngineFault>
+    /// One call of the seat between its gates. Where the gates may wait, it isn't in the worker's turn.
+    fn call<G: Gate, R: Wait>(
+        &mut self,
+        rt: &R,
+        gate: &G,
+        turn: &mut Turn<'_>,
+        op: Op,
+    ) -> Result<Receipt, EngineFault>
         ensures speaks { self.new.seat.speaks ≡ self.old.seat.speaks }
         ensures begins { IsPrefix self.old.seat.view self.new.seat.view }
         ensures faults { self.new.faults ≡ self.old.faults }
         ensures fault { IfErr result (λ f. ToldFault K.table K.opening self.old.seat self.new.seat op f) }
     {
+        if gate.may_wait() {
+            turn.give();
+        } else {
+            turn.take(rt);
+        }
         gate.before(rt, self.number, self.calls);
-        let result = self.seat.call(rt, op);
+        let result = call_in_turn(rt, &mut self.seat, turn, op);
         gate.after(rt, self.number, self.calls);
         self.calls = self.calls.saturating_add(1);
         result
     }
+}
+
+/// A call of a seat. In the worker's turn it is attempted, and where the step is blocked the turn is given up for the wait.
+#[tactic(auto, using(crate::proofs::Told::told_at_once))]
+fn call_in_turn<P: Covered, K: EngineName, R: Wait>(
+    rt: &R,
+    seat: &mut Seat<'_, P, K>,
+    turn: &mut Turn<'_>,
+    op: Op,
+) -> Result<Receipt, EngineFault>
+    ensures speaks { seat.new.speaks ≡ seat.old.speaks }
+    ensures begins { IsPrefix seat.old.view seat.new.view }
+    ensures fault { IfErr result (λ f. ToldFault K.table K.opening seat.old seat.new op f) }
+{
+    if !turn.is_own() {
+        return seat.call(rt, op);
+    }
+    turn.count();
+    let result = seat.try_call(rt, op);
+    if !is_blocked(&result) {
+        return result;
+    }
+    turn.give();
+    seat.call(rt, op)
+}
+
+/// Whether the answer is that the step is blocked.
+fn is_blocked(answer: &Result<Receipt, EngineFault>) -> bool
+    ensures ok { OnOk answer.now (result ≡ false) }
+    ensures err { IfErr answer.now (λ f. result ≡ blocked f) }
+{
+    matches!(answer, Err(EngineFault::Refused(Reply::Blocked(_))))
 }
 
 /// Whether the operation ends its transaction.
