@@ -14,7 +14,11 @@ fn main(rt: HostRuntime) -> ExitCode {
         Ok(given) => given,
         Err(e) => {
             let is_memory = e.kind() == ErrorKind::OutOfMemory;
-            let line = if is_memory { OUT_OF_MEMORY } else { NOT_UNDERSTOOD };
+            let line = if is_memory {
+                OUT_OF_MEMORY
+            } else {
+                NOT_UNDERSTOOD
+            };
             let _ = print(&mut err, line);
             return ExitCode::from(2);
         }
