@@ -51,6 +51,12 @@ where
 #[test]
 fn faults_of_a_table_and_its_modes(rt: HostRuntime) -> Result<(), Fail> {
     tells(&rt, 0, "zeta = 1\nformat = 1", "fault 4 Field at zeta")?;
+    tells(
+        &rt,
+        0,
+        "\"a\\nb\" = 1\nformat = 1",
+        "fault 4 Field at a\\u{a}b",
+    )?;
     tells(&rt, 0, r#"format = "1""#, "fault 4 Field at format")?;
     tells(&rt, 0, "format = -1", "fault 3 Format")?;
     tells(&rt, 0, "format = 2", "fault 3 Format")?;
@@ -125,11 +131,6 @@ fn broken_tables(rt: HostRuntime) -> Result<(), Fail> {
     )?;
     says_of_table(&rt, "format = 1", "kr: table: fault 4 Field at modes\n")?;
     says_of_table(&rt, "", "kr: table: fault 4 Field at format\n")?;
-    says_of_table(
-        &rt,
-        "\"a\\nb\" = 1",
-        "kr: table: fault 4 Field at a\\u{a}b\n",
-    )?;
     says_of_table(&rt, front, "kr: table: fault 4 Field at rules\n")
 }
 
