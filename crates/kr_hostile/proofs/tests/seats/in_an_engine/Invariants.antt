@@ -1,5 +1,5 @@
 use Rattle.kr_model.specs.Kvl.{kvl}
-use Rattle.kr_hostile.proofs.tests.seats.three_seats.Given as goal
+use Rattle.kr_hostile.proofs.tests.seats.in_an_engine.Given as goal
 
 -- this engine's row, its opening and its table
 abbrev pub ghosts-inserts : goal.ghosts-inserts
