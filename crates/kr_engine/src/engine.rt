@@ -279,8 +279,8 @@ impl<'a, P: Covered, K: EngineName> Seat<'a, P, K> {
     }
 
     /// The same, but while the step is blocked it waits, and attempts it again when a step of another seat may have let it
-    /// go on, or closed a cycle. Where the wait would close a cycle of waiting transactions it answers `Deadlock` at once. At a fault that isn't a
-    /// refusal the seat may have seen more. It never answers that the step is blocked.
+    /// go on, or closed a cycle. Where the wait would close a cycle of waiting transactions it answers `Deadlock` at once.
+    /// At a fault that isn't a refusal the seat may have seen more. It never answers that the step is blocked.
     pub fn call<R: Wait>(&mut self, rt: &R, op: Op) -> Result<Receipt, EngineFault>
         ensures seat { (self.new.seat ≡ self.old.seat) × (self.new.speaks ≡ self.old.speaks) }
         ensures begins { IsPrefix self.old.view self.new.view }
