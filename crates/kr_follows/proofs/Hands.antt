@@ -1,18 +1,18 @@
 -- How events are dealt to their transactions.
-use Rattle.std.proofs.Common.{◌≡◌, ℕ, Bool, true, false, cond, not, ◌==◌, List, [], ◌∷◌, ◌++◌, map, Option, Some, None, refl, sym, ap, ◌∙◌, subst, arith}
-use Rattle.std.specs.Prelude.{filter, unwrap_or, option_map, Vec}
+use Rattle.std.proofs.Common.{◌≡◌, ◌<◌, ◌≤◌, ◌+◌, ℕ, zero, suc, length, take, drop, get_or, length-drop, drop_of_length-le, append_assoc, Bool, true, false, cond, not, ◌==◌, List, [], ◌∷◌, ◌++◌, map, Option, Some, None, refl, sym, ap, ◌∙◌, subst, arith}
+use Rattle.std.specs.Prelude.{All, filter, slice_index_or, unwrap_or, option_map, Vec}
 use Rattle.std.specs.Global.{Global}
 use Rattle.std.specs.BTreeMap.{BTreeMap, get, is_at}
 use Rattle.std.specs.Ordering.{nat_cmp}
 use Rattle.std.specs.Map.{lookup}
 use Rattle.std.proofs.lemmas.Bool.Decides.{nat_tests}
-use Rattle.std.proofs.lemmas.Bool.{eqb-true}
-use Rattle.std.proofs.lemmas.List.Elements.{filter-append}
-use Rattle.std.proofs.lemmas.List.{append-nil}
+use Rattle.std.proofs.lemmas.Bool.{eqb-true, eq-eqb}
+use Rattle.std.proofs.lemmas.List.Elements.{All-push, filter-append}
+use Rattle.std.proofs.lemmas.List.{append-nil, map-append, take_more, take-append-drop, take-take, length-take-le, drop-append-le}
 use Rattle.kr_model.specs.declared.Event.{Event}
 use Rattle.kr_model.specs.declared.Op.{Op}
 use Rattle.kr_follows.specs.Follows.{ops_of}
-use Rattle.kr_follows.specs.Dealt.{firsts, hand_of, hands_of, some_ops, AreHands}
+use Rattle.kr_follows.specs.Dealt.{firsts, hand_of, hands_of, some_ops, between, AreHands, IsRun}
 
 abbrev pub Hands : Type 0
 Hands = BTreeMap ℕ (Vec Op Global)
@@ -38,19 +38,31 @@ hand_there (e ∷ es) t =
     by true ih = refl
     by false ih = ih
 
--- One event more --
+-- A run of events more --
 
--- Its operation, where it is the transaction's.
-abbrev pub own_of : ℕ → Event → List Op
-own_of t e = cond (e.txn == t) (e.op ∷ []) []
-
-pub ops_more : (es : List Event) (e : Event) (t : ℕ) → ops_of t (es ++ e ∷ []) ≡ ops_of t es ++ own_of t e
-ops_more [] e t = refl
-ops_more (x ∷ xs) e t = by (x.txn == t) (ops_more xs e t)
+-- The operations of events one list after another.
+pub ops_both : (es more : List Event) (t : ℕ) → ops_of t (es ++ more) ≡ ops_of t es ++ ops_of t more
+ops_both [] more t = refl
+ops_both (x ∷ xs) more t = by (x.txn == t) (ops_both xs more t)
   where
-    by : (b : Bool) → ops_of t (xs ++ e ∷ []) ≡ ops_of t xs ++ own_of t e → cond b (x.op ∷ ops_of t (xs ++ e ∷ [])) (ops_of t (xs ++ e ∷ [])) ≡ cond b (x.op ∷ ops_of t xs) (ops_of t xs) ++ own_of t e
+    by : (b : Bool) → ops_of t (xs ++ more) ≡ ops_of t xs ++ ops_of t more → cond b (x.op ∷ ops_of t (xs ++ more)) (ops_of t (xs ++ more)) ≡ cond b (x.op ∷ ops_of t xs) (ops_of t xs) ++ ops_of t more
     by true ih = ap (λ (os : List Op). x.op ∷ os) ih
     by false ih = ih
+
+tail_of : (t : ℕ) (x : Event) (xs : List Event) → All (λ e. e.txn ≡ t) (x ∷ xs) → All (λ e. e.txn ≡ t) xs
+tail_of t x xs all k d within = all (suc k) d (omega (arith, within))
+
+-- Events of one transaction: all operations are its own.
+pub ops_own : (run : List Event) (t : ℕ) → All (λ e. e.txn ≡ t) run → ops_of t run ≡ map (λ e. e.op) run
+ops_own [] t all = refl
+ops_own (x ∷ xs) t all =
+    ap (λ (b : Bool). cond b (x.op ∷ ops_of t xs) (ops_of t xs)) (eq-eqb x.txn t (all 0 x (omega arith))) ∙ ap (λ (os : List Op). x.op ∷ os) (ops_own xs t (tail_of t x xs all))
+
+-- And another has none.
+pub ops_none : (run : List Event) (t u : ℕ) → (t == u) ≡ false → All (λ e. e.txn ≡ t) run → ops_of u run ≡ []
+ops_none [] t u other all = refl
+ops_none (x ∷ xs) t u other all =
+    ap (λ (b : Bool). cond b (x.op ∷ ops_of u xs) (ops_of u xs)) (ap (λ (v : ℕ). v == u) (all 0 x (omega arith)) ∙ other) ∙ ops_none xs t u other (tail_of t x xs all)
 
 -- The transaction, where it had no operations.
 abbrev pub first_of : List Op → ℕ → List ℕ
@@ -80,11 +92,72 @@ firsts_more (x ∷ xs) e =
     by true is = ap (λ (ts : List ℕ). x.txn ∷ filter (λ v. not (v == x.txn)) (firsts xs) ++ ts) (first_goes (ops_of e.txn xs) x.txn e.txn (sym (swapped x.txn e.txn) ∙ is))
     by false is = ap (λ (ts : List ℕ). x.txn ∷ filter (λ v. not (v == x.txn)) (firsts xs) ++ ts) (first_stays (ops_of e.txn xs) x.txn e.txn (sym (swapped x.txn e.txn) ∙ is))
 
+-- After a run of one transaction, which comes last where it is new.
+pub firsts_run : (es : List Event) (e : Event) (run : List Event) (t : ℕ) → All (λ x. x.txn ≡ t) (e ∷ run) → firsts (es ++ e ∷ run) ≡ firsts es ++ first_of (ops_of t es) t
+firsts_run es e [] t all = firsts_more es e ∙ ap (λ (u : ℕ). firsts es ++ first_of (ops_of u es) u) (all 0 e (omega arith))
+firsts_run es e (f ∷ more) t all =
+    ap firsts (sym (append_assoc es (e ∷ []) (f ∷ more)))
+    ∙ firsts_run (es ++ e ∷ []) f more t (tail_of t e (f ∷ more) all)
+    ∙ ap (λ (ts : List ℕ). firsts (es ++ e ∷ []) ++ ts) (had (ops_of t es) (ops_both es (e ∷ []) t ∙ ap (λ (os : List Op). ops_of t es ++ os) (ops_own (e ∷ []) t one)))
+    ∙ append-nil (firsts (es ++ e ∷ []))
+    ∙ firsts_more es e ∙ ap (λ (u : ℕ). firsts es ++ first_of (ops_of u es) u) (all 0 e (omega arith))
+  where
+    one : All (λ x. x.txn ≡ t) (e ∷ [])
+    one k d within = by k within
+      where
+        by : (j : ℕ) → j < 1 → (slice_index_or (e ∷ []) j d).txn ≡ t
+        by zero w = all 0 d (omega arith)
+        by (suc j) w = absurd (omega (arith, w))
+
+    had : (os : List Op) → ops_of t (es ++ e ∷ []) ≡ os ++ e.op ∷ [] → first_of (ops_of t (es ++ e ∷ [])) t ≡ []
+    had [] is = ap (λ (xs : List Op). first_of xs t) is
+    had (o ∷ os) is = ap (λ (xs : List Op). first_of xs t) is
+
 -- Hands --
 
-some_more : (os : List Op) (o : Op) → some_ops (os ++ o ∷ []) ≡ Some (os ++ o ∷ [])
-some_more [] o = refl
-some_more (p ∷ ps) o = refl
+-- One event more from the same place.
+pub between_more : (start end : ℕ) (events : List Event) (d : Event) → start ≤ end → end < length events → between start (end + 1) events ≡ between start end events ++ get_or events end d ∷ []
+between_more start end events d from within =
+    ap (drop start) (take_more events end d within)
+    ∙ drop-append-le start (take end events) (get_or events end d ∷ []) (omega (arith, from, length-take-le end events (omega (arith, within))))
+
+-- One event more of the run.
+pub run_more : (t start end : ℕ) (events : List Event) (d : Event) (before ops longer : List Op) → start ≤ end → end < length events
+    → (get_or events end d).txn ≡ t → longer ≡ ops ++ (get_or events end d).op ∷ []
+    → All (λ e. e.txn ≡ t) (between start end events) × (ops ≡ before ++ map (λ e. e.op) (between start end events))
+    → All (λ e. e.txn ≡ t) (between start (end + 1) events) × (longer ≡ before ++ map (λ e. e.op) (between start (end + 1) events))
+run_more t start end events d before ops longer from within own is so_far = (
+  subst (All (λ e. e.txn ≡ t)) (sym more) (All-push (λ (e : Event). e.txn ≡ t) (between start end events) e so_far.0 own),
+  is ∙ ap (λ (os : List Op). os ++ e.op ∷ []) so_far.1 ∙ append_assoc before (map (λ x. x.op) (between start end events)) (e.op ∷ [])
+      ∙ ap (λ (os : List Op). before ++ os) (sym (map-append (λ (x : Event). x.op) (between start end events) (e ∷ [])))
+      ∙ ap (λ (es : List Event). before ++ map (λ x. x.op) es) (sym more),
+)
+  where
+    e : Event
+    e = get_or events end d
+
+    more : between start (end + 1) events ≡ between start end events ++ e ∷ []
+    more = between_more start end events d from within
+
+-- None up to the place itself.
+pub between_none : (start : ℕ) (events : List Event) → start < length events → between start start events ≡ []
+between_none start events within = drop_of_length-le (take start events) (omega (arith, length-take-le start events (omega (arith, within))))
+
+-- The events up to a place, and then a run.
+pub taken_run : (t start end : ℕ) (events : List Event) → IsRun t start end events → take end events ≡ take start events ++ between start end events
+taken_run t start end events run = sym (take-append-drop start (take end events)) ∙ ap (λ (es : List Event). es ++ between start end events) (take-take start end events (omega (arith, run.begins)))
+
+some_longer : (os ps : List Op) (p : Op) → some_ops (os ++ p ∷ ps) ≡ Some (os ++ p ∷ ps)
+some_longer [] ps p = refl
+some_longer (o ∷ os) ps p = refl
+
+-- A run isn't empty.
+run_begins : (t start end : ℕ) (events : List Event) → IsRun t start end events → 0 < length (between start end events)
+run_begins t start end events run = omega (arith, run.begins, run.within, length-drop start (take end events), length-take-le end events run.within)
+
+some_run : (os : List Op) (es : List Event) → 0 < length es → some_ops (os ++ map (λ e. e.op) es) ≡ Some (os ++ map (λ e. e.op) es)
+some_run os [] some = absurd (omega (arith, some))
+some_run os (e ∷ es) some = some_longer os (map (λ e. e.op) es) e.op
 
 -- The map finds these operations of a transaction: they are its own.
 pub some_are : (os xs : List Op) → Some xs ≡ some_ops os → xs ≡ os
@@ -100,56 +173,74 @@ pub none_are : (os : List Op) → None ≡ some_ops os → os ≡ []
 none_are [] is = refl
 none_are (o ∷ os) is = absurd (cc)
 
--- The operations of each transaction after one more, in a map in which its transaction has them with it.
-each_more : (events : List Event) (e : Event) (m w : Hands) (v : Hand)
-    → ((t : ℕ) → option_map (λ (h : Hand). h.items) (get nat_cmp m t) ≡ some_ops (ops_of t events))
-    → v.items ≡ ops_of e.txn events ++ e.op ∷ []
-    → ((q : ℕ) → get nat_cmp w q ≡ cond (is_at (nat_cmp e.txn) q) (Some v) (get nat_cmp m q))
-    → (t : ℕ) → option_map (λ (h : Hand). h.items) (get nat_cmp w t) ≡ some_ops (ops_of t (events ++ e ∷ []))
-each_more events e m w v each longer put t =
-    ap (option_map (λ (h : Hand). h.items)) (put t)
-    ∙ by (e.txn == t) refl (same_test e.txn t ∙ swapped t e.txn)
-    ∙ ap some_ops (sym (ops_more events e t))
+-- The operations of each transaction after a run, in a map in which its transaction has them with it.
+each_more : (events run : List Event) (t : ℕ) (m w : Hands) (v : Hand)
+    → ((u : ℕ) → option_map (λ (h : Hand). h.items) (get nat_cmp m u) ≡ some_ops (ops_of u events))
+    → 0 < length run → All (λ e. e.txn ≡ t) run
+    → v.items ≡ ops_of t events ++ map (λ e. e.op) run
+    → ((q : ℕ) → get nat_cmp w q ≡ cond (is_at (nat_cmp t) q) (Some v) (get nat_cmp m q))
+    → (u : ℕ) → option_map (λ (h : Hand). h.items) (get nat_cmp w u) ≡ some_ops (ops_of u (events ++ run))
+each_more events run t m w v each some all longer put u =
+    ap (option_map (λ (h : Hand). h.items)) (put u)
+    ∙ by (t == u) refl (same_test t u ∙ swapped u t)
+    ∙ ap some_ops (sym (ops_both events run u))
   where
-    by : (b : Bool) → (e.txn == t) ≡ b → is_at (nat_cmp e.txn) t ≡ b
-        → option_map (λ (h : Hand). h.items) (cond (is_at (nat_cmp e.txn) t) (Some v) (get nat_cmp m t)) ≡ some_ops (ops_of t events ++ cond b (e.op ∷ []) [])
+    by : (b : Bool) → (t == u) ≡ b → is_at (nat_cmp t) u ≡ b
+        → option_map (λ (h : Hand). h.items) (cond (is_at (nat_cmp t) u) (Some v) (get nat_cmp m u)) ≡ some_ops (ops_of u events ++ ops_of u run)
     by true is at =
-        ap (λ (c : Bool). option_map (λ (h : Hand). h.items) (cond c (Some v) (get nat_cmp m t))) at
-        ∙ ap Some (longer ∙ ap (λ (u : ℕ). ops_of u events ++ e.op ∷ []) (eqb-true e.txn t is))
-        ∙ sym (some_more (ops_of t events) e.op)
+        ap (λ (c : Bool). option_map (λ (h : Hand). h.items) (cond c (Some v) (get nat_cmp m u))) at
+        ∙ ap Some longer
+        ∙ sym (some_run (ops_of t events) run some)
+        ∙ ap (λ (os : List Op). some_ops (ops_of t events ++ os)) (sym (ops_own run t all))
+        ∙ ap (λ (x : ℕ). some_ops (ops_of x events ++ ops_of x run)) (eqb-true t u is)
     by false is at =
-        ap (λ (c : Bool). option_map (λ (h : Hand). h.items) (cond c (Some v) (get nat_cmp m t))) at
-        ∙ each t ∙ ap some_ops (sym (append-nil (ops_of t events)))
+        ap (λ (c : Bool). option_map (λ (h : Hand). h.items) (cond c (Some v) (get nat_cmp m u))) at
+        ∙ each u ∙ ap some_ops (sym (append-nil (ops_of u events)))
+        ∙ ap (λ (os : List Op). some_ops (ops_of u events ++ os)) (sym (ops_none run t u is all))
 
--- An event of a transaction that has occurred.
-pub dealt_again : (events : List Event) (e : Event) (txns : List ℕ) (m w : Hands) (u v : Hand)
-    → AreHands events txns m
-    → Some u ≡ get nat_cmp m e.txn
-    → v.items ≡ u.items ++ e.op ∷ []
-    → ((q : ℕ) → get nat_cmp w q ≡ cond (is_at (nat_cmp e.txn) q) (Some v) (get nat_cmp m q))
-    → AreHands (events ++ e ∷ []) txns w
-dealt_again events e txns m w u v hands found longer put =
-    let there : Some u.items ≡ some_ops (ops_of e.txn events) = ap (option_map (λ (h : Hand). h.items)) found ∙ hands.each e.txn in
-    record {
-      firsts_are = hands.firsts_are ∙ sym (firsts_more events e ∙ ap (λ (ts : List ℕ). firsts events ++ ts) (not_first (ops_of e.txn events) u.items e.txn there) ∙ append-nil (firsts events));
-      each = each_more events e m w v hands.each (longer ∙ ap (λ (os : List Op). os ++ e.op ∷ []) (some_are (ops_of e.txn events) u.items there)) put;
-    }
+-- The transactions after a run.
+firsts_after : (events run : List Event) (t : ℕ) → 0 < length run → All (λ e. e.txn ≡ t) run → firsts (events ++ run) ≡ firsts events ++ first_of (ops_of t events) t
+firsts_after events [] t some all = absurd (omega (arith, some))
+firsts_after events (e ∷ es) t some all = firsts_run events e es t all
+
+-- A run of a transaction that has occurred.
+pub dealt_again : (events : List Event) (t start end : ℕ) (txns : List ℕ) (m w : Hands) (u v : Hand)
+    → IsRun t start end events
+    → AreHands (take start events) txns m
+    → Some u ≡ get nat_cmp m t
+    → v.items ≡ u.items ++ map (λ e. e.op) (between start end events)
+    → ((q : ℕ) → get nat_cmp w q ≡ cond (is_at (nat_cmp t) q) (Some v) (get nat_cmp m q))
+    → AreHands (take end events) txns w
+dealt_again events t start end txns m w u v run hands found longer put =
+    let so_far = take start events in
+    let more = between start end events in
+    let some = run_begins t start end events run in
+    let there : Some u.items ≡ some_ops (ops_of t so_far) = ap (option_map (λ (h : Hand). h.items)) found ∙ hands.each t in
+    subst (λ (es : List Event). AreHands es txns w) (sym (taken_run t start end events run)) (record {
+      firsts_are = hands.firsts_are ∙ sym (firsts_after so_far more t some run.of_one ∙ ap (λ (ts : List ℕ). firsts so_far ++ ts) (not_first (ops_of t so_far) u.items t there) ∙ append-nil (firsts so_far));
+      each = each_more so_far more t m w v hands.each some run.of_one (longer ∙ ap (λ (os : List Op). os ++ map (λ e. e.op) more) (some_are (ops_of t so_far) u.items there)) put;
+    })
 
 -- A transaction that the map doesn't find has no operations.
 pub dealt_none : (events : List Event) (t : ℕ) (txns : List ℕ) (m : Hands) → AreHands events txns m → None ≡ get nat_cmp m t → ops_of t events ≡ []
 dealt_none events t txns m hands found = none_are (ops_of t events) (ap (option_map (λ (h : Hand). h.items)) found ∙ hands.each t)
 
--- An event of a transaction that hasn't occurred.
-pub dealt_first : (events : List Event) (e : Event) (txns : List ℕ) (m w : Hands) (v : Hand)
-    → ops_of e.txn events ≡ []
-    → AreHands events txns m
-    → v.items ≡ e.op ∷ []
-    → ((q : ℕ) → get nat_cmp w q ≡ cond (is_at (nat_cmp e.txn) q) (Some v) (get nat_cmp m q))
-    → AreHands (events ++ e ∷ []) (txns ++ e.txn ∷ []) w
-dealt_first events e txns m w v none hands longer put = record {
-  firsts_are = ap (λ (ts : List ℕ). ts ++ e.txn ∷ []) hands.firsts_are ∙ sym (firsts_more events e ∙ ap (λ (os : List Op). firsts events ++ first_of os e.txn) none);
-  each = each_more events e m w v hands.each (longer ∙ ap (λ (os : List Op). os ++ e.op ∷ []) (sym none)) put;
-}
+-- The first run of a transaction.
+pub dealt_first : (events : List Event) (t start end : ℕ) (txns : List ℕ) (m w : Hands) (v : Hand)
+    → IsRun t start end events
+    → ops_of t (take start events) ≡ []
+    → AreHands (take start events) txns m
+    → v.items ≡ map (λ e. e.op) (between start end events)
+    → ((q : ℕ) → get nat_cmp w q ≡ cond (is_at (nat_cmp t) q) (Some v) (get nat_cmp m q))
+    → AreHands (take end events) (txns ++ t ∷ []) w
+dealt_first events t start end txns m w v run none hands longer put =
+    let so_far = take start events in
+    let more = between start end events in
+    let some = run_begins t start end events run in
+    subst (λ (es : List Event). AreHands es (txns ++ t ∷ []) w) (sym (taken_run t start end events run)) (record {
+      firsts_are = ap (λ (ts : List ℕ). ts ++ t ∷ []) hands.firsts_are ∙ sym (firsts_after so_far more t some run.of_one ∙ ap (λ (os : List Op). firsts so_far ++ first_of os t) none);
+      each = each_more so_far more t m w v hands.each some run.of_one (longer ∙ ap (λ (os : List Op). os ++ map (λ e. e.op) more) (sym none)) put;
+    })
 
 -- The hands of all events are the dealing.
 pub hands_are : (events : List Event) (txns : List ℕ) (m : Hands) → AreHands events txns m → (t : ℕ) → hand_of t (hands_of m) ≡ ops_of t events

@@ -1,10 +1,11 @@
 -- Operations by their transactions.
-use Rattle.std.specs.Prelude.{◌≡◌, ◌≢◌, ◌↔◌, ◌==◌, ◌<◌, AllPairs, Contains, length, ℕ, not, List, [], ◌∷◌, Option, Some, None, filter, map, if◌then◌else◌, option_map}
+use Rattle.std.specs.Prelude.{◌≡◌, ◌≢◌, ◌↔◌, ◌==◌, ◌<◌, ◌≤◌, All, AllPairs, Contains, length, ℕ, not, List, [], ◌∷◌, Option, Some, None, filter, map, take, drop, slice_index_or, if◌then◌else◌, option_map}
 use Rattle.std.specs.BTreeMap.{BTreeMap, get}
 use Rattle.std.specs.Global.{Vec}
 use Rattle.std.specs.Ordering.{nat_cmp}
 use Rattle.kr_model.specs.declared.Event.{Event}
 use Rattle.kr_model.specs.declared.Op.{Op}
+use Rattle.kr_model.specs.declared.Op.TheVariants.{Go}
 use Rattle.kr_follows.specs.declared.faults.StepFault.{StepFault}
 use Rattle.kr_follows.specs.Follows.{ops_of, op_at, done_from, closed}
 
@@ -49,6 +50,22 @@ some_ops (o ∷ os) = Some (o ∷ os)
 pub record AreHands (events : List Event) (txns : List ℕ) (hands : BTreeMap ℕ (Vec Op)) : Type 0 where
   pub firsts_are : txns ≡ firsts events
   pub each : (t : ℕ) → option_map (λ v. v.items) (get nat_cmp hands t) ≡ some_ops (ops_of t events)
+
+-- Runs --
+
+-- The events from one place up to another.
+abbrev pub between : ℕ → ℕ → List Event → List Event
+between start end events = drop start (take end events)
+
+-- Whose event stands at a place; that of nobody past the last.
+abbrev pub txn_at : List Event → ℕ → ℕ
+txn_at events k = (slice_index_or events k (record { txn = 0; op = Go })).txn
+
+-- From start to end stands at least one event, and each is of the transaction.
+pub record IsRun (t start end : ℕ) (events : List Event) : Type 0 where
+  pub begins : start < end
+  pub within : end ≤ length events
+  pub of_one : All (λ e. e.txn ≡ t) (between start end events)
 
 -- Tests --
 

@@ -1,8 +1,7 @@
 //! Operations by their transactions.
-ghost use Rattle.std.specs.Prelude.{◌≡◌, ℕ, false, IsTrue, List, ◌++◌, ◌∷◌, [], IfOk, OnOk};
-ghost use Rattle.kr_model.specs.declared.Event.{Event};
+ghost use Rattle.std.specs.Prelude.{◌≡◌, ◌<◌, ℕ, List, ◌++◌, ◌∷◌, [], length, map, take, IfOk, IfSome, IfNone};
 ghost use Rattle.kr_follows.specs.Follows.{ops_of};
-ghost use Rattle.kr_follows.specs.Dealt.{ops_in, AreDealt, AreHands};
+ghost use Rattle.kr_follows.specs.Dealt.{ops_in, between, txn_at, AreDealt, AreHands, IsRun};
 
 use kr_model::{Event, Op, Txn};
 use std::alloc::{AllocError, Global};
@@ -29,14 +28,16 @@ impl Model for Dealt {
 }
 
 impl Dealt {
-    /// Deals the events to their transactions, in O(n log n), or answers an error where a growth is refused.
+    /// Deals the events to their transactions, or answers an error where a growth is refused. It takes O(n + m log n) for n
+    /// events in m runs, in each of which all events are of one transaction.
     pub fn new(alloc: Global, events: &[Event]) -> Result<Dealt, AllocError>
         ensures { IfOk result (λ dealt. AreDealt events.now dealt) }
     {
         let mut txns = Vec::new(alloc);
         let mut hands = BTreeMap::new(alloc);
-        for event in events {
-            add(alloc, &mut txns, &mut hands, *event)?;
+        let mut dealt = 0;
+        while dealt < events.len() {
+            dealt = add(alloc, &mut txns, &mut hands, events, dealt)?;
         }
         Ok(Dealt { txns, hands })
     }
@@ -60,46 +61,80 @@ impl Dealt {
     }
 }
 
-/// Adds an operation behind those of its transaction, which comes last where it is new. It takes one look at the map, and a
-/// second one where the transaction is new.
+/// Adds the operations of the run of events of one transaction that begins at `start` behind those of the transaction, which
+/// comes last where it is new, and answers where the run ends. It takes one look at the map, and a second one where the
+/// transaction is new.
 fn add(
     alloc: Global,
     txns: &mut Vec<Txn>,
     hands: &mut BTreeMap<Txn, Vec<Op>>,
-    event: Event,
-) -> Result<(), AllocError>
-    ensures { OnOk result ((events : List Event) → AreHands events txns.old.items hands.old → AreHands (events ++ event ∷ []) txns.new.items hands.new) }
+    events: &[Event],
+    start: usize,
+) -> Result<usize, AllocError>
+    requires { start < length events.now }
+    ensures run { IfOk result (λ end. IsRun (txn_at events.now start) start end events.now) }
+    ensures hands { IfOk result (λ end. AreHands (take start events.now) txns.old.items hands.old → AreHands (take end events.now) txns.new.items hands.new) }
 {
-    if add_again(hands, event)? {
-        return Ok(());
+    let txn = events[start].txn;
+    if let Some(end) = add_again(hands, events, start, txn)? {
+        return Ok(end);
     }
-    txns.push(event.txn)?;
-    add_first(alloc, hands, event)?;
-    Ok(())
+    txns.push(txn)?;
+    add_first(alloc, hands, events, start, txn)
 }
 
-/// Adds an operation of a transaction that has some, and tells whether it has.
-fn add_again(hands: &mut BTreeMap<Txn, Vec<Op>>, event: Event) -> Result<bool, AllocError>
-    ensures again { IfOk result (λ there. IsTrue there → (events : List Event) (txns : List ℕ) → AreHands events txns hands.old → AreHands (events ++ event ∷ []) txns hands.new) }
-    ensures absent { IfOk result (λ there. there ≡ false → (events : List Event) (txns : List ℕ) → AreHands events txns hands.old → (ops_of event.txn events ≡ []) × AreHands events txns hands.new) }
+/// Adds a run of a transaction that has operations, and answers where it ends; or nothing where the transaction has none.
+fn add_again(
+    hands: &mut BTreeMap<Txn, Vec<Op>>,
+    events: &[Event],
+    start: usize,
+    txn: Txn,
+) -> Result<Option<usize>, AllocError>
+    requires within { start < length events.now }
+    requires txn { txn ≡ txn_at events.now start }
+    ensures run { IfOk result (λ there. IfSome there (λ end. IsRun txn start end events.now)) }
+    ensures again { IfOk result (λ there. IfSome there (λ end. (txns : List ℕ) → AreHands (take start events.now) txns hands.old → AreHands (take end events.now) txns hands.new)) }
+    ensures absent { IfOk result (λ there. IfNone there ((txns : List ℕ) → AreHands (take start events.now) txns hands.old → (ops_of txn (take start events.now) ≡ []) × AreHands (take start events.now) txns hands.new)) }
 {
-    if let Some(ops) = hands.get_mut(&event.txn) {
-        ops.push(event.op)?;
-        return Ok(true);
+    if let Some(ops) = hands.get_mut(&txn) {
+        let end = add_run(ops, events, start, txn)?;
+        return Ok(Some(end));
     }
-    Ok(false)
+    Ok(None)
 }
 
-/// Adds the first operation of a transaction.
+/// Adds the first run of a transaction, and answers where it ends.
 fn add_first(
     alloc: Global,
     hands: &mut BTreeMap<Txn, Vec<Op>>,
-    event: Event,
-) -> Result<(), AllocError>
-    ensures { OnOk result ((events : List Event) (txns : List ℕ) → ops_of event.txn events ≡ [] → AreHands events txns hands.old → AreHands (events ++ event ∷ []) (txns ++ event.txn ∷ []) hands.new) }
+    events: &[Event],
+    start: usize,
+    txn: Txn,
+) -> Result<usize, AllocError>
+    requires within { start < length events.now }
+    requires txn { txn ≡ txn_at events.now start }
+    ensures run { IfOk result (λ end. IsRun txn start end events.now) }
+    ensures first { IfOk result (λ end. (txns : List ℕ) → ops_of txn (take start events.now) ≡ [] → AreHands (take start events.now) txns hands.old → AreHands (take end events.now) (txns ++ txn ∷ []) hands.new) }
 {
     let mut ops = Vec::new(alloc);
-    ops.push(event.op)?;
-    hands.insert(event.txn, ops)?;
-    Ok(())
+    let end = add_run(&mut ops, events, start, txn)?;
+    hands.insert(txn, ops)?;
+    Ok(end)
+}
+
+/// Adds the operations of the run of a transaction's events that begins at `start`, and answers where it ends.
+fn add_run(ops: &mut Vec<Op>, events: &[Event], start: usize, txn: Txn) -> Result<usize, AllocError>
+    requires within { start < length events.now }
+    requires txn { txn ≡ txn_at events.now start }
+    ensures run { IfOk result (λ end. IsRun txn start end events.now) }
+    ensures ops { IfOk result (λ end. ops.new.items ≡ ops.old.items ++ map (λ e. e.op) (between start end events.now)) }
+{
+    ops.push(events[start].op)?;
+    for end in start + 1..events.len() {
+        if events[end].txn != txn {
+            return Ok(end);
+        }
+        ops.push(events[end].op)?;
+    }
+    Ok(events.len())
 }

@@ -4,6 +4,6 @@ use Rattle.kr_follows.proofs.Hands.{dealt_again}
 use Rattle.kr_follows.proofs.dealt.add_again.Goals as goal
 
 pub returns-in-Some-clause-again : goal.returns-in-Some-clause-again
-returns-in-Some-clause-again c _ = λ events txns hands.
-    dealt_again events c.args.event txns c.args.hands.now (c.get_mut.follows.lender c.push.new.self) c.in-Some.ops.now c.push.new.self hands
-    c.in-Some.ensures.value c.in_ok-push.ensures.items ((c.get_mut.follows.holds c.push.new.self).3 (subst IsSome c.in-Some.ensures.value refl)).0
+returns-in-Some-clause-again c = λ txns hands.
+    dealt_again c.args.events.now c.args.txn c.args.start c.in_ok-end.end txns c.args.hands.now (c.get_mut.follows.lender c.add_run.new.ops) c.in-Some.ops.now c.add_run.new.ops
+    c.in_ok-end.ensures.run hands c.in-Some.ensures.value c.in_ok-end.ensures.ops ((c.get_mut.follows.holds c.add_run.new.ops).3 (subst IsSome c.in-Some.ensures.value refl)).0

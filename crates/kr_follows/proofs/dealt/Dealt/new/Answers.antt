@@ -11,11 +11,11 @@ use Rattle.kr_follows.proofs.dealt.Dealt.new.Goals as goal
 pub returns : goal.returns
 returns c =
     let events = c.args.events.now in
-    let txns = c.loop-event.txns.items in
-    let all : AreHands events txns c.loop-event.hands = subst (λ (es : List Event). AreHands es txns c.loop-event.hands) (take_all c.loop-event.event-index events (omega arith)) c.loop-event.invariant in
+    let txns = c.loop-dealt.txns.items in
+    let all : AreHands events txns c.loop-dealt.hands = subst (λ (es : List Event). AreHands es txns c.loop-dealt.hands) (take_all c.loop-dealt.dealt events (omega (arith, c.loop-dealt.invariant.0))) c.loop-dealt.invariant.1 in
     record {
       txns = all.firsts_are;
       occur = λ t. subst (λ (ts : List ℕ). Contains ts t ↔ (ops_of t events ≢ [])) (sym all.firsts_are) (occurs_exactly t events);
       each_once = subst (λ (ts : List ℕ). AllPairs (λ t u. t ≢ u) ts) (sym all.firsts_are) (firsts_apart events);
-      ops = hands_are events txns c.loop-event.hands all;
+      ops = hands_are events txns c.loop-dealt.hands all;
     }
