@@ -7,5 +7,6 @@ pub mod Ended
 pub mod Histories
 pub mod Prefixes
 pub mod Showing
+pub mod Spoken
 pub mod Copies
 pub mod Waiters

@@ -34,6 +34,10 @@ seat_at seats k = slice_index_or seats k no_seat
 abbrev pub CountsAre : List SeatNote → List Entry → Type 0
 CountsAre seats es = (k : ℕ) → (seat_at seats k).count ≡ entries_of k es
 
+-- The number that a seat began last was begun by it.
+abbrev pub LastAreOwn : List (ℕ × ℕ) → List SeatNote → Type 0
+LastAreOwn numbers seats = (k t : ℕ) → (seat_at seats k).last ≡ Some t → is_begun numbers t k ≡ true
+
 -- How many kept places an operation gives up: one where it ends its transaction.
 abbrev pub freed : Op → ℕ
 freed o = if is_end o then 1 else 0
@@ -61,6 +65,7 @@ pub record IsCore (p : Protocol) (opening : Map) (places : List ℕ) (own : Prot
   -- the machine's log is that of the entries
   pub log_is : log ≡ log_after no_log (events_with_replies es)
   pub counts : CountsAre seats es
+  pub last_own : LastAreOwn (begun_by numbers) seats
   -- each entry's transaction was begun by the entry's seat
   pub begun : All (λ e. is_begun (begun_by numbers) e.event.txn e.seat ≡ true) es
   -- a transaction that has ended was begun

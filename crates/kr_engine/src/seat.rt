@@ -86,9 +86,6 @@ impl<P: Covered, K: EngineName> Core<P, K> {
         if !self.fits(hand) {
             return Err(EngineFault::PlaceTaken);
         }
-        if !self.has_begun(txn, hand.seat) {
-            return Err(EngineFault::PlaceTaken);
-        }
         self.compare(&hand.view);
         self.law();
         let result = self.perform(row, hand.seat, txn, op);

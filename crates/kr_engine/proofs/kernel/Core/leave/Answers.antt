@@ -1,5 +1,7 @@
 use Rattle.std.proofs.Common.{◌<◌, length, ap, refl}
+use Rattle.kr_engine.specs.Numbers.{begun_by}
 use Rattle.kr_engine.proofs.Counts.{counts_stay}
+use Rattle.kr_engine.proofs.Spoken.{own_stay}
 use Rattle.kr_engine.proofs.kernel.Core.leave.Goals as goal
 
 pub invariant_of-self : goal.invariant_of-self
@@ -13,6 +15,7 @@ invariant_of-self g c =
       history = i.history;
       log_is = i.log_is;
       counts = counts_stay c.self.inside.seats.items c.self.inside.history c.args.seat c.index_mut.result.now _ i.counts seat c.index_mut.ensures.value refl;
+      last_own = own_stay (begun_by c.self.inside.numbers) c.self.inside.seats.items c.args.seat c.index_mut.result.now _ i.last_own seat c.index_mut.ensures.value refl;
       begun = i.begun;
       ended = i.ended;
       ends = i.ends;
