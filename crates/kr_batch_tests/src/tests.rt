@@ -13,12 +13,12 @@ use kr_script::{read_script, report_verdict};
 use std::alloc::AllocError;
 use std::test::Fail;
 
-// One mode, which is never asked for.
+// One mode, which is never asked for. Updates are offered.
 #[derive(Drop)]
 struct Plain;
 
 impl Protocol for Plain {
-    ghost table = { λ _. record { count = 1; ok = λ q h. true; convert = λ h q. max h q; ask = λ row side own. None } };
+    ghost table = { λ _. record { count = 1; ok = λ q h. true; convert = λ h q. max h q; ask = λ row side own. None; updates = true } };
 
     ghost names = { λ _. codes "A" ∷ [] };
 
@@ -49,7 +49,11 @@ impl Protocol for Plain {
         None
     }
 
-    ghost lawful = { λ _. lawful_by_test (record { count = 1; ok = λ q h. true; convert = λ h q. max h q; ask = λ row side own. None }) refl };
+    fn updates(&self) -> bool {
+        true
+    }
+
+    ghost lawful = { λ _. lawful_by_test (record { count = 1; ok = λ q h. true; convert = λ h q. max h q; ask = λ row side own. None; updates = true }) refl };
 
     ghost named = { λ _. Prim.search rules };
 }
@@ -87,5 +91,33 @@ fn verdicts_in_order(rt: HostRuntime) -> Result<(), Fail> {
         not_serial.as_str(),
         r#"{"script":"second","verdict":["not-serial",1,1,["found",2],["none"]]}"#
     );
+    Ok(())
+}
+
+/// Updates a key twice and takes both updates back; another then reads the key.
+const BACK: &[u8] =
+    br#"{"format":2,"opening":[[20,2]],"steps":[[1,"update",20,7],[1,"update",20,9],[1,"back"],[1,"back"],[1,"abort"],[2,"fetch",20],[2,"commit"]]}"#;
+
+/// Updates a key which another transaction then updates too, that commits first.
+const UPDATED: &[u8] =
+    br#"{"format":2,"opening":[[20,2]],"steps":[[1,"update",20,7],[2,"update",20,9],[2,"commit"],[1,"commit"]]}"#;
+
+#[test]
+fn verdicts_on_both_formats(rt: HostRuntime) -> Result<(), Fail> {
+    let alloc = rt.alloc();
+    let mut scripts = Vec::new(alloc);
+    for text in [NOT_SERIAL, BACK, UPDATED] {
+        scripts.push(read_script(alloc, text)?)?;
+    }
+    let verdicts = judge_all(&rt, alloc, &Plain, scripts.as_slice())?;
+    let wanted = [
+        r#"{"script":"","verdict":["not-serial",1,1,["found",2],["none"]]}"#,
+        r#"{"script":"","verdict":["serial"]}"#,
+        r#"{"script":"","verdict":["not-serial",2,1,["updated",7],["updated",2]]}"#,
+    ];
+    assert_eq!(rt; verdicts.len(), 3);
+    for (verdict, wanted) in verdicts.iter().zip(wanted) {
+        assert_eq!(rt; report_verdict(alloc, "", verdict)?.as_str(), wanted);
+    }
     Ok(())
 }

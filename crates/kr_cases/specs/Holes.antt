@@ -1,7 +1,7 @@
 -- What a checker looks up while it goes through the cases: the first place that each mode leaves open of each cover.
 use Rattle.std.specs.Prelude.{◌≡◌, ℕ, ◌≤◌, List, [], ◌∷◌, Option, Some, None, slice_index_or}
 use Rattle.kr_model.specs.declared.Cover.{Cover}
-use Rattle.kr_model.specs.declared.Cover.TheVariants.{ReadKey, ReadGap, InsertedKey, DeletedGap}
+use Rattle.kr_model.specs.declared.Cover.TheVariants.{ReadKey, ReadGap, InsertedKey, DeletedGap, UpdatedKey}
 use Rattle.kr_model.specs.declared.Place.{Place}
 use Rattle.kr_model.specs.Protocol.{Protocol}
 use Rattle.kr_cases.specs.declared.holes.Holes.{Holes}
@@ -20,9 +20,10 @@ first_open p c h = first (open_places p c h)
 abbrev pub AreFirst : Protocol → Cover → List (Option Place) → Type 0
 AreFirst p c holes = (h : ℕ) → h ≤ p.count → slice_index_or holes h None ≡ first_open p c h
 
--- The four rows tell that place for each cover.
+-- The rows tell that place for each cover.
 pub record AreHoles (p : Protocol) (holes : Holes) : Type 0 where
   pub read_key : AreFirst p ReadKey holes.read_key
   pub read_gap : AreFirst p ReadGap holes.read_gap
   pub inserted_key : AreFirst p InsertedKey holes.inserted_key
   pub deleted_gap : AreFirst p DeletedGap holes.deleted_gap
+  pub updated_key : AreFirst p UpdatedKey holes.updated_key

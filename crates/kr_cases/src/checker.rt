@@ -65,6 +65,10 @@ impl<P: Protocol> Protocol for Checked<P> {
         self.protocol.ask(row, side, own_next)
     }
 
+    fn updates(&self) -> bool {
+        self.protocol.updates()
+    }
+
     ghost lawful = { λ c. P.lawful c.protocol };
 
     ghost named = { λ c. P.named c.protocol };
@@ -118,10 +122,14 @@ pub fn check<P: Protocol>(alloc: Global, protocol: P) -> Result<Checked<P>, Reje
     }
 }
 
-/// The number of cases of a protocol of so many modes.
-pub fn cases(count: Mode) -> usize
-    ensures { (p : model.Protocol) → p.count ≡ count → length (cases p) ≡ result }
+/// The number of cases of a protocol of so many modes that offers updates, or none.
+pub fn cases(count: Mode, updates: bool) -> usize
+    ensures { (p : model.Protocol) → p.count ≡ count → p.updates ≡ updates → length (cases p) ≡ result }
 {
     let modes = count as usize;
-    4 * (modes * modes) + 6 * (modes + 1) + 3 * ((modes + 1) * (modes + 1))
+    if updates {
+        5 * (modes * modes) + 7 * (modes + 1) + 3 * ((modes + 1) * (modes + 1))
+    } else {
+        4 * (modes * modes) + 6 * (modes + 1) + 3 * ((modes + 1) * (modes + 1))
+    }
 }

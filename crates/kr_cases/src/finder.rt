@@ -7,7 +7,7 @@ ghost use Rattle.kr_model.specs.declared.Row.TheVariants as row;
 ghost use Rattle.kr_model.specs.declared.Side.TheVariants as side;
 ghost use Rattle.kr_model.specs.declared.Cover.TheVariants as cover;
 ghost use Rattle.kr_model.specs.declared.Origin.TheVariants as origin;
-ghost use Rattle.kr_model.specs.Covers.{case, cases_of, row_cases, modes, modes_or_none, mode_after, failure, failed_cases};
+ghost use Rattle.kr_model.specs.Covers.{case, cases_of, row_cases, all_covers, all_rules, modes, modes_or_none, mode_after, failure, failed_cases};
 ghost use Rattle.kr_cases.specs.Holes.{first_open, AreHoles};
 ghost use Rattle.kr_cases.specs.Cases.{failures, conversions_from, conversions_of, row_cover, inserts_at, splits_of};
 
@@ -15,6 +15,58 @@ use crate::holes::{Holes, holes_of};
 use kr_model::{Cover, FailedCase, Mode, Origin, Place, Row, Rule, Side, Span};
 use kr_protocol::Protocol;
 use std::alloc::{AllocError, Global};
+
+/// The covers that a protocol is asked for, in order.
+fn all_covers<P: Protocol>(protocol: &P) -> &'static [Cover]
+    ensures { result.now ≡ all_covers (P.table protocol.now) }
+{
+    if protocol.updates() {
+        &[
+            Cover::ReadKey,
+            Cover::ReadGap,
+            Cover::InsertedKey,
+            Cover::DeletedGap,
+            Cover::UpdatedKey,
+        ]
+    } else {
+        &[
+            Cover::ReadKey,
+            Cover::ReadGap,
+            Cover::InsertedKey,
+            Cover::DeletedGap,
+        ]
+    }
+}
+
+/// The rules that a protocol is asked for, in order.
+fn all_rules<P: Protocol>(protocol: &P) -> &'static [Rule]
+    ensures { result.now ≡ all_rules (P.table protocol.now) }
+{
+    if protocol.updates() {
+        &[
+            Rule::Conversion,
+            Rule::FetchHit,
+            Rule::FetchMiss,
+            Rule::ScanKey,
+            Rule::ScanStop,
+            Rule::Insert,
+            Rule::Split,
+            Rule::Delete,
+            Rule::Update,
+        ]
+    } else {
+        &[
+            Rule::Conversion,
+            Rule::FetchHit,
+            Rule::FetchMiss,
+            Rule::ScanKey,
+            Rule::ScanStop,
+            Rule::Insert,
+            Rule::Split,
+            Rule::Delete,
+        ]
+    }
+}
 
 /// A protocol, with what its modes leave open.
 ///
@@ -38,6 +90,7 @@ impl<P: Protocol> Finder<'_, P> {
             Cover::ReadGap => self.holes.read_gap[mode as usize],
             Cover::InsertedKey => self.holes.inserted_key[mode as usize],
             Cover::DeletedGap => self.holes.deleted_gap[mode as usize],
+            Cover::UpdatedKey => self.holes.updated_key[mode as usize],
         }
     }
 
@@ -141,25 +194,20 @@ impl<P: Protocol> Finder<'_, P> {
         Ok(())
     }
 
-    /// All conversions.
-    fn conversions(&self, failed: &mut Vec<FailedCase>) -> Result<(), AllocError>
+    /// The conversions that keep these covers.
+    fn conversions(&self, failed: &mut Vec<FailedCase>, covers: &[Cover]) -> Result<(), AllocError>
         ensures ok { OnOk result (failed.new.items ≡ failed.old.items
-            ++ failures (P.table self.now.protocol.now) (cases_of (P.table self.now.protocol.now) rule.Conversion)) }
+            ++ failures (P.table self.now.protocol.now) (flat_map (conversions_of (P.table self.now.protocol.now)) covers.now)) }
         ensures err { OnErr result (failures (P.table self.now.protocol.now)
-            (cases_of (P.table self.now.protocol.now) rule.Conversion) ≢ []) }
+            (flat_map (conversions_of (P.table self.now.protocol.now)) covers.now) ≢ []) }
     {
-        for cover in [
-            Cover::ReadKey,
-            Cover::ReadGap,
-            Cover::InsertedKey,
-            Cover::DeletedGap,
-        ] {
-            self.conversions_of(failed, cover)?;
+        for cover in covers {
+            self.conversions_of(failed, *cover)?;
         }
         Ok(())
     }
 
-    /// What a reading row covers, by the own mode.
+    /// What a row that moves no key covers, by the own mode.
     fn row_covers(
         &self,
         failed: &mut Vec<FailedCase>,
@@ -180,7 +228,7 @@ impl<P: Protocol> Finder<'_, P> {
         Ok(())
     }
 
-    /// What a reading row covers.
+    /// What a row that moves no key covers.
     fn row(
         &self,
         failed: &mut Vec<FailedCase>,
@@ -286,7 +334,7 @@ impl<P: Protocol> Finder<'_, P> {
     {
         let gap = &[Cover::ReadGap];
         match rule {
-            Rule::Conversion => self.conversions(failed),
+            Rule::Conversion => self.conversions(failed, all_covers(self.protocol)),
             Rule::FetchHit => {
                 self.row(
                     failed,
@@ -305,6 +353,10 @@ impl<P: Protocol> Finder<'_, P> {
             Rule::Insert => self.inserts(failed),
             Rule::Split => self.splits(failed),
             Rule::Delete => self.deletes(failed),
+            Rule::Update => {
+                let covers = &[Cover::UpdatedKey];
+                self.row(failed, rule, Row::Update, Side::Current, covers)
+            }
         }
     }
 }
@@ -322,17 +374,8 @@ pub(crate) fn failed_cases<P: Protocol>(
         holes: holes_of(protocol),
     };
     let mut failed = Vec::new(alloc);
-    for rule in [
-        Rule::Conversion,
-        Rule::FetchHit,
-        Rule::FetchMiss,
-        Rule::ScanKey,
-        Rule::ScanStop,
-        Rule::Insert,
-        Rule::Split,
-        Rule::Delete,
-    ] {
-        finder.cases_of(&mut failed, rule)?;
+    for rule in all_rules(protocol) {
+        finder.cases_of(&mut failed, *rule)?;
     }
     Ok(failed)
 }

@@ -8,12 +8,23 @@ use kr_model::{Cover, Mode, Place, Row, Side};
 use kr_protocol::Protocol;
 
 /// What no other transaction may be granted beside a lock that has the cover, in order.
-fn must_refuse(cover: Cover) -> &'static [(Row, Side)]
-    ensures { result.now ≡ must_refuse cover }
+fn must_refuse<P: Protocol>(protocol: &P, cover: Cover) -> &'static [(Row, Side)]
+    ensures { result.now ≡ must_refuse (P.table protocol.now) cover }
 {
+    let updates = protocol.updates();
     match cover {
+        Cover::ReadKey if updates => &[(Row::Delete, Side::Current), (Row::Update, Side::Current)],
         Cover::ReadKey => &[(Row::Delete, Side::Current)],
         Cover::ReadGap => &[(Row::Insert, Side::Next), (Row::Delete, Side::Current)],
+        Cover::InsertedKey if updates => &[
+            (Row::FetchHit, Side::Current),
+            (Row::FetchMiss, Side::Next),
+            (Row::ScanKey, Side::Current),
+            (Row::ScanStop, Side::Next),
+            (Row::Delete, Side::Current),
+            (Row::Delete, Side::Next),
+            (Row::Update, Side::Current),
+        ],
         Cover::InsertedKey => &[
             (Row::FetchHit, Side::Current),
             (Row::FetchMiss, Side::Next),
@@ -30,6 +41,13 @@ fn must_refuse(cover: Cover) -> &'static [(Row, Side)]
             (Row::Delete, Side::Current),
             (Row::Delete, Side::Next),
         ],
+        Cover::UpdatedKey if updates => &[
+            (Row::FetchHit, Side::Current),
+            (Row::ScanKey, Side::Current),
+            (Row::Delete, Side::Current),
+            (Row::Update, Side::Current),
+        ],
+        Cover::UpdatedKey => &[],
     }
 }
 
@@ -115,7 +133,7 @@ fn first_open<P: Protocol>(protocol: &P, cover: Cover, held: Mode) -> Option<Pla
     requires { held ≤ (P.table protocol.now).count }
     ensures { result ≡ first_open (P.table protocol.now) cover held }
 {
-    for ask in must_refuse(cover) {
+    for ask in must_refuse(protocol, cover) {
         if let Some(place) = first_at(protocol, held, *ask) {
             return Some(place);
         }
@@ -141,6 +159,7 @@ pub(crate) struct Holes {
     pub(crate) read_gap: [Option<Place>; 16],
     pub(crate) inserted_key: [Option<Place>; 16],
     pub(crate) deleted_gap: [Option<Place>; 16],
+    pub(crate) updated_key: [Option<Place>; 16],
 }
 
 /// What the modes of a protocol leave open. Takes no memory.
@@ -152,5 +171,6 @@ pub(crate) fn holes_of<P: Protocol>(protocol: &P) -> Holes
         read_gap: row_of(protocol, Cover::ReadGap),
         inserted_key: row_of(protocol, Cover::InsertedKey),
         deleted_gap: row_of(protocol, Cover::DeletedGap),
+        updated_key: row_of(protocol, Cover::UpdatedKey),
     }
 }

@@ -5,13 +5,13 @@ ghost use Rattle.std.specs.Prelude.{refl};
 ghost use Rattle.kr_model.specs.ModeNames.{kvl_names};
 ghost use Rattle.kr_model.proofs.Bundled.{kvl_named};
 ghost use Rattle.kr_model.proofs.Tested.{lawful_by_test};
-ghost use Rattle.kr_model.proofs.WorkedCovers.{insert_always_ix, deletes_next_instant};
+ghost use Rattle.kr_model.proofs.WorkedCovers.{insert_always_ix, deletes_next_instant, update_under_ix};
 
 mod ample;
 
 use kr_cases::{Cause, FailedCase, Rejected, cases, check};
 use kr_model::{Cover, Mode, Origin, Place, Row, Rule, Side, Span};
-use kr_protocol::{Covered, Im, Kvl, Protocol, RangeKey};
+use kr_protocol::{Covered, Im, Kvl, KvlUpdate, Protocol, RangeKey};
 use std::alloc::Global;
 use std::process::Abort;
 use std::test::Fail;
@@ -57,6 +57,10 @@ impl Protocol for InsertAlwaysIx {
             (Row::Insert, Side::Current) => Some((2, Span::Commit)),
             _ => Kvl.ask(row, side, own_next),
         }
+    }
+
+    fn updates(&self) -> bool {
+        false
     }
 
     ghost lawful = { λ _. lawful_by_test insert_always_ix refl };
@@ -107,7 +111,63 @@ impl Protocol for DeletesNextInstant {
         }
     }
 
+    fn updates(&self) -> bool {
+        false
+    }
+
     ghost lawful = { λ _. lawful_by_test deletes_next_instant refl };
+
+    ghost named = { λ _. kvl_named };
+}
+
+/// Key-value locking with updates whose update takes IX on its key.
+#[derive(Drop)]
+struct UpdateUnderIx;
+
+impl Protocol for UpdateUnderIx {
+    ghost table = { λ _. update_under_ix };
+
+    ghost names = { λ _. kvl_names };
+
+    fn count(&self) -> Mode {
+        KvlUpdate.count()
+    }
+
+    fn ok(&self, requested: Mode, held: Mode) -> bool {
+        KvlUpdate.ok(requested, held)
+    }
+
+    fn row(&self, requested: Mode) -> u16 {
+        KvlUpdate.row(requested)
+    }
+
+    fn convert(&self, held: Mode, requested: Mode) -> Mode {
+        KvlUpdate.convert(held, requested)
+    }
+
+    fn name(&self, mode: Mode) -> &str {
+        match mode {
+            0 => "none",
+            1 => "IS",
+            2 => "IX",
+            3 => "S",
+            4 => "SIX",
+            _ => "X",
+        }
+    }
+
+    fn ask(&self, row: Row, side: Side, own_next: Mode) -> Option<(Mode, Span)> {
+        match (row, side) {
+            (Row::Update, Side::Current) => Some((2, Span::Commit)),
+            _ => KvlUpdate.ask(row, side, own_next),
+        }
+    }
+
+    fn updates(&self) -> bool {
+        true
+    }
+
+    ghost lawful = { λ _. lawful_by_test update_under_ix refl };
 
     ghost named = { λ _. kvl_named };
 }
@@ -138,6 +198,7 @@ fn accepted<P: Protocol>(
         assert_eq!(rt; checked.ok(own, own), checked.protocol().ok(own, own));
         assert_eq!(rt; checked.convert(own, own), own);
         assert_eq!(rt; checked.name(own), checked.protocol().name(own));
+        assert_eq!(rt; checked.updates(), checked.protocol().updates());
     }
     Ok(checked.into_inner())
 }
@@ -164,6 +225,7 @@ fn refused<P: Protocol>(
 fn bundled_protocols(rt: HostRuntime) -> Result<(), Fail> {
     let alloc = rt.alloc();
     assert_eq!(rt; accepted(&rt, alloc, Kvl, 5)?, Kvl);
+    assert_eq!(rt; accepted(&rt, alloc, KvlUpdate, 5)?, KvlUpdate);
     assert_eq!(rt; accepted(&rt, alloc, Im, 2)?, Im);
     assert_eq!(rt; accepted(&rt, alloc, RangeKey, 11)?, RangeKey);
     Ok(())
@@ -171,12 +233,16 @@ fn bundled_protocols(rt: HostRuntime) -> Result<(), Fail> {
 
 #[test]
 fn numbers_of_cases(rt: HostRuntime) {
-    assert_eq!(rt; cases(0), 9);
-    assert_eq!(rt; cases(1), 28);
-    assert_eq!(rt; cases(2), 61);
-    assert_eq!(rt; cases(5), 244);
-    assert_eq!(rt; cases(11), 988);
-    assert_eq!(rt; cases(15), 1764);
+    assert_eq!(rt; cases(0, false), 9);
+    assert_eq!(rt; cases(1, false), 28);
+    assert_eq!(rt; cases(2, false), 61);
+    assert_eq!(rt; cases(5, false), 244);
+    assert_eq!(rt; cases(11, false), 988);
+    assert_eq!(rt; cases(15, false), 1764);
+    assert_eq!(rt; cases(2, true), 68);
+    assert_eq!(rt; cases(5, true), 275);
+    assert_eq!(rt; cases(11, true), 1121);
+    assert_eq!(rt; cases(15, true), 2005);
 }
 
 #[test]
@@ -233,6 +299,44 @@ fn deletes_next_instant(rt: HostRuntime) -> Result<(), Fail> {
             open_gap(1, Row::FetchMiss),
             open_gap(2, Row::Insert),
             open_gap(3, Row::FetchMiss),
+        ]
+        .as_slice()
+    );
+    Ok(())
+}
+
+/// A case in which an update under IX leaves a key open to another update.
+fn open_key(case: Rule, cover: Cover, from: Origin) -> FailedCase {
+    FailedCase {
+        case,
+        cover,
+        from,
+        mode: 2,
+        hole: Place {
+            row: Row::Update,
+            side: Side::Current,
+            own: 0,
+            own_next: 0,
+        },
+    }
+}
+
+#[test]
+fn update_under_ix(rt: HostRuntime) -> Result<(), Fail> {
+    let failed = refused(&rt, rt.alloc(), UpdateUnderIx)?;
+    assert_eq!(rt; failed.len(), 12);
+    let first = open_key(Rule::Insert, Cover::InsertedKey, Origin::Two(0, 0));
+    assert_eq!(rt; failed.first(), Some(&first));
+    let (inserts, updates) = failed.split_at(9);
+    for f in inserts {
+        assert_eq!(rt; f.case, Rule::Insert);
+    }
+    assert_eq!(rt;
+        updates,
+        [
+            open_key(Rule::Update, Cover::UpdatedKey, Origin::One(0)),
+            open_key(Rule::Update, Cover::UpdatedKey, Origin::One(1)),
+            open_key(Rule::Update, Cover::UpdatedKey, Origin::One(2)),
         ]
         .as_slice()
     );

@@ -16,9 +16,9 @@ use Rattle.kr_model.specs.declared.Step.TheVariants as attempt
 use Rattle.kr_model.specs.Protocol.{Protocol}
 use Rattle.kr_model.specs.Locks.{Request, add_once, blockers}
 use Rattle.kr_model.specs.State.{State, Scan, has_ended, standing}
-use Rattle.kr_model.specs.Step.{step, is_end, refusal_of, unless_refused, performed, granted_or_blocked, attempted, attempted_scan, name_to_look, looked, fetched, inserted, deleted, Effect}
+use Rattle.kr_model.specs.Step.{step, is_end, refusal_of, unless_refused, performed, granted_or_blocked, attempted, attempted_scan, name_to_look, looked, fetched, inserted, deleted, updated, one_taken_back, Effect}
 use Rattle.kr_model.specs.Plan.{plan_of, requests}
-use Rattle.kr_model.specs.Map.{get}
+use Rattle.kr_model.specs.Map.{Changes, get}
 use Rattle.kr_model.specs.Run.{is_granted}
 use Rattle.kr_model.proofs.Actives.{any_add_once, tied, untied}
 use Rattle.kr_model.proofs.LogLaws.{not_refused}
@@ -47,12 +47,18 @@ stays_scanned p s t (Some c) =
     let n = name_to_look s.map c in
     stays_attempted p s t (attempt.Look n c.hi) (looked s.map (standing s t) c n)
 
+stays_taken_back : (s : State) (t : ℕ) (l : Changes) → (one_taken_back s t l).1.ended ≡ s.ended
+stays_taken_back s t [] = refl
+stays_taken_back s t (c ∷ cs) = refl
+
 stays_performed : (p : Protocol) (s : State) (t : ℕ) (o : Op) → is_end o ≡ false → (performed p s t o).1.ended ≡ s.ended
 stays_performed p s t (op.Fetch k) e = stays_attempted p s t (attempt.Fetch k) (fetched s.map (standing s t) (get s.map k))
 stays_performed p s t (op.Scan lo hi) e = stays_scanned p s t (Some (record { lo = lo; hi = hi; rows = [] }))
 stays_performed p s t op.Go e = stays_scanned p s t (standing s t).scan
 stays_performed p s t (op.Insert k v) e = stays_attempted p s t (attempt.Insert k) (inserted s.map (standing s t) k v (get s.map k))
 stays_performed p s t (op.Delete k) e = stays_attempted p s t (attempt.Delete k) (deleted s.map (standing s t) k (get s.map k))
+stays_performed p s t (op.Update k v) e = stays_attempted p s t (attempt.Update k) (updated s.map (standing s t) k v (get s.map k))
+stays_performed p s t op.Back e = stays_taken_back s t (standing s t).changes
 stays_performed p s t op.Commit e = absurd (cc)
 stays_performed p s t op.Abort e = absurd (cc)
 
@@ -62,7 +68,7 @@ stays_unless p s t o None e = stays_performed p s t o e
 
 -- a step that isn't an end ends nobody
 pub ended_stays : (p : Protocol) (s : State) (t : ℕ) (o : Op) → is_end o ≡ false → (step p s t o).1.ended ≡ s.ended
-ended_stays p s t o e = stays_unless p s t o (refusal_of s t o) e
+ended_stays p s t o e = stays_unless p s t o (refusal_of p s t o) e
 
 free_of : (p : Protocol) (s : State) (t : ℕ) (o : Op) (r : Option Refusal) → is_granted (unless_refused p s t o r).0 ≡ true → r ≡ None
 free_of p s t o (Some r) granted = absurd (cc)
@@ -70,7 +76,7 @@ free_of p s t o None granted = refl
 
 -- who is granted a step has not ended
 pub works : (p : Protocol) (s : State) (t : ℕ) (o : Op) → is_granted (step p s t o).0 ≡ true → has_ended s t ≡ false
-works p s t o granted = (not_refused (has_ended s t) refusal.Ended _ (free_of p s t o (refusal_of s t o) granted)).0
+works p s t o granted = (not_refused (has_ended s t) refusal.Ended _ (free_of p s t o (refusal_of p s t o) granted)).0
 
 ends_performed : (p : Protocol) (s : State) (t : ℕ) (o : Op) → is_end o ≡ true → (performed p s t o).1.ended ≡ add_once t s.ended
 ends_performed p s t op.Commit e = refl
@@ -80,10 +86,12 @@ ends_performed p s t (op.Scan lo hi) e = absurd (cc)
 ends_performed p s t op.Go e = absurd (cc)
 ends_performed p s t (op.Insert k v) e = absurd (cc)
 ends_performed p s t (op.Delete k) e = absurd (cc)
+ends_performed p s t (op.Update k v) e = absurd (cc)
+ends_performed p s t op.Back e = absurd (cc)
 
 -- a granted end ends its transaction
 pub ended_by : (p : Protocol) (s : State) (t : ℕ) (o : Op) → is_end o ≡ true → is_granted (step p s t o).0 ≡ true → (step p s t o).1.ended ≡ add_once t s.ended
-ended_by p s t o e granted = ap (λ (r : Option Refusal). (unless_refused p s t o r).1.ended) (free_of p s t o (refusal_of s t o) granted) ∙ ends_performed p s t o e
+ended_by p s t o e granted = ap (λ (r : Option Refusal). (unless_refused p s t o r).1.ended) (free_of p s t o (refusal_of p s t o) granted) ∙ ends_performed p s t o e
 
 after_end : (s new : State) (t u : ℕ) → new.ended ≡ add_once t s.ended → has_ended new u ≡ ((t == u) || has_ended s u)
 after_end s new t u is = ap (list_any (λ (v : ℕ). v == u)) is ∙ any_add_once (λ v. v == u) t s.ended

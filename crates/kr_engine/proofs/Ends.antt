@@ -22,13 +22,15 @@ granted_abort p s t None granted = refl
 
 -- A granted operation that ends its transaction has one answer.
 pub end_granted : (p : Protocol) (s : State) (t : ℕ) (o : Op) → is_end o ≡ true → is_granted (step p s t o).0 ≡ true → (step p s t o).0 ≡ end_reply o
-end_granted p s t op.Commit ends granted = granted_commit p s t (refusal_of s t op.Commit) granted
-end_granted p s t op.Abort ends granted = granted_abort p s t (refusal_of s t op.Abort) granted
+end_granted p s t op.Commit ends granted = granted_commit p s t (refusal_of p s t op.Commit) granted
+end_granted p s t op.Abort ends granted = granted_abort p s t (refusal_of p s t op.Abort) granted
 end_granted p s t (op.Fetch k) ends granted = cc
 end_granted p s t (op.Scan lo hi) ends granted = cc
 end_granted p s t op.Go ends granted = cc
 end_granted p s t (op.Insert k v) ends granted = cc
 end_granted p s t (op.Delete k) ends granted = cc
+end_granted p s t (op.Update k v) ends granted = cc
+end_granted p s t op.Back ends granted = cc
 
 -- One kept end more or less.
 pub kept_less : (ns : List Number) (i : ℕ) (n : Number) → i < length ns → is_some (number_at ns i).end ≡ true → is_some n.end ≡ false → ends_kept ns ≡ ends_kept (slice_set ns i n) + 1

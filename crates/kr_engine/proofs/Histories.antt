@@ -69,8 +69,9 @@ log_more es e l new is more =
 -- The committed programs of a history's log are those of the history.
 pub programs_of_history : (p : Protocol) (opening : Map) (es : List Entry) (s : State) (l : Log) → IsHistory p opening es s → l ≡ log_after no_log (events_with_replies es) → l.committed ≡ model.programs (events_with_replies es)
 programs_of_history p opening es s l h is =
+    let log = log_of_run p opening (model.events_of (events_with_replies es)) in
     ap (λ (m : Log). m.committed) is
-    ∙ subst (λ (r : model.Trace). (log_after no_log r.history).committed ≡ model.programs r.history) h.run (ap (λ (m : Log). m.committed) (log_of_run p opening (model.events_of (events_with_replies es))))
+    ∙ subst (λ (r : model.Trace). (log_after no_log r.history).committed ≡ model.programs r.history) h.run log.committed
 
 -- At the start there is no history.
 pub no_history : (p : Protocol) (opening : Map) → IsHistory p opening [] (start opening)

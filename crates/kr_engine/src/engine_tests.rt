@@ -5,7 +5,7 @@ ghost use Rattle.kr_model.specs.Kvl.{kvl};
 
 use crate::tests::{Short, of_fault, of_receipt};
 use crate::{Engine, EngineFault, EngineName, Op, PlaceRow, Receipt, Reply, Seat, Txn, Watch};
-use kr_protocol::Kvl;
+use kr_protocol::{Covered, Kvl};
 use std::alloc::{AllocError, Global};
 use std::marker::Brand;
 use std::process::Abort;
@@ -16,7 +16,7 @@ use std::thread::Threads;
 
 /// What a test asks of a seat.
 #[derive(Clone, Copy, Debug)]
-enum Ask {
+pub(crate) enum Ask {
     Begin(Txn),
     Try(Op),
     Call(Op),
@@ -36,7 +36,11 @@ fn short(answer: &Result<Receipt, EngineFault>) -> Short {
     }
 }
 
-fn answer<K: EngineName, R: Wait>(rt: &R, seat: &mut Seat<'_, Kvl, K>, ask: Ask) -> Short {
+fn answer<P: Covered, K: EngineName, R: Wait>(
+    rt: &R,
+    seat: &mut Seat<'_, P, K>,
+    ask: Ask,
+) -> Short {
     match ask {
         Ask::Begin(txn) => begun(&seat.begin(rt, txn)),
         Ask::Try(op) => short(&seat.try_call(rt, op)),
@@ -45,9 +49,9 @@ fn answer<K: EngineName, R: Wait>(rt: &R, seat: &mut Seat<'_, Kvl, K>, ask: Ask)
 }
 
 /// Whether the seats give these answers: to each line's seat and call, one after another.
-fn are_answers<K: EngineName, R: Wait>(
+pub(crate) fn are_answers<P: Covered, K: EngineName, R: Wait>(
     rt: &R,
-    seats: &mut Vec<Seat<'_, Kvl, K>>,
+    seats: &mut Vec<Seat<'_, P, K>>,
     lines: &[(usize, Ask, Short)],
 ) -> bool {
     for &(index, ask, expected) in lines {
@@ -64,12 +68,12 @@ fn are_answers<K: EngineName, R: Wait>(
 }
 
 /// So many seats of an engine.
-fn seats_of<'a, K: EngineName, R: Wait>(
+pub(crate) fn seats_of<'a, P: Covered, K: EngineName, R: Wait>(
     rt: &R,
     alloc: Global,
-    engine: &'a Engine<Kvl, K>,
+    engine: &'a Engine<P, K>,
     count: usize,
-) -> Result<Vec<Seat<'a, Kvl, K>>, AllocError> {
+) -> Result<Vec<Seat<'a, P, K>>, AllocError> {
     let mut seats = Vec::new(alloc);
     for _ in 0..count {
         seats.push(engine.seat(rt)?)?;

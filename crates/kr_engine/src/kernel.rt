@@ -216,7 +216,7 @@ impl<P: Covered, K: EngineName> Core<P, K> {
         ensures taken { result ≡ Err fault.PlaceTaken → is_granted (step (P.table self.old.protocol) self.old.state txn op).0 ≡ true }
         ensures full { length self.old.entries + self.old.kept ≡ length K.places → ends op ≡ false → result ≡ Err fault.RowFull }
         ensures only_full { result ≡ Err fault.RowFull → (length self.old.entries + self.old.kept ≡ length K.places) × (ends op ≡ false) }
-        ensures memory { result ≡ Err fault.Memory → ends op ≡ true → IsTrue (may_lack_memory self.old.state txn op) }
+        ensures memory { result ≡ Err fault.Memory → ends op ≡ true → IsTrue (may_lack_memory (P.table self.old.protocol) self.old.state txn op) }
     {
         forget(&mut self.waiting, txn);
         let place = self.history.len();

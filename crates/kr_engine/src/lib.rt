@@ -15,6 +15,8 @@ mod queues;
 mod seat;
 #[cfg(test)]
 mod tests;
+#[cfg(test)]
+mod undoing_tests;
 mod waits;
 mod wakes;
 #[cfg(test)]

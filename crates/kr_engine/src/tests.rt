@@ -32,6 +32,10 @@ pub(crate) enum Short {
     Nothing(usize),
     Done(usize),
     Found(usize, u64),
+    Deleted(usize, u64),
+    Updated(usize, u64),
+    Absent(usize),
+    Undone(usize, u64),
     Committed(usize),
     Aborted(usize),
     /// Blocked by one transaction, or a cycle of two, of which this is the last.
@@ -42,6 +46,9 @@ pub(crate) enum Short {
     Waits(Txn, Txn),
     Ended,
     Full,
+    NoUpdate,
+    RollingBack,
+    NothingLeft,
     RowFull,
     Taken,
     Open,
@@ -59,8 +66,7 @@ pub(crate) fn of_fault(fault: &EngineFault) -> Short {
         EngineFault::Refused(Reply::Blocked(txns)) if txns.as_slice().len() == 1 => Short::Blocked(
             txns.as_slice()[0],
         ),
-        EngineFault::Refused(Reply::Refused(Refusal::Ended)) => Short::Ended,
-        EngineFault::Refused(Reply::Refused(Refusal::Full)) => Short::Full,
+        EngineFault::Refused(Reply::Refused(refusal)) => of_refusal(*refusal),
         EngineFault::RowFull => Short::RowFull,
         EngineFault::Taken => Short::Taken,
         EngineFault::Open => Short::Open,
@@ -69,11 +75,26 @@ pub(crate) fn of_fault(fault: &EngineFault) -> Short {
     }
 }
 
+fn of_refusal(refusal: Refusal) -> Short {
+    match refusal {
+        Refusal::Ended => Short::Ended,
+        Refusal::Full => Short::Full,
+        Refusal::NoUpdate => Short::NoUpdate,
+        Refusal::RollingBack => Short::RollingBack,
+        Refusal::NothingLeft => Short::NothingLeft,
+        Refusal::Busy | Refusal::NoScan | Refusal::BadRange | Refusal::Memory => Short::Other,
+    }
+}
+
 pub(crate) fn of_receipt(receipt: &Receipt) -> Short {
     match &receipt.reply {
         Reply::None => Short::Nothing(receipt.place),
         Reply::Done => Short::Done(receipt.place),
         Reply::Found(value) => Short::Found(receipt.place, *value),
+        Reply::Deleted(value) => Short::Deleted(receipt.place, *value),
+        Reply::Updated(value) => Short::Updated(receipt.place, *value),
+        Reply::Absent => Short::Absent(receipt.place),
+        Reply::Undone(left) => Short::Undone(receipt.place, *left),
         Reply::Committed => Short::Committed(receipt.place),
         Reply::Aborted => Short::Aborted(receipt.place),
         _ => Short::Other,

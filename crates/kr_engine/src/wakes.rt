@@ -16,11 +16,11 @@ use std::alloc::{AllocError, Global};
 /// What a step changed that those who wait may wait for.
 #[derive(Clone, Copy, Debug, PartialEq, Eq)]
 pub(crate) enum Change {
-    /// Locks were added at most.
+    /// Locks were added at most, or a key got another value, by which nobody asks for another lock.
     Nothing,
     /// Locks were let go.
     Locks,
-    /// The index is another, by which those who wait may ask for other locks.
+    /// The index may have other keys, by which those who wait may ask for other locks.
     Index,
 }
 
@@ -38,8 +38,16 @@ impl Change {
 pub(crate) fn change_of(reply: &Reply) -> Change {
     match reply {
         Reply::Committed => Change::Locks,
-        Reply::Aborted | Reply::Done | Reply::Deleted(_) => Change::Index,
-        _ => Change::Nothing,
+        Reply::Aborted | Reply::Done | Reply::Deleted(_) | Reply::Undone(_) => Change::Index,
+        Reply::Found(_)
+        | Reply::None
+        | Reply::Going(_)
+        | Reply::Rows(_)
+        | Reply::Duplicate
+        | Reply::Absent
+        | Reply::Updated(_)
+        | Reply::Blocked(_)
+        | Reply::Refused(_) => Change::Nothing,
     }
 }
 

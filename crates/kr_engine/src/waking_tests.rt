@@ -1,4 +1,4 @@
-//! Calls that wait in threads: a wake is passed on, and a cycle that an abort closes is found.
+//! Calls that wait in threads: a wake is passed on, a change taken back wakes, and a cycle that an abort closes is found.
 ghost use Rattle.std.specs.Prelude.{◌≡◌};
 ghost use Rattle.kr_model.specs.Map.{IsMap};
 ghost use Rattle.kr_model.specs.Kvl.{kvl};
@@ -8,7 +8,7 @@ use kr_protocol::Kvl;
 use std::alloc::{AllocError, Global};
 use std::marker::Brand;
 use std::process::Abort;
-use std::sync::Wait;
+use std::sync::{Mutex, Wait};
 use std::test::Fail;
 use std::thread;
 use std::thread::Threads;
@@ -33,18 +33,18 @@ fn are_seen_waiting<K: EngineName, R: Wait>(
     false
 }
 
-/// Ends a seat's transaction once these wait. Whether they did, and it ended.
+/// Does a seat's last operation once these wait. Whether they did, and it was done.
 fn end_where<K: EngineName, R: Wait>(
     rt: &R,
     engine: &Engine<Kvl, K>,
     seat: Seat<'_, Kvl, K>,
-    end: Op,
+    last: Op,
     waiters: &[Txn],
 ) -> bool {
     let mut seat = seat;
     let seen = are_seen_waiting(rt, engine, waiters);
-    let ended = seat.call(rt, end).is_ok();
-    seen && ended
+    let done = seat.call(rt, last).is_ok();
+    seen && done
 }
 
 /// What became of an operation and the end after it.
@@ -205,14 +205,22 @@ fn one_key_of<K: EngineName + Send + Sync, R: Threads + Wait + Abort + Sync>(
 #[test]
 fn an_abort_closes_a_cycle(rt: HostRuntime) -> Result<(), Fail> {
     let row = PlaceRow::new(rt.alloc(), 12).ok().ok_or("row")?;
-    an_abort_closes_a_cycle_of::<Brand, _>(&rt, rt.alloc(), &[(1, 1)], row)
+    a_cycle_is_closed::<Brand, _>(&rt, rt.alloc(), &[(1, 1)], row, Op::Abort)
 }
 
-fn an_abort_closes_a_cycle_of<K: EngineName + Send + Sync, R: Threads + Wait + Abort + Sync>(
+/// The same where 1 takes its insert back, and stays active.
+#[test]
+fn a_back_closes_a_cycle(rt: HostRuntime) -> Result<(), Fail> {
+    let row = PlaceRow::new(rt.alloc(), 12).ok().ok_or("row")?;
+    a_cycle_is_closed::<Brand, _>(&rt, rt.alloc(), &[(1, 1)], row, Op::Back)
+}
+
+fn a_cycle_is_closed<K: EngineName + Send + Sync, R: Threads + Wait + Abort + Sync>(
     rt: &R,
     alloc: Global,
     opening: &[(u64, u64)],
     row: PlaceRow,
+    last: Op,
 ) -> Result<(), Fail>
     requires row { row ≡ K.places }
     requires opening { opening.now ≡ K.opening }
@@ -230,11 +238,85 @@ fn an_abort_closes_a_cycle_of<K: EngineName + Send + Sync, R: Threads + Wait + A
     let (fates, ended) = thread::join(
         rt,
         move || both_do(rt, two, Op::Delete(1), three, Op::Fetch(15)),
-        move || end_where(rt, all, one, Op::Abort, &[2, 3]),
+        move || end_where(rt, all, one, last, &[2, 3]),
     );
     assert!(rt; ended);
     let told = fates == (Fate::Deadlock, Fate::Committed)
         || fates == (Fate::Committed, Fate::Deadlock);
     assert!(rt; told);
+    Ok(())
+}
+
+/// Fetches a key that isn't there, for which the call may wait, and notes that it has answered. Whether it found none.
+fn misses<K: EngineName, R: Wait>(
+    rt: &R,
+    seat: Seat<'_, Kvl, K>,
+    key: u64,
+    answered: &Mutex<bool>,
+) -> bool {
+    let mut seat = seat;
+    let missed = match seat.call(rt, Op::Fetch(key)) {
+        Ok(receipt) => matches!(receipt.reply, Reply::None),
+        Err(_) => false,
+    };
+    *answered.lock(rt) = true;
+    missed
+}
+
+/// Takes one change back once 2 waits, and aborts once its call has answered, or after 1,000,000 looks. Whether 2 waited,
+/// and went on before the abort.
+fn goes_back<K: EngineName, R: Wait>(
+    rt: &R,
+    engine: &Engine<Kvl, K>,
+    seat: Seat<'_, Kvl, K>,
+    answered: &Mutex<bool>,
+) -> bool {
+    let mut seat = seat;
+    let seen = are_seen_waiting(rt, engine, &[2]);
+    let undone = seat.call(rt, Op::Back).is_ok();
+    let mut went_on = false;
+    for _ in 0..1_000_000u32 {
+        went_on = *answered.lock(rt);
+        if went_on {
+            break;
+        }
+        thread::yield_now();
+    }
+    let ended = seat.call(rt, Op::Abort).is_ok();
+    seen && undone && went_on && ended
+}
+
+/// A call waits for a key that another inserted. The insert is taken back, and the call goes on, though the other is
+/// active still and keeps its locks.
+#[test]
+fn a_back_lets_go_on(rt: HostRuntime) -> Result<(), Fail> {
+    let row = PlaceRow::new(rt.alloc(), 10).ok().ok_or("row")?;
+    a_back_lets_go_on_of::<Brand, _>(&rt, rt.alloc(), &[], row)
+}
+
+fn a_back_lets_go_on_of<K: EngineName + Send + Sync, R: Threads + Wait + Abort + Sync>(
+    rt: &R,
+    alloc: Global,
+    opening: &[(u64, u64)],
+    row: PlaceRow,
+) -> Result<(), Fail>
+    requires row { row ≡ K.places }
+    requires opening { opening.now ≡ K.opening }
+    requires table { kvl ≡ K.table }
+    requires is_map { IsMap opening.now }
+{
+    let engine = Engine::<Kvl, K>::new(alloc, Kvl, opening, row)?;
+    let mut one = seat_of(rt, &engine, 1)?;
+    let two = seat_of(rt, &engine, 2)?;
+    assert!(rt; one.call(rt, Op::Insert(15, 5)).is_ok());
+    let answered = Mutex::new(false);
+    let (all, told) = (&engine, &answered);
+    let (missed, went_on) = thread::join(
+        rt,
+        move || misses(rt, two, 15, told),
+        move || goes_back(rt, all, one, told),
+    );
+    assert!(rt; went_on);
+    assert!(rt; missed);
     Ok(())
 }

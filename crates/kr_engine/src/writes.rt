@@ -26,7 +26,13 @@ pub(crate) fn is_end(op: Op) -> bool
 {
     match op {
         Op::Commit | Op::Abort => true,
-        Op::Fetch(_) | Op::Scan(_, _) | Op::Go | Op::Insert(_, _) | Op::Delete(_) => false,
+        Op::Fetch(_)
+        | Op::Scan(_, _)
+        | Op::Go
+        | Op::Insert(_, _)
+        | Op::Delete(_)
+        | Op::Update(_, _)
+        | Op::Back => false,
     }
 }
 
@@ -36,9 +42,14 @@ fn end_reply(op: Op) -> Reply
 {
     match op {
         Op::Abort => Reply::Aborted,
-        Op::Commit | Op::Fetch(_) | Op::Scan(_, _) | Op::Go | Op::Insert(_, _) | Op::Delete(_) => {
-            Reply::Committed
-        }
+        Op::Commit
+        | Op::Fetch(_)
+        | Op::Scan(_, _)
+        | Op::Go
+        | Op::Insert(_, _)
+        | Op::Delete(_)
+        | Op::Update(_, _)
+        | Op::Back => Reply::Committed,
     }
 }
 
@@ -124,7 +135,7 @@ pub(crate) fn write_end<P: Covered>(
     ensures faults { IfErr result (λ f. is_of_attempt f ≡ true) }
     ensures taken { result ≡ Err fault.PlaceTaken → is_granted (step (P.table machine.old.protocol) machine.old.state txn op).0 ≡ true }
     ensures full { result ≢ Err fault.RowFull }
-    ensures memory { result ≡ Err fault.Memory → IsTrue (may_lack_memory machine.old.state txn op) }
+    ensures memory { result ≡ Err fault.Memory → IsTrue (may_lack_memory (P.table machine.old.protocol) machine.old.state txn op) }
     ensures begun { begun_by numbers.new ≡ begun_by numbers.old }
     ensures ends { HaveEnds machine.new.state numbers.new }
     ensures room { OnOk result (place < length row.now) }
@@ -187,7 +198,7 @@ pub(crate) fn write<P: Covered>(
     ensures taken { result ≡ Err fault.PlaceTaken → is_granted (step (P.table machine.old.protocol) machine.old.state txn op).0 ≡ true }
     ensures full { place + kept ≡ length row.now → ends op ≡ false → result ≡ Err fault.RowFull }
     ensures only_full { result ≡ Err fault.RowFull → (place + kept ≡ length row.now) × (ends op ≡ false) }
-    ensures memory { result ≡ Err fault.Memory → ends op ≡ true → IsTrue (may_lack_memory machine.old.state txn op) }
+    ensures memory { result ≡ Err fault.Memory → ends op ≡ true → IsTrue (may_lack_memory (P.table machine.old.protocol) machine.old.state txn op) }
     ensures begun { begun_by numbers.new ≡ begun_by numbers.old }
     ensures ends { HaveEnds machine.new.state numbers.new }
     ensures room { OnOk result (place < length row.now) }

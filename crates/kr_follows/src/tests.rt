@@ -209,3 +209,16 @@ fn events_are_dealt_to_their_transactions(rt: HostRuntime) -> Result<(), AllocEr
     assert!(rt; dealt.ops(8).is_empty());
     Ok(())
 }
+
+/// A transaction that rolls back is active still: it is aborted in the end, also where its commit was refused.
+#[test]
+fn a_transaction_that_rolls_back_is_aborted(rt: HostRuntime) -> Result<(), AllocError> {
+    let steps = [by(1, Op::Update(20, 9)), by(1, Op::Back), by(1, Op::Commit)];
+    let fault = [refused(1, 3, Op::Commit)];
+    let events = [by(1, Op::Update(20, 9)), by(1, Op::Back), by(1, Op::Abort)];
+    let dealt = Dealt::new(rt.alloc(), &steps)?;
+    assert!(rt; follows(rt.alloc(), &dealt, &fault, &events)?);
+    assert!(rt; !follows(rt.alloc(), &dealt, &fault, &events[..2])?);
+    assert!(rt; !follows(rt.alloc(), &dealt, &[], &events)?);
+    Ok(())
+}

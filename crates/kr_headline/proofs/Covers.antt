@@ -1,17 +1,17 @@
 -- Covers: what a lock that serves one keeps all others from, and what the cases say of the modes after each request.
-use Rattle.std.proofs.Common.{ℕ, List, [], ◌∷◌, ◌++◌, ◌≤◌, ◌≡◌, ◌≢◌, inl, inr, refl, sym, arith, Bool, true, false, subst}
-use Rattle.std.specs.Prelude.{cond, filter}
+use Rattle.std.proofs.Common.{ℕ, List, [], ◌∷◌, ◌++◌, ◌≤◌, ◌≡◌, ◌≢◌, ◌⊎◌, inl, inr, refl, sym, Bool, true, false, subst}
+use Rattle.std.specs.Prelude.{cond, filter, if◌then◌else◌}
 use Rattle.std.specs.List.{flat_map}
 use Rattle.kr_model.specs.declared.Name.{Name}
 use Rattle.kr_model.specs.declared.Row.{Row}
-use Rattle.kr_model.specs.declared.Row.TheVariants.{FetchHit, FetchMiss, ScanKey, ScanStop, Insert, Delete}
+use Rattle.kr_model.specs.declared.Row.TheVariants.{FetchHit, FetchMiss, ScanKey, ScanStop, Insert, Delete, Update}
 use Rattle.kr_model.specs.declared.Side.{Side}
 use Rattle.kr_model.specs.declared.Side.TheVariants.{Current, Next}
 use Rattle.kr_model.specs.declared.Cover.{Cover}
-use Rattle.kr_model.specs.declared.Cover.TheVariants.{ReadKey, ReadGap, InsertedKey, DeletedGap}
+use Rattle.kr_model.specs.declared.Cover.TheVariants.{ReadKey, ReadGap, InsertedKey, DeletedGap, UpdatedKey}
 use Rattle.kr_model.specs.Protocol.{Protocol}
-use Rattle.kr_model.specs.Covers.{IsCovered, mode_after, must_refuse, Ask, is_open, places_of, is_empty}
-use Rattle.kr_model.proofs.Guarantees.{In, Serves, IsRefused, refuses_current, refuses_next, after_fetch_hit, after_fetch_miss, after_insert, after_split, after_delete, after_scan_key, after_scan_stop}
+use Rattle.kr_model.specs.Covers.{IsCovered, mode_after, must_refuse, if_updating, Ask, is_open, places_of, is_empty}
+use Rattle.kr_model.proofs.Guarantees.{In, Serves, IsRefused, refuses_current, refuses_next, after_fetch_hit, after_fetch_miss, after_insert, after_split, after_delete, after_scan_key, after_scan_stop, after_update, in_updating}
 
 -- The cover that a touched point needs, by whether its key is there.
 abbrev pub read_cover : Bool → Cover
@@ -40,7 +40,7 @@ Fits Next o on = on ≡ o
 
 -- A granted request is none that another's cover must refuse. This is the only use of the conflict matrix.
 pub clash : (p : Protocol) (own : Modes) (t u : ℕ) (row : Row) (side : Side) (name : Name) (on : ℕ) (cover : Cover)
-    → Granted p own t row side name on → u ≢ t → Serves p cover (own u name) → In {A = Ask} (row, side) (must_refuse cover)
+    → Granted p own t row side name on → u ≢ t → Serves p cover (own u name) → In {A = Ask} (row, side) (must_refuse p cover)
     → own t name ≤ p.count → on ≤ p.count → Fits side (own t name) on → ⊥
 clash p own t u row Current name on cover granted other s listed a b fits =
     granted u other (refuses_current p cover (own u name) row s listed (own t name) on a b)
@@ -48,27 +48,37 @@ clash p own t u row Next name on cover granted other s listed a b fits =
     granted u other (subst (λ z. IsRefused p (own u name) (own t name) (p.ask row Next z)) (sym fits) (refuses_next p cover (own u name) row s listed (own t name) a))
 
 -- What each cover must refuse.
-pub reads_refuse_delete : (b : Bool) → In {A = Ask} (Delete, Current) (must_refuse (read_cover b))
-reads_refuse_delete true = inl refl
-reads_refuse_delete false = inr (inl refl)
+pub reads_refuse_delete : (p : Protocol) (b : Bool) → In {A = Ask} (Delete, Current) (must_refuse p (read_cover b))
+reads_refuse_delete p true = inl refl
+reads_refuse_delete p false = inr (inl refl)
 
-pub changes_refuse_miss : (b : Bool) → In {A = Ask} (FetchMiss, Next) (must_refuse (change_cover b))
-changes_refuse_miss true = inr (inl refl)
-changes_refuse_miss false = inl refl
+pub changes_refuse_miss : (p : Protocol) (b : Bool) → In {A = Ask} (FetchMiss, Next) (must_refuse p (change_cover b))
+changes_refuse_miss p true = inr (inl refl)
+changes_refuse_miss p false = inl refl
 
-pub changes_refuse_key : (b : Bool) → In {A = Ask} (ScanKey, Current) (must_refuse (change_cover b))
-changes_refuse_key true = inr (inr (inl refl))
-changes_refuse_key false = inr (inl refl)
+pub changes_refuse_key : (p : Protocol) (b : Bool) → In {A = Ask} (ScanKey, Current) (must_refuse p (change_cover b))
+changes_refuse_key p true = inr (inr (inl refl))
+changes_refuse_key p false = inr (inl refl)
 
-pub changes_refuse_stop : (b : Bool) → In {A = Ask} (ScanStop, Next) (must_refuse (change_cover b))
-changes_refuse_stop true = inr (inr (inr (inl refl)))
-changes_refuse_stop false = inr (inr (inl refl))
+pub changes_refuse_stop : (p : Protocol) (b : Bool) → In {A = Ask} (ScanStop, Next) (must_refuse p (change_cover b))
+changes_refuse_stop p true = inr (inr (inr (inl refl)))
+changes_refuse_stop p false = inr (inr (inl refl))
 
-pub changes_refuse_delete : (b : Bool) (side : Side) → In {A = Ask} (Delete, side) (must_refuse (change_cover b))
-changes_refuse_delete true Current = inr (inr (inr (inr (inl refl))))
-changes_refuse_delete true Next = inr (inr (inr (inr (inr (inl refl)))))
-changes_refuse_delete false Current = inr (inr (inr (inr (inl refl))))
-changes_refuse_delete false Next = inr (inr (inr (inr (inr (inl refl)))))
+pub changes_refuse_delete : (p : Protocol) (b : Bool) (side : Side) → In {A = Ask} (Delete, side) (must_refuse p (change_cover b))
+changes_refuse_delete p true Current = inr (inr (inr (inr (inl refl))))
+changes_refuse_delete p true Next = inr (inr (inr (inr (inr (inl refl)))))
+changes_refuse_delete p false Current = inr (inr (inr (inr (inl refl))))
+changes_refuse_delete p false Next = inr (inr (inr (inr (inr (inl refl)))))
+
+pub read_refuses_update : (p : Protocol) → p.updates ≡ true → In {A = Ask} (Update, Current) (must_refuse p ReadKey)
+read_refuses_update p up = inr (in_updating p (Update, Current) ((Update, Current) ∷ []) up (inl refl))
+
+-- What is listed where updates are offered.
+abbrev updated_refuses : List Ask
+updated_refuses = (FetchHit, Current) ∷ (ScanKey, Current) ∷ (Delete, Current) ∷ (Update, Current) ∷ []
+
+in_updated : (p : Protocol) (a : Ask) → p.updates ≡ true → In a updated_refuses → In a (must_refuse p UpdatedKey)
+in_updated p a up i = in_updating p a updated_refuses up i
 
 -- The cover of a change serves as that of a read --
 
@@ -107,18 +117,33 @@ none_in f g [] h = refl
 none_in f g (y ∷ ys) h = none_both f (g y) (flat_map g ys) (h y (inl refl)) (none_in f g ys (λ x i. h x (inr i)))
 
 -- A cover with a longer list serves as one with a shorter.
-weaker : (p : Protocol) (h : ℕ) (c d : Cover) → ((a : Ask) → In a (must_refuse c) → In a (must_refuse d)) → Serves p d h → Serves p c h
-weaker p h c d within s = none_in (is_open p h) (places_of p) (must_refuse c) (λ a i. none_of (is_open p h) (places_of p) (must_refuse d) s a (within a i))
+weaker : (p : Protocol) (h : ℕ) (c d : Cover) → ((a : Ask) → In a (must_refuse p c) → In a (must_refuse p d)) → Serves p d h → Serves p c h
+weaker p h c d within s = none_in (is_open p h) (places_of p) (must_refuse p c) (λ a i. none_of (is_open p h) (places_of p) (must_refuse p d) s a (within a i))
 
-read_in_change : (b : Bool) (a : Ask) → In a (must_refuse (read_cover b)) → In a (must_refuse (change_cover b))
-read_in_change true a (inl e) = inr (inr (inr (inr (inl e))))
-read_in_change true a (inr none) = absurd none
-read_in_change false a (inl e) = inr (inr (inr (inl e)))
-read_in_change false a (inr (inl e)) = inr (inr (inr (inr (inl e))))
-read_in_change false a (inr (inr none)) = absurd none
+read_in_change : (p : Protocol) (b : Bool) (a : Ask) → In a (must_refuse p (read_cover b)) → In a (must_refuse p (change_cover b))
+read_in_change p true a (inl e) = inr (inr (inr (inr (inl e))))
+read_in_change p true a (inr more) = inr (inr (inr (inr (inr (inr more)))))
+read_in_change p false a (inl e) = inr (inr (inr (inl e)))
+read_in_change p false a (inr (inl e)) = inr (inr (inr (inr (inl e))))
+read_in_change p false a (inr (inr none)) = absurd none
 
 pub weaken : (p : Protocol) (h : ℕ) (b : Bool) → Serves p (change_cover b) h → Serves p (read_cover b) h
-weaken p h b s = weaker p h (read_cover b) (change_cover b) (read_in_change b) s
+weaken p h b s = weaker p h (read_cover b) (change_cover b) (read_in_change p b) s
+
+if_updating_only : {A : Type 0} (p : Protocol) (x : A) (xs : List A) → In x (if_updating p xs) → In x xs
+if_updating_only p x xs i = by p.updates i
+  where
+    by : (b : Bool) → In x (if b then xs else []) → In x xs
+    by true i = i
+    by false i = absurd i
+
+read_in_updated : (p : Protocol) → p.updates ≡ true → (a : Ask) → In a (must_refuse p ReadKey) → In a (must_refuse p UpdatedKey)
+read_in_updated p up a (inl e) = in_updated p a up (inr (inr (inl e)))
+read_in_updated p up a (inr more) = in_updated p a up (inr (inr (inr (if_updating_only p a ((Update, Current) ∷ []) more))))
+
+-- So does that of an update.
+pub update_read : (p : Protocol) (h : ℕ) → p.updates ≡ true → Serves p UpdatedKey h → Serves p ReadKey h
+update_read p h up s = weaker p h ReadKey UpdatedKey (read_in_updated p up) s
 
 -- The cases --
 
@@ -133,6 +158,7 @@ pub record Covered (p : Protocol) : Type 0 where
   pub after_split_read : (n o : ℕ) → n ≤ p.count → o ≤ p.count → Serves p ReadGap n → Serves p ReadGap (mode_after p o (p.ask Insert Current n))
   pub after_split_deleted : (n o : ℕ) → n ≤ p.count → o ≤ p.count → Serves p DeletedGap n → Serves p DeletedGap (mode_after p o (p.ask Insert Current n))
   pub after_removal : (n : ℕ) → n ≤ p.count → Serves p DeletedGap (mode_after p n (p.ask Delete Next n))
+  pub after_updated : p.updates ≡ true → (o : ℕ) → o ≤ p.count → Serves p UpdatedKey (mode_after p o (p.ask Update Current 0))
 
 pub covered : (p : Protocol) → IsCovered p → Covered p
 covered p cov = record {
@@ -145,18 +171,39 @@ covered p cov = record {
   after_split_read = λ n o in_n io s. after_split p cov ReadGap (inl refl) n o in_n io s;
   after_split_deleted = λ n o in_n io s. after_split p cov DeletedGap (inr (inl refl)) n o in_n io s;
   after_removal = λ n io. after_delete p cov n io;
+  after_updated = λ up o io. after_update p cov up o io;
 }
 
 -- A changed key that is present --
 
--- What covers it.
+-- What covers it: the cover of an insert, or that of an update.
 abbrev pub Holds : Protocol → ℕ → Type 0
-Holds p h = Serves p InsertedKey h
+Holds p h = Serves p InsertedKey h ⊎ ((p.updates ≡ true) × Serves p UpdatedKey h)
 
 pub holds_keep : (p : Protocol) (h g : ℕ) → ((c : Cover) → Serves p c h → Serves p c g) → Holds p h → Holds p g
-holds_keep p h g keeps s = keeps InsertedKey s
+holds_keep p h g keeps (inl s) = inl (keeps InsertedKey s)
+holds_keep p h g keeps (inr s) = inr (s.0, keeps UpdatedKey s.1)
 
--- No other is granted a row that it must refuse.
-pub holds_clash : (p : Protocol) (own : Modes) (t u : ℕ) (row : Row) (name : Name) → Granted p own t row Current name 0 → u ≢ t → Holds p (own u name)
-    → In {A = Ask} (row, Current) (must_refuse InsertedKey) → own t name ≤ p.count → ⊥
-holds_clash p own t u row name granted other s a le = clash p own t u row Current name 0 InsertedKey granted other s a le (omega arith) tt
+-- It serves as the cover of a read.
+pub holds_read : (p : Protocol) (h : ℕ) → Holds p h → Serves p ReadKey h
+holds_read p h (inl s) = weaken p h true s
+holds_read p h (inr s) = update_read p h s.0 s.1
+
+-- A row that both refuse on the key.
+abbrev pub BothRefuse : Protocol → Row → Type 0
+BothRefuse p row = In {A = Ask} (row, Current) (must_refuse p InsertedKey) × (p.updates ≡ true → In {A = Ask} (row, Current) (must_refuse p UpdatedKey))
+
+pub both_refuse_hit : (p : Protocol) → BothRefuse p FetchHit
+both_refuse_hit p = (inl refl, λ up. in_updated p (FetchHit, Current) up (inl refl))
+
+pub both_refuse_key : (p : Protocol) → BothRefuse p ScanKey
+both_refuse_key p = (inr (inr (inl refl)), λ up. in_updated p (ScanKey, Current) up (inr (inl refl)))
+
+pub both_refuse_delete : (p : Protocol) → BothRefuse p Delete
+both_refuse_delete p = (inr (inr (inr (inr (inl refl)))), λ up. in_updated p (Delete, Current) up (inr (inr (inl refl))))
+
+-- No other is granted such a row.
+pub holds_clash : (p : Protocol) (own : Modes) (t u : ℕ) (row : Row) (name : Name) (on : ℕ) → Granted p own t row Current name on → u ≢ t → Holds p (own u name)
+    → BothRefuse p row → own t name ≤ p.count → on ≤ p.count → ⊥
+holds_clash p own t u row name on granted other (inl s) both le on_le = clash p own t u row Current name on InsertedKey granted other s both.0 le on_le tt
+holds_clash p own t u row name on granted other (inr s) both le on_le = clash p own t u row Current name on UpdatedKey granted other s.1 (both.1 s.0) le on_le tt

@@ -1,26 +1,27 @@
--- A commit and an abort keep what is known of the run.
-use Rattle.std.specs.Prelude.{◌≡◌, ◌≤◌, ℕ, true, false, ◌==◌, ◌||◌, List, [], ◌∷◌, ◌++◌, None, refl}
+-- A commit, an abort and a change taken back keep what is known of the run.
+use Rattle.std.specs.Prelude.{◌≡◌, ◌≤◌, ℕ, true, false, ◌==◌, ◌||◌, List, [], ◌∷◌, ◌++◌, None, refl, length}
 use Rattle.std.proofs.Common.{sym, ◌∙◌, ap, subst, ◌≢◌}
 use Rattle.kr_model.specs.declared.Op.TheVariants as op
 use Rattle.kr_model.specs.declared.Reply.TheVariants as reply
+use Rattle.kr_model.specs.declared.Refusal.TheVariants as refusal
 use Rattle.kr_model.specs.Protocol.{Protocol}
 use Rattle.kr_model.specs.declared.Name.{Name}
-use Rattle.kr_model.specs.Map.{Map, restore_all}
+use Rattle.kr_model.specs.Map.{Map, Changes, restore, restore_all}
 use Rattle.kr_model.specs.Locks.{own, release}
 use Rattle.kr_model.specs.State.{State, has_ended, standing}
-use Rattle.kr_model.specs.Step.{ended_with}
+use Rattle.kr_model.specs.Step.{ended_with, one_taken_back}
 use Rattle.kr_model.specs.Run.{Entry, Answered}
 use Rattle.kr_model.specs.Serial.{AreAnswered, map_left}
 use Rattle.kr_model.proofs.Keep.{AreWithin-release}
 use Rattle.kr_model.proofs.Actives.{tied, untied, any_add_once, or_true}
 use Rattle.kr_headline.proofs.Actives.{true_not_false}
 use Rattle.kr_model.proofs.SerialLaws.{answered_append, map_left-append}
-use Rattle.kr_headline.proofs.Parts.{blank, with_part}
+use Rattle.kr_headline.proofs.Parts.{blank, rolling_with, with_part}
 use Rattle.kr_headline.proofs.Invariant.{Invariant}
-use Rattle.kr_headline.proofs.EndKeeps.{commit_keeps, abort_keeps}
+use Rattle.kr_headline.proofs.EndKeeps.{commit_keeps, abort_keeps, back_keeps}
 use Rattle.kr_headline.proofs.Reading.{entry, ReadsAs, silent_other, silent_by, reads_silent, committed_append, committed_none}
 use Rattle.kr_headline.proofs.Keeping.{released_others}
-use Rattle.kr_headline.proofs.Known.{Known, KnownAfter, joined, joined_push, txns_push, Fixed, fixed_more, fixed_push, ends}
+use Rattle.kr_headline.proofs.Known.{Known, KnownAfter, joined, joined_push, txns_push, Fixed, fixed_more, fixed_push, stays, goes, ends}
 
 module _ (p : Protocol) (opening : Map) (h : List Entry) (s : State) (g : Known p opening h s) (t : ℕ) (live_t : has_ended s t ≡ false) where
   apart : (u : ℕ) → has_ended s u ≡ true → u ≢ t
@@ -35,14 +36,14 @@ module _ (p : Protocol) (opening : Map) (h : List Entry) (s : State) (g : Known 
   range : (u : ℕ) (name : Name) → own (release s.locks t) u name ≤ p.count
   range u name = let i = g.inv in let k = i.guarded in AreWithin-release p.count s.locks t k.range u name
 
-  pub commits : (g.part t).scan ≡ None → KnownAfter p opening h t op.Commit (reply.Committed, ended_with s t s.map)
-  commits quiet =
+  pub commits : (g.part t).rolling ≡ false → (g.part t).scan ≡ None → KnownAfter p opening h t op.Commit (reply.Committed, ended_with s t s.map)
+  commits unrolled quiet =
       let e = entry t op.Commit reply.Committed in
       let s' : State = ended_with s t s.map in
       let done : List Answered = (g.part t).program in
       let c : Map = map_left opening (joined g.done) in
-      let k = commit_keeps p s.map (own s.locks) g.part c g.inv t (own (release s.locks t)) range (released_others s.locks t) in
-      let reads : ReadsAs t h done None = subst (λ z. ReadsAs t h done z) quiet (g.reads t live_t) in
+      let k = commit_keeps p s.map (own s.locks) g.part c g.inv t (own (release s.locks t)) range (released_others s.locks t) unrolled in
+      let reads : ReadsAs t h done None = subst (λ z. ReadsAs t h done z) quiet (g.reads t live_t unrolled) in
       let fixed : Fixed g.done (h ++ e ∷ []) s' = fixed_more g.done h s s' e (λ u eu. (stay_ended s.map u eu, silent_other u e.0 reply.Committed (untied t u (λ d. apart u eu (sym d))))) g.fixed in
       ends p opening h s s.map t op.Commit reply.Committed g (g.done ++ (t, done) ∷ []) live_t
       (subst (λ z. AreAnswered opening z) (sym (joined_push g.done (t, done))) (answered_append opening (joined g.done) done g.answered k.0))
@@ -60,3 +61,13 @@ module _ (p : Protocol) (opening : Map) (h : List Entry) (s : State) (g : Known 
       (subst (λ z. Invariant p (restore_all s.map z) (own (release s.locks t)) (with_part g.part t blank) (map_left opening (joined g.done))) (sym same.changes) kept)
       (fixed_more g.done h s (ended_with s t m) e (λ u eu. (stay_ended m u eu, silent_other u e.0 reply.Aborted (untied t u (λ d. apart u eu (sym d))))) g.fixed)
       (g.order ∙ sym (committed_none h e refl))
+
+  -- A change taken back.
+  pub backs : (changes : Changes) → (standing s t).changes ≡ changes → KnownAfter p opening h t op.Back (one_taken_back s t changes)
+  backs [] e = stays p opening h s t op.Back (reply.Refused refusal.NothingLeft) g refl refl refl
+  backs (x ∷ cs) e =
+      let same = g.stands t live_t in
+      goes p opening h s (restore s.map x.0 x.1) s.locks (record { scan = None; changes = cs; rolling = true }) t op.Back (reply.Undone (length cs)) g (rolling_with (restore s.map x.0 x.1) cs) live_t refl
+      (back_keeps p s.map (own s.locks) g.part (map_left opening (joined g.done)) g.inv t x cs (sym same.changes ∙ e))
+      (λ live. absurd (true_not_false live))
+      (record { scan = tt; changes = refl; rolling = refl })

@@ -30,10 +30,11 @@ StandsScan (Some g) (Some c) = (g.low ≡ c.lo) × (g.high ≡ c.hi) × (c.rows 
 StandsScan None (Some c) = ⊥
 StandsScan (Some g) None = ⊥
 
--- The scan and the changes are the same.
+-- The scan and the changes are the same, and both roll back or neither does.
 pub record Stands (q : Part) (a : Active) : Type 0 where
   pub scan : StandsScan q.scan a.scan
   pub changes : a.changes ≡ q.changes
+  pub rolling : a.rolling ≡ q.rolling
 
 -- The programs of the committed --
 
@@ -86,8 +87,8 @@ pub record Known (p : Protocol) (opening : Map) (h : List Entry) (s : State) : T
   -- they are serial, and the invariant holds with the map that they leave as the committed one
   pub answered : AreAnswered opening (joined done)
   pub inv : Invariant p s.map (own s.locks) part (map_left opening (joined done))
-  -- what each transaction that hasn't ended did reads as its part says, and stands so in the state
-  pub reads : (t : ℕ) → has_ended s t ≡ false → ReadsAs t h (part t).program (part t).scan
+  -- what each transaction did that hasn't ended and doesn't roll back reads as its part says, and each stands so in the state
+  pub reads : (t : ℕ) → has_ended s t ≡ false → (part t).rolling ≡ false → ReadsAs t h (part t).program (part t).scan
   pub stands : (t : ℕ) → has_ended s t ≡ false → Stands (part t) (standing s t)
   -- one that has ended has no changes left, and a committed program is as it was at the commit
   pub over : (t : ℕ) → has_ended s t ≡ true → (part t).changes ≡ []
@@ -111,7 +112,7 @@ stays p opening h s t o a g no_grant no_rows no_commit =
       done = g.done;
       answered = g.answered;
       inv = g.inv;
-      reads = λ u lu. reads_silent u h x (g.part u).program (g.part u).scan (silent_refused u x.0 a no_grant no_rows) (g.reads u lu);
+      reads = λ u lu ru. reads_silent u h x (g.part u).program (g.part u).scan (silent_refused u x.0 a no_grant no_rows) (g.reads u lu ru);
       stands = g.stands;
       over = g.over;
       fixed = fixed_more g.done h s s x (λ u e. (e, silent_refused u x.0 a no_grant no_rows)) g.fixed;
@@ -131,7 +132,7 @@ first_is a c b d e = ap (λ (x : ℕ × Active). x.0) e
 pub goes : (p : Protocol) (opening : Map) (h : List Entry) (s : State) (m : Map) (l : Locks) (x : Active) (t : ℕ) (o : Op) (a : Reply) (g : Known p opening h s) (q : Part)
     → has_ended s t ≡ false → is_committed a ≡ false
     → Invariant p m (own l) (with_part g.part t q) (map_left opening (joined g.done))
-    → ReadsAs t (h ++ entry t o a ∷ []) q.program q.scan
+    → (q.rolling ≡ false → ReadsAs t (h ++ entry t o a ∷ []) q.program q.scan)
     → Stands q x
     → KnownAfter p opening h t o (a, state_after s m l (put nat_cmp t x s.active))
 goes p opening h s m l x t o a g q live_t no_commit inv reads stands =
@@ -146,9 +147,9 @@ goes p opening h s m l x t o a g q live_t no_commit inv reads stands =
       answered = g.answered;
       inv = inv;
       reads = λ u lu. ⊎_elim
-          (λ same. subst (λ z. ReadsAs z h' (part' z).program (part' z).scan) (sym same) (subst (λ z. ReadsAs t h' z.program z.scan) (sym (with_same g.part t q)) reads))
-          (λ ne. subst (λ z. ReadsAs u h' z.program z.scan) (sym (with_other g.part t q u ne))
-          (reads_silent u h e (g.part u).program (g.part u).scan (silent_other u e.0 a (untied t u (λ d. ne (sym d)))) (g.reads u lu)))
+          (λ same. subst (λ z. (part' z).rolling ≡ false → ReadsAs z h' (part' z).program (part' z).scan) (sym same) (subst (λ z. z.rolling ≡ false → ReadsAs t h' z.program z.scan) (sym (with_same g.part t q)) reads))
+          (λ ne. subst (λ z. z.rolling ≡ false → ReadsAs u h' z.program z.scan) (sym (with_other g.part t q u ne))
+          (λ ru. reads_silent u h e (g.part u).program (g.part u).scan (silent_other u e.0 a (untied t u (λ d. ne (sym d)))) (g.reads u lu ru)))
           (cases_eq u t);
       stands = λ u lu. ⊎_elim
           (λ same. subst (λ z. Stands (part' z) (unwrap_or (find nat_cmp z active') idle)) (sym same)
@@ -184,8 +185,8 @@ ends p opening h s m t o a g done live_t answered inv fixed order =
       done = done;
       answered = answered;
       inv = inv;
-      reads = λ u lu. subst (λ z. ReadsAs u h' z.program z.scan) (sym (with_other g.part t blank u (not_t u lu)))
-          (reads_silent u h e (g.part u).program (g.part u).scan (silent_other u e.0 a (untied t u (λ d. not_t u lu (sym d)))) (g.reads u (was u lu)));
+      reads = λ u lu. subst (λ z. z.rolling ≡ false → ReadsAs u h' z.program z.scan) (sym (with_other g.part t blank u (not_t u lu)))
+          (λ ru. reads_silent u h e (g.part u).program (g.part u).scan (silent_other u e.0 a (untied t u (λ d. not_t u lu (sym d)))) (g.reads u (was u lu) ru));
       stands = λ u lu. subst (λ z. Stands z (standing s' u)) (sym (with_other g.part t blank u (not_t u lu)))
           (subst (λ z. Stands (g.part u) (unwrap_or z idle)) (sym (find_filter_other s.active t u (not_t u lu))) (g.stands u (was u lu)));
       over = λ u eu. ⊎_elim

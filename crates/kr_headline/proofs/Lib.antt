@@ -1,10 +1,13 @@
 pub mod Gaps
 pub mod Maps
 pub mod Undo
+pub mod Moves
 pub mod Parts
 pub mod Covers
 pub mod Guarded
+pub mod Guards
 pub mod Steps
+pub mod Undoable
 pub mod Replay
 pub mod Invariant
 pub mod WriteKeeps

@@ -65,7 +65,7 @@ key_is x y e = cc
 end_not_key : (x : ℕ) → End ≡ Key x → ⊥
 end_not_key x e = cc
 
-module _ (p : Protocol) (laws : IsLawful p) (cov : IsCovered p) (opening : Map) (h : List Entry) (s : State) (g : Known p opening h s) (t : ℕ) (live_t : has_ended s t ≡ false)
+module _ (p : Protocol) (laws : IsLawful p) (cov : IsCovered p) (opening : Map) (h : List Entry) (s : State) (g : Known p opening h s) (t : ℕ) (live_t : has_ended s t ≡ false) (unrolled : (g.part t).rolling ≡ false)
     (o : Op) (c : Scan) (from : ℕ) (f : LooksFrom (g.part t).scan c.lo c.hi from c.rows)
     (rows_read : (rows : List (ℕ × ℕ)) → ReadsAs t (h ++ entry t o (reply.Rows rows) ∷ []) ((g.part t).program ++ (op.Scan c.lo c.hi, reply.Rows rows) ∷ []) None)
     (going_read : (k last : ℕ) (pairs : List (ℕ × ℕ)) → ReadsAs t (h ++ entry t o (reply.Going k) ∷ []) (g.part t).program (Some (record { low = c.lo; high = c.hi; last = last; pairs = pairs }))) where
@@ -75,8 +75,11 @@ module _ (p : Protocol) (laws : IsLawful p) (cov : IsCovered p) (opening : Map) 
   same_changes : (standing s t).changes ≡ (g.part t).changes
   same_changes = let z = g.stands t live_t in z.changes
 
+  same_rolling : (standing s t).rolling ≡ (g.part t).rolling
+  same_rolling = let z = g.stands t live_t in z.rolling
+
   abbrev ended_scan : Active
-  ended_scan = record { scan = None; changes = (standing s t).changes }
+  ended_scan = record (standing s t) { scan = None }
 
   -- No key up to the upper one is left.
   stop : ((x : ℕ) → at s.map from ≡ Key x → c.hi < x)
@@ -92,12 +95,12 @@ module _ (p : Protocol) (laws : IsLawful p) (cov : IsCovered p) (opening : Map) 
       let may = stop_touches p laws (covered p cov) s.map (own s.locks) g.part (map_left opening (joined g.done)) i t (own (kept p s.locks t rs)) from c.hi far
       (granted_at p laws s.locks t rs free range row.ScanStop Next n 0 (omega arith) (λ r j. j))
       (λ k sv. kept_only p laws cov s.locks t n q asked (range t) k sv) in
-      read_done p laws cov opening h s g t live_t o (op.Scan c.lo c.hi) (reply.Rows c.rows) rs ended_scan (λ y. (from ≤ y) × (y ≤ c.hi)) asked refl
+      read_done p laws cov opening h s g t live_t unrolled o (op.Scan c.lo c.hi) (reply.Rows c.rows) rs ended_scan (λ y. (from ≤ y) × (y ≤ c.hi)) asked refl
       (ap (λ z. reply.Rows z) (no_more c.lo c.hi from c.rows s.map i.is_map (g.part t).scan f (i.scan t) (λ y a b. let z = gap_reach s.map i.is_map from c.hi y far a b in none_has s.map y z.1)))
       (λ y sc. let z = scanned_below c.lo c.hi from c.rows (g.part t).scan f y sc in (z.0, omega (arith, z.1, low.1)))
-      (λ y here. ⊎_elim (λ lt. inl (inr (below_scanned c.lo c.hi from c.rows (g.part t).scan f y here.0 lt))) (λ ge. inr (ge, here.1)) (cases_lt y from))
+      (λ y here. ⊎_elim (λ lt. inl (inr (inl (below_scanned c.lo c.hi from c.rows (g.part t).scan f y here.0 lt)))) (λ ge. inr (ge, here.1)) (cases_lt y from))
       may
-      (rows_read c.rows) refl same_changes refl
+      (rows_read c.rows) refl same_changes same_rolling refl
 
   -- A key is read.
   module _ (x v : ℕ) (found : at s.map from ≡ Key x) (there : get s.map x ≡ Some v) (free : blockers p s.locks t (request_at (Some (Key x)) (p.ask row.ScanKey Current 0) ++ []) ≡ []) where
@@ -125,18 +128,18 @@ module _ (p : Protocol) (laws : IsLawful p) (cov : IsCovered p) (opening : Map) 
     last_key : x ≡ c.hi → KnownAfter p opening h t o (reply.Rows (c.rows ++ (x, v) ∷ []), state_after s s.map (kept p s.locks t key_requests) (put nat_cmp t ended_scan s.active))
     last_key e =
         let i = g.inv in
-        read_done p laws cov opening h s g t live_t o (op.Scan c.lo c.hi) (reply.Rows (c.rows ++ (x, v) ∷ [])) key_requests ended_scan (λ y. (from ≤ y) × (y ≤ x)) key_asked refl
+        read_done p laws cov opening h s g t live_t unrolled o (op.Scan c.lo c.hi) (reply.Rows (c.rows ++ (x, v) ∷ [])) key_requests ended_scan (λ y. (from ≤ y) × (y ≤ x)) key_asked refl
         (ap (λ z. reply.Rows z) (rows_are ∙ ap (λ z. pairs_between s.map c.lo z) e))
         (λ y sc. let z = scanned_below c.lo c.hi from c.rows (g.part t).scan f y sc in (z.0, omega (arith, z.1, from_to, e)))
-        (λ y here. ⊎_elim (λ lt. inl (inr (below_scanned c.lo c.hi from c.rows (g.part t).scan f y here.0 lt))) (λ ge. inr (ge, omega (arith, here.1, e))) (cases_lt y from))
+        (λ y here. ⊎_elim (λ lt. inl (inr (inl (below_scanned c.lo c.hi from c.rows (g.part t).scan f y here.0 lt)))) (λ ge. inr (ge, omega (arith, here.1, e))) (cases_lt y from))
         key_may
-        (rows_read (c.rows ++ (x, v) ∷ [])) refl same_changes refl
+        (rows_read (c.rows ++ (x, v) ∷ [])) refl same_changes same_rolling refl
 
     -- A key below it.
     next_key : x < c.hi → KnownAfter p opening h t o (
       reply.Going x,
       state_after s s.map (kept p s.locks t key_requests)
-          (put nat_cmp t (record { scan = Some (record { lo = c.lo; hi = c.hi; rows = c.rows ++ (x, v) ∷ [] }); changes = (standing s t).changes }) s.active),
+          (put nat_cmp t (record (standing s t) { scan = Some (record { lo = c.lo; hi = c.hi; rows = c.rows ++ (x, v) ∷ [] }) }) s.active),
     )
     next_key lt =
         let i = g.inv in
@@ -145,17 +148,17 @@ module _ (p : Protocol) (laws : IsLawful p) (cov : IsCovered p) (opening : Map) 
         let q : Part = scanning (g.part t) pr in
         let k = taken p laws cov s.locks t key_requests range key_asked in
         let low = from_in_range c.lo c.hi from c.rows s.map (g.part t).scan f (i.scan t) in
-        goes p opening h s s.map (kept p s.locks t key_requests) (record { scan = Some (record { lo = c.lo; hi = c.hi; rows = rows }); changes = (standing s t).changes }) t o (reply.Going x) g q live_t refl
+        goes p opening h s s.map (kept p s.locks t key_requests) (record (standing s t) { scan = Some (record { lo = c.lo; hi = c.hi; rows = rows }) }) t o (reply.Going x) g q live_t refl
         (going_keeps p s.map (own s.locks) g.part (map_left opening (joined g.done)) g.inv t (own (kept p s.locks t key_requests)) k (λ y. (from ≤ y) × (y ≤ x)) key_may pr
         (λ y sc. let z = scanned_below c.lo c.hi from c.rows (g.part t).scan f y sc in (z.0, omega (arith, z.1, from_to)))
-        (λ y here. ⊎_elim (λ less. inl (inr (below_scanned c.lo c.hi from c.rows (g.part t).scan f y here.0 less))) (λ ge. inr (ge, here.1)) (cases_lt y from))
+        (λ y here. ⊎_elim (λ less. inl (inr (inl (below_scanned c.lo c.hi from c.rows (g.part t).scan f y here.0 less)))) (λ ge. inr (ge, here.1)) (cases_lt y from))
         (omega (arith, low.0, from_to), lt, rows_are))
-        (going_read x x rows)
-        (record { scan = (refl, refl, refl, λ m. name_after_last m c.lo c.rows x v); changes = same_changes })
+        (λ live. going_read x x rows)
+        (record { scan = (refl, refl, refl, λ m. name_after_last m c.lo c.rows x v); changes = same_changes; rolling = same_rolling })
 
     row_decided : (b : Bool) → (x == c.hi) ≡ b → x ≤ c.hi
         → KnownAfter p opening h t o (after_effect p s t key_requests (if b then scan_ended s.map (standing s t) (c.rows ++ (x, v) ∷ [])
-        else effect (reply.Going x) s.map (record { scan = Some (record { lo = c.lo; hi = c.hi; rows = c.rows ++ (x, v) ∷ [] }); changes = (standing s t).changes })))
+        else effect (reply.Going x) s.map (record (standing s t) { scan = Some (record { lo = c.lo; hi = c.hi; rows = c.rows ++ (x, v) ∷ [] }) })))
     row_decided true e le = last_key (same_of x c.hi e)
     row_decided false e le = next_key (below_of x c.hi le e)
 

@@ -13,12 +13,13 @@ use Rattle.kr_model.specs.declared.Rule.{Rule}
 use Rattle.kr_model.specs.declared.Rule.TheVariants as rule
 use Rattle.kr_model.specs.declared.FailedCase.{FailedCase}
 use Rattle.kr_model.specs.declared.Event.{Event}
-use Rattle.kr_model.specs.declared.Op.TheVariants.{Fetch, Scan, Go, Insert, Delete, Commit}
+use Rattle.kr_model.specs.declared.Op.TheVariants.{Fetch, Scan, Go, Insert, Delete, Update, Commit}
 use Rattle.kr_model.specs.declared.Reply.{Reply}
 use Rattle.kr_model.specs.declared.Reply.TheVariants as reply
 use Rattle.kr_model.specs.Protocol.{Protocol, IsLawful}
 use Rattle.kr_model.specs.Matrices.{stands_in, convert_by, for_commit, at_once}
 use Rattle.kr_model.specs.Kvl.{kvl, kvl_ask, IS, IX, S, SIX, X}
+use Rattle.kr_model.specs.KvlUpdate.{kvl_update, kvl_update_ask}
 use Rattle.kr_model.specs.Covers.{failed_cases}
 use Rattle.kr_model.specs.Map.{Map}
 use Rattle.kr_model.specs.State.{start}
@@ -149,7 +150,20 @@ delete_needed : IsNeeded rule.Delete
 delete_needed = needed deletes_next_instant rule.Delete 4 (by 1 (Delete 20) ∷ by 2 (Fetch 20) ∷ by 2 Commit ∷ by 1 Commit ∷ [])
     (differ 2 1 reply.None (reply.Found 2)) (lawful_by_test deletes_next_instant refl) refl refl
 
--- Each of the eight rules is needed.
+-- An update doesn't keep its lock.
+abbrev update_at_once_ask : Row → Side → ℕ → Option (ℕ × Span)
+update_at_once_ask row.Update Current own = at_once X
+update_at_once_ask r s own = kvl_update_ask r s own
+
+abbrev update_at_once : Protocol
+update_at_once = record kvl_update { ask = update_at_once_ask }
+
+-- So transaction 2 finds the value that transaction 1 has not committed.
+update_needed : IsNeeded rule.Update
+update_needed = needed update_at_once rule.Update 3 (by 1 (Update 20 9) ∷ by 2 (Fetch 20) ∷ by 2 Commit ∷ by 1 Commit ∷ [])
+    (differ 2 1 (reply.Found 9) (reply.Found 2)) (lawful_by_test update_at_once refl) refl refl
+
+-- Each of the nine rules is needed.
 pub each_rule_is_needed : (rule : Rule) → IsNeeded rule
 each_rule_is_needed rule.Conversion = conversion_needed
 each_rule_is_needed rule.FetchHit = fetch_hit_needed
@@ -159,3 +173,4 @@ each_rule_is_needed rule.ScanStop = scan_stop_needed
 each_rule_is_needed rule.Insert = insert_needed
 each_rule_is_needed rule.Split = split_needed
 each_rule_is_needed rule.Delete = delete_needed
+each_rule_is_needed rule.Update = update_needed

@@ -1,15 +1,16 @@
 -- Reading operations, and a scan that goes on, keep the invariant.
-use Rattle.std.proofs.Common.{ℕ, Some, ◌≡◌, ◌⊎◌, inl, inr, ⊎_elim, refl, sym, ap, ◌∙◌, subst}
+use Rattle.std.proofs.Common.{ℕ, Some, false, ◌≡◌, ◌⊎◌, inl, inr, ⊎_elim, refl, sym, ap, ◌∙◌, subst}
 use Rattle.kr_model.specs.declared.Name.TheVariants.{Key}
 use Rattle.kr_model.specs.declared.Op.{Op}
 use Rattle.kr_model.specs.Protocol.{Protocol}
 use Rattle.kr_model.specs.Map.{Map, get, restore_all}
-use Rattle.kr_headline.proofs.Gaps.{has}
+use Rattle.kr_headline.proofs.Moves.{moved_by}
 use Rattle.kr_headline.proofs.Parts.{Progress, Part, Parts, Points, Touched, Scanned, Changed, Moved, finished, finished_touches, finished_old, with_part}
 use Rattle.kr_headline.proofs.Covers.{Modes, holds_keep}
 use Rattle.kr_headline.proofs.Guarded.{Taken}
 use Rattle.kr_headline.proofs.ReadRows.{MayTouch}
 use Rattle.kr_headline.proofs.Steps.{read_step}
+use Rattle.kr_headline.proofs.Undoable.{undoable_same}
 use Rattle.kr_headline.proofs.Replay.{answer, after_op, Replays, replays_going, replays_finished}
 use Rattle.kr_headline.proofs.Invariant.{Owned, owned_stepped, HasRead, Invariant, invariant_stepped, moved_touched, committed_same}
 
@@ -19,32 +20,27 @@ reading m q o = finished q o (answer m o) q.changes q.moved
 
 -- The part of a transaction whose scan stands so.
 abbrev pub scanning : Part → Progress → Part
-scanning q s = record { program = q.program; scan = Some s; changes = q.changes; moved = q.moved }
+scanning q s = record q { scan = Some s }
 
 module _ (p : Protocol) (m : Map) (own : Modes) (part : Parts) (c : Map) (i : Invariant p m own part c) (t : ℕ) (own' : Modes) (taken : Taken p own own' t) (New : ℕ → Type 0) (may : MayTouch p m own' part t New) where
   -- New points are touched, and nothing else is new.
   more_touched : (q : Part) → q.changes ≡ (part t).changes → q.moved ≡ (part t).moved
       → ((k : ℕ) → Touched (part t) k → Touched q k)
       → ((k : ℕ) → Touched q k → (Touched (part t) k) ⊎ New k)
-      → Replays m q → HasRead m q.scan
+      → (q.rolling ≡ false → Replays m q) → HasRead m q.scan
       → Invariant p m own' (with_part part t q) c
   more_touched q same_changes same_moved old new replay scan =
       let w = i.owned in
-      let changed : (k : ℕ) → Changed q k → Changed (part t) k = λ k h. subst (λ l. Changed (record { program = q.program; scan = q.scan; changes = l; moved = q.moved }) k) same_changes h in
-      let moved : (k : ℕ) → Moved q k → Moved (part t) k = λ k h. subst (λ l. Moved (record { program = q.program; scan = q.scan; changes = q.changes; moved = l }) k) same_moved h in
-      let changed_back : (k : ℕ) → Changed (part t) k → Changed q k = λ k h. subst (λ l. Changed (record { program = q.program; scan = q.scan; changes = l; moved = q.moved }) k) (sym same_changes) h in
-      let moved_back : (k : ℕ) → Moved (part t) k → Moved q k = λ k h. subst (λ l. Moved (record { program = q.program; scan = q.scan; changes = q.changes; moved = l }) k) (sym same_moved) h in
+      let changed : (k : ℕ) → Changed q k → Changed (part t) k = λ k h. subst (λ l. Changed (record q { changes = l }) k) same_changes h in
+      let moved : (k : ℕ) → Moved q k → Moved (part t) k = λ k h. subst (λ l. Moved (record q { moved = l }) k) same_moved h in
       let owned : Owned p m own' (with_part part t q) = owned_stepped p m m own own' part t q w taken.others (λ u k ne touch. refl)
-      (λ k h. changed_back k (w.moved t k (moved k h)))
-      (λ k h. old k (w.touched t k (changed k h)))
+      (same_moved ∙ w.counted t ∙ ap (moved_by m) (sym same_changes))
       (λ k h here. holds_keep p (own t (Key k)) (own' t (Key k)) (λ cover s. taken.keeps (Key k) cover s) (w.present t k (changed k h) here))
-      (λ k h gone. moved_back k (w.absent t k (changed k h) gone))
       (λ u k ne touch h. w.alone t u k ne touch (changed k h))
-      (λ u k ne touch h. ⊎_elim (λ before. w.alone u t k (λ e. ne (sym e)) before h) (λ now. may.unchanged u k ne now h) (new k touch))
-      (λ k out. ap (λ l. has (restore_all m l) k) same_changes ∙ w.kept t k (λ h. out (moved_back k h))) in
+      (λ u k ne touch h. ⊎_elim (λ before. w.alone u t k (λ e. ne (sym e)) before h) (λ now. may.unchanged u k ne now h) (new k touch)) in
       invariant_stepped p m m own own' part c c t q i i.is_map i.is_committed_map (λ u k ne touch. refl)
       (read_step p m i.is_map own part i.guarded t own' q taken (moved_touched p m own part w) New new moved may.covers may.apart)
-      owned replay scan
+      owned (undoable_same p m i.is_map own part i.guarded i.undoable t own' q taken same_changes same_moved) replay scan
       (committed_same m part c t q same_changes i.committed)
 
   -- An operation that changes nothing has its answer.
@@ -52,16 +48,17 @@ module _ (p : Protocol) (m : Map) (own : Modes) (part : Parts) (c : Map) (i : In
       → Invariant p m own' (with_part part t (reading m (part t) o)) c
   read_keeps o still inside new =
       let before = part t in
-      let old : (k : ℕ) → Touched before k → Touched (reading m before o) k = finished_old before o (answer m o) before.changes before.moved inside in
+      let old : (k : ℕ) → Touched before k → Touched (reading m before o) k = finished_old before o (answer m o) before.changes before.moved inside (λ k h. h) in
       more_touched (reading m before o) refl refl old
-      (λ k h. ⊎_elim (λ a. inl a) (λ here. new k here) (finished_touches before o (answer m o) before.changes before.moved k h))
-      (subst (λ z. Replays z (reading m before o)) still (replays_finished m before o before.changes before.moved i.is_map old
-      (λ k. ap (λ z. get (restore_all z before.changes) k) still) (λ k h. h) (λ k h. inl h) (λ k out. ap (λ z. get z k) still) (i.replay t)))
+      (λ k h. ⊎_elim (λ a. inl a) (λ here. new k here) (finished_touches before o (answer m o) before.changes before.moved (λ y c. inl c) k h))
+      (λ live. subst (λ z. Replays z (reading m before o)) still (replays_finished m before o before.changes before.moved i.is_map old
+      (λ k. ap (λ z. get (restore_all z before.changes) k) still) (λ k h. h) (λ k h. inl h) (λ k out. ap (λ z. get z k) still) (i.replay t live)))
       tt
 
   -- A scan reads one key and goes on.
   pub going_keeps : (s : Progress) → ((k : ℕ) → Scanned (part t).scan k → Scanned (Some s) k) → ((k : ℕ) → Scanned (Some s) k → (Touched (part t) k) ⊎ New k) → HasRead m (Some s)
       → Invariant p m own' (with_part part t (scanning (part t) s)) c
   going_keeps s grows new right =
-      let old : (k : ℕ) → Touched (part t) k → Touched (scanning (part t) s) k = λ k h. ⊎_elim (λ tp. inl tp) (λ sc. inr (grows k sc)) h in
-      more_touched (scanning (part t) s) refl refl old (λ k h. ⊎_elim (λ tp. inl (inl tp)) (λ sc. new k sc) h) (replays_going m (part t) (scanning (part t) s) refl refl old (i.replay t)) right
+      let old : (k : ℕ) → Touched (part t) k → Touched (scanning (part t) s) k = λ k h. ⊎_elim (λ tp. inl tp) (λ rest. ⊎_elim (λ sc. inr (inl (grows k sc))) (λ c. inr (inr c)) rest) h in
+      more_touched (scanning (part t) s) refl refl old (λ k h. ⊎_elim (λ tp. inl (inl tp)) (λ rest. ⊎_elim (λ sc. new k sc) (λ c. inl (inr (inr c))) rest) h)
+      (λ live. replays_going m (part t) (scanning (part t) s) refl refl old (i.replay t live)) right

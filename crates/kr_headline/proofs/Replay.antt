@@ -7,7 +7,7 @@ use Rattle.kr_model.specs.declared.Op.TheVariants as op
 use Rattle.kr_model.specs.declared.Reply.{Reply}
 use Rattle.kr_model.specs.declared.Reply.TheVariants as reply
 use Rattle.kr_model.specs.Run.{Answered}
-use Rattle.kr_model.specs.Serial.{whole, whole_insert, whole_delete, found_or_none, AreAnswered, map_left}
+use Rattle.kr_model.specs.Serial.{whole, whole_insert, whole_delete, whole_update, found_or_none, AreAnswered, map_left}
 use Rattle.kr_model.specs.Map.{Map, IsMap, Changes, get, restore_all}
 use Rattle.kr_model.proofs.MapLaws.{get-set, get-without}
 use Rattle.kr_model.proofs.MapLaws.{IsMap-set, IsMap-without}
@@ -40,14 +40,20 @@ IsMap-deleted : (o : Option ℕ) (m : Map) (k : ℕ) → IsMap m → IsMap (whol
 IsMap-deleted None m k r = r
 IsMap-deleted (Some w) m k r = IsMap-without m k r
 
+IsMap-updated : (o : Option ℕ) (m : Map) (k v : ℕ) → IsMap m → IsMap (whole_update m k v o).1
+IsMap-updated None m k v r = r
+IsMap-updated (Some w) m k v r = IsMap-set m k v r
+
 pub IsMap-after : (m : Map) (o : Op) → IsMap m → IsMap (after_op m o)
 IsMap-after m (op.Fetch k) r = r
 IsMap-after m (op.Scan lo hi) r = r
 IsMap-after m (op.Insert k v) r = IsMap-inserted (get m k) m k v r
 IsMap-after m (op.Delete k) r = IsMap-deleted (get m k) m k r
+IsMap-after m (op.Update k v) r = IsMap-updated (get m k) m k v r
 IsMap-after m op.Go r = r
 IsMap-after m op.Commit r = r
 IsMap-after m op.Abort r = r
+IsMap-after m op.Back r = r
 
 pub IsMap-map_left : (m : Map) (p : List Answered) → IsMap m → IsMap (map_left m p)
 IsMap-map_left m [] r = r
@@ -61,15 +67,21 @@ delete_answer : (o : Option ℕ) (d m : Map) (k : ℕ) → (whole_delete d k o).
 delete_answer None d m k = refl
 delete_answer (Some w) d m k = refl
 
+update_answer : (o : Option ℕ) (d m : Map) (k v : ℕ) → (whole_update d k v o).0 ≡ (whole_update m k v o).0
+update_answer None d m k v = refl
+update_answer (Some w) d m k v = refl
+
 -- An operation reads and changes its points alone.
 pub answer_local : (d m : Map) → IsMap d → IsMap m → (o : Op) → ((q : ℕ) → Points o q → get d q ≡ get m q) → answer d o ≡ answer m o
 answer_local d m rd rm (op.Fetch k) same = ap found_or_none (same k refl)
 answer_local d m rd rm (op.Scan lo hi) same = ap (λ xs. reply.Rows xs) (between_same d m lo hi rd rm (λ q a b. same q (a, b)))
 answer_local d m rd rm (op.Insert k v) same = ap (λ o. (whole_insert d k v o).0) (same k refl) ∙ insert_answer (get m k) d m k v
 answer_local d m rd rm (op.Delete k) same = ap (λ o. (whole_delete d k o).0) (same k refl) ∙ delete_answer (get m k) d m k
+answer_local d m rd rm (op.Update k v) same = ap (λ o. (whole_update d k v o).0) (same k refl) ∙ update_answer (get m k) d m k v
 answer_local d m rd rm op.Go same = refl
 answer_local d m rd rm op.Commit same = refl
 answer_local d m rd rm op.Abort same = refl
+answer_local d m rd rm op.Back same = refl
 
 get-inserted_here : (o : Option ℕ) (d m : Map) (k v : ℕ) → get d k ≡ get m k → get (whole_insert d k v o).1 k ≡ get (whole_insert m k v o).1 k
 get-inserted_here None d m k v same = get-set d k v k ∙ ap (λ z. if k == k then Some v else z) same ∙ sym (get-set m k v k)
@@ -87,6 +99,14 @@ get-deleted_apart : (o : Option ℕ) (d : Map) (k q : ℕ) → q ≢ k → get (
 get-deleted_apart None d k q ne = refl
 get-deleted_apart (Some w) d k q ne = get-without d k q ∙ ap (λ c. if c then None else get d q) (ne_eqb k q (λ e. ne (sym e)))
 
+get-updated_here : (o : Option ℕ) (d m : Map) (k v : ℕ) → get d k ≡ get m k → get (whole_update d k v o).1 k ≡ get (whole_update m k v o).1 k
+get-updated_here None d m k v same = same
+get-updated_here (Some w) d m k v same = get-set d k v k ∙ ap (λ z. if k == k then Some v else z) same ∙ sym (get-set m k v k)
+
+get-updated_apart : (o : Option ℕ) (d : Map) (k v q : ℕ) → q ≢ k → get (whole_update d k v o).1 q ≡ get d q
+get-updated_apart None d k v q ne = refl
+get-updated_apart (Some w) d k v q ne = get-set d k v q ∙ ap (λ c. if c then Some v else get d q) (ne_eqb k q (λ e. ne (sym e)))
+
 pub after_local : (d m : Map) → IsMap d → IsMap m → (o : Op) → ((q : ℕ) → Points o q → get d q ≡ get m q) → (q : ℕ) → Points o q → get (after_op d o) q ≡ get (after_op m o) q
 after_local d m rd rm (op.Fetch k) same q here = same q here
 after_local d m rd rm (op.Scan lo hi) same q here = same q here
@@ -96,18 +116,24 @@ after_local d m rd rm (op.Insert k v) same q here =
 after_local d m rd rm (op.Delete k) same q here =
     subst (λ z. get (whole_delete d k (get d k)).1 z ≡ get (whole_delete m k (get m k)).1 z) (sym here)
     (get-deleted_here (get d k) d m k (same k refl) ∙ ap (λ o. get (whole_delete m k o).1 k) (same k refl))
+after_local d m rd rm (op.Update k v) same q here =
+    subst (λ z. get (whole_update d k v (get d k)).1 z ≡ get (whole_update m k v (get m k)).1 z) (sym here)
+    (get-updated_here (get d k) d m k v (same k refl) ∙ ap (λ o. get (whole_update m k v o).1 k) (same k refl))
 after_local d m rd rm op.Go same q here = absurd here
 after_local d m rd rm op.Commit same q here = absurd here
 after_local d m rd rm op.Abort same q here = absurd here
+after_local d m rd rm op.Back same q here = absurd here
 
 pub after_apart : (d : Map) (o : Op) (q : ℕ) → (Points o q → ⊥) → get (after_op d o) q ≡ get d q
 after_apart d (op.Fetch k) q out = refl
 after_apart d (op.Scan lo hi) q out = refl
 after_apart d (op.Insert k v) q out = get-inserted_apart (get d k) d k v q out
 after_apart d (op.Delete k) q out = get-deleted_apart (get d k) d k q out
+after_apart d (op.Update k v) q out = get-updated_apart (get d k) d k v q out
 after_apart d op.Go q out = refl
 after_apart d op.Commit q out = refl
 after_apart d op.Abort q out = refl
+after_apart d op.Back q out = refl
 
 -- Replay --
 

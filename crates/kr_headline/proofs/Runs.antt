@@ -15,8 +15,8 @@ use Rattle.kr_model.specs.declared.Refusal.TheVariants as refusal
 use Rattle.kr_model.specs.Protocol.{Protocol, IsLawful}
 use Rattle.kr_model.specs.Covers.{IsCovered}
 use Rattle.kr_model.specs.Map.{Map, IsMap, get, restore_all}
-use Rattle.kr_model.specs.State.{State, Active, Scan, start, has_ended, is_scanning, idle, standing}
-use Rattle.kr_model.specs.Step.{step, performed, unless_refused, refusal_of, is_full, goes_on, is_go, is_bad_range, attempted_scan}
+use Rattle.kr_model.specs.State.{State, Active, Scan, start, has_ended, is_scanning, is_rolling, has_nothing_left, idle, standing}
+use Rattle.kr_model.specs.Step.{step, performed, unless_refused, refusal_of, is_full, goes_on, takes_back, is_go, is_bad_range, is_update, is_back, attempted_scan}
 use Rattle.kr_model.specs.Run.{Entry, operations_of, programs, run}
 use Rattle.kr_model.specs.Serial.{AreAnswered, map_left, all_operations, rolled_back, IsSerialRun}
 use Rattle.kr_model.proofs.Guarantees.{In}
@@ -28,8 +28,8 @@ use Rattle.kr_headline.proofs.Scans.{LooksFrom}
 use Rattle.kr_headline.proofs.Actives.{sorted_finds}
 use Rattle.kr_headline.proofs.Reading.{ReadsAs, reads_answer, reads_begins, reads_goes_on, reads_ends, reads_whole, all_operations_programs}
 use Rattle.kr_headline.proofs.Known.{Known, KnownAfter, Programs, Fixed, txns, joined, StandsScan, stays}
-use Rattle.kr_headline.proofs.Ends.{commits, aborts}
-use Rattle.kr_headline.proofs.Attempts.{fetches, inserts, deletes}
+use Rattle.kr_headline.proofs.Ends.{commits, aborts, backs}
+use Rattle.kr_headline.proofs.Attempts.{fetches, inserts, deletes, updates}
 use Rattle.kr_headline.proofs.Looks.{looks}
 use Rattle.kr_headline.proofs.Rollback.{SomeChanged, some_changed, changed_some, IsMap-rolled_back, rolled, in_order, in_other_order, some_changed_in, found_in}
 
@@ -40,26 +40,47 @@ first_if : (b : Bool) (r : Refusal) (x : Option Refusal) → (if b then Some r e
 first_if true r x h = absurd (cc)
 first_if false r x h = (refl, h)
 
-abbrev after_range : Op → Option Refusal
-after_range o = if is_bad_range o then Some refusal.BadRange else None
+abbrev after_update : State → ℕ → Op → Option Refusal
+after_update s t o = if has_nothing_left s t && is_back o then Some refusal.NothingLeft else None
 
-abbrev after_busy : State → ℕ → Op → Option Refusal
-after_busy s t o = if not (is_scanning s t) && is_go o then Some refusal.NoScan else after_range o
+abbrev after_range : Protocol → State → ℕ → Op → Option Refusal
+after_range p s t o = if is_update o && not p.updates then Some refusal.NoUpdate else after_update s t o
 
-abbrev after_full : State → ℕ → Op → Option Refusal
-after_full s t o = if is_scanning s t && not (goes_on o) then Some refusal.Busy else after_busy s t o
+abbrev after_scan : Protocol → State → ℕ → Op → Option Refusal
+after_scan p s t o = if is_bad_range o then Some refusal.BadRange else after_range p s t o
 
-abbrev after_ended : State → ℕ → Op → Option Refusal
-after_ended s t o = if is_full s t then Some refusal.Full else after_full s t o
+abbrev after_busy : Protocol → State → ℕ → Op → Option Refusal
+after_busy p s t o = if not (is_scanning s t) && is_go o then Some refusal.NoScan else after_scan p s t o
 
-allowed : (s : State) (t : ℕ) (o : Op) → refusal_of s t o ≡ None → (has_ended s t ≡ false) × ((is_scanning s t && not (goes_on o)) ≡ false) × (is_bad_range o ≡ false)
-allowed s t o h =
-    let a = first_if (has_ended s t) refusal.Ended (after_ended s t o) h in
-    let b = first_if (is_full s t) refusal.Full (after_full s t o) a.1 in
-    let c = first_if (is_scanning s t && not (goes_on o)) refusal.Busy (after_busy s t o) b.1 in
-    let d = first_if (not (is_scanning s t) && is_go o) refusal.NoScan (after_range o) c.1 in
-    let e = first_if (is_bad_range o) refusal.BadRange None d.1 in
-    (a.0, c.0, e.0)
+abbrev after_rolling : Protocol → State → ℕ → Op → Option Refusal
+after_rolling p s t o = if is_scanning s t && not (goes_on o) then Some refusal.Busy else after_busy p s t o
+
+abbrev after_full : Protocol → State → ℕ → Op → Option Refusal
+after_full p s t o = if is_rolling s t && not (takes_back o) then Some refusal.RollingBack else after_rolling p s t o
+
+abbrev after_ended : Protocol → State → ℕ → Op → Option Refusal
+after_ended p s t o = if is_full s t then Some refusal.Full else after_full p s t o
+
+-- What holds of an operation by itself that isn't refused: its range isn't upside down, and an update is offered.
+record IsFit (p : Protocol) (o : Op) : Type 0 where
+  range : is_bad_range o ≡ false
+  update : (is_update o && not p.updates) ≡ false
+
+allowed : (p : Protocol) (s : State) (t : ℕ) (o : Op) → refusal_of p s t o ≡ None
+    → (has_ended s t ≡ false) × ((is_rolling s t && not (takes_back o)) ≡ false) × ((is_scanning s t && not (goes_on o)) ≡ false) × IsFit p o
+allowed p s t o h =
+    let a = first_if (has_ended s t) refusal.Ended (after_ended p s t o) h in
+    let b = first_if (is_full s t) refusal.Full (after_full p s t o) a.1 in
+    let c = first_if (is_rolling s t && not (takes_back o)) refusal.RollingBack (after_rolling p s t o) b.1 in
+    let d = first_if (is_scanning s t && not (goes_on o)) refusal.Busy (after_busy p s t o) c.1 in
+    let e = first_if (not (is_scanning s t) && is_go o) refusal.NoScan (after_scan p s t o) d.1 in
+    let f = first_if (is_bad_range o) refusal.BadRange (after_range p s t o) e.1 in
+    let u = first_if (is_update o && not p.updates) refusal.NoUpdate (after_update s t o) f.1 in
+    (a.0, c.0, d.0, record { range = f.0; update = u.0 })
+
+offered : (b : Bool) → not b ≡ false → b ≡ true
+offered true h = refl
+offered false h = absurd (cc)
 
 and_true : (b : Bool) → (b && true) ≡ false → b ≡ false
 and_true true h = absurd (cc)
@@ -77,61 +98,84 @@ in_range lo hi h = grind (arith, nat_tests)
 
 -- Each step --
 
-module _ (p : Protocol) (laws : IsLawful p) (cov : IsCovered p) (opening : Map) (h : List Entry) (s : State) (g : Known p opening h s) (t : ℕ) (live_t : has_ended s t ≡ false) where
+module _ (p : Protocol) (laws : IsLawful p) (cov : IsCovered p) (opening : Map) (h : List Entry) (s : State) (g : Known p opening h s) (t : ℕ) (live_t : has_ended s t ≡ false) (unrolled : (g.part t).rolling ≡ false) where
   module _ (quiet : (g.part t).scan ≡ None) (idle_now : (standing s t).scan ≡ None) where
     -- A scan begins.
     scans : (lo hi : ℕ) → lo ≤ hi → KnownAfter p opening h t (op.Scan lo hi) (performed p s t (op.Scan lo hi))
     scans lo hi le =
         let c : Scan = record { lo = lo; hi = hi; rows = [] } in
-        let none : ReadsAs t h (g.part t).program None = subst (λ z. ReadsAs t h (g.part t).program z) quiet (g.reads t live_t) in
-        looks p laws cov opening h s g t live_t (op.Scan lo hi) c lo (subst (λ z. LooksFrom z lo hi lo []) (sym quiet) (refl, le, refl))
+        let none : ReadsAs t h (g.part t).program None = subst (λ z. ReadsAs t h (g.part t).program z) quiet (g.reads t live_t unrolled) in
+        looks p laws cov opening h s g t live_t unrolled (op.Scan lo hi) c lo (subst (λ z. LooksFrom z lo hi lo []) (sym quiet) (refl, le, refl))
         (λ rows. reads_answer t h (op.Scan lo hi) (reply.Rows rows) (g.part t).program refl (λ f. refl) none)
         (λ k last pairs. reads_begins t h lo hi k last pairs (g.part t).program none)
         refl
 
     -- An operation of a transaction without a scan in progress.
-    unscanned : (o : Op) → is_bad_range o ≡ false → not (goes_on o) ≡ true → KnownAfter p opening h t o (performed p s t o)
-    unscanned (op.Fetch k) r n = fetches p laws cov opening h s g t live_t quiet idle_now k
-    unscanned (op.Insert k v) r n = inserts p laws cov opening h s g t live_t quiet idle_now k v
-    unscanned (op.Delete k) r n = deletes p laws cov opening h s g t live_t quiet idle_now k
-    unscanned (op.Scan lo hi) r n = scans lo hi (in_range lo hi r)
-    unscanned op.Commit r n = commits p opening h s g t live_t quiet
+    unscanned : (o : Op) → IsFit p o → not (goes_on o) ≡ true → KnownAfter p opening h t o (performed p s t o)
+    unscanned (op.Fetch k) r n = fetches p laws cov opening h s g t live_t unrolled quiet idle_now k
+    unscanned (op.Insert k v) r n = inserts p laws cov opening h s g t live_t unrolled quiet idle_now k v
+    unscanned (op.Delete k) r n = deletes p laws cov opening h s g t live_t unrolled quiet idle_now k
+    unscanned (op.Update k v) r n = updates p laws cov opening h s g t live_t unrolled quiet idle_now (offered p.updates r.update) k v
+    unscanned (op.Scan lo hi) r n = scans lo hi (in_range lo hi r.range)
+    unscanned op.Commit r n = commits p opening h s g t live_t unrolled quiet
     unscanned op.Go r n = absurd (cc)
     unscanned op.Abort r n = absurd (cc)
+    unscanned op.Back r n = absurd (cc)
 
   -- A scan goes on.
   go_on : (q : Option Progress) (c : Option Scan) → (g.part t).scan ≡ q → StandsScan q c → KnownAfter p opening h t op.Go (attempted_scan p s t c)
   go_on q None e z = stays p opening h s t op.Go (reply.Refused refusal.NoScan) g refl refl refl
   go_on None (Some c) e z = absurd z
   go_on (Some r) (Some c) e z =
-      let reads : ReadsAs t h (g.part t).program (Some r) = subst (λ z. ReadsAs t h (g.part t).program z) e (g.reads t live_t) in
+      let reads : ReadsAs t h (g.part t).program (Some r) = subst (λ z. ReadsAs t h (g.part t).program z) e (g.reads t live_t unrolled) in
       let after : r.last + 1 ≡ suc r.last = omega arith in
-      looks p laws cov opening h s g t live_t op.Go c (suc r.last) (subst (λ z. LooksFrom z c.lo c.hi (suc r.last) c.rows) (sym e) (z.0, z.1, after, z.2))
+      looks p laws cov opening h s g t live_t unrolled op.Go c (suc r.last) (subst (λ z. LooksFrom z c.lo c.hi (suc r.last) c.rows) (sym e) (z.0, z.1, after, z.2))
       (λ rows. reads_ends t h r c.lo c.hi rows (g.part t).program z.0 z.1 reads)
       (λ k last pairs. reads_goes_on t h r c.lo c.hi k last pairs (g.part t).program z.0 z.1 reads)
       (z.3 s.map)
 
-  -- Only going on and aborting are allowed in the midst of a scan.
-  other_ops : (o : Op) → not (goes_on o) ≡ true → (is_scanning s t && not (goes_on o)) ≡ false → is_bad_range o ≡ false → KnownAfter p opening h t o (performed p s t o)
+  -- Only to go on and to take changes back are allowed in the midst of a scan.
+  other_ops : (o : Op) → not (goes_on o) ≡ true → (is_scanning s t && not (goes_on o)) ≡ false → IsFit p o → KnownAfter p opening h t o (performed p s t o)
   other_ops o n busy r =
       let st = g.stands t live_t in
       let none = no_scan_either (g.part t).scan (standing s t).scan st.scan (and_true (is_scanning s t) (ap (λ b. is_scanning s t && b) (sym n) ∙ busy)) in
       unscanned none.0 none.1 o r n
 
+  -- An operation of a transaction that doesn't roll back, but for those that take changes back.
+  works : (o : Op) → not (takes_back o) ≡ true → (is_scanning s t && not (goes_on o)) ≡ false → IsFit p o → KnownAfter p opening h t o (performed p s t o)
+  works (op.Fetch k) n b r = other_ops (op.Fetch k) refl b r
+  works (op.Insert k v) n b r = other_ops (op.Insert k v) refl b r
+  works (op.Delete k) n b r = other_ops (op.Delete k) refl b r
+  works (op.Update k v) n b r = other_ops (op.Update k v) refl b r
+  works (op.Scan lo hi) n b r = other_ops (op.Scan lo hi) refl b r
+  works op.Commit n b r = other_ops op.Commit refl b r
+  works op.Go n b r = let st = g.stands t live_t in go_on (g.part t).scan (standing s t).scan refl st.scan
+  works op.Abort n b r = absurd (cc)
+  works op.Back n b r = absurd (cc)
+
+module _ (p : Protocol) (laws : IsLawful p) (cov : IsCovered p) (opening : Map) (h : List Entry) (s : State) (g : Known p opening h s) (t : ℕ) (live_t : has_ended s t ≡ false) where
+  -- Only to take changes back is allowed once one was taken back.
+  forward : (o : Op) → not (takes_back o) ≡ true → (is_rolling s t && not (takes_back o)) ≡ false → (is_scanning s t && not (goes_on o)) ≡ false → IsFit p o → KnownAfter p opening h t o (performed p s t o)
+  forward o n rolls b r =
+      let st = g.stands t live_t in
+      works p laws cov opening h s g t live_t (sym st.rolling ∙ and_true (is_rolling s t) (ap (λ b. is_rolling s t && b) (sym n) ∙ rolls)) o n b r
+
   -- An operation of a transaction that hasn't ended.
-  live_step : (o : Op) → (is_scanning s t && not (goes_on o)) ≡ false → is_bad_range o ≡ false → KnownAfter p opening h t o (performed p s t o)
-  live_step (op.Fetch k) b r = other_ops (op.Fetch k) refl b r
-  live_step (op.Insert k v) b r = other_ops (op.Insert k v) refl b r
-  live_step (op.Delete k) b r = other_ops (op.Delete k) refl b r
-  live_step (op.Scan lo hi) b r = other_ops (op.Scan lo hi) refl b r
-  live_step op.Commit b r = other_ops op.Commit refl b r
-  live_step op.Go b r = let st = g.stands t live_t in go_on (g.part t).scan (standing s t).scan refl st.scan
-  live_step op.Abort b r = aborts p opening h s g t live_t
+  live_step : (o : Op) → (is_rolling s t && not (takes_back o)) ≡ false → (is_scanning s t && not (goes_on o)) ≡ false → IsFit p o → KnownAfter p opening h t o (performed p s t o)
+  live_step op.Abort rolls b r = aborts p opening h s g t live_t
+  live_step op.Back rolls b r = backs p opening h s g t live_t (standing s t).changes refl
+  live_step (op.Fetch k) rolls b r = forward (op.Fetch k) refl rolls b r
+  live_step (op.Insert k v) rolls b r = forward (op.Insert k v) refl rolls b r
+  live_step (op.Delete k) rolls b r = forward (op.Delete k) refl rolls b r
+  live_step (op.Update k v) rolls b r = forward (op.Update k v) refl rolls b r
+  live_step (op.Scan lo hi) rolls b r = forward (op.Scan lo hi) refl rolls b r
+  live_step op.Commit rolls b r = forward op.Commit refl rolls b r
+  live_step op.Go rolls b r = forward op.Go refl rolls b r
 
 -- Each step, refused or not.
-known_step : (p : Protocol) → IsLawful p → IsCovered p → (opening : Map) (h : List Entry) (s : State) → Known p opening h s → (t : ℕ) (o : Op) (x : Option Refusal) → refusal_of s t o ≡ x → KnownAfter p opening h t o (unless_refused p s t o x)
+known_step : (p : Protocol) → IsLawful p → IsCovered p → (opening : Map) (h : List Entry) (s : State) → Known p opening h s → (t : ℕ) (o : Op) (x : Option Refusal) → refusal_of p s t o ≡ x → KnownAfter p opening h t o (unless_refused p s t o x)
 known_step p laws cov opening h s g t o (Some r) e = stays p opening h s t o (reply.Refused r) g refl refl refl
-known_step p laws cov opening h s g t o None e = let a = allowed s t o e in live_step p laws cov opening h s g t a.0 o a.1 a.2
+known_step p laws cov opening h s g t o None e = let a = allowed p s t o e in live_step p laws cov opening h s g t a.0 o a.1 a.2 a.3
 
 -- Each run --
 
@@ -141,7 +185,7 @@ known_run p laws cov opening [] h s g = subst (λ l. Known p opening l s) (sym (
 known_run p laws cov opening (e ∷ es) h s g =
     let o = step p s e.txn e.op in
     subst (λ l. Known p opening l (run p (step p s e.txn e.op).1 es).state) (append_assoc h ((e, o.0) ∷ []) (run p o.1 es).history)
-    (known_run p laws cov opening es (h ++ (e, o.0) ∷ []) o.1 (known_step p laws cov opening h s g e.txn e.op (refusal_of s e.txn e.op) refl))
+    (known_run p laws cov opening es (h ++ (e, o.0) ∷ []) o.1 (known_step p laws cov opening h s g e.txn e.op (refusal_of p s e.txn e.op) refl))
 
 -- At the start nothing has been done.
 opens : (p : Protocol) (opening : Map) → IsMap opening → Known p opening [] (start opening)
@@ -159,19 +203,17 @@ opens p opening sorted = record {
       apart = λ t u k c ne touch b reach. b;
     };
     owned = record {
-      moved = λ t k b. absurd b;
-      touched = λ t k b. absurd b;
+      counted = λ t. refl;
       present = λ t k b there. absurd b;
-      absent = λ t k b none. absurd b;
       alone = λ t u k ne touch b. b;
-      kept = λ t k out. refl;
     };
-    replay = λ t d rd agree. (tt, (λ k b. absurd b), (λ k out. refl));
+    undoable = record { levels = λ t. tt; outside = λ t u y ne moved h. h };
+    replay = λ t live d rd agree. (tt, (λ k b. absurd b), (λ k out. refl));
     scan = λ t. tt;
     committed = record { before = λ t k b. absurd b; now = λ k out. refl };
   };
-  reads = λ t live f. refl;
-  stands = λ t live. record { scan = tt; changes = refl };
+  reads = λ t live unrolled f. refl;
+  stands = λ t live. record { scan = tt; changes = refl; rolling = refl };
   over = λ t ended. refl;
   fixed = tt;
   order = refl;

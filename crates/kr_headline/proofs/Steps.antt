@@ -4,17 +4,17 @@ use Rattle.std.proofs.lemmas.Bool.{cases_lt, cases_eq}
 use Rattle.kr_model.specs.declared.Name.{Name}
 use Rattle.kr_model.specs.declared.Name.TheVariants.{Key}
 use Rattle.kr_model.specs.declared.Row.{Row}
-use Rattle.kr_model.specs.declared.Row.TheVariants.{FetchHit, ScanKey, Insert, Delete}
+use Rattle.kr_model.specs.declared.Row.TheVariants.{FetchHit, ScanKey, Insert, Delete, Update}
 use Rattle.kr_model.specs.declared.Side.TheVariants.{Current, Next}
 use Rattle.kr_model.specs.declared.Cover.{Cover}
-use Rattle.kr_model.specs.declared.Cover.TheVariants.{ReadGap, InsertedKey, DeletedGap}
+use Rattle.kr_model.specs.declared.Cover.TheVariants.{ReadKey, ReadGap, InsertedKey, DeletedGap, UpdatedKey}
 use Rattle.kr_model.specs.Protocol.{Protocol}
 use Rattle.kr_model.specs.Covers.{mode_after, must_refuse, Ask}
 use Rattle.kr_model.specs.Map.{Map, IsMap, at}
 use Rattle.kr_model.proofs.Guarantees.{In, Serves}
-use Rattle.kr_headline.proofs.Gaps.{has, Reach, at-key, at-unique, reach-refl, reach-from, reach-trans, reach-at, reach-dec, at-stable, Alike, alike-outside, at-insert, reach-insert, at-delete, reach-delete}
+use Rattle.kr_headline.proofs.Gaps.{has, Reach, at-key, at-unique, reach-refl, reach-from, reach-trans, reach-at, reach-dec, at-stable, Alike, alike-outside, at-insert, reach-insert, at-delete, reach-delete, reach-stable}
 use Rattle.kr_headline.proofs.Parts.{Part, Parts, blank, Touched, Moved, blank_untouched, with_part}
-use Rattle.kr_headline.proofs.Covers.{Modes, read_cover, change_cover, Granted, clash, weaken, Covered, reads_refuse_delete, changes_refuse_delete, changes_refuse_key}
+use Rattle.kr_headline.proofs.Covers.{Modes, read_cover, change_cover, Granted, clash, weaken, Covered, reads_refuse_delete, changes_refuse_delete, changes_refuse_key, read_refuses_update, update_read}
 use Rattle.kr_headline.proofs.Guarded.{Taken, Guarded, stepped}
 
 -- A point whose reach ends at an absent key is absent.
@@ -22,7 +22,7 @@ gap_below : (m : Map) (k c : ℕ) → Reach m k c → has m c ≡ false → has 
 gap_below m k c r none = ⊎_elim (λ lt. r.1 k (omega arith) lt) (λ ge. let e : k ≡ c = omega (arith, r.0, ge) in ap (has m) e ∙ none) (cases_lt k c)
 
 -- A present key reaches itself alone.
-alone_there : (m : Map) (k c : ℕ) → has m k ≡ true → Reach m k c → c ≡ k
+pub alone_there : (m : Map) (k c : ℕ) → has m k ≡ true → Reach m k c → c ≡ k
 alone_there m k c there r = ⊎_elim (λ e. e) (λ far. absurd (true≢false (sym there ∙ r.1 k (omega arith) (omega (arith, far, r.0))))) (cases_eq c k)
 
 module _ (p : Protocol) (m : Map) (hm : IsMap m) (own : Modes) (part : Parts) (g : Guarded p m own part) (t : ℕ) where
@@ -36,7 +36,7 @@ module _ (p : Protocol) (m : Map) (hm : IsMap m) (own : Modes) (part : Parts) (g
       (subst (λ z. Serves p ReadGap (own u z)) (reach-at m y k hm reach) here) (inl refl) (g.range t (at m k)) (g.range t (at m k)) refl
 
   -- It is refused of a key that another has deleted.
-  insert_not_moved : (u k : ℕ) → Granted p own t Insert Next (at m k) (own t (at m k)) → has m k ≡ false → u ≢ t → Moved (part u) k → ⊥
+  pub insert_not_moved : (u k : ℕ) → Granted p own t Insert Next (at m k) (own t (at m k)) → has m k ≡ false → u ≢ t → Moved (part u) k → ⊥
   insert_not_moved u k granted absent other moved =
       clash p own t u Insert Next (at m k) (own t (at m k)) DeletedGap granted other
       (subst (λ h. Serves p (change_cover h) (own u (at m k))) absent (g.change u k moved)) (inr (inr (inr (inl refl)))) (g.range t (at m k)) (g.range t (at m k)) refl
@@ -47,20 +47,29 @@ module _ (p : Protocol) (m : Map) (hm : IsMap m) (own : Modes) (part : Parts) (g
   pub delete_outside : (u k y : ℕ) → Granted p own t Delete Current (Key k) (own t (at m (suc k))) → has m k ≡ true → u ≢ t → Touched (part u) y → Reach m y k → ⊥
   delete_outside u k y granted there other touch reach =
       clash p own t u Delete Current (Key k) (own t (at m (suc k))) (read_cover (has m y)) granted other
-      (subst (λ z. Serves p (read_cover (has m y)) (own u z)) (at-unique m y k hm reach there) (g.cover u y touch)) (reads_refuse_delete (has m y)) (g.range t (Key k)) (g.range t (at m (suc k))) tt
+      (subst (λ z. Serves p (read_cover (has m y)) (own u z)) (at-unique m y k hm reach there) (g.cover u y touch)) (reads_refuse_delete p (has m y)) (g.range t (Key k)) (g.range t (at m (suc k))) tt
 
   -- It is refused of a key that another has inserted.
-  delete_not_moved : (u k : ℕ) → Granted p own t Delete Current (Key k) (own t (at m (suc k))) → has m k ≡ true → u ≢ t → Moved (part u) k → ⊥
+  pub delete_not_moved : (u k : ℕ) → Granted p own t Delete Current (Key k) (own t (at m (suc k))) → has m k ≡ true → u ≢ t → Moved (part u) k → ⊥
   delete_not_moved u k granted there other moved =
       clash p own t u Delete Current (Key k) (own t (at m (suc k))) (change_cover (has m k)) granted other
       (subst (λ z. Serves p (change_cover (has m k)) (own u z)) (at-unique m k k hm (reach-refl m k) there) (g.change u k moved))
-      (changes_refuse_delete (has m k) Current) (g.range t (Key k)) (g.range t (at m (suc k))) tt
+      (changes_refuse_delete p (has m k) Current) (g.range t (Key k)) (g.range t (at m (suc k))) tt
 
   -- It is refused where the point above the key reaches a key that another has moved, since the gap would be merged with that one.
-  delete_none_above : (u k c : ℕ) → Granted p own t Delete Next (at m (suc k)) (own t (at m (suc k))) → u ≢ t → Moved (part u) c → Reach m (suc k) c → ⊥
+  pub delete_none_above : (u k c : ℕ) → Granted p own t Delete Next (at m (suc k)) (own t (at m (suc k))) → u ≢ t → Moved (part u) c → Reach m (suc k) c → ⊥
   delete_none_above u k c granted other moved reach =
       clash p own t u Delete Next (at m (suc k)) (own t (at m (suc k))) (change_cover (has m c)) granted other
-      (subst (λ z. Serves p (change_cover (has m c)) (own u z)) (sym (reach-at m (suc k) c hm reach)) (g.change u c moved)) (changes_refuse_delete (has m c) Next) (g.range t (at m (suc k))) (g.range t (at m (suc k))) refl
+      (subst (λ z. Serves p (change_cover (has m c)) (own u z)) (sym (reach-at m (suc k) c hm reach)) (g.change u c moved)) (changes_refuse_delete p (has m c) Next) (g.range t (at m (suc k))) (g.range t (at m (suc k))) refl
+
+  -- An update --
+
+  -- It is refused of a key that another has touched.
+  pub update_outside : (u k : ℕ) → p.updates ≡ true → Granted p own t Update Current (Key k) 0 → has m k ≡ true → u ≢ t → Touched (part u) k → ⊥
+  update_outside u k up granted there other touch =
+      clash p own t u Update Current (Key k) 0 ReadKey granted other
+      (subst (λ z. Serves p ReadKey (own u z)) (at-unique m k k hm (reach-refl m k) there) (subst (λ h. Serves p (read_cover h) (own u (at m k))) there (g.cover u k touch)))
+      (read_refuses_update p up) (g.range t (Key k)) (omega arith) tt
 
   -- Reads --
 
@@ -82,10 +91,10 @@ module _ (p : Protocol) (m : Map) (hm : IsMap m) (own : Modes) (part : Parts) (g
       let le : c ≤ x = ⊎_elim (λ lt. absurd (true≢false (sym k.1 ∙ reach.1 x new.1 lt))) (λ ge. ge) (cases_lt x c) in
       let same : at m c ≡ Key x = at-unique m c x hm (reach-from m from c x upto (omega (arith, new.0, reach.0)) le) k.1 in
       clash p own t u ScanKey Current (Key x) on (change_cover (has m c)) granted ne
-      (subst (λ z. Serves p (change_cover (has m c)) (own u z)) same (g.change u c moved)) (changes_refuse_key (has m c)) (g.range t (Key x)) in_range tt
+      (subst (λ z. Serves p (change_cover (has m c)) (own u z)) same (g.change u c moved)) (changes_refuse_key p (has m c)) (g.range t (Key x)) in_range tt
 
   -- A read of a gap, under the name above it, meets none that its points reach.
-  pub gap_apart : (from : ℕ) (row : Row) → ((b : Bool) → In {A = Ask} (row, Next) (must_refuse (change_cover b))) → Granted p own t row Next (at m from) (own t (at m from))
+  pub gap_apart : (from : ℕ) (row : Row) → ((b : Bool) → In {A = Ask} (row, Next) (must_refuse p (change_cover b))) → Granted p own t row Next (at m from) (own t (at m from))
       → (u y c : ℕ) → u ≢ t → Reach m from y → Moved (part u) c → Reach m y c → ⊥
   gap_apart from row listed granted u y c ne new moved reach =
       clash p own t u row Next (at m from) (own t (at m from)) (change_cover (has m c)) granted ne
@@ -170,6 +179,29 @@ module _ (p : Protocol) (m : Map) (hm : IsMap m) (own : Modes) (part : Parts) (g
         (touched y touch))
         (λ grown. delete_none_above u k c next ne b grown.2)
         (reach-delete m n k y c alike reach))
+
+    -- An update of k: no key comes or goes.
+    pub update_step : (k : ℕ) → p.updates ≡ true → Granted p own t Update Current (Key k) 0 → ((y : ℕ) → has n y ≡ has m y) → has m k ≡ true
+        → Serves p UpdatedKey (own' t (Key k))
+        → ((y : ℕ) → Touched q y → (Touched (part t) y) ⊎ (y ≡ k))
+        → ((y : ℕ) → Moved q y → Moved (part t) y)
+        → Guarded p n own' (with_part part t q)
+    update_step k up granted same there updated touched moved =
+        let stays : (y : ℕ) (kind : Bool → Cover) → Serves p (kind (has m y)) (own' t (at m y)) → Serves p (kind (has n y)) (own' t (at n y)) = λ y kind s.
+        subst (λ h. Serves p (kind h) (own' t (at n y))) (sym (same y)) (subst (λ z. Serves p (kind (has m y)) (own' t z)) (sym (at-stable m n y hm hn (λ z reach. same z))) s) in
+        let at_k : Serves p (read_cover (has m k)) (own' t (at m k)) =
+        subst (λ h. Serves p (read_cover h) (own' t (at m k))) (sym there)
+        (subst (λ z. Serves p ReadKey (own' t z)) (sym (at-unique m k k hm (reach-refl m k) there)) (update_read p (own' t (Key k)) up updated)) in
+        stepped p m n hm hn own own' part t q g taken.range taken.others held
+        (λ u y ne touch z reach. same z)
+        (λ y touch. stays y read_cover (⊎_elim (λ old. taken.keeps (at m y) (read_cover (has m y)) (g.cover t y old))
+        (λ e. subst (λ z. Serves p (read_cover (has m z)) (own' t (at m z))) (sym e) at_k) (touched y touch)))
+        (λ y b. stays y change_cover (taken.keeps (at m y) (change_cover (has m y)) (g.change t y (moved y b))))
+        (λ u y c ne touch b reach. g.apart t u y c ne touch (moved c b) reach)
+        (λ u y c ne touch b reach. let back = reach-stable m n y c (λ z r. same z) reach in
+        ⊎_elim (λ old. g.apart u t y c (λ e. ne (sym e)) old b back)
+        (λ e. update_outside u k up granted there ne (subst (λ z. Touched (part u) z) (alone_there m k c there (subst (λ z. Reach m z c) e back)) (held u c b)))
+        (touched y touch))
 
   -- A fetch or a scan: new points, under the name that was asked for.
   pub read_step : (own' : Modes) (q : Part) → Taken p own own' t → ((u k : ℕ) → Moved (part u) k → Touched (part u) k) → (New : ℕ → Type 0)

@@ -17,15 +17,19 @@ IsSplitting op.Commit = Unit {0}
 IsSplitting (op.Scan lo hi) = ⊥
 IsSplitting op.Go = ⊥
 IsSplitting (op.Delete k) = ⊥
+IsSplitting (op.Update k v) = ⊥
 IsSplitting op.Abort = ⊥
+IsSplitting op.Back = ⊥
 
--- One of these, a delete or an abort: gaps are merged too.
+-- One of these, a delete, an abort or a change taken back: gaps are merged too.
 abbrev pub IsMerging : Op → Type 0
 IsMerging (op.Fetch k) = Unit {0}
 IsMerging (op.Insert k v) = Unit {0}
 IsMerging op.Commit = Unit {0}
 IsMerging (op.Delete k) = Unit {0}
 IsMerging op.Abort = Unit {0}
+IsMerging op.Back = Unit {0}
+IsMerging (op.Update k v) = ⊥
 IsMerging (op.Scan lo hi) = ⊥
 IsMerging op.Go = ⊥
 

@@ -1,5 +1,5 @@
-//! The main theorem, over the definitions alone: every run under a covered protocol is serial in commit order; and
-//! laws of states, logs, runs and covers. Each function does nothing, and its contract is a law. `docs/HEADLINE.md`
+//! The main theorem, over the definitions alone: every run under a covered protocol is serial in commit order, with
+//! rollbacks taken whole or one change at a time; and laws of states, logs, runs and covers. Each function does nothing, and its contract is a law. `docs/HEADLINE.md`
 //! tells the proof.
 #![tactic(auto)]
 
@@ -7,18 +7,19 @@ ghost use Rattle.std.specs.Prelude.{◌≡◌, ℕ, IsTrue, Contains, map, List,
 ghost use Rattle.kr_model.specs.Protocol.{Protocol, IsLawful};
 ghost use Rattle.kr_model.specs.Covers.{Ask, must_refuse, serves, IsCovered};
 ghost use Rattle.kr_model.specs.Kvl.{kvl};
+ghost use Rattle.kr_model.specs.KvlUpdate.{kvl_update};
 ghost use Rattle.kr_model.specs.Im.{im};
 ghost use Rattle.kr_model.specs.RangeKey.{range_key};
 ghost use Rattle.kr_model.specs.Map.{Map, Changes, IsMap, get, restore_all, before_first};
 ghost use Rattle.kr_model.specs.State.{State, start};
 ghost use Rattle.kr_model.specs.WellFormed.{IsState};
 ghost use Rattle.kr_model.specs.Run.{Entry, Program, run, events_of, operations_of, programs, AreSteps, HadMemory};
-ghost use Rattle.kr_model.specs.Log.{no_log, log_after};
+ghost use Rattle.kr_model.specs.Log.{without_backs, no_log, log_after};
 ghost use Rattle.kr_model.specs.Serial.{AreSerial, RunsAreSerial};
 ghost use Rattle.kr_model.specs.Difference.{Difference, IsFirstDifference, first_difference};
 ghost use Rattle.kr_model.specs.declared.Rule.{Rule};
 ghost use Rattle.kr_model.specs.declared.Event.{Event};
-ghost use Rattle.kr_model.specs.declared.Cover.TheVariants.{ReadKey, ReadGap, InsertedKey, DeletedGap};
+ghost use Rattle.kr_model.specs.declared.Cover.TheVariants.{ReadKey, ReadGap, InsertedKey, DeletedGap, UpdatedKey};
 ghost use Rattle.kr_headline.specs.Passes.{IsSplitting, IsMerging, RunsOfAreSerial};
 ghost use Rattle.kr_headline.specs.Needed.{IsNeeded};
 
@@ -28,12 +29,15 @@ pub fn splits_are_serial()
     ensures { (p : Protocol) → IsLawful p → IsCovered p → RunsOfAreSerial IsSplitting p }
 {}
 
-/// The same of runs with deletes and aborts too.
+/// The same of runs with deletes, aborts and changes taken back one at a time too.
 pub fn merges_are_serial()
     ensures { (p : Protocol) → IsLawful p → IsCovered p → RunsOfAreSerial IsMerging p }
 {}
 
-/// The main theorem: the same of every run, with scans too.
+/// The main theorem: the same of every run, with scans and updates too. For every list of steps that transactions
+/// attempt on any keys, with blocked steps, interleaved scans, rollbacks, and changes taken back one at a time between
+/// the steps of others, each committed transaction's fetches, scans, inserts, updates and deletes have the answers that
+/// they have when the committed transactions run whole, one after another in commit order, on the opening map.
 pub fn runs_are_serial()
     ensures { (p : Protocol) → IsLawful p → IsCovered p → RunsAreSerial p }
 {}
@@ -41,17 +45,19 @@ pub fn runs_are_serial()
 /// The main theorem of the bundled tables, with no premise left.
 pub fn bundled_runs_are_serial()
     ensures kvl { RunsAreSerial kvl }
+    ensures kvl_update { RunsAreSerial kvl_update }
     ensures im { RunsAreSerial im }
     ensures range_key { RunsAreSerial range_key }
 {}
 
-/// None of the eight rules can be left out: a lawful protocol that fails no case but those of the rule has a run that
+/// None of the nine rules can be left out: a lawful protocol that fails no case but those of the rule has a run that
 /// isn't serial.
 pub fn each_rule_is_needed()
     ensures { (rule : Rule) → IsNeeded rule }
 {}
 
-/// An abort leaves at each key what stood there before the transaction's first change of it.
+/// An abort leaves at each key what stood there before the first of the transaction's changes of it that are left, and
+/// a key of which none is left as it stands.
 pub fn aborts_restore()
     ensures { (m : Map) (changes : Changes) (k : ℕ) → get (restore_all m changes) k ≡ unwrap_or (before_first changes k) (get m k) }
 {}
@@ -77,12 +83,12 @@ pub fn states_are_well_formed()
 {}
 
 /// The log of steps has the programs that are read from their history: those that have committed, and of each active
-/// transaction its operations so far. Any of the steps may have been refused memory.
+/// transaction its operations so far, but for the changes taken back. Any of the steps may have been refused memory.
 pub fn logs_tell_programs()
     ensures committed { (p : Protocol) (opening : Map) (h : List Entry) (s : State)
         → AreSteps p (start opening) h s → (log_after no_log h).committed ≡ programs h }
     ensures unfinished { (p : Protocol) (opening : Map) (h : List Entry) (s : State)
-        → AreSteps p (start opening) h s → (log_after no_log h).unfinished ≡ map (λ a. (a.0, operations_of a.0 h)) s.active }
+        → AreSteps p (start opening) h s → (log_after no_log h).unfinished ≡ map (λ a. (a.0, without_backs (operations_of a.0 h))) s.active }
 {}
 
 /// Runs are the histories of steps of which none was refused memory. So, apart from memory, the replies and the state
@@ -95,10 +101,15 @@ pub fn runs_are_steps_with_memory()
 {}
 
 /// The cover of a change must refuse all that the cover of a read must refuse there: that of an inserted key what that
-/// of a read key must, and that of a deleted gap what that of a read gap must. So a mode that serves it serves the read.
+/// of a read key must, that of a deleted gap what that of a read gap must, and, where updates are offered, that of an
+/// updated key what that of a read key must. So a mode that serves it serves the read.
 pub fn changes_cover_reads()
-    ensures inserted { (a : Ask) → Contains (must_refuse ReadKey) a → Contains (must_refuse InsertedKey) a }
-    ensures deleted { (a : Ask) → Contains (must_refuse ReadGap) a → Contains (must_refuse DeletedGap) a }
+    ensures inserted { (p : Protocol) (a : Ask) → Contains (must_refuse p ReadKey) a → Contains (must_refuse p InsertedKey) a }
+    ensures deleted { (p : Protocol) (a : Ask) → Contains (must_refuse p ReadGap) a → Contains (must_refuse p DeletedGap) a }
+    ensures updated { (p : Protocol) (a : Ask) → IsTrue p.updates
+        → Contains (must_refuse p ReadKey) a → Contains (must_refuse p UpdatedKey) a }
     ensures serves_key { (p : Protocol) (mode : ℕ) → IsTrue (serves p InsertedKey mode) → IsTrue (serves p ReadKey mode) }
     ensures serves_gap { (p : Protocol) (mode : ℕ) → IsTrue (serves p DeletedGap mode) → IsTrue (serves p ReadGap mode) }
+    ensures serves_update { (p : Protocol) (mode : ℕ) → IsTrue p.updates
+        → IsTrue (serves p UpdatedKey mode) → IsTrue (serves p ReadKey mode) }
 {}

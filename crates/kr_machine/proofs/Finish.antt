@@ -72,7 +72,9 @@ end_pins op.Abort r is q = refl
 end_pins (op.Fetch k) r is q = refl
 end_pins (op.Insert k v) r is q = absurd is
 end_pins (op.Delete k) r is q = absurd is
+end_pins (op.Update k v) r is q = absurd is
 end_pins op.Go r is q = refl
+end_pins op.Back r is q = refl
 end_pins (op.Scan lo hi) r is q = refl
 
 -- The row of the end of a transaction says nothing.
@@ -82,7 +84,9 @@ end_row m op.Abort r is = tt
 end_row m (op.Fetch k) r is = absurd is
 end_row m (op.Insert k v) r is = absurd is
 end_row m (op.Delete k) r is = absurd is
+end_row m (op.Update k v) r is = absurd is
 end_row m op.Go r is = tt
+end_row m op.Back r is = tt
 end_row m (op.Scan lo hi) r is = tt
 
 -- The end of a transaction needs no room in the list.
@@ -92,7 +96,9 @@ room_end active s rows op.Abort is = tt
 room_end active s rows (op.Fetch k) is = absurd is
 room_end active s rows (op.Insert k v) is = absurd is
 room_end active s rows (op.Delete k) is = absurd is
+room_end active s rows (op.Update k v) is = absurd is
 room_end active s rows op.Go is = absurd is
+room_end active s rows op.Back is = absurd is
 room_end active s rows (op.Scan lo hi) is = absurd is
 
 -- What the machine is after the end of the transaction whose step was pending.

@@ -1,6 +1,6 @@
 -- The log of a machine goes with its state.
 use Rattle.std.proofs.Common.{◌≡◌, ℕ, inl, refl, ap, sym, subst, ◌∙◌, Option, Some, None, is_some}
-use Rattle.std.specs.Prelude.{IsTrue, if◌then◌else◌}
+use Rattle.std.specs.Prelude.{IsTrue, ◌-◌, length, if◌then◌else◌}
 use Rattle.std.specs.Ordering.{nat_cmp}
 use Rattle.std.specs.FinMap.{find}
 use Rattle.kr_model.specs.declared.Event.{Event}
@@ -10,12 +10,12 @@ use Rattle.kr_model.specs.declared.Refusal.TheVariants as refusal
 use Rattle.kr_model.specs.declared.Reply.{Reply}
 use Rattle.kr_model.specs.declared.Reply.TheVariants as reply
 use Rattle.kr_model.specs.Protocol.{Protocol, IsLawful}
-use Rattle.kr_model.specs.State.{State, active_of, is_scanning}
+use Rattle.kr_model.specs.State.{State, active_of, standing, is_scanning, is_rolling, has_nothing_left}
 use Rattle.kr_model.specs.Step.{step, IsStep}
 use Rattle.kr_model.specs.WellFormed.{IsState}
 use Rattle.kr_model.specs.Log.{logged}
 use Rattle.kr_model.proofs.LogLaws.{unfinished_after}
-use Rattle.kr_model.proofs.WellFormedLaws.{step_keeps_state, abort_of_active, commit_of_active}
+use Rattle.kr_model.proofs.WellFormedLaws.{step_keeps_state, abort_of_active, commit_of_active, back_of_active}
 use Rattle.kr_txn.specs.Logs.{LogWithRoom}
 use Rattle.kr_machine.specs.declared.pending.DueReply.{DueReply}
 use Rattle.kr_machine.specs.Logged.{IsLogged}
@@ -41,6 +41,10 @@ due_is o d e is was = some (sym was ∙ is)
 pub abort_told : (p : Protocol) (s : State) (t : ℕ) (o : Op) (r : Reply) (new : State) → IsState p s → IsStep p s t o r new → o ≡ op.Abort → IsTrue (is_some (active_of s t)) → r ≡ reply.Aborted
 abort_told p s t o r new k is e active = abort_of_active p s t k active r new (subst (λ x. IsStep p s t x r new) e is)
 
--- The commit of one is answered Committed, or Busy in the midst of a scan.
-pub commit_told : (p : Protocol) (s : State) (t : ℕ) (o : Op) (r : Reply) (new : State) → IsState p s → IsStep p s t o r new → o ≡ op.Commit → IsTrue (is_some (active_of s t)) → r ≡ (if is_scanning s t then reply.Refused refusal.Busy else reply.Committed)
+-- The commit of one is answered Committed, or RollingBack once a change of it was taken back, or Busy in the midst of a scan.
+pub commit_told : (p : Protocol) (s : State) (t : ℕ) (o : Op) (r : Reply) (new : State) → IsState p s → IsStep p s t o r new → o ≡ op.Commit → IsTrue (is_some (active_of s t)) → r ≡ (if is_rolling s t then reply.Refused refusal.RollingBack else if is_scanning s t then reply.Refused refusal.Busy else reply.Committed)
 commit_told p s t o r new k is e active = commit_of_active p s t k active r new (subst (λ x. IsStep p s t x r new) e is)
+
+-- A back of one is answered how many changes are left after it, or NothingLeft where there was none.
+pub back_told : (p : Protocol) (s : State) (t : ℕ) (o : Op) (r : Reply) (new : State) → IsState p s → IsStep p s t o r new → o ≡ op.Back → IsTrue (is_some (active_of s t)) → r ≡ (if has_nothing_left s t then reply.Refused refusal.NothingLeft else reply.Undone (length (standing s t).changes - 1))
+back_told p s t o r new k is e active = back_of_active p s t k active r new (subst (λ x. IsStep p s t x r new) e is)

@@ -12,6 +12,7 @@ use Rattle.kr_model.specs.Map.{Map, Changes, restore, restore_all}
 use Rattle.kr_model.specs.State.{Active}
 use Rattle.kr_txn.specs.Standings.{without_txn}
 use Rattle.kr_txn.proofs.Lists.{find-without, put_back}
+use Rattle.kr_machine.specs.Pending.{map_back, changes_back}
 use Rattle.kr_machine.specs.Pins.{changes_of, all_changes_of}
 
 some_none : (a : Active) → ◌≡◌ {A = Option Active} (Some a) None → ⊥
@@ -46,3 +47,10 @@ changes-push cs c q =
 -- A change noted last is taken back first.
 pub restore_all-push : (m : Map) (cs : Changes) (c : ℕ × Option ℕ) → restore_all m (reverse (cs ++ c ∷ [])) ≡ restore_all (restore m c.0 c.1) (reverse cs)
 restore_all-push m cs c = ap (restore_all m) (reverse-append cs (c ∷ []))
+
+-- So it is the one that is taken back alone.
+pub map_back-push : (m : Map) (cs : Changes) (c : ℕ × Option ℕ) → map_back m (reverse (cs ++ c ∷ [])) ≡ restore m c.0 c.1
+map_back-push m cs c = ap (map_back m) (reverse-append cs (c ∷ []))
+
+pub changes_back-push : (cs : Changes) (c : ℕ × Option ℕ) → changes_back (reverse (cs ++ c ∷ [])) ≡ reverse cs
+changes_back-push cs c = ap changes_back (reverse-append cs (c ∷ []))

@@ -1,7 +1,11 @@
 -- What the definitions say of a step, by the parts that the machine finds.
-use Rattle.std.proofs.Common.{◌≡◌, ℕ, Bool, true, false, cond, Option, Some, None, List, [], ◌∷◌, ap, sym, ◌∙◌, refl, length, is_some}
-use Rattle.std.specs.Prelude.{nat_le, not, ◌&&◌, ◌==◌, unwrap_or}
+use Rattle.std.proofs.Common.{◌≡◌, ℕ, Bool, true, false, cond, Option, Some, None, List, [], ◌∷◌, ap, sym, ◌∙◌, refl, length, is_some, suc, ◌-◌, ◌<◌, reverse, arith}
+use Rattle.std.specs.Prelude.{Vec, nat_le, not, ◌&&◌, ◌==◌, unwrap_or}
+use Rattle.std.specs.Vec.{vec_len}
+use Rattle.std.specs.declared.alloc.Global.{Global}
+use Rattle.std.proofs.lemmas.Bool.Decides.{nat_tests}
 use Rattle.std.specs.List.{list_any, filter}
+use Rattle.std.proofs.lemmas.List.{length-reverse}
 use Rattle.std.specs.Ordering.{nat_cmp}
 use Rattle.std.specs.FinMap.{find, put}
 use Rattle.kr_model.specs.declared.Op.{Op}
@@ -11,46 +15,48 @@ use Rattle.kr_model.specs.declared.Refusal.TheVariants.{Ended, Full}
 use Rattle.kr_model.specs.declared.Reply.TheVariants as reply
 use Rattle.kr_model.specs.Protocol.{Protocol}
 use Rattle.kr_model.specs.declared.Plan.{Plan}
-use Rattle.kr_model.specs.Map.{Map, get, set, at, after}
+use Rattle.kr_model.specs.Map.{Map, Changes, get, set, at, after}
 use Rattle.kr_model.specs.Locks.{Locks, Request, blockers, kept}
-use Rattle.kr_model.specs.State.{State, Active, Scan, idle, standing}
+use Rattle.kr_model.specs.State.{State, Active, Scan, idle, standing, is_rolling, has_nothing_left}
+use Rattle.kr_model.specs.Covers.{is_empty}
 use Rattle.kr_model.specs.Plan.{Access, access, requests, plan_of}
 use Rattle.kr_model.specs.declared.Name.{Name}
 use Rattle.kr_model.specs.declared.Name.TheVariants.{Key, End}
 use Rattle.kr_model.specs.declared.Row.{Row}
 use Rattle.kr_model.specs.declared.Row.TheVariants as row
 use Rattle.kr_model.specs.declared.Step.{Step}
-use Rattle.kr_model.specs.Step.{Outcome, Effect, effect, changed, fetched, inserted, deleted, row_read, looked, name_to_look, is_full, refusal_of, step, granted_or_blocked, attempted_scan, unless_refused, after_effect, performed}
+use Rattle.kr_model.specs.Step.{Outcome, Effect, effect, changed, fetched, inserted, deleted, updated, row_read, looked, name_to_look, is_full, refusal_of, step, granted_or_blocked, attempted_scan, unless_refused, after_effect, performed, one_taken_back}
 use Rattle.std.specs.Option.{option_map}
 use Rattle.kr_txn.specs.declared.Scan as txn
 use Rattle.kr_txn.specs.Standings.{scan_of}
-use Rattle.kr_machine.specs.Pending.{IsAttempt, IsEnd, IsRowOf, end_reply, begun, refusal_in, look_of, attempt_of, look_effect, effect_of, after_op}
+use Rattle.kr_machine.specs.Pending.{IsAttempt, IsEnd, IsRowOf, end_reply, begun, refusal_in, look_of, attempt_of, look_effect, effect_of, map_back, changes_back, standing_back, after_op}
 
--- The refusal of an operation whose transaction has not ended, by how it stands.
-abbrev pub refused_by : Option Active → Bool → Op → Option Refusal
-refused_by None full o = cond full (Some Full) (refusal_in false o)
-refused_by (Some a) full o = refusal_in (is_some a.scan) o
+-- The refusal of an operation whose transaction has not ended, by whether updates are offered and how it stands.
+abbrev pub refused_by : Bool → Option Active → Bool → Op → Option Refusal
+refused_by v None full o = cond full (Some Full) (refusal_in v false false true o)
+refused_by v (Some a) full o = refusal_in v a.rolling (is_some a.scan) (is_empty a.changes) o
 
-chain : (x : Bool) (f : Option Active) (l : Bool) (o : Op) → cond x (Some Ended) (cond (not (is_some f) && l) (Some Full) (refusal_in (is_some (unwrap_or f idle).scan) o)) ≡ cond x (Some Ended) (refused_by f l o)
-chain true f l o = refl
-chain false None l o = refl
-chain false (Some a) l o = refl
+chain : (v x : Bool) (f : Option Active) (l : Bool) (o : Op) → cond x (Some Ended) (cond (not (is_some f) && l) (Some Full) (let a = unwrap_or f idle in refusal_in v a.rolling (is_some a.scan) (is_empty a.changes) o)) ≡ cond x (Some Ended) (refused_by v f l o)
+chain v true f l o = refl
+chain v false None l o = refl
+chain v false (Some a) l o = refl
 
 -- The refusal of an operation, by what is known of its transaction.
-pub refusal_is : (m : Map) (h : Locks) (ended : List ℕ) (es : List (ℕ × Active)) (t : ℕ) (o : Op) → (x : Bool) → list_any (λ u. u == t) ended ≡ x → (f : Option Active) → find nat_cmp t es ≡ f → (l : Bool) → nat_le 64 (length es) ≡ l
-    → refusal_of (record { map = m; locks = h; ended = ended; active = es }) t o ≡ cond x (Some Ended) (refused_by f l o)
-refusal_is m h ended es t o x hx f hf l hl =
-    chain (list_any (λ u. u == t) ended) (find nat_cmp t es) (nat_le 64 (length es)) o ∙ ap (λ y. cond y (Some Ended) (refused_by (find nat_cmp t es) (nat_le 64 (length es)) o)) hx
-    ∙ ap (λ g. cond x (Some Ended) (refused_by g (nat_le 64 (length es)) o)) hf ∙ ap (λ k. cond x (Some Ended) (refused_by f k o)) hl
+pub refusal_is : (p : Protocol) (m : Map) (h : Locks) (ended : List ℕ) (es : List (ℕ × Active)) (t : ℕ) (o : Op) → (x : Bool) → list_any (λ u. u == t) ended ≡ x → (f : Option Active) → find nat_cmp t es ≡ f → (l : Bool) → nat_le 64 (length es) ≡ l
+    → refusal_of p (record { map = m; locks = h; ended = ended; active = es }) t o ≡ cond x (Some Ended) (refused_by p.updates f l o)
+refusal_is p m h ended es t o x hx f hf l hl =
+    chain p.updates (list_any (λ u. u == t) ended) (find nat_cmp t es) (nat_le 64 (length es)) o ∙ ap (λ y. cond y (Some Ended) (refused_by p.updates (find nat_cmp t es) (nat_le 64 (length es)) o)) hx
+    ∙ ap (λ g. cond x (Some Ended) (refused_by p.updates g (nat_le 64 (length es)) o)) hf ∙ ap (λ k. cond x (Some Ended) (refused_by p.updates f k o)) hl
 
 -- To go on where no scan is in progress is refused.
-go_needs_scan : (x y : Bool) (c : Option Scan) → cond x (Some Ended) (cond y (Some Full) (refusal_in (is_some c) op.Go)) ≡ None → c ≡ None → ⊥
-go_needs_scan true y c h e = cc
-go_needs_scan false true c h e = cc
-go_needs_scan false false None h e = cc
-go_needs_scan false false (Some c) h e = cc
+go_needs_scan : (v x y z w : Bool) (c : Option Scan) → cond x (Some Ended) (cond y (Some Full) (refusal_in v z (is_some c) w op.Go)) ≡ None → c ≡ None → ⊥
+go_needs_scan v true y z w c h e = cc
+go_needs_scan v false true z w c h e = cc
+go_needs_scan v false false true w c h e = cc
+go_needs_scan v false false false w None h e = cc
+go_needs_scan v false false false w (Some c) h e = cc
 
-module _ (p : Protocol) (s : State) (t : ℕ) (o : Op) (allowed : refusal_of s t o ≡ None) where
+module _ (p : Protocol) (s : State) (t : ℕ) (o : Op) (allowed : refusal_of p s t o ≡ None) where
   performs : step p s t o ≡ performed p s t o
   performs = ap (unless_refused p s t o) allowed
 
@@ -62,14 +68,16 @@ module _ (p : Protocol) (s : State) (t : ℕ) (o : Op) (allowed : refusal_of s t
   by_look None some = absurd (some refl)
   by_look (Some c) some = refl
 
-  by_attempt : (o : Op) → IsAttempt o → refusal_of s t o ≡ None → performed p s t o ≡ granted_or_blocked p s t (asked (attempt_of s.map (standing s t).scan o)) (effect_of s.map (standing s t) o) (blockers p s.locks t (asked (attempt_of s.map (standing s t).scan o)))
+  by_attempt : (o : Op) → IsAttempt o → refusal_of p s t o ≡ None → performed p s t o ≡ granted_or_blocked p s t (asked (attempt_of s.map (standing s t).scan o)) (effect_of s.map (standing s t) o) (blockers p s.locks t (asked (attempt_of s.map (standing s t).scan o)))
   by_attempt (op.Fetch k) is allowed = refl
   by_attempt (op.Insert k v) is allowed = refl
   by_attempt (op.Delete k) is allowed = refl
+  by_attempt (op.Update k v) is allowed = refl
   by_attempt (op.Scan lo hi) is allowed = refl
-  by_attempt op.Go is allowed = by_look (standing s t).scan (go_needs_scan (list_any (λ u. u == t) s.ended) (is_full s t) (standing s t).scan allowed)
+  by_attempt op.Go is allowed = by_look (standing s t).scan (go_needs_scan p.updates (list_any (λ u. u == t) s.ended) (is_full s t) (is_rolling s t) (has_nothing_left s t) (standing s t).scan allowed)
   by_attempt op.Commit is allowed = absurd is
   by_attempt op.Abort is allowed = absurd is
+  by_attempt op.Back is allowed = absurd is
 
   -- Where no refusal applies, an attempt is granted or blocked.
   pub attempts : IsAttempt o → step p s t o ≡ granted_or_blocked p s t (asked (attempt_of s.map (standing s t).scan o)) (effect_of s.map (standing s t) o) (blockers p s.locks t (asked (attempt_of s.map (standing s t).scan o)))
@@ -88,10 +96,12 @@ pub row_of_plan : (p : Protocol) (m : Map) (h : Locks) (t : ℕ) (c : Option Sca
 row_of_plan p m h t c (op.Fetch k) plan is = ap (λ (x : Plan). x.row) is ∙ row_by (is_some (get m k)) (access row.FetchHit (Some (Key k)) None) (access row.FetchMiss None (Some (at m k)))
 row_of_plan p m h t c (op.Insert k v) plan is = ap (λ (x : Plan). x.row) is ∙ row_by (is_some (get m k)) (access row.FetchHit (Some (Key k)) None) (access row.Insert (Some (Key k)) (Some (at m k)))
 row_of_plan p m h t c (op.Delete k) plan is = ap (λ (x : Plan). x.row) is ∙ row_by (is_some (get m k)) (access row.Delete (Some (Key k)) (Some (after m k))) (access row.FetchMiss None (Some (at m k)))
+row_of_plan p m h t c (op.Update k v) plan is = ap (λ (x : Plan). x.row) is ∙ row_by (is_some (get m k)) (access row.Update (Some (Key k)) None) (access row.FetchMiss None (Some (at m k)))
 row_of_plan p m h t c (op.Scan lo hi) plan is = tt
 row_of_plan p m h t c op.Go plan is = tt
 row_of_plan p m h t c op.Commit plan is = tt
 row_of_plan p m h t c op.Abort plan is = tt
+row_of_plan p m h t c op.Back plan is = tt
 
 -- Where the row of an insert isn't insert, it changes nothing, and where it is, the key is absent.
 pub insert_kept : (m : Map) (a : Active) (k v : ℕ) (r : Row) → IsRowOf m (op.Insert k v) r → (r ≡ row.Insert → ⊥) → inserted m a k v (get m k) ≡ effect reply.Duplicate m a
@@ -119,6 +129,17 @@ delete_kept m a k r is n = by (get m k) is
 pub delete_missed : (m : Map) (a : Active) (k : ℕ) → IsRowOf m (op.Delete k) row.FetchMiss → deleted m a k (get m k) ≡ effect reply.Absent m a
 delete_missed m a k is = delete_kept m a k row.FetchMiss is (λ e. cc)
 
+-- Where the row of an update isn't update, it changes nothing.
+pub update_kept : (m : Map) (a : Active) (k v : ℕ) (r : Row) → IsRowOf m (op.Update k v) r → (r ≡ row.Update → ⊥) → updated m a k v (get m k) ≡ effect reply.Absent m a
+update_kept m a k v r is n = by (get m k) is
+  where
+    by : (g : Option ℕ) → r ≡ cond (is_some g) row.Update row.FetchMiss → updated m a k v g ≡ effect reply.Absent m a
+    by None e = refl
+    by (Some w) e = absurd (n e)
+
+pub update_missed : (m : Map) (a : Active) (k v : ℕ) → IsRowOf m (op.Update k v) row.FetchMiss → updated m a k v (get m k) ≡ effect reply.Absent m a
+update_missed m a k v is = update_kept m a k v row.FetchMiss is (λ e. cc)
+
 -- A fetch whose row is fetch miss finds nothing.
 pub fetch_missed : (m : Map) (a : Active) (k : ℕ) → IsRowOf m (op.Fetch k) row.FetchMiss → fetched m a (get m k) ≡ effect reply.None m a
 fetch_missed m a k is = by (get m k) is
@@ -138,6 +159,10 @@ insert_reply m a b k v (Some w) = refl
 delete_reply : (m : Map) (a b : Active) (k : ℕ) (g : Option ℕ) → (deleted m a k g).reply ≡ (deleted m b k g).reply
 delete_reply m a b k None = refl
 delete_reply m a b k (Some w) = refl
+
+update_reply : (m : Map) (a b : Active) (k v : ℕ) (g : Option ℕ) → (updated m a k v g).reply ≡ (updated m b k v g).reply
+update_reply m a b k v None = refl
+update_reply m a b k v (Some w) = refl
 
 read_reply : (m : Map) (a b : Active) (l n hi k v : ℕ) (rows : List (ℕ × ℕ)) (x : Bool) → k == hi ≡ x → (row_read m a (record { lo = l; hi = hi; rows = rows }) k v).reply ≡ (row_read m b (record { lo = n; hi = hi; rows = rows }) k v).reply
 read_reply m a b l n hi k v rows true e = rw e refl
@@ -161,13 +186,15 @@ pub reply_same : (m : Map) (a b : Active) (o : Op) → a.scan ≡ b.scan → (ef
 reply_same m a b (op.Fetch k) e = fetch_reply m a b (get m k)
 reply_same m a b (op.Insert k v) e = insert_reply m a b k v (get m k)
 reply_same m a b (op.Delete k) e = delete_reply m a b k (get m k)
+reply_same m a b (op.Update k v) e = update_reply m a b k v (get m k)
 reply_same m a b (op.Scan lo hi) e = scan_reply m a b (Some (begun lo hi))
 reply_same m a b op.Go e = scan_reply m a b a.scan ∙ ap (λ c. (look_effect m b c).reply) e
 reply_same m a b op.Commit e = refl
 reply_same m a b op.Abort e = refl
+reply_same m a b op.Back e = refl
 
 -- The reply of a granted attempt, by the scan in progress.
-pub granted_reply : (p : Protocol) (s : State) (t : ℕ) (o : Op) (plan : Plan) (b : Active) → IsAttempt o → refusal_of s t o ≡ None → plan ≡ plan_of p s.map s.locks t (attempt_of s.map (standing s t).scan o) → blockers p s.locks t (requests plan) ≡ [] → b.scan ≡ (standing s t).scan → (effect_of s.map b o).reply ≡ (step p s t o).0
+pub granted_reply : (p : Protocol) (s : State) (t : ℕ) (o : Op) (plan : Plan) (b : Active) → IsAttempt o → refusal_of p s t o ≡ None → plan ≡ plan_of p s.map s.locks t (attempt_of s.map (standing s t).scan o) → blockers p s.locks t (requests plan) ≡ [] → b.scan ≡ (standing s t).scan → (effect_of s.map b o).reply ≡ (step p s t o).0
 granted_reply p s t o plan b is allowed is_plan none same =
     reply_same s.map b (standing s t) o same
     ∙ sym (ap (λ (x : Outcome). x.0) (granted_step p s t o allowed is (ap (λ pl. blockers p s.locks t (requests pl)) (sym is_plan) ∙ none)))
@@ -176,14 +203,16 @@ after_attempt : (m : Map) (real : Locks) (ended : List ℕ) (es : List (ℕ × A
 after_attempt m real ended es t a (op.Fetch k) is = refl
 after_attempt m real ended es t a (op.Insert k v) is = refl
 after_attempt m real ended es t a (op.Delete k) is = refl
+after_attempt m real ended es t a (op.Update k v) is = refl
 after_attempt m real ended es t a op.Commit is = absurd is
 after_attempt m real ended es t a op.Abort is = absurd is
+after_attempt m real ended es t a op.Back is = absurd is
 after_attempt m real ended es t a op.Go is = refl
 after_attempt m real ended es t a (op.Scan lo hi) is = refl
 
 -- The state after a granted attempt, by what the machine has taken for it.
 pub stepped_attempt : (p : Protocol) (m : Map) (h real : Locks) (ended : List ℕ) (es rest : List (ℕ × Active)) (t : ℕ) (o : Op) (a : Active) (plan : Plan) → IsAttempt o
-    → refusal_of (record { map = m; locks = h; ended = ended; active = es }) t o ≡ None
+    → refusal_of p (record { map = m; locks = h; ended = ended; active = es }) t o ≡ None
     → plan ≡ plan_of p m h t (attempt_of m (unwrap_or (find nat_cmp t es) idle).scan o) → blockers p h t (requests plan) ≡ [] → real ≡ kept p h t (requests plan)
     → a ≡ unwrap_or (find nat_cmp t es) idle → ((x : Active) → put nat_cmp t x rest ≡ put nat_cmp t x es)
     → ◌≡◌ {A = State} (let o' = step p (record { map = m; locks = h; ended = ended; active = es }) t o in o'.1) (after_op m real ended rest t a o)
@@ -198,7 +227,7 @@ stepped_attempt p m h real ended es rest t o a plan is allowed is_plan none is_r
 
 -- The state after the end of a transaction, by what the machine has taken for it.
 pub stepped_end : (p : Protocol) (m : Map) (h : Locks) (ended : List ℕ) (es : List (ℕ × Active)) (t : ℕ) (a : Active) (o : Op) → IsEnd o
-    → refusal_of (record { map = m; locks = h; ended = ended; active = es }) t o ≡ None → a ≡ unwrap_or (find nat_cmp t es) idle
+    → refusal_of p (record { map = m; locks = h; ended = ended; active = es }) t o ≡ None → a ≡ unwrap_or (find nat_cmp t es) idle
     → ◌≡◌ {A = State} (let o' = step p (record { map = m; locks = h; ended = ended; active = es }) t o in o'.1) (after_op m h ended (filter (λ e. not (e.0 == t)) es) t a o)
 stepped_end p m h ended es t a op.Commit is allowed is_a = ap (λ (x : Outcome). x.1) (performs p (record { map = m; locks = h; ended = ended; active = es }) t op.Commit allowed)
 stepped_end p m h ended es t a op.Abort is allowed is_a =
@@ -206,17 +235,21 @@ stepped_end p m h ended es t a op.Abort is allowed is_a =
 stepped_end p m h ended es t a (op.Fetch k) is allowed is_a = absurd is
 stepped_end p m h ended es t a (op.Insert k v) is allowed is_a = absurd is
 stepped_end p m h ended es t a (op.Delete k) is allowed is_a = absurd is
+stepped_end p m h ended es t a (op.Update k v) is allowed is_a = absurd is
 stepped_end p m h ended es t a op.Go is allowed is_a = absurd is
+stepped_end p m h ended es t a op.Back is allowed is_a = absurd is
 stepped_end p m h ended es t a (op.Scan lo hi) is allowed is_a = absurd is
 
 -- What the end of a transaction answers.
-pub end_answers : (p : Protocol) (s : State) (t : ℕ) (o : Op) → IsEnd o → refusal_of s t o ≡ None → end_reply o ≡ (step p s t o).0
+pub end_answers : (p : Protocol) (s : State) (t : ℕ) (o : Op) → IsEnd o → refusal_of p s t o ≡ None → end_reply o ≡ (step p s t o).0
 end_answers p s t op.Commit is allowed = sym (ap (λ (x : Outcome). x.0) (performs p s t op.Commit allowed))
 end_answers p s t op.Abort is allowed = sym (ap (λ (x : Outcome). x.0) (performs p s t op.Abort allowed))
 end_answers p s t (op.Fetch k) is allowed = absurd is
 end_answers p s t (op.Insert k v) is allowed = absurd is
 end_answers p s t (op.Delete k) is allowed = absurd is
+end_answers p s t (op.Update k v) is allowed = absurd is
 end_answers p s t op.Go is allowed = absurd is
+end_answers p s t op.Back is allowed = absurd is
 end_answers p s t (op.Scan lo hi) is allowed = absurd is
 
 blocked_by : (p : Protocol) (s : State) (t : ℕ) (rs : List Request) (e : Effect) (us : List ℕ) → (us ≡ [] → ⊥) → granted_or_blocked p s t rs e us ≡ (reply.Blocked us, s)
@@ -224,7 +257,7 @@ blocked_by p s t rs e [] h = absurd (h refl)
 blocked_by p s t rs e (u ∷ us) h = refl
 
 -- An attempt that somebody blocks answers who, and leaves the state.
-pub blocked_step : (p : Protocol) (s : State) (t : ℕ) (o : Op) (plan : Plan) (us : List ℕ) → IsAttempt o → refusal_of s t o ≡ None → plan ≡ plan_of p s.map s.locks t (attempt_of s.map (standing s t).scan o) → us ≡ blockers p s.locks t (requests plan) → (blockers p s.locks t (requests plan) ≡ [] → ⊥) → ◌≡◌ {A = Outcome} (reply.Blocked us, s) (step p s t o)
+pub blocked_step : (p : Protocol) (s : State) (t : ℕ) (o : Op) (plan : Plan) (us : List ℕ) → IsAttempt o → refusal_of p s t o ≡ None → plan ≡ plan_of p s.map s.locks t (attempt_of s.map (standing s t).scan o) → us ≡ blockers p s.locks t (requests plan) → (blockers p s.locks t (requests plan) ≡ [] → ⊥) → ◌≡◌ {A = Outcome} (reply.Blocked us, s) (step p s t o)
 blocked_step p s t o plan us is allowed is_plan is_us some =
     let here = ap (λ pl. blockers p s.locks t (requests pl)) is_plan in
     ap (λ l. (reply.Blocked l, s)) (is_us ∙ here)
@@ -235,7 +268,80 @@ pub scanning : (c : Option txn.Scan) → is_some (option_map scan_of c) ≡ is_s
 scanning None = refl
 scanning (Some c) = refl
 
+empty_by_length : (cs : Changes) → (length cs == 0) ≡ is_empty cs
+empty_by_length [] = refl
+empty_by_length (c ∷ cs) = some (length cs)
+  where
+    some : (n : ℕ) → (suc n == 0) ≡ false
+    some n = grind (arith, nat_tests)
+
+-- How many changes a transaction has.
+pub change_length : (v : Vec (ℕ × Option ℕ) Global) → vec_len v ≡ length v.items
+change_length v = omega arith
+
+-- A transaction without changes is one for the definitions too.
+pub unchanged : (v : Vec (ℕ × Option ℕ) Global) → (vec_len v == 0) ≡ is_empty (reverse v.items)
+unchanged v = ap (λ n. n == 0) (change_length v ∙ sym (length-reverse v.items)) ∙ empty_by_length (reverse v.items)
+
 -- A choice is empty where what is made of it is.
 pub nothing_open : {A B : Type 0} (f : A → B) (o : Option A) → option_map f o ≡ None → o ≡ None
 nothing_open f None h = refl
 nothing_open f (Some a) h = cc
+
+-- A change taken back --
+
+-- A back that isn't refused has a change to take back.
+back_needs_change : (v x y z w u : Bool) → cond x (Some Ended) (cond y (Some Full) (refusal_in v z w u op.Back)) ≡ None → u ≡ false
+back_needs_change v true y z w u h = absurd (cc)
+back_needs_change v false true z w u h = absurd (cc)
+back_needs_change v false false z w false h = refl
+back_needs_change v false false true true true h = absurd (cc)
+back_needs_change v false false true false true h = absurd (cc)
+back_needs_change v false false false true true h = absurd (cc)
+back_needs_change v false false false false true h = absurd (cc)
+
+one_fewer : (n : ℕ) → suc n - 1 ≡ n
+one_fewer n = omega arith
+
+some_length : (cs : Changes) → is_empty cs ≡ false → 0 < length cs
+some_length [] h = absurd (cc)
+some_length (c ∷ cs) h = omega arith
+
+back_state : (s : State) (t : ℕ) (cs : Changes) → is_empty cs ≡ false
+    → ◌≡◌ {A = State} (let o = one_taken_back s t cs in o.1) (record { map = map_back s.map cs; locks = s.locks; ended = s.ended; active = put nat_cmp t (record { scan = None; changes = changes_back cs; rolling = true }) s.active })
+back_state s t [] h = absurd (cc)
+back_state s t (c ∷ cs) h = refl
+
+back_answer : (s : State) (t : ℕ) (cs : Changes) → is_empty cs ≡ false → (let o = one_taken_back s t cs in o.0) ≡ reply.Undone (length cs - 1)
+back_answer s t [] h = absurd (cc)
+back_answer s t (c ∷ cs) h = ap (λ n. reply.Undone n) (sym (one_fewer (length cs)))
+
+module _ (p : Protocol) (m : Map) (h : Locks) (ended : List ℕ) (es : List (ℕ × Active)) (t : ℕ) (allowed : refusal_of p (record { map = m; locks = h; ended = ended; active = es }) t op.Back ≡ None) where
+  abbrev here : State
+  here = record { map = m; locks = h; ended = ended; active = es }
+
+  some_change : is_empty (standing here t).changes ≡ false
+  some_change = back_needs_change p.updates (list_any (λ u. u == t) ended) (is_full here t) (is_rolling here t) (is_some (standing here t).scan) (is_empty (standing here t).changes) allowed
+
+  -- So its transaction is active, and has changes.
+  pub back_is_active : find nat_cmp t es ≡ None → ⊥
+  back_is_active none = true_false (ap (λ o. is_empty (unwrap_or o idle).changes) (sym none) ∙ some_change)
+    where
+      true_false : true ≡ false → ⊥
+      true_false e = cc
+
+  pub back_has_changes : (cs : Changes) → reverse cs ≡ (standing here t).changes → 0 < length cs
+  back_has_changes cs is = let some = some_length (reverse cs) (ap is_empty is ∙ some_change) in let same = length-reverse cs in omega (arith, some, same)
+
+  -- Its answer, and the state after it, by what the machine has taken for it.
+  pub back_answers : (cs : Changes) → reverse cs ≡ (standing here t).changes → (step p here t op.Back).0 ≡ reply.Undone (length cs - 1)
+  back_answers cs is =
+      ap (λ (x : Outcome). x.0) (performs p here t op.Back allowed) ∙ back_answer here t (standing here t).changes some_change
+      ∙ ap (λ n. reply.Undone (n - 1)) (sym (ap (λ l. length l) is) ∙ length-reverse cs)
+
+  pub stepped_back : (rest : List (ℕ × Active)) (a : Active) → a ≡ unwrap_or (find nat_cmp t es) idle → ((x : Active) → put nat_cmp t x rest ≡ put nat_cmp t x es)
+      → ◌≡◌ {A = State} (let o = step p here t op.Back in o.1) (after_op m h ended rest t a op.Back)
+  stepped_back rest a is_a put_same =
+      ap (λ (x : Outcome). x.1) (performs p here t op.Back allowed) ∙ back_state here t (standing here t).changes some_change
+      ∙ ap (λ ts. record { map = map_back m (standing here t).changes; locks = h; ended = ended; active = ts }) (sym (put_same (standing_back (standing here t))))
+      ∙ ap (λ b. after_op m h ended rest t b op.Back) (sym is_a)

@@ -40,8 +40,9 @@ pub record IsLogged (p : Protocol) (s : State) (pending : Option Event) (l : Log
   pub same : (t : ℕ) → is_some (find nat_cmp t l.log.unfinished) ≡ is_some (active_of s t)
   pub noted : IfSome pending (IsDue p s l due)
 
--- This reply to an operation may be kept for the log: one that ends an active transaction needs no room.
+-- This reply to an operation may be kept for the log: one that ends an active transaction needs no room, nor does a change taken back.
 abbrev pub MayKeep : LogWithRoom → Op → Bool → ℕ → Reply → Type 0
 MayKeep l op.Commit is_active t a = (a ≡ reply.Committed) × (IsTrue is_active → IsNoted l t)
 MayKeep l op.Abort is_active t a = (a ≡ reply.Aborted) × (IsTrue is_active → IsNoted l t)
+MayKeep l op.Back is_active t a = (left : ℕ) × (a ≡ reply.Undone left)
 MayKeep l _ is_active t a = Unit {0}

@@ -1,14 +1,14 @@
 -- What a step that has its memory keeps in the machine, and what contracts see of the state meanwhile.
-use Rattle.std.specs.Prelude.{◌≡◌, ◌≢◌, ℕ, ◌+◌, ◌<◌, ◌≤◌, List, [], Option, Some, None, IfSome, IsTrue, Bool, not, ◌&&◌, if◌then◌else◌, is_some, Vec}
+use Rattle.std.specs.Prelude.{◌≡◌, ◌≢◌, ℕ, ◌+◌, ◌<◌, ◌≤◌, List, [], ◌∷◌, true, Option, Some, None, IfSome, IsTrue, Bool, not, ◌&&◌, if◌then◌else◌, is_some, Vec}
 use Rattle.std.specs.Vec.{vec_len, vec_capacity}
 use Rattle.std.specs.declared.alloc.Global.{Global}
 use Rattle.std.specs.Ordering.{nat_cmp}
 use Rattle.std.specs.FinMap.{find, put}
 use Rattle.kr_model.specs.Protocol.{Protocol}
-use Rattle.kr_model.specs.Map.{Map, get, restore_all}
+use Rattle.kr_model.specs.Map.{Map, Changes, get, restore, restore_all}
 use Rattle.kr_model.specs.Locks.{Locks, Request, IsLocks, own, keep_or_drop, release, add_once, AreWithin, HasNoNone}
 use Rattle.kr_model.specs.State.{State, Active, Scan}
-use Rattle.kr_model.specs.Step.{Effect, effect, fetched, inserted, deleted, looked, name_to_look, goes_on, is_go, is_bad_range, step}
+use Rattle.kr_model.specs.Step.{Effect, effect, fetched, inserted, deleted, updated, looked, name_to_look, takes_back, goes_on, is_go, is_bad_range, is_update, is_back, step}
 use Rattle.kr_model.specs.declared.Name.{Name}
 use Rattle.kr_model.specs.declared.Span.{Span}
 use Rattle.kr_model.specs.declared.Span.TheVariants as span
@@ -33,6 +33,7 @@ abbrev pub IsOfOneKey : Op → Type 0
 IsOfOneKey (op.Fetch k) = Unit {0}
 IsOfOneKey (op.Insert k v) = Unit {0}
 IsOfOneKey (op.Delete k) = Unit {0}
+IsOfOneKey (op.Update k v) = Unit {0}
 IsOfOneKey _ = ⊥
 
 -- The operations that make one attempt at the index.
@@ -40,6 +41,7 @@ abbrev pub IsAttempt : Op → Type 0
 IsAttempt (op.Fetch k) = Unit {0}
 IsAttempt (op.Insert k v) = Unit {0}
 IsAttempt (op.Delete k) = Unit {0}
+IsAttempt (op.Update k v) = Unit {0}
 IsAttempt (op.Scan lo hi) = Unit {0}
 IsAttempt op.Go = Unit {0}
 IsAttempt _ = ⊥
@@ -49,6 +51,7 @@ abbrev pub IsRowOf : Map → Op → Row → Type 0
 IsRowOf m (op.Fetch k) r = r ≡ (if is_some (get m k) then row.FetchHit else row.FetchMiss)
 IsRowOf m (op.Insert k v) r = r ≡ (if is_some (get m k) then row.FetchHit else row.Insert)
 IsRowOf m (op.Delete k) r = r ≡ (if is_some (get m k) then row.Delete else row.FetchMiss)
+IsRowOf m (op.Update k v) r = r ≡ (if is_some (get m k) then row.Update else row.FetchMiss)
 IsRowOf m _ r = Unit {0}
 
 -- The operations that end their transaction.
@@ -62,13 +65,19 @@ abbrev pub end_reply : Op → Reply
 end_reply op.Abort = reply.Aborted
 end_reply _ = reply.Committed
 
--- The refusal of an operation whose transaction has not ended and may be active, by whether a scan is in progress.
-abbrev pub refusal_in : Bool → Op → Option Refusal
-refusal_in scanning o =
+-- The refusal of an operation whose transaction has not ended, may be active and doesn't roll back, by whether updates are offered, whether a scan is in progress, and whether no change is left.
+abbrev pub scan_refusal : Bool → Bool → Bool → Op → Option Refusal
+scan_refusal updates scanning unchanged o =
     if scanning && not (goes_on o) then Some refusal.Busy
     else if not scanning && is_go o then Some refusal.NoScan
     else if is_bad_range o then Some refusal.BadRange
+    else if is_update o && not updates then Some refusal.NoUpdate
+    else if unchanged && is_back o then Some refusal.NothingLeft
     else None
+
+-- The same, by whether the transaction rolls back too.
+abbrev pub refusal_in : Bool → Bool → Bool → Bool → Op → Option Refusal
+refusal_in updates rolling scanning unchanged o = if rolling && not (takes_back o) then Some refusal.RollingBack else scan_refusal updates scanning unchanged o
 
 -- A scan that begins.
 abbrev pub begun : ℕ → ℕ → Scan
@@ -84,6 +93,7 @@ abbrev pub attempt_of : Map → Option Scan → Op → Step
 attempt_of m c (op.Fetch k) = attempt.Fetch k
 attempt_of m c (op.Insert k v) = attempt.Insert k
 attempt_of m c (op.Delete k) = attempt.Delete k
+attempt_of m c (op.Update k v) = attempt.Update k
 attempt_of m c (op.Scan lo hi) = look_of m (Some (begun lo hi))
 attempt_of m c op.Go = look_of m c
 attempt_of m c _ = attempt.Fetch 0
@@ -98,14 +108,30 @@ abbrev pub effect_of : Map → Active → Op → Effect
 effect_of m a (op.Fetch k) = fetched m a (get m k)
 effect_of m a (op.Insert k v) = inserted m a k v (get m k)
 effect_of m a (op.Delete k) = deleted m a k (get m k)
+effect_of m a (op.Update k v) = updated m a k v (get m k)
 effect_of m a (op.Scan lo hi) = look_effect m a (Some (begun lo hi))
 effect_of m a op.Go = look_effect m a a.scan
 effect_of m a _ = effect reply.None m a
+
+-- The index with the newest of these changes taken back.
+abbrev pub map_back : Map → Changes → Map
+map_back m [] = m
+map_back m (c ∷ cs) = restore m c.0 c.1
+
+-- The changes without the newest.
+abbrev pub changes_back : Changes → Changes
+changes_back [] = []
+changes_back (c ∷ cs) = cs
+
+-- A transaction after its newest change was taken back.
+abbrev pub standing_back : Active → Active
+standing_back a = record { scan = None; changes = changes_back a.changes; rolling = true }
 
 -- The state after an operation of t, who stands as a says, where es are the other transactions.
 abbrev pub after_op : Map → Locks → List ℕ → List (ℕ × Active) → ℕ → Active → Op → State
 after_op m real ended es t a op.Commit = record { map = m; locks = release real t; ended = add_once t ended; active = es }
 after_op m real ended es t a op.Abort = record { map = restore_all m a.changes; locks = release real t; ended = add_once t ended; active = es }
+after_op m real ended es t a op.Back = record { map = map_back m a.changes; locks = real; ended = ended; active = put nat_cmp t (standing_back a) es }
 after_op m real ended es t a o = let e = effect_of m a o in record { map = e.map; locks = real; ended = ended; active = put nat_cmp t e.standing es }
 
 -- The locks before a mode of t was kept on n for this span, where t had the mode `was` there.
@@ -157,6 +183,7 @@ HasFirstRoom rows o = Unit {0}
 abbrev pub HasRoom : Vec Standing Global → Standing → Vec (ℕ × ℕ) Global → Op → Type 0
 HasRoom active s rows op.Commit = Unit {0}
 HasRoom active s rows op.Abort = Unit {0}
+HasRoom active s rows op.Back = vec_len active < vec_capacity active
 HasRoom active s rows o = (vec_len active < vec_capacity active) × (HasRoomIn s o × HasFirstRoom rows o)
 
 -- A pending step is granted, and has all its memory.

@@ -16,10 +16,11 @@ changes_of cs q = count_by (λ c. q == c.0) cs
 abbrev pub all_changes_of : List (ℕ × Active) → ℕ → ℕ
 all_changes_of es q = sum_by (λ e. changes_of e.1.changes q) es
 
--- The key that an operation changes, by the row of its attempt: an insert of an absent key changes it, and a delete of a present one.
+-- The key that an operation changes, by the row of its attempt: an insert of an absent key changes it, and a delete or an update of a present one.
 abbrev pub changed_key : Op → Row → Option ℕ
 changed_key (op.Insert k v) row.Insert = Some k
 changed_key (op.Delete k) row.Delete = Some k
+changed_key (op.Update k v) row.Update = Some k
 changed_key _ _ = None
 
 -- One pin of this key, where there is one.

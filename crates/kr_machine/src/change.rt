@@ -1,13 +1,13 @@
 //! What a granted operation does to the index and its transaction.
-ghost use Rattle.std.specs.Prelude.{◌≡◌, true, ℕ, ◌+◌, ◌-◌, ◌<◌, ◌≤◌, Some, IsOk, OnOk, OnErr, IfOk, vec_len, vec_capacity, option_map, option_copied, []};
+ghost use Rattle.std.specs.Prelude.{◌≡◌, true, false, ℕ, ◌+◌, ◌-◌, ◌<◌, ◌≤◌, Some, IsOk, OnOk, OnErr, IfOk, vec_len, vec_capacity, option_map, option_copied, []};
 ghost use Rattle.kr_model.specs.declared.Name.{Name};
 ghost use Rattle.kr_model.specs.declared.Step.TheVariants as step_is;
 ghost use Rattle.kr_model.specs.Map.{get, restore_all};
 ghost use Rattle.kr_model.specs.State.{idle};
-ghost use Rattle.kr_model.specs.Step.{Effect, fetched, deleted};
+ghost use Rattle.kr_model.specs.Step.{Effect, fetched, deleted, updated};
 ghost use Rattle.kr_model.specs.Run.{is_granted};
 ghost use Rattle.kr_txn.specs.Standings.{active_of, scan_of};
-ghost use Rattle.kr_machine.specs.Pending.{IsAttempt, IsOfOneKey, IsRowOf, IsEnd, HasRoomIn, HasFirstRoom, end_reply, attempt_of, effect_of};
+ghost use Rattle.kr_machine.specs.Pending.{IsAttempt, IsOfOneKey, IsRowOf, IsEnd, HasRoomIn, HasFirstRoom, end_reply, attempt_of, effect_of, map_back, standing_back};
 ghost use Rattle.kr_machine.specs.Pins.{changed_key, changes_of, taken_pins};
 
 use crate::scans;
@@ -24,23 +24,25 @@ pub(crate) fn attempt_of<I: Ordered>(index: &I, scan: Option<&Scan>, op: Op) -> 
         Op::Fetch(key) => Step::Fetch(key),
         Op::Insert(key, _) => Step::Insert(key),
         Op::Delete(key) => Step::Delete(key),
+        Op::Update(key, _) => Step::Update(key),
         Op::Scan(lo, hi) => Step::Look(index.at(lo), hi),
         Op::Go => match scan {
             Some(scan) => Step::Look(scans::name_to_look(index, scan), scan.hi),
             None => Step::Fetch(0),
         },
-        Op::Commit | Op::Abort => Step::Fetch(0),
+        Op::Commit | Op::Abort | Op::Back => Step::Fetch(0),
     }
 }
 
 /// The key that an operation changes, by the row of its attempt: that of an insert where it is absent, and that of a
-/// delete where it is present.
+/// delete or an update where it is present.
 fn changed_key(op: Op, row: Row) -> Option<u64>
     ensures { result ≡ changed_key op row }
 {
     match (op, row) {
         (Op::Insert(key, _), Row::Insert) => Some(key),
         (Op::Delete(key), Row::Delete) => Some(key),
+        (Op::Update(key, _), Row::Update) => Some(key),
         (_, _) => None,
     }
 }
@@ -94,9 +96,13 @@ pub(crate) fn perform<I: Ordered>(
             scans::begin(index, standing, Scan { lo, hi, rows })
         }
         Op::Go => scans::go_on(index, standing),
-        Op::Fetch(_) | Op::Insert(_, _) | Op::Delete(_) | Op::Commit | Op::Abort => {
-            change(index, standing, op, row)
-        }
+        Op::Fetch(_)
+        | Op::Insert(_, _)
+        | Op::Delete(_)
+        | Op::Update(_, _)
+        | Op::Commit
+        | Op::Abort
+        | Op::Back => change(index, standing, op, row),
     }
 }
 
@@ -119,6 +125,13 @@ fn change<I: Ordered>(index: &mut I, standing: Standing, op: Op, row: Row) -> St
         }
         (Op::Delete(key), Row::Delete) => match index.take(key) {
             Some(value) => standing.changes.push_reserved((key, Some(value))),
+            None => index.unpin(key),
+        },
+        (Op::Update(key, value), Row::Update) => match index.get(key) {
+            Some(old) => {
+                index.put(key, value);
+                standing.changes.push_reserved((key, Some(old)));
+            }
             None => index.unpin(key),
         },
         (_, _) => {}
@@ -156,13 +169,46 @@ pub(crate) fn undo<I: Ordered>(index: &mut I, standing: Standing)
     }
 }
 
+/// Takes the newest change of a transaction back, and gives up its pin; the transaction rolls back from then on, and its
+/// scan in progress is dropped. Takes no memory.
+pub(crate) fn take_back<I: Ordered>(index: &mut I, standing: Standing) -> Standing
+    requires { (q : ℕ) → changes_of (active_of standing).changes q ≤ I.pins index.old q }
+    ensures map { I.map index.new ≡ map_back (I.map index.old) (active_of standing).changes }
+    ensures pins { (q : ℕ) → I.pins index.new q + changes_of (active_of standing).changes q ≡ I.pins index.old q + changes_of (active_of result).changes q }
+    ensures txn { result.txn ≡ standing.txn }
+    ensures standing { active_of result ≡ standing_back (active_of standing) }
+{
+    let Standing {
+        txn,
+        scan: _,
+        changes,
+        rolling: _,
+    } = standing;
+    let mut changes = changes;
+    if let Some((key, before)) = changes.pop() {
+        match before {
+            Some(value) => index.put(key, value),
+            None => {
+                let _ = index.take(key);
+            }
+        }
+        index.unpin(key);
+    }
+    Standing {
+        txn,
+        scan: None,
+        changes,
+        rolling: true,
+    }
+}
+
 /// The name that an attempt looks at for a scan; `End` for any other attempt.
 fn looked_at(attempt: Step) -> Name
     ensures { (name : Name) (hi : ℕ) → attempt ≡ step_is.Look name hi → result ≡ name }
 {
     match attempt {
         Step::Look(name, _) => name,
-        Step::Fetch(_) | Step::Insert(_) | Step::Delete(_) => Name::End,
+        Step::Fetch(_) | Step::Insert(_) | Step::Delete(_) | Step::Update(_) => Name::End,
     }
 }
 
@@ -188,6 +234,17 @@ fn deleted<I: Ordered>(index: &I, key: u64) -> Reply
     }
 }
 
+/// What an update answers, whatever value it writes.
+fn updated<I: Ordered>(index: &I, key: u64) -> Reply
+    ensures reply { (value : ℕ) → result ≡ (updated (I.map index.now) idle key value (get (I.map index.now) key)).reply }
+    ensures granted { is_granted result ≡ true }
+{
+    match index.get(key) {
+        Some(old) => Reply::Updated(old),
+        None => Reply::Absent,
+    }
+}
+
 /// What an operation answers where it is granted, by the scan in progress, its attempt and the row of that; or `Memory`
 /// where the rows of a scan that ends can't be copied. The index is looked at for values alone.
 pub(crate) fn reply_to<I: Ordered>(
@@ -200,7 +257,7 @@ pub(crate) fn reply_to<I: Ordered>(
 ) -> Result<Reply, Memory>
     requires attempt { attempt ≡ attempt_of (I.map index.now) (option_map scan_of (option_copied scan)) op }
     requires row { IsRowOf (I.map index.now) op row }
-    ensures reply { IfOk result (λ r. r ≡ (effect_of (I.map index.now) (record { scan = option_map scan_of (option_copied scan.entry); changes = [] }) op).reply) }
+    ensures reply { IfOk result (λ r. r ≡ (effect_of (I.map index.now) (record { scan = option_map scan_of (option_copied scan.entry); changes = []; rolling = false }) op).reply) }
     ensures granted { IfOk result (λ r. is_granted r ≡ true) }
 {
     match op {
@@ -216,6 +273,10 @@ pub(crate) fn reply_to<I: Ordered>(
             Row::FetchMiss => Ok(Reply::Absent),
             _ => Ok(deleted(index, key)),
         },
+        Op::Update(key, _) => match row {
+            Row::FetchMiss => Ok(Reply::Absent),
+            _ => Ok(updated(index, key)),
+        },
         Op::Scan(_, hi) => scans::answer(alloc, index, looked_at(attempt), hi, &[]),
         Op::Go => match scan {
             Some(scan) => {
@@ -224,7 +285,7 @@ pub(crate) fn reply_to<I: Ordered>(
             }
             None => Ok(Reply::None),
         },
-        Op::Commit | Op::Abort => Ok(Reply::None),
+        Op::Commit | Op::Abort | Op::Back => Ok(Reply::None),
     }
 }
 
@@ -236,8 +297,13 @@ pub(crate) fn end_reply(op: Op) -> Reply
 {
     match op {
         Op::Abort => Reply::Aborted,
-        Op::Commit | Op::Fetch(_) | Op::Insert(_, _) | Op::Delete(_) | Op::Scan(_, _) | Op::Go => {
-            Reply::Committed
-        }
+        Op::Commit
+        | Op::Fetch(_)
+        | Op::Insert(_, _)
+        | Op::Delete(_)
+        | Op::Update(_, _)
+        | Op::Scan(_, _)
+        | Op::Go
+        | Op::Back => Reply::Committed,
     }
 }

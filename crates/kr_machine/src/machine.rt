@@ -1,10 +1,10 @@
 //! A machine: what does the steps, and the log of what they did.
-ghost use Rattle.std.specs.Prelude.{All, map, ◌≡◌, ℕ, ◌≤◌, [], None, Some, IfOk, IfErr, OnOk, OnErr, IsOk, IsTrue, ◌⊎◌, true, false, is_some, if◌then◌else◌};
+ghost use Rattle.std.specs.Prelude.{All, map, ◌≡◌, ℕ, ◌≤◌, ◌-◌, [], None, Some, IfOk, IfErr, OnOk, OnErr, IsOk, IsTrue, ◌⊎◌, true, false, is_some, length, if◌then◌else◌};
 ghost use Rattle.kr_model.specs.declared.Op.TheVariants as op_is;
 ghost use Rattle.kr_model.specs.declared.Refusal.TheVariants as refusal_is;
 ghost use Rattle.kr_model.specs.declared.Reply.TheVariants as reply_is;
-ghost use Rattle.kr_model.specs.State.{start, active_of, is_scanning};
-ghost use Rattle.kr_model.specs.Step.{step, is_end, IsStep};
+ghost use Rattle.kr_model.specs.State.{start, active_of, standing, is_scanning, is_rolling, has_nothing_left};
+ghost use Rattle.kr_model.specs.Step.{step, takes_no_memory, IsStep};
 ghost use Rattle.kr_model.specs.WellFormed.{IsState};
 ghost use Rattle.kr_model.specs.Log.{no_log, logged};
 ghost use Rattle.kr_model.specs.Run.{is_granted};
@@ -136,9 +136,9 @@ impl<P: Protocol, I: Ordered, L: Holdings> Machine<P, I, L> {
         ensures well_formed { IsState (P.table self.old.protocol) self.old.state }
     {
         let alloc = self.stepper.alloc();
-        let ends_active = self.stepper.is_end_of_active(txn, op);
+        let is_free = self.stepper.takes_no_memory(txn, op);
         let ready = self.stepper.ready(txn, op)?;
-        match keep(alloc, &mut self.log, txn, op, ends_active, ready.reply()) {
+        match keep(alloc, &mut self.log, txn, op, is_free, ready.reply()) {
             Ok(due) => {
                 self.due = Some(due);
                 Ok(ready)
@@ -156,18 +156,25 @@ impl<P: Protocol, I: Ordered, L: Holdings> Machine<P, I, L> {
     ///
     /// - `Refused(Ended)`: the transaction has committed or aborted.
     /// - `Refused(Full)`: 64 transactions are active, and this isn't one of them.
-    /// - `Refused(Busy)`: a scan of the transaction is in progress, and the operation neither goes on with it nor aborts.
+    /// - `Refused(RollingBack)`: a change of the transaction was taken back, and the operation takes none back.
+    /// - `Refused(Busy)`: a scan of the transaction is in progress, and the operation neither goes on with it nor takes changes
+    ///   back.
     /// - `Refused(NoScan)`: no scan is in progress to go on with.
     /// - `Refused(BadRange)`: the lower end of the range to scan is above the upper end.
-    /// - `Refused(Memory)`: a growth was refused, and no other refusal applies. So it is for an insert or a delete that would
-    ///   change a key which the active transactions have changed 4,294,967,295 times. The commit or abort of an active
-    ///   transaction takes no memory.
+    /// - `Refused(NoUpdate)`: the operation is an update, and the protocol offers none.
+    /// - `Refused(NothingLeft)`: the transaction has no change left to take back.
+    /// - `Refused(Memory)`: a growth was refused, and no other refusal applies. So it is for an insert, a delete or an update
+    ///   that would change a key which the active transactions have changed 4,294,967,295 times. The commit or abort of an
+    ///   active transaction takes no memory, nor does a change taken back.
     /// - `Blocked`: these transactions hold locks that refuse a lock that the step asks for. A transaction that wasn't
     ///   active isn't so after it.
     ///
+    /// `Undone` says that the newest change of the transaction was taken back, and how many are left. It then rolls back: it
+    /// keeps its locks, its scan in progress is dropped, and it takes no other step than these and an abort.
+    ///
     /// Any other reply says that the step is done. The transaction is then active and holds the locks that the protocol
-    /// asks for; or, after a commit or an abort, it has ended and holds none. After an abort each key that the transaction
-    /// changed is as before its first change of it.
+    /// asks for; or, after a commit or an abort, it has ended and holds none. After an abort each key of a change that was
+    /// left is as before the first of the changes left of it, and any other key stays.
     ///
     /// A scan takes one name a step: `Going` says that it read this key and goes on, `Rows` that it ended, with all that it
     /// read. One that reads its upper end ends there.
@@ -176,7 +183,9 @@ impl<P: Protocol, I: Ordered, L: Holdings> Machine<P, I, L> {
         ensures step { IsStep (P.table self.old.protocol) self.old.state txn op result self.new.state }
         ensures abort { op ≡ op_is.Abort → IsTrue (is_some (active_of self.old.state txn)) → result ≡ reply_is.Aborted }
         ensures commit { op ≡ op_is.Commit → IsTrue (is_some (active_of self.old.state txn)) →
-            result ≡ (if is_scanning self.old.state txn then reply_is.Refused refusal_is.Busy else reply_is.Committed) }
+            result ≡ (if is_rolling self.old.state txn then reply_is.Refused refusal_is.RollingBack else if is_scanning self.old.state txn then reply_is.Refused refusal_is.Busy else reply_is.Committed) }
+        ensures back { op ≡ op_is.Back → IsTrue (is_some (active_of self.old.state txn)) →
+            result ≡ (if has_nothing_left self.old.state txn then reply_is.Refused refusal_is.NothingLeft else reply_is.Undone (length (standing self.old.state txn).changes - 1)) }
         ensures well_formed { IsState (P.table self.new.protocol) self.new.state }
         ensures log { self.new.log ≡ logged self.old.log (record { txn = txn; op = op }, result) }
         ensures protocol { self.new.protocol ≡ self.old.protocol }
@@ -213,8 +222,22 @@ impl<P: Protocol, I: Ordered, L: Holdings> Machine<P, I, L> {
     }
 }
 
+/// Copies of the reply to a change taken back. Takes no memory.
+fn undone(reply: &Reply) -> DueReply
+    requires { (left : ℕ) × (reply.now ≡ reply_is.Undone left) }
+    ensures { result ≡ twice reply.now }
+{
+    match reply {
+        Reply::Undone(left) => DueReply {
+            noted: Reply::Undone(*left),
+            told: Reply::Undone(*left),
+        },
+        _ => unreachable!(),
+    }
+}
+
 /// Takes the memory of noting a step with this reply, and gives copies of the reply. The end of an active transaction
-/// takes none; else the answer is `Memory` where a growth is refused. The log stays.
+/// takes none, nor does a change taken back; else the answer is `Memory` where a growth is refused. The log stays.
 fn keep(
     alloc: Global,
     log: &mut Log,
@@ -227,7 +250,7 @@ fn keep(
     ensures log { log.new.log ≡ log.old.log }
     ensures due { IfOk result (λ due. due ≡ twice reply.now) }
     ensures noted { OnOk result (MayNote log.new (record { txn = txn; op = op }) reply.now) }
-    ensures end { IsTrue (is_end op) → IsTrue is_active → IsOk result }
+    ensures end { IsTrue (takes_no_memory op) → IsTrue is_active → IsOk result }
 {
     match op {
         Op::Commit => {
@@ -248,7 +271,13 @@ fn keep(
                 told: Reply::Aborted,
             })
         }
-        Op::Fetch(_) | Op::Scan(_, _) | Op::Go | Op::Insert(_, _) | Op::Delete(_) => {
+        Op::Back => Ok(undone(reply)),
+        Op::Fetch(_)
+        | Op::Scan(_, _)
+        | Op::Go
+        | Op::Insert(_, _)
+        | Op::Delete(_)
+        | Op::Update(_, _) => {
             log.make_room(txn)?;
             Ok(DueReply {
                 noted: reply.try_copy(alloc)?,

@@ -1,11 +1,13 @@
 //! All memory of a granted step.
-ghost use Rattle.std.specs.Prelude.{None, Some, ◌≡◌, ◌≢◌, ℕ, ◌<◌, ◌≤◌, [], IfOk, IfErr, IsOk, OnErr, OnOk, true, false, unwrap_or};
+ghost use Rattle.std.specs.Prelude.{None, Some, ◌≡◌, ◌≢◌, ℕ, ◌<◌, ◌≤◌, [], IfOk, IfErr, IsOk, OnErr, OnOk, true, false, unwrap_or, IfSome, ◌-◌, vec_len};
 ghost use Rattle.std.specs.Ordering.{nat_cmp};
 ghost use Rattle.std.specs.FinMap.{find};
 ghost use Rattle.kr_model.specs.Locks.{blockers, AreWithin};
 ghost use Rattle.kr_model.specs.Plan.{requests, plan_of};
 ghost use Rattle.kr_model.specs.State.{idle};
-ghost use Rattle.kr_model.specs.Step.{refusal_of};
+ghost use Rattle.kr_model.specs.Step.{refusal_of, step};
+ghost use Rattle.kr_model.specs.declared.Op.TheVariants as op_is;
+ghost use Rattle.kr_model.specs.declared.Reply.TheVariants as reply_is;
 ghost use Rattle.kr_plan.specs.Modes.{ArePlanModes};
 ghost use Rattle.kr_txn.specs.Standings.{entries};
 ghost use Rattle.kr_machine.specs.Pending.{IsMachine, IsAttempt, IsEnd, attempt_of, shown, shown_locks, shown_active};
@@ -32,7 +34,7 @@ pub(crate) fn reserve<P: Protocol, I: Ordered, L: Holdings>(
 ) -> Result<Pending, Memory>
     requires at_rest { IsMachine (P.table protocol.now) (I.map index.old) (I.pins index.old) (L.locks locks.old) ended.old active.old None }
     requires attempt { IsAttempt op }
-    requires allowed { refusal_of (shown None (I.map index.old) (L.locks locks.old) ended.old.numbers (entries active.old.items)) txn op ≡ None }
+    requires allowed { refusal_of (P.table protocol.now) (shown None (I.map index.old) (L.locks locks.old) ended.old.numbers (entries active.old.items)) txn op ≡ None }
     requires plan { plan ≡ plan_of (P.table protocol.now) (I.map index.old) (L.locks locks.old) txn (attempt_of (I.map index.old) (unwrap_or (find nat_cmp txn (entries active.old.items)) idle).scan op) }
     requires modes { ArePlanModes (P.table protocol.now).count plan }
     requires granted { blockers (P.table protocol.now) (L.locks locks.old) txn (requests plan) ≡ [] }
@@ -90,7 +92,7 @@ pub(crate) fn reserve_end<P: Protocol, I: Ordered, L: Holdings>(
 ) -> Result<Pending, Memory>
     requires at_rest { IsMachine (P.table protocol.now) (I.map index.now) (I.pins index.now) (L.locks locks.now) ended.old active.old None }
     requires end { IsEnd op }
-    requires allowed { refusal_of (shown None (I.map index.now) (L.locks locks.now) ended.old.numbers (entries active.old.items)) txn op ≡ None }
+    requires allowed { refusal_of (P.table protocol.now) (shown None (I.map index.now) (L.locks locks.now) ended.old.numbers (entries active.old.items)) txn op ≡ None }
     ensures ended { ended.new.numbers ≡ ended.old.numbers }
     ensures event { IfOk result (λ p. p.event ≡ record { txn = txn; op = op }) }
     ensures seen_locks { IfOk result (λ p. shown_locks (Some p) (L.locks locks.now) ≡ L.locks locks.now) }
@@ -126,5 +128,40 @@ pub(crate) fn reserve_end<P: Protocol, I: Ordered, L: Holdings>(
                 first_rows: Vec::new(alloc),
             })
         }
+    }
+}
+
+/// Takes an active transaction out of the list of which a change is to be taken back; `None` where it isn't there. Takes no
+/// memory.
+pub(crate) fn reserve_back<P: Protocol, I: Ordered, L: Holdings>(
+    protocol: &P,
+    index: &I,
+    locks: &L,
+    ended: &Ended,
+    active: &mut Vec<Standing>,
+    txn: Txn,
+) -> Option<Pending>
+    requires at_rest { IsMachine (P.table protocol.now) (I.map index.now) (I.pins index.now) (L.locks locks.now) ended.now active.old None }
+    requires allowed { refusal_of (P.table protocol.now) (shown None (I.map index.now) (L.locks locks.now) ended.now.numbers (entries active.old.items)) txn op_is.Back ≡ None }
+    ensures event { IfSome result (λ p. p.event ≡ record { txn = txn; op = op_is.Back }) }
+    ensures seen_locks { IfSome result (λ p. shown_locks (Some p) (L.locks locks.now) ≡ L.locks locks.now) }
+    ensures seen_active { IfSome result (λ p. shown_active (Some p) (entries active.new.items) ≡ entries active.old.items) }
+    ensures ok { IfSome result (λ p. IsMachine (P.table protocol.now) (I.map index.now) (I.pins index.now) (L.locks locks.now) ended.now active.new (Some p)) }
+    ensures reply { IfSome result (λ p. (step (P.table protocol.now) (shown None (I.map index.now) (L.locks locks.now) ended.now.numbers (entries active.old.items)) txn op_is.Back).0 ≡ reply_is.Undone (vec_len p.standing.changes - 1)) }
+    ensures some { IfSome result (λ p. 0 < vec_len p.standing.changes) }
+    ensures there { result ≡ None → ⊥ }
+{
+    let alloc = *active.allocator();
+    match take_out(active, txn) {
+        Some(standing) => Some(Pending {
+            event: Event { txn, op: Op::Back },
+            plan: NO_LOCKS,
+            current_was: 0,
+            next_was: 0,
+            standing,
+            was_active: true,
+            first_rows: Vec::new(alloc),
+        }),
+        None => None,
     }
 }

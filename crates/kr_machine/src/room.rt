@@ -6,16 +6,18 @@ ghost use Rattle.kr_model.specs.Locks.{add_once, release};
 ghost use Rattle.kr_model.specs.State.{State, idle, Active};
 ghost use Rattle.kr_model.specs.Step.{refusal_of};
 ghost use Rattle.kr_txn.specs.Standings.{active_of, scan_of, entries, IsInOrder, without_txn};
-ghost use Rattle.kr_machine.specs.Pending.{HasRoomIn, refusal_in, shown};
+ghost use Rattle.kr_machine.specs.Pending.{HasRoomIn, scan_refusal, refusal_in, shown};
 ghost use Rattle.kr_machine.specs.Pins.{changes_of, all_changes_of};
 
 use kr_locks::Holdings;
 use kr_model::{Op, Refusal, Txn};
+use kr_protocol::Protocol;
 use kr_txn::{Ended, Memory, Scan, Standing, position, put_in, take_out};
 
-/// The refusal of an operation by whether its transaction has a scan in progress.
-fn scan_refusal(is_scanning: bool, op: Op) -> Option<Refusal>
-    ensures { result ≡ refusal_in is_scanning op }
+/// The refusal of an operation by whether updates are offered, and whether its transaction has a scan in progress, and has
+/// changes left.
+fn scan_refusal(updates: bool, is_scanning: bool, is_unchanged: bool, op: Op) -> Option<Refusal>
+    ensures { result ≡ scan_refusal updates is_scanning is_unchanged op }
 {
     match op {
         Op::Go => {
@@ -26,11 +28,27 @@ fn scan_refusal(is_scanning: bool, op: Op) -> Option<Refusal>
             }
         }
         Op::Abort => None,
+        Op::Back => {
+            if is_unchanged {
+                Some(Refusal::NothingLeft)
+            } else {
+                None
+            }
+        }
         Op::Scan(lo, hi) => {
             if is_scanning {
                 Some(Refusal::Busy)
             } else if hi < lo {
                 Some(Refusal::BadRange)
+            } else {
+                None
+            }
+        }
+        Op::Update(_, _) => {
+            if is_scanning {
+                Some(Refusal::Busy)
+            } else if !updates {
+                Some(Refusal::NoUpdate)
             } else {
                 None
             }
@@ -45,10 +63,42 @@ fn scan_refusal(is_scanning: bool, op: Op) -> Option<Refusal>
     }
 }
 
-/// The first refusal that applies, want of memory aside.
-pub(crate) fn refusal(ended: &Ended, active: &[Standing], txn: Txn, op: Op) -> Option<Refusal>
-    ensures { result ≡ refusal_of (shown None [] [] ended.now.numbers (entries active.now)) txn op }
+/// The same, by whether the transaction rolls back too: then only its changes may be taken back.
+fn standing_refusal(
+    updates: bool,
+    is_rolling: bool,
+    is_scanning: bool,
+    is_unchanged: bool,
+    op: Op,
+) -> Option<Refusal>
+    ensures { result ≡ refusal_in updates is_rolling is_scanning is_unchanged op }
 {
+    if !is_rolling {
+        return scan_refusal(updates, is_scanning, is_unchanged, op);
+    }
+    match op {
+        Op::Back | Op::Abort => scan_refusal(updates, is_scanning, is_unchanged, op),
+        Op::Fetch(_)
+        | Op::Scan(_, _)
+        | Op::Go
+        | Op::Insert(_, _)
+        | Op::Delete(_)
+        | Op::Update(_, _)
+        | Op::Commit => Some(Refusal::RollingBack),
+    }
+}
+
+/// The first refusal that applies, want of memory aside.
+pub(crate) fn refusal<P: Protocol>(
+    protocol: &P,
+    ended: &Ended,
+    active: &[Standing],
+    txn: Txn,
+    op: Op,
+) -> Option<Refusal>
+    ensures { result ≡ refusal_of (P.table protocol.now) (shown None [] [] ended.now.numbers (entries active.now)) txn op }
+{
+    let updates = protocol.updates();
     if ended.has(txn) {
         return Some(Refusal::Ended);
     }
@@ -57,9 +107,14 @@ pub(crate) fn refusal(ended: &Ended, active: &[Standing], txn: Txn, op: Op) -> O
             if active.len() >= 64 {
                 return Some(Refusal::Full);
             }
-            scan_refusal(false, op)
+            scan_refusal(updates, false, true, op)
         }
-        Some(i) => scan_refusal(active[i].scan.is_some(), op),
+        Some(i) => {
+            let standing = &active[i];
+            let is_scanning = standing.scan.is_some();
+            let is_unchanged = standing.changes.is_empty();
+            standing_refusal(updates, standing.rolling, is_scanning, is_unchanged, op)
+        }
     }
 }
 
@@ -101,7 +156,13 @@ fn make_room_in(standing: &mut Standing, op: Op) -> Result<(), Memory>
                 scan.rows.reserve(1)?;
             }
         }
-        Op::Fetch(_) | Op::Insert(_, _) | Op::Delete(_) | Op::Commit | Op::Abort => {
+        Op::Fetch(_)
+        | Op::Insert(_, _)
+        | Op::Delete(_)
+        | Op::Update(_, _)
+        | Op::Commit
+        | Op::Abort
+        | Op::Back => {
             standing.changes.reserve(1)?;
         }
     }

@@ -87,9 +87,15 @@ pub(crate) fn begin<I: Ordered>(index: &I, standing: Standing, scan: Scan) -> St
         txn,
         scan: _,
         changes,
+        rolling,
     } = standing;
     let scan = look(index, scan);
-    Standing { txn, scan, changes }
+    Standing {
+        txn,
+        scan,
+        changes,
+        rolling,
+    }
 }
 
 /// Takes the next step of the scan in progress; where there is none, the transaction stays.

@@ -1,8 +1,9 @@
 //! What does the steps of a machine.
 ghost use Rattle.std.specs.Prelude.{All, map, ◌≡◌, ◌≢◌, ℕ, ◌<◌, ◌≤◌, ◌⊎◌, [], None, Some, IfOk, IfErr, OnOk, OnErr, IsTrue, IsOk, true, false, is_some, ◌&&◌};
 ghost use Rattle.kr_model.specs.State.{State, start, active_of};
-ghost use Rattle.kr_model.specs.Step.{step, IsStep, is_end, refusal_of};
+ghost use Rattle.kr_model.specs.Step.{step, IsStep, takes_no_memory, refusal_of};
 ghost use Rattle.kr_model.specs.Run.{is_granted};
+ghost use Rattle.kr_model.specs.declared.Op.TheVariants as op_is;
 ghost use Rattle.kr_machine.specs.Pending.{IsAttempt, IsEnd};
 
 use crate::pending::{Pending, Ready};
@@ -83,14 +84,19 @@ impl<P: Protocol, I: Ordered, L: Holdings> Stepper<P, I, L> {
         }
     }
 
-    /// Whether an operation is the end of a transaction that is active.
-    pub fn is_end_of_active(&self, txn: Txn, op: Op) -> bool
+    /// Whether a step takes no memory: it is of an active transaction, and ends it or takes a change back.
+    pub fn takes_no_memory(&self, txn: Txn, op: Op) -> bool
         requires { self.now.1.1 ≡ None }
-        ensures { result ≡ (is_end op && is_some (active_of self.now.1.0 txn)) }
+        ensures { result ≡ (takes_no_memory op && is_some (active_of self.now.1.0 txn)) }
     {
         match op {
-            Op::Commit | Op::Abort => self.active(txn),
-            Op::Fetch(_) | Op::Scan(_, _) | Op::Go | Op::Insert(_, _) | Op::Delete(_) => false,
+            Op::Commit | Op::Abort | Op::Back => self.active(txn),
+            Op::Fetch(_)
+            | Op::Scan(_, _)
+            | Op::Go
+            | Op::Insert(_, _)
+            | Op::Delete(_)
+            | Op::Update(_, _) => false,
         }
     }
 
@@ -128,19 +134,23 @@ impl<P: Protocol, I: Ordered, L: Holdings> Stepper<P, I, L> {
         ensures reply { IfOk result (λ r. r.reply ≡ (step (P.table self.old.0) self.old.1.0 txn op).0) }
         ensures granted { IfOk result (λ r. is_granted r.reply ≡ true) }
         ensures waits { OnOk result (self.new ≡ (self.old.0, (self.old.1.0, Some (record { txn = txn; op = op })))) }
-        ensures allowed { OnOk result (refusal_of self.old.1.0 txn op ≡ None) }
+        ensures allowed { OnOk result (refusal_of (P.table self.old.0) self.old.1.0 txn op ≡ None) }
         ensures refusal { IfErr result (λ r. IsStep (P.table self.old.0) self.old.1.0 txn op r self.old.1.0) }
         ensures not_granted { IfErr result (λ r. is_granted r ≡ false) }
         ensures err { OnErr result (self.new ≡ self.old) }
     {
-        if let Some(refusal) = room::refusal(&self.ended, &self.active, txn, op) {
+        if let Some(refusal) = room::refusal(&self.protocol, &self.ended, &self.active, txn, op) {
             return Err(Reply::Refused(refusal));
         }
         match op {
             Op::Commit | Op::Abort => self.end(txn, op),
-            Op::Fetch(_) | Op::Scan(_, _) | Op::Go | Op::Insert(_, _) | Op::Delete(_) => {
-                self.attempt(txn, op)
-            }
+            Op::Back => self.back(txn),
+            Op::Fetch(_)
+            | Op::Scan(_, _)
+            | Op::Go
+            | Op::Insert(_, _)
+            | Op::Delete(_)
+            | Op::Update(_, _) => self.attempt(txn, op),
         }
     }
 
@@ -148,7 +158,7 @@ impl<P: Protocol, I: Ordered, L: Holdings> Stepper<P, I, L> {
     fn end(&mut self, txn: Txn, op: Op) -> Result<Ready, Reply>
         requires end { IsEnd op }
         requires at_rest { self.old.1.1 ≡ None }
-        requires allowed { refusal_of self.old.1.0 txn op ≡ None }
+        requires allowed { refusal_of (P.table self.old.0) self.old.1.0 txn op ≡ None }
         ensures event { IfOk result (λ r. r.event ≡ record { txn = txn; op = op }) }
         ensures reply { IfOk result (λ r. r.reply ≡ (step (P.table self.old.0) self.old.1.0 txn op).0) }
         ensures granted { IfOk result (λ r. is_granted r.reply ≡ true) }
@@ -177,11 +187,40 @@ impl<P: Protocol, I: Ordered, L: Holdings> Stepper<P, I, L> {
         }
     }
 
+    /// The same for a change taken back, where no refusal applies. Takes no memory.
+    fn back(&mut self, txn: Txn) -> Result<Ready, Reply>
+        requires at_rest { self.old.1.1 ≡ None }
+        requires allowed { refusal_of (P.table self.old.0) self.old.1.0 txn op_is.Back ≡ None }
+        ensures event { IfOk result (λ r. r.event ≡ record { txn = txn; op = op_is.Back }) }
+        ensures reply { IfOk result (λ r. r.reply ≡ (step (P.table self.old.0) self.old.1.0 txn op_is.Back).0) }
+        ensures waits { OnOk result (self.new ≡ (self.old.0, (self.old.1.0, Some (record { txn = txn; op = op_is.Back })))) }
+        ensures ok { IsOk result }
+    {
+        match reserve::reserve_back(
+            &self.protocol,
+            &self.index,
+            &self.locks,
+            &self.ended,
+            &mut self.active,
+            txn,
+        ) {
+            Some(pending) => {
+                let left = pending.standing.changes.len() - 1;
+                self.pending = Some(pending);
+                Ok(Ready {
+                    event: Event { txn, op: Op::Back },
+                    reply: Reply::Undone(left as u64),
+                })
+            }
+            None => Err(Reply::Refused(Refusal::NothingLeft)),
+        }
+    }
+
     /// The same for an operation that asks for locks, where no refusal applies.
     fn attempt(&mut self, txn: Txn, op: Op) -> Result<Ready, Reply>
         requires attempt { IsAttempt op }
         requires at_rest { self.old.1.1 ≡ None }
-        requires allowed { refusal_of self.old.1.0 txn op ≡ None }
+        requires allowed { refusal_of (P.table self.old.0) self.old.1.0 txn op ≡ None }
         ensures event { IfOk result (λ r. r.event ≡ record { txn = txn; op = op }) }
         ensures reply { IfOk result (λ r. r.reply ≡ (step (P.table self.old.0) self.old.1.0 txn op).0) }
         ensures granted { IfOk result (λ r. is_granted r.reply ≡ true) }
@@ -272,7 +311,16 @@ impl<P: Protocol, I: Ordered, L: Holdings> Stepper<P, I, L> {
                     change::undo(&mut self.index, standing);
                     room::leave(&mut self.locks, &mut self.ended, event.txn);
                 }
-                Op::Fetch(_) | Op::Scan(_, _) | Op::Go | Op::Insert(_, _) | Op::Delete(_) => {
+                Op::Back => {
+                    let left = change::take_back(&mut self.index, standing);
+                    put_in(&mut self.active, left);
+                }
+                Op::Fetch(_)
+                | Op::Scan(_, _)
+                | Op::Go
+                | Op::Insert(_, _)
+                | Op::Delete(_)
+                | Op::Update(_, _) => {
                     let op = event.op;
                     let row = plan.row;
                     let standing = change::perform(&mut self.index, standing, first_rows, op, row);

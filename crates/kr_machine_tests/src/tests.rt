@@ -4,6 +4,7 @@
 ghost use Rattle.std.specs.Prelude.{◌≡◌, [], None, IfOk};
 
 mod ample;
+mod changes;
 mod scans;
 mod scarce;
 
@@ -28,6 +29,8 @@ fn same(one: &Reply, other: &Reply) -> bool {
     match (one, other) {
         (Reply::Found(one), Reply::Found(other)) => one == other,
         (Reply::Deleted(one), Reply::Deleted(other)) => one == other,
+        (Reply::Updated(one), Reply::Updated(other)) => one == other,
+        (Reply::Undone(one), Reply::Undone(other)) => one == other,
         (Reply::Going(one), Reply::Going(other)) => one == other,
         (Reply::Rows(one), Reply::Rows(other)) => one.as_slice() == other.as_slice(),
         (Reply::Blocked(one), Reply::Blocked(other)) => one.as_slice() == other.as_slice(),

@@ -1,5 +1,5 @@
 -- Worked examples that tell which way a lock table is read: one that is asymmetric both in what may stand beside what and in conversion.
-use Rattle.std.specs.Prelude.{◌≡◌, ℕ, List, [], ◌∷◌, Option, None, length, map, filter, refl}
+use Rattle.std.specs.Prelude.{◌≡◌, ℕ, false, List, [], ◌∷◌, Option, None, length, map, filter, refl}
 use Rattle.kr_model.specs.Protocol.{Protocol, IsLawful}
 use Rattle.kr_model.specs.Covers.{cases, failed_cases, serves, modes, all_covers, IsCovered}
 use Rattle.kr_model.specs.Matrices.{ok_by, convert_by, for_commit, at_once}
@@ -64,7 +64,7 @@ asymmetric_ask r s own = None
 
 -- The asymmetric table.
 abbrev pub asymmetric : Protocol
-asymmetric = record { count = 3; ok = ok_by asymmetric_beside; convert = convert_by asymmetric_converted; ask = asymmetric_ask }
+asymmetric = record { count = 3; ok = ok_by asymmetric_beside; convert = convert_by asymmetric_converted; ask = asymmetric_ask; updates = false }
 
 -- The asymmetric table is lawful.
 pub asymmetric-lawful : IsLawful asymmetric
@@ -79,7 +79,7 @@ pub asymmetric-covered : IsCovered asymmetric
 asymmetric-covered = refl
 
 -- Which modes of it serve a read key, a read gap, an inserted key and a deleted gap: U lets no S in, so it serves all of them.
-pub asymmetric-serves : map (λ c. filter (serves asymmetric c) (modes asymmetric)) all_covers
+pub asymmetric-serves : map (λ c. filter (serves asymmetric c) (modes asymmetric)) (all_covers asymmetric)
     ≡ (S ∷ U ∷ X ∷ []) ∷ (S ∷ U ∷ X ∷ []) ∷ (U ∷ X ∷ []) ∷ (U ∷ X ∷ []) ∷ []
 asymmetric-serves = refl
 

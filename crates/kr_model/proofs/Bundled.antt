@@ -3,6 +3,7 @@ use Rattle.std.specs.Prelude.{◌≡◌, [], ◌∷◌, length, map, filter, ref
 use Rattle.kr_model.specs.Protocol.{IsLawful}
 use Rattle.kr_model.specs.Covers.{cases, serves, modes, all_covers, IsCovered}
 use Rattle.kr_model.specs.Kvl as kvl
+use Rattle.kr_model.specs.KvlUpdate.{kvl_update}
 use Rattle.kr_model.specs.Im as im
 use Rattle.kr_model.specs.RangeKey as range_key
 use Rattle.kr_model.specs.ModeNames.{AreModeNames, kvl_names, im_names, range_key_names}
@@ -12,6 +13,10 @@ use Rattle.kr_model.proofs.NamesTested.{named_by_test}
 -- key-value locking keeps the laws
 pub kvl_lawful : IsLawful kvl.kvl
 kvl_lawful = lawful_by_test kvl.kvl refl
+
+-- key-value locking with updates keeps the laws
+pub kvl_update_lawful : IsLawful kvl_update
+kvl_update_lawful = lawful_by_test kvl_update refl
 
 -- index-specific locking keeps the laws
 pub im_lawful : IsLawful im.im
@@ -41,6 +46,14 @@ kvl_cases = refl
 pub kvl_covered : IsCovered kvl.kvl
 kvl_covered = refl
 
+-- check kvl-update: 275 cases, and none fails
+pub kvl_update_cases : length (cases kvl_update) ≡ 275
+kvl_update_cases = refl
+
+-- key-value locking with updates is covered
+pub kvl_update_covered : IsCovered kvl_update
+kvl_update_covered = refl
+
 -- check im: 61 cases, and none fails
 pub im_cases : length (cases im.im) ≡ 61
 im_cases = refl
@@ -58,15 +71,20 @@ pub range_key_covered : IsCovered range_key.range_key
 range_key_covered = refl
 
 -- which modes of key-value locking serve a read key, a read gap, an inserted key and a deleted gap
-pub kvl_serves : map (λ c. filter (serves kvl.kvl c) (modes kvl.kvl)) all_covers
+pub kvl_serves : map (λ c. filter (serves kvl.kvl c) (modes kvl.kvl)) (all_covers kvl.kvl)
     ≡ (kvl.IS ∷ kvl.IX ∷ kvl.S ∷ kvl.SIX ∷ kvl.X ∷ []) ∷ (kvl.S ∷ kvl.SIX ∷ kvl.X ∷ []) ∷ (kvl.IX ∷ kvl.SIX ∷ kvl.X ∷ []) ∷ (kvl.SIX ∷ kvl.X ∷ []) ∷ []
 kvl_serves = refl
 
+-- the same of key-value locking with updates, and last the modes that serve an updated key
+pub kvl_update_serves : map (λ c. filter (serves kvl_update c) (modes kvl_update)) (all_covers kvl_update)
+    ≡ (kvl.IS ∷ kvl.IX ∷ kvl.S ∷ kvl.SIX ∷ kvl.X ∷ []) ∷ (kvl.S ∷ kvl.SIX ∷ kvl.X ∷ []) ∷ (kvl.IX ∷ kvl.SIX ∷ kvl.X ∷ []) ∷ (kvl.SIX ∷ kvl.X ∷ []) ∷ (kvl.IX ∷ kvl.SIX ∷ kvl.X ∷ []) ∷ []
+kvl_update_serves = refl
+
 -- the same of index-specific locking
-pub im_serves : map (λ c. filter (serves im.im c) (modes im.im)) all_covers ≡ (im.S ∷ im.X ∷ []) ∷ (im.S ∷ im.X ∷ []) ∷ (im.X ∷ []) ∷ (im.X ∷ []) ∷ []
+pub im_serves : map (λ c. filter (serves im.im c) (modes im.im)) (all_covers im.im) ≡ (im.S ∷ im.X ∷ []) ∷ (im.S ∷ im.X ∷ []) ∷ (im.X ∷ []) ∷ (im.X ∷ []) ∷ []
 im_serves = refl
 
 -- the same of range-key locking: all modes; S-N, S-S, S-X, X-N, X-S, X-X; I-X, X-X; X-N, X-S, X-X
-pub range_key_serves : map (λ c. filter (serves range_key.range_key c) (modes range_key.range_key)) all_covers
+pub range_key_serves : map (λ c. filter (serves range_key.range_key c) (modes range_key.range_key)) (all_covers range_key.range_key)
     ≡ (1 ∷ 2 ∷ 3 ∷ 4 ∷ 5 ∷ 6 ∷ 7 ∷ 8 ∷ 9 ∷ 10 ∷ 11 ∷ []) ∷ (3 ∷ 4 ∷ 5 ∷ 9 ∷ 10 ∷ 11 ∷ []) ∷ (8 ∷ 11 ∷ []) ∷ (9 ∷ 10 ∷ 11 ∷ []) ∷ []
 range_key_serves = refl

@@ -1,5 +1,5 @@
 -- What the cases of a covered protocol say, for all modes at once.
-use Rattle.std.specs.Prelude.{◌≡◌, ℕ, suc, zero, ◌+◌, ◌<◌, ◌≤◌, Bool, true, false, not, cond, List, [], ◌∷◌, ◌++◌, Option, Some, None, map, filter, refl, ◌⊎◌}
+use Rattle.std.specs.Prelude.{◌≡◌, ℕ, suc, zero, ◌+◌, ◌<◌, ◌≤◌, Bool, true, false, not, cond, List, [], ◌∷◌, ◌++◌, Option, Some, None, map, filter, refl, ◌⊎◌, if◌then◌else◌}
 use Rattle.std.specs.List.{flat_map, filter_map, cons_option}
 use Rattle.std.proofs.Common.{sym, ap, subst, arith, inl, inr}
 use Rattle.kr_model.proofs.Tested.{here_or_later}
@@ -9,13 +9,13 @@ use Rattle.kr_model.specs.declared.Side.{Side}
 use Rattle.kr_model.specs.declared.Side.TheVariants.{Current, Next}
 use Rattle.kr_model.specs.declared.Span.{Span}
 use Rattle.kr_model.specs.declared.Cover.{Cover}
-use Rattle.kr_model.specs.declared.Cover.TheVariants.{ReadKey, ReadGap, InsertedKey, DeletedGap}
+use Rattle.kr_model.specs.declared.Cover.TheVariants.{ReadKey, ReadGap, InsertedKey, DeletedGap, UpdatedKey}
 use Rattle.kr_model.specs.declared.Rule.{Rule}
 use Rattle.kr_model.specs.declared.Rule.TheVariants as rule
 use Rattle.kr_model.specs.declared.Origin.TheVariants.{One, Two}
 use Rattle.kr_model.specs.declared.Place.{Place}
 use Rattle.kr_model.specs.Protocol.{Protocol, IsMode}
-use Rattle.kr_model.specs.Covers.{place, Case, case, cases, cases_of, row_cases, all_rules, all_covers, count_up, modes, modes_or_none, must_refuse, places_of, open_places, is_open, refuses, serves, is_empty, mode_after, failure, failed_at, is_due, IsCovered}
+use Rattle.kr_model.specs.Covers.{place, Case, case, cases, cases_of, row_cases, all_rules, all_covers, count_up, modes, modes_or_none, must_refuse, if_updating, places_of, open_places, is_open, refuses, serves, is_empty, mode_after, failure, failed_at, is_due, IsCovered}
 
 -- x stands in the list
 abbrev pub In : {A : Type 0} → A → List A → Type 0
@@ -111,18 +111,22 @@ in_places_next : (p : Protocol) (r : Row) (o : ℕ) → o ≤ p.count → In (pl
 in_places_next p r o io = in_map (λ x. place (r, Next) x x) o (modes_or_none p) (in_modes_or_none p o io)
 
 -- a mode that serves a cover refuses what the cover must refuse, whatever the asker holds
-pub refuses_current : (p : Protocol) (c : Cover) (h : ℕ) (r : Row) → Serves p c h → In (r, Current) (must_refuse c) → (o n : ℕ) → o ≤ p.count → n ≤ p.count → IsRefused p h o (p.ask r Current n)
+pub refuses_current : (p : Protocol) (c : Cover) (h : ℕ) (r : Row) → Serves p c h → In (r, Current) (must_refuse p c) → (o n : ℕ) → o ≤ p.count → n ≤ p.count → IsRefused p h o (p.ask r Current n)
 refuses_current p c h r s i o n io in_n =
     refused_of_test p h o (p.ask r Current n)
-    (none_passes (is_open p h) (flat_map (places_of p) (must_refuse c)) s (place (r, Current) o n)
-    (in_flat_map (places_of p) (r, Current) (place (r, Current) o n) (must_refuse c) i (in_places_current p r o n io in_n)))
+    (none_passes (is_open p h) (flat_map (places_of p) (must_refuse p c)) s (place (r, Current) o n)
+    (in_flat_map (places_of p) (r, Current) (place (r, Current) o n) (must_refuse p c) i (in_places_current p r o n io in_n)))
 
 -- the same at the side next, where the two own modes are one
-pub refuses_next : (p : Protocol) (c : Cover) (h : ℕ) (r : Row) → Serves p c h → In (r, Next) (must_refuse c) → (o : ℕ) → o ≤ p.count → IsRefused p h o (p.ask r Next o)
+pub refuses_next : (p : Protocol) (c : Cover) (h : ℕ) (r : Row) → Serves p c h → In (r, Next) (must_refuse p c) → (o : ℕ) → o ≤ p.count → IsRefused p h o (p.ask r Next o)
 refuses_next p c h r s i o io =
     refused_of_test p h o (p.ask r Next o)
-    (none_passes (is_open p h) (flat_map (places_of p) (must_refuse c)) s (place (r, Next) o o)
-    (in_flat_map (places_of p) (r, Next) (place (r, Next) o o) (must_refuse c) i (in_places_next p r o io)))
+    (none_passes (is_open p h) (flat_map (places_of p) (must_refuse p c)) s (place (r, Next) o o)
+    (in_flat_map (places_of p) (r, Next) (place (r, Next) o o) (must_refuse p c) i (in_places_next p r o io)))
+
+-- what is listed only where updates are offered
+pub in_updating : {A : Type 0} (p : Protocol) (x : A) (xs : List A) → p.updates ≡ true → In x xs → In x (if_updating p xs)
+in_updating p x xs up i = subst (λ b. In x (if b then xs else [])) (sym up) i
 
 -- The rules --
 
@@ -135,34 +139,46 @@ case_holds : (p : Protocol) (k : Case) (b : Bool) → is_due p k ≡ b → cond 
 case_holds p k true e h g = no_hole k (open_places p k.cover k.mode) h
 case_holds p k false e h g = absurd (cc)
 
-in_all_rules : (r : Rule) → In r all_rules
-in_all_rules rule.Conversion = inl refl
-in_all_rules rule.FetchHit = inr (inl refl)
-in_all_rules rule.FetchMiss = inr (inr (inl refl))
-in_all_rules rule.ScanKey = inr (inr (inr (inl refl)))
-in_all_rules rule.ScanStop = inr (inr (inr (inr (inl refl))))
-in_all_rules rule.Insert = inr (inr (inr (inr (inr (inl refl)))))
-in_all_rules rule.Split = inr (inr (inr (inr (inr (inr (inl refl))))))
-in_all_rules rule.Delete = inr (inr (inr (inr (inr (inr (inr (inl refl)))))))
+-- a rule that the protocol is asked for
+abbrev IsAsked : Protocol → Rule → Type 0
+IsAsked p rule.Update = p.updates ≡ true
+IsAsked p _ = Unit {0}
 
-covered_case : (p : Protocol) → IsCovered p → (r : Rule) (k : Case) → In k (cases_of p r) → is_due p k ≡ true → Serves p k.cover k.mode
-covered_case p h r k i g = case_holds p k (is_due p k) refl (each_none (failure p) (cases p) (ap is_empty h) k (in_flat_map (cases_of p) r k all_rules (in_all_rules r) i)) g
+in_all_rules : (p : Protocol) (r : Rule) → IsAsked p r → In r (all_rules p)
+in_all_rules p rule.Conversion up = inl refl
+in_all_rules p rule.FetchHit up = inr (inl refl)
+in_all_rules p rule.FetchMiss up = inr (inr (inl refl))
+in_all_rules p rule.ScanKey up = inr (inr (inr (inl refl)))
+in_all_rules p rule.ScanStop up = inr (inr (inr (inr (inl refl))))
+in_all_rules p rule.Insert up = inr (inr (inr (inr (inr (inl refl)))))
+in_all_rules p rule.Split up = inr (inr (inr (inr (inr (inr (inl refl))))))
+in_all_rules p rule.Delete up = inr (inr (inr (inr (inr (inr (inr (inl refl)))))))
+in_all_rules p rule.Update up = inr (inr (inr (inr (inr (inr (inr (inr (in_updating p rule.Update (rule.Update ∷ []) up (inl refl)))))))))
 
-in_all_covers : (c : Cover) → In c all_covers
-in_all_covers ReadKey = inl refl
-in_all_covers ReadGap = inr (inl refl)
-in_all_covers InsertedKey = inr (inr (inl refl))
-in_all_covers DeletedGap = inr (inr (inr (inl refl)))
+covered_case : (p : Protocol) → IsCovered p → (r : Rule) → IsAsked p r → (k : Case) → In k (cases_of p r) → is_due p k ≡ true → Serves p k.cover k.mode
+covered_case p h r up k i g = case_holds p k (is_due p k) refl (each_none (failure p) (cases p) (ap is_empty h) k (in_flat_map (cases_of p) r k (all_rules p) (in_all_rules p r up) i)) g
+
+-- a cover that the protocol is asked for
+abbrev pub IsKnown : Protocol → Cover → Type 0
+IsKnown p UpdatedKey = p.updates ≡ true
+IsKnown p _ = Unit {0}
+
+in_all_covers : (p : Protocol) (c : Cover) → IsKnown p c → In c (all_covers p)
+in_all_covers p ReadKey up = inl refl
+in_all_covers p ReadGap up = inr (inl refl)
+in_all_covers p InsertedKey up = inr (inr (inl refl))
+in_all_covers p DeletedGap up = inr (inr (inr (inl refl)))
+in_all_covers p UpdatedKey up = inr (inr (inr (inr (in_updating p UpdatedKey (UpdatedKey ∷ []) up (inl refl)))))
 
 -- in two lists, one inside the other
 in_two : {A B C : Type 0} (f : A → B → C) (a : A) (b : B) (xs : List A) (ys : List B) → In a xs → In b ys → In (f a b) (flat_map (λ x. map (λ y. f x y) ys) xs)
 in_two f a b xs ys ia ib = in_flat_map (λ x. map (λ y. f x y) ys) a (f a b) xs ia (in_map (λ y. f a y) b ys ib)
 
 -- a conversion keeps what the held mode serves
-pub keeps_cover : (p : Protocol) → IsCovered p → (c : Cover) (h q : ℕ) → IsMode p h → IsMode p q → Serves p c h → Serves p c (p.convert h q)
-keeps_cover p cov c h q ih iq s =
-    covered_case p cov rule.Conversion (case rule.Conversion c (Two h q) (Some h) (p.convert h q))
-    (in_flat_map (λ d. flat_map (λ x. map (λ y. case rule.Conversion d (Two x y) (Some x) (p.convert x y)) (modes p)) (modes p)) c (case rule.Conversion c (Two h q) (Some h) (p.convert h q)) all_covers (in_all_covers c)
+pub keeps_cover : (p : Protocol) → IsCovered p → (c : Cover) → IsKnown p c → (h q : ℕ) → IsMode p h → IsMode p q → Serves p c h → Serves p c (p.convert h q)
+keeps_cover p cov c up h q ih iq s =
+    covered_case p cov rule.Conversion tt (case rule.Conversion c (Two h q) (Some h) (p.convert h q))
+    (in_flat_map (λ d. flat_map (λ x. map (λ y. case rule.Conversion d (Two x y) (Some x) (p.convert x y)) (modes p)) (modes p)) c (case rule.Conversion c (Two h q) (Some h) (p.convert h q)) (all_covers p) (in_all_covers p c up)
     (in_two (λ x y. case rule.Conversion c (Two x y) (Some x) (p.convert x y)) h q (modes p) (modes p) (in_modes p h ih) (in_modes p q iq)))
     s
 
@@ -171,15 +187,15 @@ in_row p rl r side cs c o ic io = in_two (λ d x. case rl d (One x) None (mode_a
 
 -- a fetch that finds its key covers the key
 pub after_fetch_hit : (p : Protocol) → IsCovered p → (o : ℕ) → o ≤ p.count → Serves p ReadKey (mode_after p o (p.ask row.FetchHit Current 0))
-after_fetch_hit p cov o io = covered_case p cov rule.FetchHit (case rule.FetchHit ReadKey (One o) None (mode_after p o (p.ask row.FetchHit Current 0))) (in_row p rule.FetchHit row.FetchHit Current (ReadKey ∷ []) ReadKey o (inl refl) io) refl
+after_fetch_hit p cov o io = covered_case p cov rule.FetchHit tt (case rule.FetchHit ReadKey (One o) None (mode_after p o (p.ask row.FetchHit Current 0))) (in_row p rule.FetchHit row.FetchHit Current (ReadKey ∷ []) ReadKey o (inl refl) io) refl
 
 -- a fetch that finds nothing covers the gap
 pub after_fetch_miss : (p : Protocol) → IsCovered p → (n : ℕ) → n ≤ p.count → Serves p ReadGap (mode_after p n (p.ask row.FetchMiss Next 0))
-after_fetch_miss p cov n io = covered_case p cov rule.FetchMiss (case rule.FetchMiss ReadGap (One n) None (mode_after p n (p.ask row.FetchMiss Next 0))) (in_row p rule.FetchMiss row.FetchMiss Next (ReadGap ∷ []) ReadGap n (inl refl) io) refl
+after_fetch_miss p cov n io = covered_case p cov rule.FetchMiss tt (case rule.FetchMiss ReadGap (One n) None (mode_after p n (p.ask row.FetchMiss Next 0))) (in_row p rule.FetchMiss row.FetchMiss Next (ReadGap ∷ []) ReadGap n (inl refl) io) refl
 
 -- an insert covers the key that it brings
 pub after_insert : (p : Protocol) → IsCovered p → (n o : ℕ) → n ≤ p.count → o ≤ p.count → Serves p InsertedKey (mode_after p o (p.ask row.Insert Current n))
-after_insert p cov n o in_n io = covered_case p cov rule.Insert (case rule.Insert InsertedKey (Two n o) None (mode_after p o (p.ask row.Insert Current n)))
+after_insert p cov n o in_n io = covered_case p cov rule.Insert tt (case rule.Insert InsertedKey (Two n o) None (mode_after p o (p.ask row.Insert Current n)))
     (in_two (λ x y. case rule.Insert InsertedKey (Two x y) None (mode_after p y (p.ask row.Insert Current x))) n o (modes_or_none p) (modes_or_none p) (in_modes_or_none p n in_n) (in_modes_or_none p o io)) refl
 
 -- the covers of a gap
@@ -188,7 +204,7 @@ gap_covers = ReadGap ∷ DeletedGap ∷ []
 
 -- an insert into a gap that its own transaction covers carries the cover over
 pub after_split : (p : Protocol) → IsCovered p → (c : Cover) → In c gap_covers → (n o : ℕ) → n ≤ p.count → o ≤ p.count → Serves p c n → Serves p c (mode_after p o (p.ask row.Insert Current n))
-after_split p cov c ic n o in_n io s = covered_case p cov rule.Split (case rule.Split c (Two n o) (Some n) (mode_after p o (p.ask row.Insert Current n)))
+after_split p cov c ic n o in_n io s = covered_case p cov rule.Split tt (case rule.Split c (Two n o) (Some n) (mode_after p o (p.ask row.Insert Current n)))
     (in_flat_map (λ d. flat_map (λ x. map (λ y. case rule.Split d (Two x y) (Some x) (mode_after p y (p.ask row.Insert Current x))) (modes_or_none p)) (modes_or_none p)) c
     (case rule.Split c (Two n o) (Some n) (mode_after p o (p.ask row.Insert Current n))) gap_covers ic
     (in_two (λ x y. case rule.Split c (Two x y) (Some x) (mode_after p y (p.ask row.Insert Current x))) n o (modes_or_none p) (modes_or_none p) (in_modes_or_none p n in_n) (in_modes_or_none p o io)))
@@ -196,7 +212,7 @@ after_split p cov c ic n o in_n io s = covered_case p cov rule.Split (case rule.
 
 -- a delete covers the gap that it widens
 pub after_delete : (p : Protocol) → IsCovered p → (n : ℕ) → n ≤ p.count → Serves p DeletedGap (mode_after p n (p.ask row.Delete Next n))
-after_delete p cov n io = covered_case p cov rule.Delete (case rule.Delete DeletedGap (One n) None (mode_after p n (p.ask row.Delete Next n)))
+after_delete p cov n io = covered_case p cov rule.Delete tt (case rule.Delete DeletedGap (One n) None (mode_after p n (p.ask row.Delete Next n)))
     (in_map (λ x. case rule.Delete DeletedGap (One x) None (mode_after p x (p.ask row.Delete Next x))) n (modes_or_none p) (in_modes_or_none p n io)) refl
 
 -- the covers of a key that a scan reads
@@ -205,8 +221,12 @@ scan_covers = ReadKey ∷ ReadGap ∷ []
 
 -- a scan covers each key that it reads, and the gap below it
 pub after_scan_key : (p : Protocol) → IsCovered p → (c : Cover) → In c scan_covers → (o : ℕ) → o ≤ p.count → Serves p c (mode_after p o (p.ask row.ScanKey Current 0))
-after_scan_key p cov c ic o io = covered_case p cov rule.ScanKey (case rule.ScanKey c (One o) None (mode_after p o (p.ask row.ScanKey Current 0))) (in_row p rule.ScanKey row.ScanKey Current scan_covers c o ic io) refl
+after_scan_key p cov c ic o io = covered_case p cov rule.ScanKey tt (case rule.ScanKey c (One o) None (mode_after p o (p.ask row.ScanKey Current 0))) (in_row p rule.ScanKey row.ScanKey Current scan_covers c o ic io) refl
 
 -- a scan covers the gap in which it stops
 pub after_scan_stop : (p : Protocol) → IsCovered p → (n : ℕ) → n ≤ p.count → Serves p ReadGap (mode_after p n (p.ask row.ScanStop Next 0))
-after_scan_stop p cov n io = covered_case p cov rule.ScanStop (case rule.ScanStop ReadGap (One n) None (mode_after p n (p.ask row.ScanStop Next 0))) (in_row p rule.ScanStop row.ScanStop Next (ReadGap ∷ []) ReadGap n (inl refl) io) refl
+after_scan_stop p cov n io = covered_case p cov rule.ScanStop tt (case rule.ScanStop ReadGap (One n) None (mode_after p n (p.ask row.ScanStop Next 0))) (in_row p rule.ScanStop row.ScanStop Next (ReadGap ∷ []) ReadGap n (inl refl) io) refl
+
+-- an update covers its key
+pub after_update : (p : Protocol) → IsCovered p → p.updates ≡ true → (o : ℕ) → o ≤ p.count → Serves p UpdatedKey (mode_after p o (p.ask row.Update Current 0))
+after_update p cov up o io = covered_case p cov rule.Update up (case rule.Update UpdatedKey (One o) None (mode_after p o (p.ask row.Update Current 0))) (in_row p rule.Update row.Update Current (UpdatedKey ∷ []) UpdatedKey o (inl refl) io) refl

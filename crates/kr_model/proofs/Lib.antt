@@ -5,6 +5,7 @@ pub mod MapLaws
 pub mod UndoLaws
 pub mod LockLaws
 pub mod RunLaws
+pub mod LogReads
 pub mod LogLaws
 pub mod SerialLaws
 pub mod DifferenceLaws

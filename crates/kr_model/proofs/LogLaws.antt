@@ -1,16 +1,13 @@
 -- The log of a run has the operations so far of each active transaction, and the committed programs.
-use Rattle.std.specs.Prelude.{◌≡◌, ℕ, Bool, true, false, not, ◌==◌, ◌&&◌, ◌||◌, cond, nat_le, List, [], ◌∷◌, ◌++◌, Option, Some, None, is_some, unwrap_or, filter, map, refl, if◌then◌else◌, ◌⊎◌}
+use Rattle.std.specs.Prelude.{◌≡◌, ℕ, Bool, true, false, not, ◌==◌, ◌&&◌, ◌||◌, cond, List, [], ◌∷◌, ◌++◌, Option, Some, None, is_some, unwrap_or, filter, map, refl, if◌then◌else◌, ◌⊎◌, length}
 use Rattle.std.specs.List.{list_any, cons_option}
 use Rattle.std.specs.Ordering.{nat_cmp, eq_by_cmp, is_lt}
 use Rattle.std.specs.Cmp.{nat_cmp_total}
 use Rattle.std.specs.FinMap.{find, put, is_sorted}
 use Rattle.std.specs.FinMap.Entries.{find-put, same_entries, below_all}
-use Rattle.std.proofs.lemmas.Bool.Decides.{nat_tests}
 use Rattle.std.proofs.lemmas.Map.Lookups.{exact_unsigned}
 use Rattle.std.proofs.lemmas.Bool.{cases_eq}
-use Rattle.std.proofs.Common.{sym, ◌∙◌, ap, ap₂, subst, arith, append_assoc, append-nil, inl, inr}
-use Rattle.kr_model.specs.declared.Name.{Name}
-use Rattle.kr_model.specs.declared.Name.TheVariants.{Key, End}
+use Rattle.std.proofs.Common.{sym, ◌∙◌, ap, ap₂, subst, append-nil, inl, inr, ⊎_elim}
 use Rattle.kr_model.specs.declared.Op.{Op}
 use Rattle.kr_model.specs.declared.Op.TheVariants as op
 use Rattle.kr_model.specs.declared.Event.{Event}
@@ -19,202 +16,18 @@ use Rattle.kr_model.specs.declared.Reply.TheVariants as reply
 use Rattle.kr_model.specs.declared.Refusal.{Refusal}
 use Rattle.kr_model.specs.declared.Refusal.TheVariants as refusal
 use Rattle.kr_model.specs.Protocol.{Protocol}
-use Rattle.kr_model.specs.Map.{Map, get}
+use Rattle.kr_model.specs.Map.{Map, Changes, get}
 use Rattle.kr_model.specs.Locks.{Request, add_once, blockers}
 use Rattle.kr_model.specs.Plan.{plan_of, requests}
 use Rattle.kr_model.specs.declared.Step.TheVariants as attempt
-use Rattle.kr_model.specs.State.{State, Active, Scan, start, idle, active_of, standing, has_ended, is_scanning}
-use Rattle.kr_model.specs.Step.{Effect, Outcome, IsStep, refusal_of, unless_refused, performed, granted_or_blocked, looked, row_read, fetched, inserted, deleted, attempted_scan, name_to_look, is_full, goes_on}
-use Rattle.kr_model.specs.Run.{Entry, Answered, Program, run, operations_of, answer_of, first_rows, committed, programs, is_rows, is_committed, is_operation, is_granted, AreSteps}
-use Rattle.kr_model.specs.Log.{Log, no_log, operations_so_far, last_answered, with_step, step_logged, end_logged, logged, log_after}
+use Rattle.kr_model.specs.State.{State, Active, Scan, start, idle, active_of, standing, has_ended, is_scanning, is_rolling}
+use Rattle.kr_model.specs.Step.{Effect, Outcome, IsStep, refusal_of, unless_refused, performed, granted_or_blocked, looked, fetched, inserted, deleted, updated, attempted_scan, name_to_look, is_full, goes_on, takes_back, one_taken_back}
+use Rattle.kr_model.specs.Run.{Entry, Answered, Program, run, operations_of, first_rows, committed, programs, is_rows, is_committed, is_operation, is_granted, AreSteps}
+use Rattle.kr_model.specs.Log.{Log, no_log, operations_so_far, without_backs, with_step, step_logged, end_logged, logged, log_after}
 use Rattle.kr_model.proofs.MapLaws.{equal_of_test, t_of, sorted_put, sorted_where}
 use Rattle.kr_model.proofs.Actives.{tied, untied, any_add_once, or_true, find_put_same, find_put_other, find_filter, find_filter_other}
 use Rattle.kr_model.proofs.RunLaws.{steps_of_run}
-
-abbrev event : ℕ → Op → Event
-event t o = record { txn = t; op = o }
-
-turned : (u t : ℕ) → (u == t) ≡ (t == u)
-turned u t = grind (arith, nat_tests)
-
--- How a history so far reads --
-
--- The operations of t in a history are these, whatever comes after it; in the midst of a scan the last of them waits for its rows.
-abbrev ReadsAs : ℕ → List Entry → List Answered → Bool → Type 0
-ReadsAs t h os false = (f : List Entry) → operations_of t (h ++ f) ≡ os ++ operations_of t f
-ReadsAs t h os true =
-    (q : List Answered) × (lo : ℕ) × (hi : ℕ) × (a : Reply) × (os ≡ q ++ (op.Scan lo hi, a) ∷ [])
-    × ((f : List Entry) → operations_of t (h ++ f) ≡ q ++ (op.Scan lo hi, first_rows t a f) ∷ operations_of t f)
-
-append_entry : (h : List Entry) (x : Entry) (f : List Entry) → (h ++ x ∷ []) ++ f ≡ h ++ x ∷ f
-append_entry h x f = append_assoc h (x ∷ []) f
-
-append_one : (p : List Answered) (x : Answered) (r : List Answered) → p ++ x ∷ r ≡ (p ++ x ∷ []) ++ r
-append_one p x r = sym (append_assoc p (x ∷ []) r)
-
--- An entry that adds nothing to the operations of t.
-abbrev IsSilent : ℕ → Entry → Type 0
-IsSilent t x = (f : List Entry) → (operations_of t (x ∷ f) ≡ operations_of t f) × ((r : Reply) → first_rows t r (x ∷ f) ≡ first_rows t r f)
-
-silent_other : (t : ℕ) (e : Event) (a : Reply) → (e.txn == t) ≡ false → IsSilent t (e, a)
-silent_other t e a d f = (
-  ap (λ b. cond {A = List Answered} (b && (is_operation e.op && is_granted a)) ((e.op, answer_of t e.op a f) ∷ operations_of t f) (operations_of t f)) d,
-  λ r. ap (λ b. cond (b && is_rows a) a (first_rows t r f)) d,
-)
-
-and_false : (b c : Bool) → c ≡ false → (b && c) ≡ false
-and_false true c h = h
-and_false false c h = refl
-
-silent_by : (t : ℕ) (e : Event) (a : Reply) → (is_operation e.op && is_granted a) ≡ false → is_rows a ≡ false → IsSilent t (e, a)
-silent_by t e a d g f = (
-  ap (λ b. cond {A = List Answered} b ((e.op, answer_of t e.op a f) ∷ operations_of t f) (operations_of t f)) (and_false (e.txn == t) (is_operation e.op && is_granted a) d),
-  λ r. ap (λ b. cond b a (first_rows t r f)) (and_false (e.txn == t) (is_rows a) g),
-)
-
-rows_are_granted : (a : Reply) → is_granted a ≡ false → is_rows a ≡ false
-rows_are_granted (reply.Rows rows) h = absurd (cc)
-rows_are_granted _ h = refl
-
-silent_refused : (t : ℕ) (e : Event) (a : Reply) → is_granted a ≡ false → IsSilent t (e, a)
-silent_refused t e a d = silent_by t e a (and_false (is_operation e.op) (is_granted a) d) (rows_are_granted a d)
-
-first_rows_past : (t : ℕ) (x : Entry) (f : List Entry) (r : Reply) (h : List Entry) → IsSilent t x → first_rows t r (h ++ x ∷ f) ≡ first_rows t r (h ++ f)
-first_rows_past t x f r [] s = (s f).1 r
-first_rows_past t x f r ((e, a) ∷ h) s = ap (λ z. cond ((e.txn == t) && is_rows a) a z) (first_rows_past t x f r h s)
-
-answer_past : (t : ℕ) (o : Op) (a : Reply) (x : Entry) (f : List Entry) (h : List Entry) → IsSilent t x → answer_of t o a (h ++ x ∷ f) ≡ answer_of t o a (h ++ f)
-answer_past t (op.Scan lo hi) a x f h s = ap (λ z. cond (is_rows a) a z) (first_rows_past t x f a h s)
-answer_past t (op.Fetch k) a x f h s = refl
-answer_past t op.Go a x f h s = refl
-answer_past t (op.Insert k v) a x f h s = refl
-answer_past t (op.Delete k) a x f h s = refl
-answer_past t op.Commit a x f h s = refl
-answer_past t op.Abort a x f h s = refl
-
--- A silent entry leaves the operations as they are.
-operations_past : (t : ℕ) (x : Entry) (f : List Entry) (h : List Entry) → IsSilent t x → operations_of t (h ++ x ∷ f) ≡ operations_of t (h ++ f)
-operations_past t x f [] s = (s f).0
-operations_past t x f ((e, a) ∷ h) s =
-    ap₂ (λ (z : Reply) (more : List Answered). cond {A = List Answered} ((e.txn == t) && (is_operation e.op && is_granted a)) ((e.op, z) ∷ more) more) (answer_past t e.op a x f h s) (operations_past t x f h s)
-
-operations_kept : (t : ℕ) (x : Entry) (h : List Entry) → IsSilent t x → operations_of t (h ++ x ∷ []) ≡ operations_of t h
-operations_kept t x h s = operations_past t x [] h s ∙ ap (operations_of t) (append-nil h)
-
-reads_silent : (t : ℕ) (h : List Entry) (x : Entry) (os : List Answered) (b : Bool) → IsSilent t x → ReadsAs t h os b → ReadsAs t (h ++ x ∷ []) os b
-reads_silent t h x os false s r = λ f. ap (operations_of t) (append_entry h x f) ∙ r (x ∷ f) ∙ ap (λ z. os ++ z) (s f).0
-reads_silent t h x os true s (q, lo, hi, a, e, r) =
-    (q, lo, hi, a, e, λ f. ap (operations_of t) (append_entry h x f) ∙ r (x ∷ f) ∙ ap₂ (λ b z. q ++ (op.Scan lo hi, b) ∷ z) ((s f).1 a) (s f).0)
-
-own_entry : (t : ℕ) (o : Op) (a : Reply) (f : List Entry) → (is_operation o && is_granted a) ≡ true → operations_of t ((event t o, a) ∷ f) ≡ (o, answer_of t o a f) ∷ operations_of t f
-own_entry t o a f d = ap₂ (λ b c. cond {A = List Answered} (b && c) ((o, answer_of t o a f) ∷ operations_of t f) (operations_of t f)) (tied t) d
-
--- An operation has its answer at once.
-reads_answer : (t : ℕ) (h : List Entry) (o : Op) (a : Reply) (os : List Answered) → (is_operation o && is_granted a) ≡ true → ((f : List Entry) → answer_of t o a f ≡ a)
-    → ReadsAs t h os false → ReadsAs t (h ++ (event t o, a) ∷ []) (os ++ (o, a) ∷ []) false
-reads_answer t h o a os d same r f =
-    ap (operations_of t) (append_entry h (event t o, a) f) ∙ r ((event t o, a) ∷ f)
-    ∙ ap (λ z. os ++ z) (own_entry t o a f d ∙ ap (λ (z : Reply). let x : Answered = (o, z) in x ∷ operations_of t f) (same f))
-    ∙ append_one os (o, a) (operations_of t f)
-
--- A scan begins.
-reads_begins : (t : ℕ) (h : List Entry) (lo hi k : ℕ) (os : List Answered) → ReadsAs t h os false → ReadsAs t (h ++ (event t (op.Scan lo hi), reply.Going k) ∷ []) (os ++ (op.Scan lo hi, reply.Going k) ∷ []) true
-reads_begins t h lo hi k os r = (
-  os,
-  lo,
-  hi,
-  reply.Going k,
-  refl,
-  λ f. ap (operations_of t) (append_entry h (event t (op.Scan lo hi), reply.Going k) f) ∙ r ((event t (op.Scan lo hi), reply.Going k) ∷ f)
-      ∙ ap (λ z. os ++ z) (own_entry t (op.Scan lo hi) (reply.Going k) f refl),
-)
-
-last_of : (q : List Answered) (o : Op) (a b : Reply) → last_answered b (q ++ (o, a) ∷ []) ≡ q ++ (o, b) ∷ []
-last_of [] o a b = refl
-last_of (x ∷ []) o a b = refl
-last_of (x ∷ y ∷ ys) o a b = ap (λ z. x ∷ z) (last_of (y ∷ ys) o a b)
-
--- A scan has its rows.
-reads_ends : (t : ℕ) (h : List Entry) (rows : List (ℕ × ℕ)) (os : List Answered) → ReadsAs t h os true → ReadsAs t (h ++ (event t op.Go, reply.Rows rows) ∷ []) (last_answered (reply.Rows rows) os) false
-reads_ends t h rows os (q, lo, hi, a, e, r) f =
-    let x : Entry = (event t op.Go, reply.Rows rows) in
-    ap (operations_of t) (append_entry h x f) ∙ r (x ∷ f)
-    ∙ ap₂ (λ b z. q ++ (op.Scan lo hi, b) ∷ z) (ap (λ b. cond (b && true) (reply.Rows rows) (first_rows t a f)) (tied t)) (ap (λ b. cond {A = List Answered} (b && false) ((op.Go, answer_of t op.Go (reply.Rows rows) f) ∷ operations_of t f) (operations_of t f)) (tied t))
-    ∙ append_one q (op.Scan lo hi, reply.Rows rows) (operations_of t f)
-    ∙ ap (λ z. z ++ operations_of t f) (sym (ap (last_answered (reply.Rows rows)) e ∙ last_of q (op.Scan lo hi) a (reply.Rows rows)))
-
--- At the end of the history.
-reads_whole : (t : ℕ) (h : List Entry) (os : List Answered) (b : Bool) → ReadsAs t h os b → operations_of t h ≡ os
-reads_whole t h os false r = ap (operations_of t) (sym (append-nil h)) ∙ r [] ∙ append-nil os
-reads_whole t h os true (q, lo, hi, a, e, r) = ap (operations_of t) (sym (append-nil h)) ∙ r [] ∙ sym e
-
--- What a granted step adds --
-
--- The step adds to the log and to the operations of its transaction alike; b and c say whether it scans before the step and after it.
-record Adds (o : Op) (a : Reply) (b c : Bool) : Type 0 where
-  logs : (l : Log) (t : ℕ) → logged l (event t o, a) ≡ step_logged l t o a
-  stays : is_committed a ≡ false
-  reads : (t : ℕ) (h : List Entry) (os : List Answered) → ReadsAs t h os b → ReadsAs t (h ++ (event t o, a) ∷ []) (with_step os o a) c
-
--- An operation that has its answer at once.
-adds_answer : (o : Op) (a : Reply) (b : Bool) → b ≡ false → ((l : Log) (t : ℕ) → logged l (event t o, a) ≡ step_logged l t o a) → is_committed a ≡ false → (is_operation o && is_granted a) ≡ true
-    → ((t : ℕ) (f : List Entry) → answer_of t o a f ≡ a) → ((os : List Answered) → with_step os o a ≡ os ++ (o, a) ∷ []) → Adds o a b false
-adds_answer o a b e logs stays operation answer with = record {
-  logs = logs;
-  stays = stays;
-  reads = λ t h os r. subst (λ z. ReadsAs t (h ++ (event t o, a) ∷ []) z false) (sym (with os)) (reads_answer t h o a os operation (answer t) (subst (λ z. ReadsAs t h os z) e r));
-}
-
-adds_begins : (lo hi k : ℕ) (b : Bool) → b ≡ false → Adds (op.Scan lo hi) (reply.Going k) b true
-adds_begins lo hi k b e = record {
-  logs = λ l t. refl;
-  stays = refl;
-  reads = λ t h os r. reads_begins t h lo hi k os (subst (λ z. ReadsAs t h os z) e r);
-}
-
-adds_goes_on : (k : ℕ) (b : Bool) → b ≡ true → Adds op.Go (reply.Going k) b true
-adds_goes_on k b e = record {
-  logs = λ l t. refl;
-  stays = refl;
-  reads = λ t h os r. reads_silent t h (event t op.Go, reply.Going k) os true (silent_by t (event t op.Go) (reply.Going k) refl refl) (subst (λ z. ReadsAs t h os z) e r);
-}
-
-adds_ends : (rows : List (ℕ × ℕ)) (b : Bool) → b ≡ true → Adds op.Go (reply.Rows rows) b false
-adds_ends rows b e = record {
-  logs = λ l t. refl;
-  stays = refl;
-  reads = λ t h os r. reads_ends t h rows os (subst (λ z. ReadsAs t h os z) e r);
-}
-
--- The effect is logged as it reads.
-abbrev EffectAdds : Op → Bool → Effect → Type 0
-EffectAdds o b e = Adds o e.reply b (is_some e.standing.scan)
-
-adds_fetch : (m : Map) (a : Active) (k : ℕ) (r : Option ℕ) (b : Bool) → b ≡ false → is_some a.scan ≡ false → EffectAdds (op.Fetch k) b (fetched m a r)
-adds_fetch m a k (Some v) b e f = subst (λ z. Adds (op.Fetch k) (reply.Found v) b z) (sym f) (adds_answer (op.Fetch k) (reply.Found v) b e (λ l t. refl) refl refl (λ t g. refl) (λ os. refl))
-adds_fetch m a k None b e f = subst (λ z. Adds (op.Fetch k) reply.None b z) (sym f) (adds_answer (op.Fetch k) reply.None b e (λ l t. refl) refl refl (λ t g. refl) (λ os. refl))
-
-adds_insert : (m : Map) (a : Active) (k v : ℕ) (r : Option ℕ) (b : Bool) → b ≡ false → is_some a.scan ≡ false → EffectAdds (op.Insert k v) b (inserted m a k v r)
-adds_insert m a k v (Some w) b e f = subst (λ z. Adds (op.Insert k v) reply.Duplicate b z) (sym f) (adds_answer (op.Insert k v) reply.Duplicate b e (λ l t. refl) refl refl (λ t g. refl) (λ os. refl))
-adds_insert m a k v None b e f = subst (λ z. Adds (op.Insert k v) reply.Done b z) (sym f) (adds_answer (op.Insert k v) reply.Done b e (λ l t. refl) refl refl (λ t g. refl) (λ os. refl))
-
-adds_delete : (m : Map) (a : Active) (k : ℕ) (r : Option ℕ) (b : Bool) → b ≡ false → is_some a.scan ≡ false → EffectAdds (op.Delete k) b (deleted m a k r)
-adds_delete m a k (Some w) b e f = subst (λ z. Adds (op.Delete k) (reply.Deleted w) b z) (sym f) (adds_answer (op.Delete k) (reply.Deleted w) b e (λ l t. refl) refl refl (λ t g. refl) (λ os. refl))
-adds_delete m a k None b e f = subst (λ z. Adds (op.Delete k) reply.Absent b z) (sym f) (adds_answer (op.Delete k) reply.Absent b e (λ l t. refl) refl refl (λ t g. refl) (λ os. refl))
-
--- A scan's step, which ends the scan or goes on with it.
-adds_looked : (o : Op) (b : Bool) → ((rows : List (ℕ × ℕ)) → Adds o (reply.Rows rows) b false) → ((k : ℕ) → Adds o (reply.Going k) b true)
-    → (m : Map) (a : Active) (c : Scan) (n : Name) → EffectAdds o b (looked m a c n)
-adds_looked o b ends goes m a c End = ends c.rows
-adds_looked o b ends goes m a c (Key k) = by (nat_le k c.hi)
-  where
-    on : (rows : List (ℕ × ℕ)) (d : Bool) → EffectAdds o b (if d then record { reply = reply.Rows rows; map = m; standing = record { scan = None; changes = a.changes } } else record { reply = reply.Going k; map = m; standing = record { scan = Some (record { lo = c.lo; hi = c.hi; rows = rows }); changes = a.changes } })
-    on rows true = ends rows
-    on rows false = goes k
-
-    by : (d : Bool) → EffectAdds o b (if d then row_read m a c k (unwrap_or (get m k) 0) else record { reply = reply.Rows c.rows; map = m; standing = record { scan = None; changes = a.changes } })
-    by true = on (c.rows ++ (k, unwrap_or (get m k) 0) ∷ []) (k == c.hi)
-    by false = ends c.rows
+use Rattle.kr_model.proofs.LogReads.{event, turned, ReadsAs, append_entry, IsSilent, IsRowless, silent_other, silent_by, silent_refused, back_past, operations_kept, reads_silent, reads_whole, IsForward, forward_kept, forward_step, Adds, adds_answer, adds_begins, adds_goes_on, adds_ends, EffectAdds, adds_fetch, adds_insert, adds_delete, adds_update, adds_looked}
 
 -- The kinds of steps --
 
@@ -224,6 +37,7 @@ record IsGranted (s : State) (t : ℕ) (o : Op) (a : Reply) (new : State) : Type
   active : new.active ≡ put nat_cmp t standing s.active
   ended : new.ended ≡ s.ended
   works : has_ended s t ≡ false
+  unrolled : is_rolling s t ≡ false
   adds : Adds o a (is_scanning s t) (is_some standing.scan)
 
 -- A step of t that ends it.
@@ -231,71 +45,109 @@ record IsEnd (s : State) (t : ℕ) (o : Op) (a : Reply) (new : State) : Type 0 w
   active : new.active ≡ filter (λ e. not (e.0 == t)) s.active
   ended : new.ended ≡ add_once t s.ended
   works : has_ended s t ≡ false
-  kept : ((o ≡ op.Commit) × (a ≡ reply.Committed)) ⊎ (a ≡ reply.Aborted)
+  kept : ((o ≡ op.Commit) × (a ≡ reply.Committed) × (is_rolling s t ≡ false)) ⊎ (a ≡ reply.Aborted)
 
--- A step changes nothing, or is granted, or ends its transaction.
+-- A step of t that takes one of its changes back: t is active, and rolls back from then on.
+record IsBack (s : State) (t : ℕ) (o : Op) (a : Reply) (new : State) : Type 0 where
+  standing : Active
+  active : new.active ≡ put nat_cmp t standing s.active
+  ended : new.ended ≡ s.ended
+  works : has_ended s t ≡ false
+  present : is_some (active_of s t) ≡ true
+  rolls : standing.rolling ≡ true
+  left : ℕ
+  back : o ≡ op.Back
+  undone : a ≡ reply.Undone left
+
+-- A step changes nothing, or is granted, or ends its transaction, or takes a change back.
 abbrev Kind : State → ℕ → Op → Reply → State → Type 0
-Kind s t o a new = ((new ≡ s) × (is_granted a ≡ false)) ⊎ (IsGranted s t o a new ⊎ IsEnd s t o a new)
+Kind s t o a new = ((new ≡ s) × (is_granted a ≡ false)) ⊎ (IsGranted s t o a new ⊎ (IsEnd s t o a new ⊎ IsBack s t o a new))
 
 silent_kind : (s : State) (t : ℕ) (o : Op) (a b : Reply) (new : State) → ◌≡◌ {A = Outcome} (a, new) (b, s) → is_granted b ≡ false → Kind s t o a new
 silent_kind s t o a b new e g = inl (ap (λ (x : Outcome). x.1) e, ap (λ (x : Outcome). is_granted x.0) e ∙ g)
 
-attempt_kind : (p : Protocol) (s : State) (t : ℕ) (o : Op) (rs : List Request) (e : Effect) (us : List ℕ) (a : Reply) (new : State) → has_ended s t ≡ false → EffectAdds o (is_scanning s t) e
+attempt_kind : (p : Protocol) (s : State) (t : ℕ) (o : Op) (rs : List Request) (e : Effect) (us : List ℕ) (a : Reply) (new : State) → has_ended s t ≡ false → is_rolling s t ≡ false → EffectAdds o (is_scanning s t) e
     → ◌≡◌ {A = Outcome} (a, new) (granted_or_blocked p s t rs e us) → Kind s t o a new
-attempt_kind p s t o rs e (u ∷ us) a new works adds is = silent_kind s t o a (reply.Blocked (u ∷ us)) new is refl
-attempt_kind p s t o rs e [] a new works adds is =
+attempt_kind p s t o rs e (u ∷ us) a new works unrolled adds is = silent_kind s t o a (reply.Blocked (u ∷ us)) new is refl
+attempt_kind p s t o rs e [] a new works unrolled adds is =
     inr (inl record {
       standing = e.standing;
       active = ap (λ (x : Outcome). x.1.active) is;
       ended = ap (λ (x : Outcome). x.1.ended) is;
       works = works;
+      unrolled = unrolled;
       adds = subst (λ z. Adds o z (is_scanning s t) (is_some e.standing.scan)) (sym (ap (λ (x : Outcome). x.0) is)) adds;
     })
 
-looked_kind : (p : Protocol) (s : State) (t : ℕ) (o : Op) (c : Scan) (a : Reply) (new : State) → has_ended s t ≡ false
+looked_kind : (p : Protocol) (s : State) (t : ℕ) (o : Op) (c : Scan) (a : Reply) (new : State) → has_ended s t ≡ false → is_rolling s t ≡ false
     → ((rows : List (ℕ × ℕ)) → Adds o (reply.Rows rows) (is_scanning s t) false) → ((k : ℕ) → Adds o (reply.Going k) (is_scanning s t) true)
     → ◌≡◌ {A = Outcome} (a, new) (attempted_scan p s t (Some c)) → Kind s t o a new
-looked_kind p s t o c a new works ends goes is =
+looked_kind p s t o c a new works unrolled ends goes is =
     let n = name_to_look s.map c in
     let rs = requests (plan_of p s.map s.locks t (attempt.Look n c.hi)) in
-    attempt_kind p s t o rs (looked s.map (standing s t) c n) (blockers p s.locks t rs) a new works (adds_looked o (is_scanning s t) ends goes s.map (standing s t) c n) is
+    attempt_kind p s t o rs (looked s.map (standing s t) c n) (blockers p s.locks t rs) a new works unrolled (adds_looked o (is_scanning s t) ends goes s.map (standing s t) c n) is
 
-go_kind : (p : Protocol) (s : State) (t : ℕ) (a : Reply) (new : State) (c : Option Scan) → (standing s t).scan ≡ c → has_ended s t ≡ false
+go_kind : (p : Protocol) (s : State) (t : ℕ) (a : Reply) (new : State) (c : Option Scan) → (standing s t).scan ≡ c → has_ended s t ≡ false → is_rolling s t ≡ false
     → ◌≡◌ {A = Outcome} (a, new) (attempted_scan p s t c) → Kind s t op.Go a new
-go_kind p s t a new None e works is = silent_kind s t op.Go a (reply.Refused refusal.NoScan) new is refl
-go_kind p s t a new (Some c) e works is = looked_kind p s t op.Go c a new works (λ rows. adds_ends rows (is_scanning s t) (ap is_some e)) (λ k. adds_goes_on k (is_scanning s t) (ap is_some e)) is
+go_kind p s t a new None e works unrolled is = silent_kind s t op.Go a (reply.Refused refusal.NoScan) new is refl
+go_kind p s t a new (Some c) e works unrolled is = looked_kind p s t op.Go c a new works unrolled (λ rows. adds_ends rows (is_scanning s t) (ap is_some e)) (λ k. adds_goes_on k (is_scanning s t) (ap is_some e)) is
 
--- What an operation does that isn't refused.
-performed_kind : (p : Protocol) (s : State) (t : ℕ) (o : Op) (a : Reply) (new : State) → has_ended s t ≡ false → (goes_on o ≡ false → is_scanning s t ≡ false)
-    → ◌≡◌ {A = Outcome} (a, new) (performed p s t o) → Kind s t o a new
-performed_kind p s t (op.Fetch k) a new works rest is =
-    let rs = requests (plan_of p s.map s.locks t (attempt.Fetch k)) in
-    attempt_kind p s t (op.Fetch k) rs (fetched s.map (standing s t) (get s.map k)) (blockers p s.locks t rs) a new works (adds_fetch s.map (standing s t) k (get s.map k) (is_scanning s t) (rest refl) (rest refl)) is
-performed_kind p s t (op.Insert k v) a new works rest is =
-    let rs = requests (plan_of p s.map s.locks t (attempt.Insert k)) in
-    attempt_kind p s t (op.Insert k v) rs (inserted s.map (standing s t) k v (get s.map k)) (blockers p s.locks t rs) a new works (adds_insert s.map (standing s t) k v (get s.map k) (is_scanning s t) (rest refl) (rest refl)) is
-performed_kind p s t (op.Delete k) a new works rest is =
-    let rs = requests (plan_of p s.map s.locks t (attempt.Delete k)) in
-    attempt_kind p s t (op.Delete k) rs (deleted s.map (standing s t) k (get s.map k)) (blockers p s.locks t rs) a new works (adds_delete s.map (standing s t) k (get s.map k) (is_scanning s t) (rest refl) (rest refl)) is
-performed_kind p s t (op.Scan lo hi) a new works rest is =
-    looked_kind p s t (op.Scan lo hi) (record { lo = lo; hi = hi; rows = [] }) a new works
-    (λ rows. adds_answer (op.Scan lo hi) (reply.Rows rows) (is_scanning s t) (rest refl) (λ l u. refl) refl refl (λ u f. refl) (λ os. refl))
-    (λ k. adds_begins lo hi k (is_scanning s t) (rest refl)) is
-performed_kind p s t op.Go a new works rest is = go_kind p s t a new (standing s t).scan refl works is
-performed_kind p s t op.Commit a new works rest is =
-    inr (inr record {
+-- Who has changes is active.
+has_changes : (s : State) (t : ℕ) (x : Option Active) (c : ℕ × Option ℕ) (cs : Changes) → active_of s t ≡ x → (unwrap_or x idle).changes ≡ c ∷ cs → is_some (active_of s t) ≡ true
+has_changes s t (Some a) c cs is e = ap is_some is
+has_changes s t None c cs is e = absurd (cc)
+
+back_kind : (s : State) (t : ℕ) (a : Reply) (new : State) (cs : Changes) → (standing s t).changes ≡ cs → has_ended s t ≡ false
+    → ◌≡◌ {A = Outcome} (a, new) (one_taken_back s t cs) → Kind s t op.Back a new
+back_kind s t a new [] e works is = silent_kind s t op.Back a (reply.Refused refusal.NothingLeft) new is refl
+back_kind s t a new (c ∷ cs) e works is =
+    inr (inr (inr record {
+      standing = record { scan = None; changes = cs; rolling = true };
       active = ap (λ (x : Outcome). x.1.active) is;
       ended = ap (λ (x : Outcome). x.1.ended) is;
       works = works;
-      kept = inl (refl, ap (λ (x : Outcome). x.0) is);
-    })
-performed_kind p s t op.Abort a new works rest is =
-    inr (inr record {
+      present = has_changes s t (active_of s t) c cs refl e;
+      rolls = refl;
+      left = length cs;
+      back = refl;
+      undone = ap (λ (x : Outcome). x.0) is;
+    }))
+
+-- What an operation does that isn't refused.
+performed_kind : (p : Protocol) (s : State) (t : ℕ) (o : Op) (a : Reply) (new : State) → has_ended s t ≡ false → (goes_on o ≡ false → is_scanning s t ≡ false) → (takes_back o ≡ false → is_rolling s t ≡ false)
+    → ◌≡◌ {A = Outcome} (a, new) (performed p s t o) → Kind s t o a new
+performed_kind p s t (op.Fetch k) a new works rest unrolled is =
+    let rs = requests (plan_of p s.map s.locks t (attempt.Fetch k)) in
+    attempt_kind p s t (op.Fetch k) rs (fetched s.map (standing s t) (get s.map k)) (blockers p s.locks t rs) a new works (unrolled refl) (adds_fetch s.map (standing s t) k (get s.map k) (is_scanning s t) (rest refl) (rest refl)) is
+performed_kind p s t (op.Insert k v) a new works rest unrolled is =
+    let rs = requests (plan_of p s.map s.locks t (attempt.Insert k)) in
+    attempt_kind p s t (op.Insert k v) rs (inserted s.map (standing s t) k v (get s.map k)) (blockers p s.locks t rs) a new works (unrolled refl) (adds_insert s.map (standing s t) k v (get s.map k) (is_scanning s t) (rest refl) (rest refl)) is
+performed_kind p s t (op.Delete k) a new works rest unrolled is =
+    let rs = requests (plan_of p s.map s.locks t (attempt.Delete k)) in
+    attempt_kind p s t (op.Delete k) rs (deleted s.map (standing s t) k (get s.map k)) (blockers p s.locks t rs) a new works (unrolled refl) (adds_delete s.map (standing s t) k (get s.map k) (is_scanning s t) (rest refl) (rest refl)) is
+performed_kind p s t (op.Update k v) a new works rest unrolled is =
+    let rs = requests (plan_of p s.map s.locks t (attempt.Update k)) in
+    attempt_kind p s t (op.Update k v) rs (updated s.map (standing s t) k v (get s.map k)) (blockers p s.locks t rs) a new works (unrolled refl) (adds_update s.map (standing s t) k v (get s.map k) (is_scanning s t) (rest refl) (rest refl)) is
+performed_kind p s t (op.Scan lo hi) a new works rest unrolled is =
+    looked_kind p s t (op.Scan lo hi) (record { lo = lo; hi = hi; rows = [] }) a new works (unrolled refl)
+    (λ rows. adds_answer (op.Scan lo hi) (reply.Rows rows) (is_scanning s t) (rest refl) (λ l u. refl) refl refl refl (λ u f. refl) (λ os. refl))
+    (λ k. adds_begins lo hi k (is_scanning s t) (rest refl)) is
+performed_kind p s t op.Go a new works rest unrolled is = go_kind p s t a new (standing s t).scan refl works (unrolled refl) is
+performed_kind p s t op.Commit a new works rest unrolled is =
+    inr (inr (inl record {
+      active = ap (λ (x : Outcome). x.1.active) is;
+      ended = ap (λ (x : Outcome). x.1.ended) is;
+      works = works;
+      kept = inl (refl, ap (λ (x : Outcome). x.0) is, unrolled refl);
+    }))
+performed_kind p s t op.Abort a new works rest unrolled is =
+    inr (inr (inl record {
       active = ap (λ (x : Outcome). x.1.active) is;
       ended = ap (λ (x : Outcome). x.1.ended) is;
       works = works;
       kept = inr (ap (λ (x : Outcome). x.0) is);
-    })
+    }))
+performed_kind p s t op.Back a new works rest unrolled is = back_kind s t a new (standing s t).changes refl works is
 
 pub not_refused : (b : Bool) (r : Refusal) (o : Option Refusal) → cond b (Some r) o ≡ None → (b ≡ false) × (o ≡ None)
 not_refused true r o e = absurd (cc)
@@ -306,17 +158,18 @@ not_busy true true h e = absurd (cc)
 not_busy true false h e = absurd (cc)
 not_busy false c h e = refl
 
-unless_kind : (p : Protocol) (s : State) (t : ℕ) (o : Op) (a : Reply) (new : State) (r : Option Refusal) → refusal_of s t o ≡ r → ◌≡◌ {A = Outcome} (a, new) (unless_refused p s t o r) → Kind s t o a new
+unless_kind : (p : Protocol) (s : State) (t : ℕ) (o : Op) (a : Reply) (new : State) (r : Option Refusal) → refusal_of p s t o ≡ r → ◌≡◌ {A = Outcome} (a, new) (unless_refused p s t o r) → Kind s t o a new
 unless_kind p s t o a new (Some r) e is = silent_kind s t o a (reply.Refused r) new is refl
 unless_kind p s t o a new None e is =
     let ended = not_refused (has_ended s t) refusal.Ended _ e in
     let full = not_refused (is_full s t) refusal.Full _ ended.1 in
-    let busy = not_refused (is_scanning s t && not (goes_on o)) refusal.Busy _ full.1 in
-    performed_kind p s t o a new ended.0 (not_busy (is_scanning s t) (goes_on o) busy.0) is
+    let rolls = not_refused (is_rolling s t && not (takes_back o)) refusal.RollingBack _ full.1 in
+    let busy = not_refused (is_scanning s t && not (goes_on o)) refusal.Busy _ rolls.1 in
+    performed_kind p s t o a new ended.0 (not_busy (is_scanning s t) (goes_on o) busy.0) (not_busy (is_rolling s t) (takes_back o) rolls.0) is
 
 -- Each step is of one of the kinds.
 kind_of : (p : Protocol) (s : State) (t : ℕ) (o : Op) (a : Reply) (new : State) → IsStep p s t o a new → Kind s t o a new
-kind_of p s t o a new (inl e) = unless_kind p s t o a new (refusal_of s t o) refl e
+kind_of p s t o a new (inl e) = unless_kind p s t o a new (refusal_of p s t o) refl e
 kind_of p s t o a new (inr m) = inl (m.1, ap is_granted m.0)
 
 -- The ended and the active --
@@ -394,15 +247,25 @@ programs_stay s h x (u ∷ us) ended silent =
 
 -- The log of a history --
 
--- What holds of a log after each step: it has the active transactions, and what each has done so far; and the programs that have committed.
+-- What holds of a log after each step: it has the active transactions, and what each has done so far but for the changes taken back; and the programs that have committed.
 record IsLog (h : List Entry) (s : State) (l : Log) : Type 0 where
   in_order : is_sorted nat_cmp s.active ≡ true
   log_in_order : is_sorted nat_cmp l.unfinished ≡ true
   same : (t : ℕ) → is_some (find nat_cmp t l.unfinished) ≡ is_some (active_of s t)
   works : (t : ℕ) → is_some (active_of s t) ≡ true → has_ended s t ≡ false
-  reads : (t : ℕ) → has_ended s t ≡ false → ReadsAs t h (operations_so_far l t) (is_scanning s t)
+  reads : (t : ℕ) → has_ended s t ≡ false → is_rolling s t ≡ false → ReadsAs t h (operations_so_far l t) (is_scanning s t)
+  forward : (t : ℕ) → IsForward (operations_so_far l t)
+  rolled : (t : ℕ) → is_some (active_of s t) ≡ true → is_rolling s t ≡ true → without_backs (operations_of t h) ≡ operations_so_far l t
   ended : HaveEnded s (committed h)
   committed : l.committed ≡ programs h
+
+-- What an active transaction has done so far, whether it rolls back or not.
+told : (h : List Entry) (s : State) (l : Log) (t : ℕ) → IsLog h s l → is_some (active_of s t) ≡ true → without_backs (operations_of t h) ≡ operations_so_far l t
+told h s l t k present = by (is_rolling s t) refl
+  where
+    by : (b : Bool) → is_rolling s t ≡ b → without_backs (operations_of t h) ≡ operations_so_far l t
+    by true e = k.rolled t present e
+    by false e = ap without_backs (reads_whole t h (operations_so_far l t) (is_scanning s t) (k.reads t (k.works t present) e)) ∙ forward_kept (operations_so_far l t) (k.forward t)
 
 pub logged_silent : (l : Log) (e : Event) (a : Reply) → is_granted a ≡ false → logged l (e, a) ≡ l
 logged_silent l e (reply.Blocked us) h = refl
@@ -424,7 +287,9 @@ log_silent h s l t o a g k =
       log_in_order = k.log_in_order;
       same = k.same;
       works = k.works;
-      reads = λ u e. reads_silent u h x (operations_so_far l u) (is_scanning s u) (silent u) (k.reads u e);
+      reads = λ u e r. reads_silent u h x (operations_so_far l u) (is_scanning s u) (silent u) (k.reads u e r);
+      forward = k.forward;
+      rolled = λ u e r. ap without_backs (operations_kept u x h (silent u)) ∙ k.rolled u e r;
       ended = subst (λ z. HaveEnded s z) (sym listed) k.ended;
       committed = k.committed ∙ sym (programs_stay s h x (committed h) k.ended (λ u e. silent u)) ∙ sym (ap (map (program_in (h ++ x ∷ []))) listed);
     }
@@ -446,7 +311,9 @@ log_granted h s l t o a new g k =
       log_in_order = sorted_put t os l.unfinished k.log_in_order;
       same = λ u. same_some l.unfinished s.active t u os g.standing (k.same u) ∙ sym (ap (λ z. is_some (find nat_cmp u z)) g.active);
       works = λ u e. ends u ∙ works_by u (cases u t) (sym (ap (λ z. is_some (find nat_cmp u z)) g.active) ∙ e);
-      reads = λ u e. reads_by u (cases u t) (sym (ends u) ∙ e);
+      reads = λ u e r. reads_by u (cases u t) (sym (ends u) ∙ e) r;
+      forward = λ u. forward_by u (cases u t);
+      rolled = λ u e r. rolled_by u (cases u t) e r;
       ended = subst (λ z. HaveEnded new z) (sym listed) (ended_stay s new (committed h) (λ u e. ends u ∙ e) k.ended);
       committed = k.committed ∙ sym (programs_stay s h x (committed h) k.ended (λ u e. other u (apart u e))) ∙ sym (ap (map (program_in (h ++ x ∷ []))) listed);
     }
@@ -458,18 +325,37 @@ log_granted h s l t o a new g k =
     works_by u (inl d) e = ap (has_ended s) d ∙ g.works
     works_by u (inr d) e = k.works u (sym (ap is_some (find_put_other s.active t u g.standing d)) ∙ e)
 
-    reads_by : (u : ℕ) → (u ≡ t) ⊎ (u ≡ t → ⊥) → has_ended s u ≡ false → ReadsAs u (h ++ (event t o, a) ∷ []) (operations_so_far (step_logged l t o a) u) (is_scanning new u)
-    reads_by u (inl d) e =
+    reads_by : (u : ℕ) → (u ≡ t) ⊎ (u ≡ t → ⊥) → has_ended s u ≡ false → is_rolling new u ≡ false → ReadsAs u (h ++ (event t o, a) ∷ []) (operations_so_far (step_logged l t o a) u) (is_scanning new u)
+    reads_by u (inl d) e r =
         let now : active_of new t ≡ Some g.standing = ap (find nat_cmp t) g.active ∙ find_put_same s.active t g.standing in
         subst (λ z. ReadsAs z (h ++ (event t o, a) ∷ []) (operations_so_far (step_logged l t o a) z) (is_scanning new z)) (sym d)
         (subst (λ z. ReadsAs t (h ++ (event t o, a) ∷ []) (unwrap_or z []) (is_scanning new t)) (sym (find_put_same l.unfinished t (with_step (operations_so_far l t) o a)))
         (subst (λ z. ReadsAs t (h ++ (event t o, a) ∷ []) (with_step (operations_so_far l t) o a) (is_some (unwrap_or z idle).scan)) (sym now)
-        (g.adds.reads t h (operations_so_far l t) (k.reads t g.works))))
-    reads_by u (inr d) e =
+        (g.adds.reads t h (operations_so_far l t) (k.reads t g.works g.unrolled))))
+    reads_by u (inr d) e r =
         let now : active_of new u ≡ active_of s u = ap (find nat_cmp u) g.active ∙ find_put_other s.active t u g.standing d in
         subst (λ z. ReadsAs u (h ++ (event t o, a) ∷ []) (unwrap_or z []) (is_scanning new u)) (sym (find_put_other l.unfinished t u (with_step (operations_so_far l t) o a) d))
         (subst (λ z. ReadsAs u (h ++ (event t o, a) ∷ []) (operations_so_far l u) (is_some (unwrap_or z idle).scan)) (sym now)
-        (reads_silent u h (event t o, a) (operations_so_far l u) (is_scanning s u) (silent_other u (event t o) a (turned t u ∙ untied u t d)) (k.reads u e)))
+        (reads_silent u h (event t o, a) (operations_so_far l u) (is_scanning s u) (silent_other u (event t o) a (turned t u ∙ untied u t d)) (k.reads u e (sym (ap (λ z. (unwrap_or z idle).rolling) now) ∙ r))))
+
+    forward_by : (u : ℕ) → (u ≡ t) ⊎ (u ≡ t → ⊥) → IsForward (operations_so_far (step_logged l t o a) u)
+    forward_by u (inl d) =
+        subst (λ z. IsForward (operations_so_far (step_logged l t o a) z)) (sym d)
+        (subst (λ z. IsForward (unwrap_or z [])) (sym (find_put_same l.unfinished t (with_step (operations_so_far l t) o a))) (forward_step (operations_so_far l t) o a g.adds.forward (k.forward t)))
+    forward_by u (inr d) = subst (λ z. IsForward (unwrap_or z [])) (sym (find_put_other l.unfinished t u (with_step (operations_so_far l t) o a) d)) (k.forward u)
+
+    rolled_by : (u : ℕ) → (u ≡ t) ⊎ (u ≡ t → ⊥) → is_some (active_of new u) ≡ true → is_rolling new u ≡ true → without_backs (operations_of u (h ++ (event t o, a) ∷ [])) ≡ operations_so_far (step_logged l t o a) u
+    rolled_by u (inl d) e r =
+        let os = with_step (operations_so_far l t) o a in
+        subst (λ z. without_backs (operations_of z (h ++ (event t o, a) ∷ [])) ≡ operations_so_far (step_logged l t o a) z) (sym d)
+        (ap without_backs (reads_whole t (h ++ (event t o, a) ∷ []) os (is_some g.standing.scan) (g.adds.reads t h (operations_so_far l t) (k.reads t g.works g.unrolled)))
+        ∙ forward_kept os (forward_step (operations_so_far l t) o a g.adds.forward (k.forward t))
+        ∙ sym (ap (λ z. unwrap_or z []) (find_put_same l.unfinished t os)))
+    rolled_by u (inr d) e r =
+        let now : active_of new u ≡ active_of s u = ap (find nat_cmp u) g.active ∙ find_put_other s.active t u g.standing d in
+        ap without_backs (operations_kept u (event t o, a) h (silent_other u (event t o) a (turned t u ∙ untied u t d)))
+        ∙ k.rolled u (sym (ap is_some now) ∙ e) (sym (ap (λ z. (unwrap_or z idle).rolling) now) ∙ r)
+        ∙ sym (ap (λ z. unwrap_or z []) (find_put_other l.unfinished t u (with_step (operations_so_far l t) o a) d))
 
 module _ (h : List Entry) (s : State) (l : Log) (t : ℕ) (o : Op) (a : Reply) (new : State) (g : IsEnd s t o a new) (k : IsLog h s l) where
   x : Entry
@@ -499,14 +385,29 @@ module _ (h : List Entry) (s : State) (l : Log) (t : ℕ) (o : Op) (a : Reply) (
       by false d true f e = k.works u e
       by false d false f e = absurd (cc)
 
-  reads_after : (programs : List Program) (u : ℕ) → has_ended new u ≡ false → ReadsAs u (h ++ (event t o, a) ∷ []) (operations_so_far (end_logged l t programs) u) (is_scanning new u)
-  reads_after programs u e =
+  reads_after : (programs : List Program) (u : ℕ) → has_ended new u ≡ false → is_rolling new u ≡ false → ReadsAs u (h ++ (event t o, a) ∷ []) (operations_so_far (end_logged l t programs) u) (is_scanning new u)
+  reads_after programs u e r =
       let both = or_none (t == u) (has_ended s u) (sym (ends_is u) ∙ e) in
       let d = differ u both.0 in
       let now : active_of new u ≡ active_of s u = ap (find nat_cmp u) g.active ∙ find_filter_other s.active t u d in
       subst (λ z. ReadsAs u (h ++ (event t o, a) ∷ []) (unwrap_or z []) (is_scanning new u)) (sym (find_filter_other l.unfinished t u d))
       (subst (λ z. ReadsAs u (h ++ (event t o, a) ∷ []) (operations_so_far l u) (is_some (unwrap_or z idle).scan)) (sym now)
-      (reads_silent u h (event t o, a) (operations_so_far l u) (is_scanning s u) (other_past u d) (k.reads u both.1)))
+      (reads_silent u h (event t o, a) (operations_so_far l u) (is_scanning s u) (other_past u d) (k.reads u both.1 (sym (ap (λ z. (unwrap_or z idle).rolling) now) ∙ r))))
+
+  forward_after : (programs : List Program) (u : ℕ) → IsForward (operations_so_far (end_logged l t programs) u)
+  forward_after programs u = subst (λ z. IsForward (unwrap_or z [])) (sym (find_filter l.unfinished t u)) (by (not (u == t)))
+    where
+      by : (b : Bool) → IsForward (unwrap_or (cond b (find nat_cmp u l.unfinished) None) [])
+      by true = k.forward u
+      by false = tt
+
+  rolled_after : (programs : List Program) (u : ℕ) → is_some (active_of new u) ≡ true → is_rolling new u ≡ true → without_backs (operations_of u (h ++ (event t o, a) ∷ [])) ≡ operations_so_far (end_logged l t programs) u
+  rolled_after programs u e r =
+      let d = differ u (or_none (t == u) (has_ended s u) (sym (ends_is u) ∙ works_after u e)).0 in
+      let now : active_of new u ≡ active_of s u = ap (find nat_cmp u) g.active ∙ find_filter_other s.active t u d in
+      ap without_backs (operations_kept u (event t o, a) h (other_past u d))
+      ∙ k.rolled u (sym (ap is_some now) ∙ e) (sym (ap (λ z. (unwrap_or z idle).rolling) now) ∙ r)
+      ∙ sym (ap (λ z. unwrap_or z []) (find_filter_other l.unfinished t u d))
 
   -- the log after an end, where the programs listed are right
   log_ended : (ps : List Program) → logged l (event t o, a) ≡ end_logged l t ps → HaveEnded new (committed (h ++ (event t o, a) ∷ [])) → ps ≡ programs (h ++ (event t o, a) ∷ []) → IsLog (h ++ (event t o, a) ∷ []) new (logged l (event t o, a))
@@ -516,6 +417,8 @@ module _ (h : List Entry) (s : State) (l : Log) (t : ℕ) (o : Op) (a : Reply) (
     same = λ u. same_without l.unfinished s.active t u (k.same u) ∙ sym (ap (λ z. is_some (find nat_cmp u z)) g.active);
     works = works_after;
     reads = reads_after ps;
+    forward = forward_after ps;
+    rolled = rolled_after ps;
     ended = listed;
     committed = right;
   }
@@ -527,7 +430,7 @@ module _ (h : List Entry) (s : State) (l : Log) (t : ℕ) (o : Op) (a : Reply) (
   log_end : IsLog (h ++ (event t o, a) ∷ []) new (logged l (event t o, a))
   log_end = by g.kept
     where
-      by : ((o ≡ op.Commit) × (a ≡ reply.Committed)) ⊎ (a ≡ reply.Aborted) → IsLog (h ++ (event t o, a) ∷ []) new (logged l (event t o, a))
+      by : ((o ≡ op.Commit) × (a ≡ reply.Committed) × (is_rolling s t ≡ false)) ⊎ (a ≡ reply.Aborted) → IsLog (h ++ (event t o, a) ∷ []) new (logged l (event t o, a))
       by (inr e) =
           let listed : committed (h ++ (event t o, a) ∷ []) ≡ committed h = committed_with h (event t o, a) false (ap is_committed e) ∙ append-nil (committed h) in
           log_ended l.committed (ap (λ z. logged l (event t o, z)) e)
@@ -537,12 +440,52 @@ module _ (h : List Entry) (s : State) (l : Log) (t : ℕ) (o : Op) (a : Reply) (
           let listed : committed (h ++ (event t o, a) ∷ []) ≡ committed h ++ t ∷ [] = committed_with h (event t o, a) true (ap is_committed e.1) in
           let itself : has_ended new t ≡ true = ends_is t ∙ or_left (t == t) (has_ended s t) (tied t) in
           let silent : IsSilent t (event t o, a) = silent_by t (event t o) a (ap (λ z. is_operation z && is_granted a) e.0) (ap is_rows e.1) in
-          let whole : operations_of t (h ++ (event t o, a) ∷ []) ≡ operations_so_far l t = operations_kept t (event t o, a) h silent ∙ reads_whole t h (operations_so_far l t) (is_scanning s t) (k.reads t g.works) in
+          let whole : operations_of t (h ++ (event t o, a) ∷ []) ≡ operations_so_far l t = operations_kept t (event t o, a) h silent ∙ reads_whole t h (operations_so_far l t) (is_scanning s t) (k.reads t g.works e.2) in
           log_ended (l.committed ++ record { txn = t; operations = operations_so_far l t } ∷ []) (ap (λ z. logged l (event t o, z)) e.1)
           (subst (λ z. HaveEnded new z) (sym listed) (ended_more new t (committed h) itself (ended_stay s new (committed h) stay k.ended)))
           (ap₂ (λ (ps : List Program) (os : List Answered). let q : Program = record { txn = t; operations = os } in ps ++ q ∷ []) (k.committed ∙ sym programs_past) (sym whole)
           ∙ sym (map_append (program_in (h ++ (event t o, a) ∷ [])) (committed h) (t ∷ []))
           ∙ sym (ap (map (program_in (h ++ (event t o, a) ∷ []))) listed))
+
+-- A change of t is taken back.
+log_back : (h : List Entry) (s : State) (l : Log) (t : ℕ) (o : Op) (a : Reply) (new : State) → IsBack s t o a new → IsLog h s l → IsLog (h ++ (event t o, a) ∷ []) new (logged l (event t o, a))
+log_back h s l t o a new g k =
+    let x : Entry = (event t o, a) in
+    let other : (u : ℕ) → (u ≡ t → ⊥) → IsSilent u x = λ u d. silent_other u (event t o) a (turned t u ∙ untied u t d) in
+    let apart : (u : ℕ) → has_ended s u ≡ true → u ≡ t → ⊥ = λ u e d. false_true (has_ended s t) g.works (ap (has_ended s) (sym d) ∙ e) in
+    let listed : committed (h ++ x ∷ []) ≡ committed h = committed_with h x false (ap is_committed g.undone) ∙ append-nil (committed h) in
+    let ends : (u : ℕ) → has_ended new u ≡ has_ended s u = λ u. ap (list_any (λ v. v == u)) g.ended in
+    let here : active_of new t ≡ Some g.standing = ap (find nat_cmp t) g.active ∙ find_put_same s.active t g.standing in
+    let there : (u : ℕ) → (u ≡ t → ⊥) → active_of new u ≡ active_of s u = λ u d. ap (find nat_cmp u) g.active ∙ find_put_other s.active t u g.standing d in
+    let active : (u : ℕ) → is_some (active_of new u) ≡ is_some (active_of s u) = λ u. ⊎_elim
+    (λ d. ap (λ z. is_some (active_of new z)) d ∙ ap is_some here ∙ sym (ap (λ z. is_some (active_of s z)) d ∙ g.present)) (λ d. ap is_some (there u d)) (cases_eq u t) in
+    subst (λ z. IsLog (h ++ x ∷ []) new z) (sym (ap (λ z. logged l (event t o, z)) g.undone)) record {
+      in_order = ap (is_sorted nat_cmp) g.active ∙ sorted_put t g.standing s.active k.in_order;
+      log_in_order = k.log_in_order;
+      same = λ u. k.same u ∙ sym (active u);
+      works = λ u e. ends u ∙ k.works u (sym (active u) ∙ e);
+      reads = λ u e r. ⊎_elim
+          (λ d. absurd (false_true (is_rolling new t) (ap (is_rolling new) (sym d) ∙ r) (ap (λ z. (unwrap_or z idle).rolling) here ∙ g.rolls)))
+          (λ d. subst (λ z. ReadsAs u (h ++ x ∷ []) (operations_so_far l u) (is_some (unwrap_or z idle).scan)) (sym (there u d))
+          (reads_silent u h x (operations_so_far l u) (is_scanning s u) (other u d) (k.reads u (sym (ends u) ∙ e) (sym (ap (λ z. (unwrap_or z idle).rolling) (there u d)) ∙ r))))
+          (cases_eq u t);
+      forward = k.forward;
+      rolled = λ u e r. ⊎_elim
+          (λ d. subst (λ z. without_backs (operations_of z (h ++ x ∷ [])) ≡ operations_so_far l z) (sym d) (itself ∙ told h s l t k g.present))
+          (λ d. ap without_backs (operations_kept u x h (other u d)) ∙ k.rolled u (sym (active u) ∙ e) (sym (ap (λ z. (unwrap_or z idle).rolling) (there u d)) ∙ r))
+          (cases_eq u t);
+      ended = subst (λ z. HaveEnded new z) (sym listed) (ended_stay s new (committed h) (λ u e. ends u ∙ e) k.ended);
+      committed = k.committed ∙ sym (programs_stay s h x (committed h) k.ended (λ u e. other u (apart u e))) ∙ sym (ap (map (program_in (h ++ x ∷ []))) listed);
+    }
+  where
+    taken_back : (left : ℕ) → without_backs (operations_of t ((event t op.Back, reply.Undone left) ∷ [])) ≡ []
+    taken_back left = ap (λ b. without_backs (cond {A = List Answered} (b && true) ((op.Back, reply.Undone left) ∷ []) [])) (tied t)
+
+    rowless : (left : ℕ) → IsRowless t (event t op.Back, reply.Undone left)
+    rowless left = λ f r. ap (λ b. cond (b && false) (reply.Undone left) (first_rows t r f)) (tied t)
+
+    itself : without_backs (operations_of t (h ++ (event t o, a) ∷ [])) ≡ without_backs (operations_of t h)
+    itself = ap₂ (λ o a. without_backs (operations_of t (h ++ (event t o, a) ∷ []))) g.back g.undone ∙ back_past t (event t op.Back, reply.Undone g.left) h (rowless g.left) (taken_back g.left)
 
 -- Each step keeps it.
 log_step : (p : Protocol) (h : List Entry) (s : State) (l : Log) (e : Event) (a : Reply) (new : State) → IsStep p s e.txn e.op a new → IsLog h s l → IsLog (h ++ (e, a) ∷ []) new (logged l (e, a))
@@ -551,7 +494,8 @@ log_step p h s l e a new is k = by (kind_of p s e.txn e.op a new is)
     by : Kind s e.txn e.op a new → IsLog (h ++ (e, a) ∷ []) new (logged l (e, a))
     by (inl g) = subst (λ z. IsLog (h ++ (e, a) ∷ []) z (logged l (e, a))) (sym g.0) (log_silent h s l e.txn e.op a g.1 k)
     by (inr (inl g)) = log_granted h s l e.txn e.op a new g k
-    by (inr (inr g)) = log_end h s l e.txn e.op a new g k
+    by (inr (inr (inl g))) = log_end h s l e.txn e.op a new g k
+    by (inr (inr (inr g))) = log_back h s l e.txn e.op a new g k
 
 log_steps : (p : Protocol) (h more : List Entry) (s : State) (l : Log) (new : State) → AreSteps p s more new → IsLog h s l → IsLog (h ++ more) new (log_after l more)
 log_steps p h [] s l new are k = subst (λ z. IsLog (h ++ []) z l) (sym are) (subst (λ z. IsLog z s l) (sym (append-nil h)) k)
@@ -565,54 +509,60 @@ log_at_start opening = record {
   log_in_order = refl;
   same = λ t. refl;
   works = λ t e. refl;
-  reads = λ t e. λ f. refl;
+  reads = λ t e r. λ f. refl;
+  forward = λ t. tt;
+  rolled = λ t e r. absurd (cc);
   ended = tt;
   committed = refl;
 }
 
-found_as : (h : List Entry) (q : ℕ) (es : List (ℕ × Active)) → find nat_cmp q (map (λ a. (a.0, operations_of a.0 h)) es) ≡ (if is_some (find nat_cmp q es) then Some (operations_of q h) else None)
+found_as : (h : List Entry) (q : ℕ) (es : List (ℕ × Active)) → find nat_cmp q (map (λ a. (a.0, without_backs (operations_of a.0 h))) es) ≡ (if is_some (find nat_cmp q es) then Some (without_backs (operations_of q h)) else None)
 found_as h q [] = refl
 found_as h q (e ∷ es) = by (found_as h q es) (eq_by_cmp nat_cmp q e.0) refl
   where
-    by : find nat_cmp q (map (λ a. (a.0, operations_of a.0 h)) es) ≡ (if is_some (find nat_cmp q es) then Some (operations_of q h) else None) → (b : Bool) → eq_by_cmp nat_cmp q e.0 ≡ b → cond b (Some (operations_of e.0 h)) (find nat_cmp q (map (λ a. (a.0, operations_of a.0 h)) es)) ≡ (if is_some (cond b (Some e.1) (find nat_cmp q es)) then Some (operations_of q h) else None)
-    by more true d = ap (λ z. Some (operations_of z h)) (tied_key q e.0 d)
+    by : find nat_cmp q (map (λ a. (a.0, without_backs (operations_of a.0 h))) es) ≡ (if is_some (find nat_cmp q es) then Some (without_backs (operations_of q h)) else None) → (b : Bool) → eq_by_cmp nat_cmp q e.0 ≡ b
+        → cond b (Some (without_backs (operations_of e.0 h))) (find nat_cmp q (map (λ a. (a.0, without_backs (operations_of a.0 h))) es)) ≡ (if is_some (cond b (Some e.1) (find nat_cmp q es)) then Some (without_backs (operations_of q h)) else None)
+    by more true d = ap (λ z. Some (without_backs (operations_of z h))) (tied_key q e.0 d)
     by more false d = more
 
-sorted_as : (h : List Entry) (es : List (ℕ × Active)) → is_sorted nat_cmp es ≡ true → is_sorted nat_cmp (map (λ a. (a.0, operations_of a.0 h)) es) ≡ true
+sorted_as : (h : List Entry) (es : List (ℕ × Active)) → is_sorted nat_cmp es ≡ true → is_sorted nat_cmp (map (λ a. (a.0, without_backs (operations_of a.0 h))) es) ≡ true
 sorted_as h es e = alike es ∙ e
   where
-    below : (k : ℕ) (es : List (ℕ × Active)) → below_all nat_cmp k (map (λ a. (a.0, operations_of a.0 h)) es) ≡ below_all nat_cmp k es
+    below : (k : ℕ) (es : List (ℕ × Active)) → below_all nat_cmp k (map (λ a. (a.0, without_backs (operations_of a.0 h))) es) ≡ below_all nat_cmp k es
     below k [] = refl
     below k (e ∷ es) = ap (λ b. is_lt (nat_cmp k e.0) && b) (below k es)
 
-    alike : (es : List (ℕ × Active)) → is_sorted nat_cmp (map (λ a. (a.0, operations_of a.0 h)) es) ≡ is_sorted nat_cmp es
+    alike : (es : List (ℕ × Active)) → is_sorted nat_cmp (map (λ a. (a.0, without_backs (operations_of a.0 h))) es) ≡ is_sorted nat_cmp es
     alike [] = refl
     alike (e ∷ es) = ap₂ (λ b c. b && c) (below e.0 es) (alike es)
 
--- What a log of this kind is.
-log_is : (h : List Entry) (s : State) (l : Log) → IsLog h s l → l ≡ record { unfinished = map (λ a. (a.0, operations_of a.0 h)) s.active; committed = programs h }
-log_is h s l k =
-    ap₂ (λ us ps. let m : Log = record { unfinished = us; committed = ps } in m)
-    (same_entries nat_cmp nat_cmp_total exact_unsigned l.unfinished (map (λ a. (a.0, operations_of a.0 h)) s.active) (t_of _ k.log_in_order) (t_of _ (sorted_as h s.active k.in_order)) (λ q. by q (find nat_cmp q l.unfinished) refl (active_of s q) refl ∙ sym (found_as h q s.active)))
-    k.committed
+unfinished_is : (h : List Entry) (s : State) (l : Log) → IsLog h s l → l.unfinished ≡ map (λ a. (a.0, without_backs (operations_of a.0 h))) s.active
+unfinished_is h s l k =
+    same_entries nat_cmp nat_cmp_total exact_unsigned l.unfinished (map (λ a. (a.0, without_backs (operations_of a.0 h))) s.active) (t_of _ k.log_in_order) (t_of _ (sorted_as h s.active k.in_order))
+    (λ q. by q (find nat_cmp q l.unfinished) refl (active_of s q) refl ∙ sym (found_as h q s.active))
   where
-    by : (q : ℕ) (x : Option (List Answered)) → find nat_cmp q l.unfinished ≡ x → (y : Option Active) → active_of s q ≡ y → find nat_cmp q l.unfinished ≡ (if is_some (active_of s q) then Some (operations_of q h) else None)
-    by q None d None f = d ∙ sym (ap (λ z. if is_some z then Some (operations_of q h) else None) f)
+    by : (q : ℕ) (x : Option (List Answered)) → find nat_cmp q l.unfinished ≡ x → (y : Option Active) → active_of s q ≡ y → find nat_cmp q l.unfinished ≡ (if is_some (active_of s q) then Some (without_backs (operations_of q h)) else None)
+    by q None d None f = d ∙ sym (ap (λ z. if is_some z then Some (without_backs (operations_of q h)) else None) f)
     by q None d (Some a) f = absurd (false_true (is_some (active_of s q)) (sym (k.same q) ∙ ap is_some d) (ap is_some f))
     by q (Some os) d None f = absurd (false_true (is_some (active_of s q)) (ap is_some f) (sym (k.same q) ∙ ap is_some d))
     by q (Some os) d (Some a) f =
         let active : is_some (active_of s q) ≡ true = ap is_some f in
-        d ∙ ap Some (sym (reads_whole q h (operations_so_far l q) (is_scanning s q) (k.reads q (k.works q active)) ∙ ap (λ z. unwrap_or z []) d))
-        ∙ sym (ap (λ b. if b then Some (operations_of q h) else None) active)
+        d ∙ ap Some (sym (told h s l q k active ∙ ap (λ z. unwrap_or z []) d)) ∙ sym (ap (λ b. if b then Some (without_backs (operations_of q h)) else None) active)
 
--- The log of a history of steps has the operations so far of the active transactions, and the committed programs; steps may have been refused memory.
-pub log_of_steps : (p : Protocol) (opening : Map) (h : List Entry) (s : State) → AreSteps p (start opening) h s
-    → log_after no_log h ≡ record { unfinished = map (λ a. (a.0, operations_of a.0 h)) s.active; committed = programs h }
-log_of_steps p opening h s are = log_is h s (log_after no_log h) (log_steps p [] h (start opening) no_log s are (log_at_start opening))
+-- A log has the operations so far of the active transactions, but for the changes taken back, and the committed programs.
+pub record LogOf (h : List Entry) (s : State) (l : Log) : Type 0 where
+  pub unfinished : l.unfinished ≡ map (λ a. (a.0, without_backs (operations_of a.0 h))) s.active
+  pub committed : l.committed ≡ programs h
 
--- So has the log of a run.
-pub log_of_run : (p : Protocol) (opening : Map) (events : List Event) → let r = run p (start opening) events in
-    log_after no_log r.history ≡ record { unfinished = map (λ a. (a.0, operations_of a.0 r.history)) r.state.active; committed = programs r.history }
+-- The log of a history of steps is so; steps may have been refused memory.
+pub log_of_steps : (p : Protocol) (opening : Map) (h : List Entry) (s : State) → AreSteps p (start opening) h s → LogOf h s (log_after no_log h)
+log_of_steps p opening h s are =
+    let l = log_after no_log h in
+    let k = log_steps p [] h (start opening) no_log s are (log_at_start opening) in
+    record { unfinished = unfinished_is h s l k; committed = k.committed }
+
+-- So is the log of a run.
+pub log_of_run : (p : Protocol) (opening : Map) (events : List Event) → let r = run p (start opening) events in LogOf r.history r.state (log_after no_log r.history)
 log_of_run p opening events = let r = run p (start opening) events in log_of_steps p opening r.history r.state (steps_of_run p (start opening) events)
 
 -- The log after these entries and one more.
@@ -631,8 +581,13 @@ unfinished_after p s l e a new is same t = by (kind_of p s e.txn e.op a new is)
     by (inr (inl g)) =
         ap (λ z. is_some (find nat_cmp t z.unfinished)) (g.adds.logs l e.txn)
         ∙ same_some l.unfinished s.active e.txn t (with_step (operations_so_far l e.txn) e.op a) g.standing (same t) ∙ sym (ap (λ z. is_some (find nat_cmp t z)) g.active)
-    by (inr (inr g)) = ending g.kept ∙ same_without l.unfinished s.active e.txn t (same t) ∙ sym (ap (λ z. is_some (find nat_cmp t z)) g.active)
+    by (inr (inr (inr g))) =
+        ap (λ z. is_some (find nat_cmp t (logged l (e, z)).unfinished)) g.undone ∙ same t ∙ ⊎_elim
+        (λ d. ap (λ z. is_some (active_of s z)) d ∙ g.present ∙ sym (ap is_some (ap (find nat_cmp t) g.active ∙ ap (λ z. find nat_cmp z (put nat_cmp e.txn g.standing s.active)) d ∙ find_put_same s.active e.txn g.standing)))
+        (λ d. sym (ap is_some (ap (find nat_cmp t) g.active ∙ find_put_other s.active e.txn t g.standing d)))
+        (cases_eq t e.txn)
+    by (inr (inr (inl g))) = ending g.kept ∙ same_without l.unfinished s.active e.txn t (same t) ∙ sym (ap (λ z. is_some (find nat_cmp t z)) g.active)
       where
-        ending : ((e.op ≡ op.Commit) × (a ≡ reply.Committed)) ⊎ (a ≡ reply.Aborted) → is_some (find nat_cmp t (logged l (e, a)).unfinished) ≡ is_some (find nat_cmp t (filter (λ x. not (x.0 == e.txn)) l.unfinished))
+        ending : ((e.op ≡ op.Commit) × (a ≡ reply.Committed) × (is_rolling s e.txn ≡ false)) ⊎ (a ≡ reply.Aborted) → is_some (find nat_cmp t (logged l (e, a)).unfinished) ≡ is_some (find nat_cmp t (filter (λ x. not (x.0 == e.txn)) l.unfinished))
         ending (inl f) = ap (λ z. is_some (find nat_cmp t (logged l (e, z)).unfinished)) f.1
         ending (inr f) = ap (λ z. is_some (find nat_cmp t (logged l (e, z)).unfinished)) f

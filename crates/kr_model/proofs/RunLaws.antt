@@ -13,11 +13,11 @@ use Rattle.kr_model.specs.declared.Reply.{Reply}
 use Rattle.kr_model.specs.declared.Reply.TheVariants as reply
 use Rattle.kr_model.specs.declared.Refusal.TheVariants as refusal
 use Rattle.kr_model.specs.Protocol.{Protocol}
-use Rattle.kr_model.specs.State.{State, Active, Scan, has_ended, standing, is_scanning}
-use Rattle.kr_model.specs.Map.{Map, get}
+use Rattle.kr_model.specs.State.{State, Active, Scan, has_ended, standing, is_scanning, is_rolling, has_nothing_left}
+use Rattle.kr_model.specs.Map.{Map, Changes, get}
 use Rattle.kr_model.specs.Locks.{Request, blockers}
 use Rattle.kr_model.specs.Plan.{plan_of, requests}
-use Rattle.kr_model.specs.Step.{Effect, Outcome, is_full, goes_on, is_go, is_bad_range, refusal_of, fetched, inserted, deleted, row_read, looked, name_to_look, granted_or_blocked, attempted, attempted_scan, performed, unless_refused, step, IsStep}
+use Rattle.kr_model.specs.Step.{Effect, Outcome, is_full, takes_back, goes_on, is_go, is_bad_range, is_update, is_back, refusal_of, fetched, inserted, deleted, updated, row_read, looked, name_to_look, granted_or_blocked, attempted, attempted_scan, one_taken_back, performed, unless_refused, step, IsStep}
 use Rattle.kr_model.specs.Run.{Entry, Trace, run, events_of, AreSteps, HadMemory}
 
 is_outcome : (p : Protocol) (s : State) (t : ℕ) (o : Op) (r : Reply) (new : State) → (r ≡ reply.Refused refusal.Memory → ⊥) → IsStep p s t o r new → ◌≡◌ {A = Outcome} (r, new) (step p s t o)
@@ -65,6 +65,10 @@ delete_has : (m : Map) (a : Active) (k : ℕ) (g : Option ℕ) → lacks_memory 
 delete_has m a k None = refl
 delete_has m a k (Some w) = refl
 
+update_has : (m : Map) (a : Active) (k v : ℕ) (g : Option ℕ) → lacks_memory (updated m a k v g).reply ≡ false
+update_has m a k v None = refl
+update_has m a k v (Some w) = refl
+
 look_has : (m : Map) (a : Active) (c : Scan) (n : Name) → lacks_memory (looked m a c n).reply ≡ false
 look_has m a c End = refl
 look_has m a c (Key k) = by (nat_le k c.hi) refl
@@ -89,26 +93,35 @@ module _ (p : Protocol) (s : State) (t : ℕ) where
   scan_has None = refl
   scan_has (Some c) = let n = name_to_look s.map c in step_has (attempt.Look n c.hi) (looked s.map (standing s t) c n) (look_has s.map (standing s t) c n)
 
+  back_has : (cs : Changes) → lacks_memory (one_taken_back s t cs).0 ≡ false
+  back_has [] = refl
+  back_has (c ∷ cs) = refl
+
   performed_has : (o : Op) → lacks_memory (performed p s t o).0 ≡ false
   performed_has (op.Fetch k) = step_has (attempt.Fetch k) (fetched s.map (standing s t) (get s.map k)) (fetch_has s.map (standing s t) (get s.map k))
   performed_has (op.Scan lo hi) = scan_has (Some (record { lo = lo; hi = hi; rows = [] }))
   performed_has op.Go = scan_has (standing s t).scan
   performed_has (op.Insert k v) = step_has (attempt.Insert k) (inserted s.map (standing s t) k v (get s.map k)) (insert_has s.map (standing s t) k v (get s.map k))
   performed_has (op.Delete k) = step_has (attempt.Delete k) (deleted s.map (standing s t) k (get s.map k)) (delete_has s.map (standing s t) k (get s.map k))
+  performed_has (op.Update k v) = step_has (attempt.Update k) (updated s.map (standing s t) k v (get s.map k)) (update_has s.map (standing s t) k v (get s.map k))
   performed_has op.Commit = refl
   performed_has op.Abort = refl
+  performed_has op.Back = back_has (standing s t).changes
 
   first_refusal : (b : Bool) (r : Refusal) (x : Option Refusal) → is_memory (Some r) ≡ false → is_memory x ≡ false → is_memory (if b then Some r else x) ≡ false
   first_refusal true r x e h = e
   first_refusal false r x e h = h
 
-  refusal_has : (o : Op) → is_memory (refusal_of s t o) ≡ false
+  refusal_has : (o : Op) → is_memory (refusal_of p s t o) ≡ false
   refusal_has o =
       first_refusal (has_ended s t) refusal.Ended _ refl
       (first_refusal (is_full s t) refusal.Full _ refl
+      (first_refusal (is_rolling s t && not (takes_back o)) refusal.RollingBack _ refl
       (first_refusal (is_scanning s t && not (goes_on o)) refusal.Busy _ refl
       (first_refusal (not (is_scanning s t) && is_go o) refusal.NoScan _ refl
-      (first_refusal (is_bad_range o) refusal.BadRange None refl refl))))
+      (first_refusal (is_bad_range o) refusal.BadRange _ refl
+      (first_refusal (is_update o && not p.updates) refusal.NoUpdate _ refl
+      (first_refusal (has_nothing_left s t && is_back o) refusal.NothingLeft None refl refl)))))))
 
   unless_has : (o : Op) (x : Option Refusal) → is_memory x ≡ false → lacks_memory (unless_refused p s t o x).0 ≡ false
   unless_has o None h = performed_has o
@@ -117,11 +130,14 @@ module _ (p : Protocol) (s : State) (t : ℕ) where
   unless_has o (Some refusal.Busy) h = refl
   unless_has o (Some refusal.NoScan) h = refl
   unless_has o (Some refusal.BadRange) h = refl
+  unless_has o (Some refusal.NoUpdate) h = refl
+  unless_has o (Some refusal.RollingBack) h = refl
+  unless_has o (Some refusal.NothingLeft) h = refl
   unless_has o (Some refusal.Memory) h = absurd (cc)
 
   -- the step where memory is ample
   had_memory : (o : Op) → (step p s t o).0 ≡ reply.Refused refusal.Memory → ⊥
-  had_memory o e = no (lacks_memory (step p s t o).0) (unless_has o (refusal_of s t o) (refusal_has o)) (ap lacks_memory e)
+  had_memory o e = no (lacks_memory (step p s t o).0) (unless_has o (refusal_of p s t o) (refusal_has o)) (ap lacks_memory e)
     where
       no : (b : Bool) → b ≡ false → b ≡ true → ⊥
       no b f t = cc

@@ -40,7 +40,7 @@ pairs_of_test [] (y ∷ ys) h = absurd (cc)
 pairs_of_test (x ∷ xs) [] h = absurd (cc)
 
 refusal_of_number : ℕ → Refusal
-refusal_of_number n = if n == 1 then refusal.Ended else if n == 2 then refusal.Busy else if n == 3 then refusal.NoScan else if n == 4 then refusal.BadRange else if n == 5 then refusal.Full else refusal.Memory
+refusal_of_number n = if n == 1 then refusal.Ended else if n == 2 then refusal.Busy else if n == 3 then refusal.NoScan else if n == 4 then refusal.BadRange else if n == 5 then refusal.Full else if n == 7 then refusal.NoUpdate else if n == 8 then refusal.RollingBack else if n == 9 then refusal.NothingLeft else refusal.Memory
 
 number_back : (r : Refusal) → refusal_of_number (refusal_number r) ≡ r
 unfolding refusal_of_number
@@ -50,6 +50,9 @@ number_back refusal.NoScan = refl
 number_back refusal.BadRange = refl
 number_back refusal.Full = refl
 number_back refusal.Memory = refl
+number_back refusal.NoUpdate = refl
+number_back refusal.RollingBack = refl
+number_back refusal.NothingLeft = refl
 
 refusal_of_test : (a b : Refusal) → (refusal_number a == refusal_number b) ≡ true → a ≡ b
 refusal_of_test a b h = sym (number_back a) ∙ ap refusal_of_number (number_of_test (refusal_number a) (refusal_number b) h) ∙ number_back b
@@ -64,8 +67,10 @@ reply_of_test reply.Done reply.Done h = refl
 reply_of_test reply.Duplicate reply.Duplicate h = refl
 reply_of_test (reply.Deleted v) (reply.Deleted w) h = ap (λ x. reply.Deleted x) (number_of_test v w h)
 reply_of_test reply.Absent reply.Absent h = refl
+reply_of_test (reply.Updated v) (reply.Updated w) h = ap (λ x. reply.Updated x) (number_of_test v w h)
 reply_of_test reply.Committed reply.Committed h = refl
 reply_of_test reply.Aborted reply.Aborted h = refl
+reply_of_test (reply.Undone n) (reply.Undone l) h = ap (λ x. reply.Undone x) (number_of_test n l h)
 reply_of_test (reply.Blocked a) (reply.Blocked b) h = ap (λ x. reply.Blocked x) (numbers_of_test a b h)
 reply_of_test (reply.Refused a) (reply.Refused b) h = ap (λ x. reply.Refused x) (refusal_of_test a b h)
 reply_of_test _ _ h = absurd (cc)
@@ -88,8 +93,10 @@ reply_same reply.Done = refl
 reply_same reply.Duplicate = refl
 reply_same (reply.Deleted v) = number_is v
 reply_same reply.Absent = refl
+reply_same (reply.Updated v) = number_is v
 reply_same reply.Committed = refl
 reply_same reply.Aborted = refl
+reply_same (reply.Undone n) = number_is n
 reply_same (reply.Blocked a) = numbers_same a
 reply_same (reply.Refused a) = number_is (refusal_number a)
 

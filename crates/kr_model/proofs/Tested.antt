@@ -1,13 +1,13 @@
 -- From a test that is computed over a whole table to the rule at each entry.
-use Rattle.std.specs.Prelude.{◌≡◌, ℕ, suc, zero, ◌+◌, ◌<◌, ◌≤◌, Bool, true, false, ◌&&◌, ◌==◌, nat_le, nat_lt, List, [], ◌∷◌, Option, Some, None, refl, ◌⊎◌, map, slice_index_or}
+use Rattle.std.specs.Prelude.{◌≡◌, ℕ, suc, zero, ◌+◌, ◌<◌, ◌≤◌, Bool, true, false, ◌&&◌, ◌||◌, ◌==◌, nat_le, nat_lt, List, [], ◌∷◌, Option, Some, None, refl, ◌⊎◌, map, slice_index_or}
 use Rattle.std.specs.List.{list_all}
 use Rattle.std.specs.Bool.{beq}
 use Rattle.std.proofs.Common.{subst, arith, inl, inr}
 use Rattle.std.proofs.lemmas.Bool.Decides.{nat_tests}
 use Rattle.kr_model.specs.Covers.{count_up, modes, modes_or_none}
-use Rattle.kr_model.specs.Protocol.{Protocol, IsLawful, IsMode, IsReading}
+use Rattle.kr_model.specs.Protocol.{Protocol, IsLawful, IsMode, MovesNoKey}
 use Rattle.kr_model.specs.declared.Row.{Row}
-use Rattle.kr_model.specs.declared.Row.TheVariants.{FetchHit, FetchMiss, ScanKey, ScanStop, Insert, Delete}
+use Rattle.kr_model.specs.declared.Row.TheVariants.{FetchHit, FetchMiss, ScanKey, ScanStop, Insert, Delete, Update}
 use Rattle.kr_model.specs.declared.Side.{Side}
 use Rattle.kr_model.specs.declared.Side.TheVariants.{Current, Next}
 use Rattle.kr_model.specs.declared.Span.{Span}
@@ -80,13 +80,13 @@ test_at [] h (suc i) = refl
 test_at (b ∷ bs) h zero = and_first b (all_true bs) h
 test_at (b ∷ bs) h (suc i) = test_at bs (and_second b (all_true bs) h) i
 
--- the rows whose operations change nothing
-abbrev pub reading_rows : List Row
-reading_rows = FetchHit ∷ FetchMiss ∷ ScanKey ∷ ScanStop ∷ []
+-- the rows that move no key
+abbrev pub keeping_rows : List Row
+keeping_rows = FetchHit ∷ FetchMiss ∷ ScanKey ∷ ScanStop ∷ Update ∷ []
 
 -- all rows
 abbrev pub all_rows : List Row
-all_rows = FetchHit ∷ FetchMiss ∷ ScanKey ∷ ScanStop ∷ Insert ∷ Delete ∷ []
+all_rows = FetchHit ∷ FetchMiss ∷ ScanKey ∷ ScanStop ∷ Insert ∷ Delete ∷ Update ∷ []
 
 -- both sides
 abbrev pub both_sides : List Side
@@ -102,7 +102,8 @@ law_tests p =
     ∷ list_all (λ h. p.convert h 0 == h) (modes_or_none p)
     ∷ list_all (λ h. list_all (λ q. is_mode p (p.convert h q)) (modes p)) (modes p)
     ∷ all_true (map (λ r. all_true (map (λ s. list_all (λ o. asks_mode p (p.ask r s o)) (modes_or_none p)) both_sides)) all_rows)
-    ∷ all_true (map (λ r. all_true (map (λ s. list_all (λ o. same_ask (p.ask r s o) (p.ask r s 0)) (modes_or_none p)) both_sides)) reading_rows)
+    ∷ all_true (map (λ r. all_true (map (λ s. list_all (λ o. same_ask (p.ask r s o) (p.ask r s 0)) (modes_or_none p)) both_sides)) keeping_rows)
+    ∷ all_true (map (λ s. list_all (λ o. p.updates || same_ask (p.ask Update s o) None) (modes_or_none p)) both_sides)
     ∷ []
 
 -- whether all laws hold
@@ -116,18 +117,20 @@ at_row t ScanKey h = test_at (map t all_rows) h 2
 at_row t ScanStop h = test_at (map t all_rows) h 3
 at_row t Insert h = test_at (map t all_rows) h 4
 at_row t Delete h = test_at (map t all_rows) h 5
+at_row t Update h = test_at (map t all_rows) h 6
 
 at_side : (t : Side → Bool) (s : Side) → all_true (map t both_sides) ≡ true → t s ≡ true
 at_side t Current h = test_at (map t both_sides) h 0
 at_side t Next h = test_at (map t both_sides) h 1
 
-at_reading : (t : Row → Bool) (r : Row) → IsReading r → all_true (map t reading_rows) ≡ true → t r ≡ true
-at_reading t FetchHit is h = test_at (map t reading_rows) h 0
-at_reading t FetchMiss is h = test_at (map t reading_rows) h 1
-at_reading t ScanKey is h = test_at (map t reading_rows) h 2
-at_reading t ScanStop is h = test_at (map t reading_rows) h 3
-at_reading t Insert is h = absurd is
-at_reading t Delete is h = absurd is
+at_keeping : (t : Row → Bool) (r : Row) → MovesNoKey r → all_true (map t keeping_rows) ≡ true → t r ≡ true
+at_keeping t FetchHit is h = test_at (map t keeping_rows) h 0
+at_keeping t FetchMiss is h = test_at (map t keeping_rows) h 1
+at_keeping t ScanKey is h = test_at (map t keeping_rows) h 2
+at_keeping t ScanStop is h = test_at (map t keeping_rows) h 3
+at_keeping t Insert is h = absurd is
+at_keeping t Delete is h = absurd is
+at_keeping t Update is h = test_at (map t keeping_rows) h 4
 
 span_of_test : (s t : Span) → same_span s t ≡ true → s ≡ t
 span_of_test Instant Instant h = refl
@@ -161,6 +164,10 @@ asked_mode p a q s h e = mode_of_test p q (subst (λ x. asks_mode p x ≡ true) 
 pub le_of_test : (a b : ℕ) → nat_le a b ≡ true → a ≤ b
 le_of_test a b h = grind (arith, nat_tests)
 
+or_other : (a b : Bool) → a ≡ false → (a || b) ≡ true → b ≡ true
+or_other true b e h = absurd (cc)
+or_other false b e h = h
+
 -- a protocol that passes the tests keeps the laws
 pub lawful_by_test : (p : Protocol) → is_lawful p ≡ true → IsLawful p
 lawful_by_test p h =
@@ -175,10 +182,13 @@ lawful_by_test p h =
           (each_mode_or_none p (λ x. asks_mode p (p.ask r s x))
           (at_side (λ y. list_all (λ x. asks_mode p (p.ask r y x)) (modes_or_none p)) s
           (at_row (λ z. all_true (map (λ y. list_all (λ x. asks_mode p (p.ask z y x)) (modes_or_none p)) both_sides)) r (test_at (law_tests p) h 6))) o io) e;
-      ask-reading = λ r s o is io. ask_of_test (p.ask r s o) (p.ask r s 0)
+      ask-no_move = λ r s o is io. ask_of_test (p.ask r s o) (p.ask r s 0)
           (each_mode_or_none p (λ x. same_ask (p.ask r s x) (p.ask r s 0))
           (at_side (λ y. list_all (λ x. same_ask (p.ask r y x) (p.ask r y 0)) (modes_or_none p)) s
-          (at_reading (λ z. all_true (map (λ y. list_all (λ x. same_ask (p.ask z y x) (p.ask z y 0)) (modes_or_none p)) both_sides)) r is (test_at (law_tests p) h 7))) o io);
+          (at_keeping (λ z. all_true (map (λ y. list_all (λ x. same_ask (p.ask z y x) (p.ask z y 0)) (modes_or_none p)) both_sides)) r is (test_at (law_tests p) h 7))) o io);
+      ask-no_update = λ s o none io. ask_of_test (p.ask Update s o) None (or_other p.updates (same_ask (p.ask Update s o) None) none
+          (each_mode_or_none p (λ x. p.updates || same_ask (p.ask Update s x) None)
+          (at_side (λ y. list_all (λ x. p.updates || same_ask (p.ask Update y x) None) (modes_or_none p)) s (test_at (law_tests p) h 8)) o io));
     }
 
 -- Two tables that agree at each pair of entries below n --

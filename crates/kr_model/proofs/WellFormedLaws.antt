@@ -1,8 +1,8 @@
--- Every state that a run reaches is well formed, and what that says of the end of an active transaction.
-use Rattle.std.specs.Prelude.{◌≡◌, ℕ, ◌+◌, ◌≤◌, ◌<◌, Bool, true, false, not, ◌&&◌, ◌||◌, ◌==◌, nat_le, IsTrue, cond, List, [], ◌∷◌, Option, Some, None, length, is_some, if◌then◌else◌, unwrap_or, refl}
+-- Every state that a run reaches is well formed, and what that says of the end of an active transaction, and of a change of it taken back.
+use Rattle.std.specs.Prelude.{◌≡◌, ℕ, ◌+◌, ◌-◌, ◌≤◌, ◌<◌, Bool, true, false, not, ◌&&◌, ◌||◌, ◌==◌, nat_le, IsTrue, cond, List, [], ◌∷◌, Option, Some, None, length, is_some, if◌then◌else◌, unwrap_or, refl}
 use Rattle.std.specs.Ordering.{nat_cmp}
 use Rattle.std.specs.Cmp.{nat_cmp_total}
-use Rattle.std.specs.FinMap.{put, is_sorted}
+use Rattle.std.specs.FinMap.{find, put, is_sorted}
 use Rattle.std.specs.FinMap.Entries.{length-put}
 use Rattle.std.proofs.Common.{sym, ◌∙◌, ap, subst, arith, inl, inr}
 use Rattle.std.proofs.lemmas.Bool.Decides.{nat_tests}
@@ -18,15 +18,16 @@ use Rattle.kr_model.specs.declared.Reply.TheVariants as reply
 use Rattle.kr_model.specs.declared.Refusal.{Refusal}
 use Rattle.kr_model.specs.declared.Refusal.TheVariants as refusal
 use Rattle.kr_model.specs.Protocol.{Protocol, IsLawful}
-use Rattle.kr_model.specs.Map.{Map, IsMap, get, restore_all}
+use Rattle.kr_model.specs.Map.{Map, Changes, IsMap, get, restore_all}
 use Rattle.kr_model.specs.Locks.{Request, blockers}
 use Rattle.kr_model.specs.Plan.{plan_of, access_of, requests}
-use Rattle.kr_model.specs.State.{State, Active, Scan, start, active_of, standing, has_ended, is_scanning}
-use Rattle.kr_model.specs.Step.{Effect, Outcome, is_full, goes_on, is_go, is_bad_range, refusal_of, fetched, inserted, deleted, looked, row_read, name_to_look, granted_or_blocked, attempted, attempted_scan, ended_with, performed, unless_refused, step, is_end, IsStep}
+use Rattle.kr_model.specs.State.{State, Active, Scan, start, active_of, standing, has_ended, is_scanning, is_rolling, has_nothing_left}
+use Rattle.kr_model.specs.Covers.{is_empty}
+use Rattle.kr_model.specs.Step.{Effect, Outcome, is_full, takes_back, goes_on, is_go, is_bad_range, is_update, is_back, refusal_of, fetched, inserted, deleted, updated, looked, row_read, name_to_look, granted_or_blocked, attempted, attempted_scan, ended_with, one_taken_back, performed, unless_refused, step, takes_no_memory, IsStep}
 use Rattle.kr_model.specs.Run.{Entry, run, AreSteps}
 use Rattle.kr_model.specs.WellFormed.{IsState}
 use Rattle.kr_model.proofs.MapLaws.{t_of, sorted_put, sorted_where, IsMap-set, IsMap-without}
-use Rattle.kr_model.proofs.UndoLaws.{IsMap-restore_all}
+use Rattle.kr_model.proofs.UndoLaws.{IsMap-restore, IsMap-restore_all}
 use Rattle.kr_model.proofs.Numbers.{increasing_add}
 use Rattle.kr_model.proofs.Actives.{any_add_once, find_put_other, find_filter, length_filter}
 use Rattle.kr_model.proofs.Requests.{AskModes, asks_by, AreLocks, kept_locks, released_locks}
@@ -65,6 +66,10 @@ delete_map : (m : Map) (a : Active) (k : ℕ) (g : Option ℕ) → IsMap m → I
 delete_map m a k None h = h
 delete_map m a k (Some w) h = IsMap-without m k h
 
+update_map : (m : Map) (a : Active) (k v : ℕ) (g : Option ℕ) → IsMap m → IsMap (let e = updated m a k v g in e.map)
+update_map m a k v None h = h
+update_map m a k v (Some w) h = IsMap-set m k v h
+
 look_map : (m : Map) (a : Active) (c : Scan) (n : Name) → IsMap m → IsMap (let e = looked m a c n in e.map)
 look_map m a c End h = h
 look_map m a c (Key k) h = by (nat_le k c.hi) refl
@@ -99,6 +104,9 @@ module _ (p : Protocol) (laws : IsLawful p) (s : State) (t : ℕ) (k : IsState p
           let below = not_full (length s.active) (sym (ap (λ b. not b && nat_le 64 (length s.active)) e) ∙ room) in
           omega (arith, is, below)
 
+  still_apart : has_ended s t ≡ false → (a : Active) (u : ℕ) → has_ended s u ≡ true → find nat_cmp u (put nat_cmp t a s.active) ≡ None
+  still_apart works a u over = find_put_other s.active t u a (λ same. false_true (has_ended s t) works (sym (ap (has_ended s) same) ∙ over)) ∙ k.apart u over
+
   -- a granted attempt, or one that is blocked
   attempt_keeps : has_ended s t ≡ false → is_full s t ≡ false → (rs : List Request) (e : Effect) → AskModes p rs → IsMap e.map → (us : List ℕ) → IsState p (granted_or_blocked p s t rs e us).1
   attempt_keeps works room rs e asked is_map (u ∷ us) = k
@@ -112,7 +120,7 @@ module _ (p : Protocol) (laws : IsLawful p) (s : State) (t : ℕ) (k : IsState p
         ended = k.ended;
         active = sorted_put t e.standing s.active k.active;
         few = one_more room e.standing;
-        apart = λ u over. find_put_other s.active t u e.standing (λ same. false_true (has_ended s t) works (sym (ap (has_ended s) same) ∙ over)) ∙ k.apart u over;
+        apart = still_apart works e.standing;
       }
 
   step_keeps : has_ended s t ≡ false → is_full s t ≡ false → (a : Step) (e : Effect) → IsMap e.map → IsState p (attempted p s t a e).1
@@ -125,6 +133,22 @@ module _ (p : Protocol) (laws : IsLawful p) (s : State) (t : ℕ) (k : IsState p
   scan_keeps works room (Some c) =
       let n = name_to_look s.map c in
       step_keeps works room (attempt.Look n c.hi) (looked s.map (standing s t) c n) (look_map s.map (standing s t) c n k.is_map)
+
+  -- a change taken back
+  back_keeps : has_ended s t ≡ false → is_full s t ≡ false → (cs : Changes) → IsState p (one_taken_back s t cs).1
+  back_keeps works room [] = k
+  back_keeps works room (c ∷ cs) =
+      let a : Active = record { scan = None; changes = cs; rolling = true } in
+      record {
+        is_map = IsMap-restore s.map c.0 c.1 k.is_map;
+        are_locks = k.are_locks;
+        within = k.within;
+        no_none = k.no_none;
+        ended = k.ended;
+        active = sorted_put t a s.active k.active;
+        few = one_more room a;
+        apart = still_apart works a;
+      }
 
   -- an end
   end_keeps : (m : Map) → IsMap m → IsState p (ended_with s t m)
@@ -158,10 +182,12 @@ module _ (p : Protocol) (laws : IsLawful p) (s : State) (t : ℕ) (k : IsState p
   performed_keeps works room op.Go = scan_keeps works room (standing s t).scan
   performed_keeps works room (op.Insert q v) = step_keeps works room (attempt.Insert q) (inserted s.map (standing s t) q v (get s.map q)) (insert_map s.map (standing s t) q v (get s.map q) k.is_map)
   performed_keeps works room (op.Delete q) = step_keeps works room (attempt.Delete q) (deleted s.map (standing s t) q (get s.map q)) (delete_map s.map (standing s t) q (get s.map q) k.is_map)
+  performed_keeps works room (op.Update q v) = step_keeps works room (attempt.Update q) (updated s.map (standing s t) q v (get s.map q)) (update_map s.map (standing s t) q v (get s.map q) k.is_map)
+  performed_keeps works room op.Back = back_keeps works room (standing s t).changes
   performed_keeps works room op.Commit = end_keeps s.map k.is_map
   performed_keeps works room op.Abort = end_keeps (restore_all s.map (standing s t).changes) (IsMap-restore_all s.map (standing s t).changes k.is_map)
 
-  unless_keeps : (o : Op) (r : Option Refusal) → refusal_of s t o ≡ r → IsState p (unless_refused p s t o r).1
+  unless_keeps : (o : Op) (r : Option Refusal) → refusal_of p s t o ≡ r → IsState p (unless_refused p s t o r).1
   unless_keeps o (Some r) e = k
   unless_keeps o None e =
       let ended = not_refused (has_ended s t) refusal.Ended _ e in
@@ -170,7 +196,7 @@ module _ (p : Protocol) (laws : IsLawful p) (s : State) (t : ℕ) (k : IsState p
 
 -- under a lawful protocol every step keeps a state well formed
 pub step_keeps_state : (p : Protocol) → IsLawful p → (s : State) (t : ℕ) (o : Op) → IsState p s → IsState p (let r = step p s t o in r.1)
-step_keeps_state p laws s t o k = unless_keeps p laws s t k o (refusal_of s t o) refl
+step_keeps_state p laws s t o k = unless_keeps p laws s t k o (refusal_of p s t o) refl
 
 -- so does one that may have been refused memory
 pub is_step_keeps_state : (p : Protocol) → IsLawful p → (s : State) (t : ℕ) (o : Op) (r : Reply) (new : State) → IsState p s → IsStep p s t o r new → IsState p new
@@ -201,16 +227,25 @@ module _ (p : Protocol) (s : State) (t : ℕ) (k : IsState p s) (is : IsTrue (is
   room : is_full s t ≡ false
   room = ap (λ b. not b && nat_le 64 (length s.active)) is
 
-  -- of the refusals only those of a scan in progress are left
-  left : (o : Op) → refusal_of s t o ≡ (if is_scanning s t && not (goes_on o) then Some refusal.Busy else if not (is_scanning s t) && is_go o then Some refusal.NoScan else if is_bad_range o then Some refusal.BadRange else None)
-  left o =
-      let rest = if is_scanning s t && not (goes_on o) then Some refusal.Busy else if not (is_scanning s t) && is_go o then Some refusal.NoScan else if is_bad_range o then Some refusal.BadRange else None in
-      ap (λ b. if b then Some refusal.Ended else if is_full s t then Some refusal.Full else rest) works ∙ ap (λ b. if b then Some refusal.Full else rest) room
+  -- the refusals that are left
+  abbrev refusals_left : Op → Option Refusal
+  refusals_left o =
+      if is_rolling s t && not (takes_back o) then Some refusal.RollingBack
+      else if is_scanning s t && not (goes_on o) then Some refusal.Busy
+      else if not (is_scanning s t) && is_go o then Some refusal.NoScan
+      else if is_bad_range o then Some refusal.BadRange
+      else if is_update o && not p.updates then Some refusal.NoUpdate
+      else if has_nothing_left s t && is_back o then Some refusal.NothingLeft
+      else None
 
-  -- an end isn't refused memory
-  had_memory : (o : Op) (r : Reply) (new : State) → is_end o ≡ true → IsStep p s t o r new → ◌≡◌ {A = Outcome} (r, new) (step p s t o)
-  had_memory o r new ends (inl e) = e
-  had_memory o r new ends (inr b) = absurd (may_not (not (is_some (refusal_of s t o))) (is_end o) (is_some (active_of s t)) ends is b.2)
+  -- one that is active hasn't ended, and isn't one too many
+  left : (o : Op) → refusal_of p s t o ≡ refusals_left o
+  left o = ap (λ b. if b then Some refusal.Ended else if is_full s t then Some refusal.Full else refusals_left o) works ∙ ap (λ b. if b then Some refusal.Full else refusals_left o) room
+
+  -- what takes no memory isn't refused it
+  had_memory : (o : Op) (r : Reply) (new : State) → takes_no_memory o ≡ true → IsStep p s t o r new → ◌≡◌ {A = Outcome} (r, new) (step p s t o)
+  had_memory o r new none (inl e) = e
+  had_memory o r new none (inr b) = absurd (may_not (not (is_some (refusal_of p s t o))) (takes_no_memory o) (is_some (active_of s t)) none is b.2)
     where
       may_not : (a b c : Bool) → b ≡ true → c ≡ true → (a && not (b && c)) ≡ true → ⊥
       may_not true true true e f h = cc
@@ -220,16 +255,50 @@ module _ (p : Protocol) (s : State) (t : ℕ) (k : IsState p s) (is : IsTrue (is
 
   -- its abort is answered Aborted
   pub abort_of_active : (r : Reply) (new : State) → IsStep p s t op.Abort r new → r ≡ reply.Aborted
-  abort_of_active r new e = ap (λ (x : Outcome). x.0) (had_memory op.Abort r new refl e ∙ ap (unless_refused p s t op.Abort) (left op.Abort ∙ none (is_scanning s t)))
+  abort_of_active r new e = ap (λ (x : Outcome). x.0) (had_memory op.Abort r new refl e ∙ ap (unless_refused p s t op.Abort) (left op.Abort ∙ none (is_rolling s t) (is_scanning s t) (has_nothing_left s t)))
     where
-      none : (b : Bool) → (if b && false then Some refusal.Busy else if not b && false then Some refusal.NoScan else None) ≡ None
-      none true = refl
-      none false = refl
+      none : (a b c : Bool) → (if a && false then Some refusal.RollingBack else if b && false then Some refusal.Busy else if not b && false then Some refusal.NoScan else if c && false then Some refusal.NothingLeft else None) ≡ None
+      none true true true = refl
+      none true true false = refl
+      none true false true = refl
+      none true false false = refl
+      none false true true = refl
+      none false true false = refl
+      none false false true = refl
+      none false false false = refl
 
-  -- its commit is answered Committed, or Busy in the midst of a scan
-  pub commit_of_active : (r : Reply) (new : State) → IsStep p s t op.Commit r new → r ≡ (if is_scanning s t then reply.Refused refusal.Busy else reply.Committed)
-  commit_of_active r new e = ap (λ (x : Outcome). x.0) (had_memory op.Commit r new refl e ∙ ap (unless_refused p s t op.Commit) (left op.Commit)) ∙ by (is_scanning s t)
+  -- its commit is answered Committed, or RollingBack where it has taken a change back, or Busy in the midst of a scan
+  pub commit_of_active : (r : Reply) (new : State) → IsStep p s t op.Commit r new → r ≡ (if is_rolling s t then reply.Refused refusal.RollingBack else if is_scanning s t then reply.Refused refusal.Busy else reply.Committed)
+  commit_of_active r new e =
+      ap (λ (x : Outcome). x.0) (had_memory op.Commit r new refl e ∙ ap (unless_refused p s t op.Commit) (left op.Commit)) ∙ by (is_rolling s t) (is_scanning s t) (has_nothing_left s t)
     where
-      by : (b : Bool) → (unless_refused p s t op.Commit (if b && true then Some refusal.Busy else if not b && false then Some refusal.NoScan else None)).0 ≡ (if b then reply.Refused refusal.Busy else reply.Committed)
-      by true = refl
-      by false = refl
+      by : (a b c : Bool) → (unless_refused p s t op.Commit (if a && true then Some refusal.RollingBack else if b && true then Some refusal.Busy else if not b && false then Some refusal.NoScan else if c && false then Some refusal.NothingLeft else None)).0
+          ≡ (if a then reply.Refused refusal.RollingBack else if b then reply.Refused refusal.Busy else reply.Committed)
+      by true b c = refl
+      by false true c = refl
+      by false false true = refl
+      by false false false = refl
+
+  -- a change of it taken back is answered Undone with the number of those left, or NothingLeft where there is none
+  pub back_of_active : (r : Reply) (new : State) → IsStep p s t op.Back r new → r ≡ (if has_nothing_left s t then reply.Refused refusal.NothingLeft else reply.Undone (length (standing s t).changes - 1))
+  back_of_active r new e =
+      ap (λ (x : Outcome). x.0) (had_memory op.Back r new refl e ∙ ap (unless_refused p s t op.Back) (left op.Back ∙ only (is_rolling s t) (is_scanning s t) (has_nothing_left s t)))
+      ∙ answered (has_nothing_left s t) ∙ counted (standing s t).changes
+    where
+      only : (a b c : Bool) → (if a && false then Some refusal.RollingBack else if b && false then Some refusal.Busy else if not b && false then Some refusal.NoScan else if c && true then Some refusal.NothingLeft else None) ≡ (if c then Some refusal.NothingLeft else None)
+      only true true true = refl
+      only true true false = refl
+      only true false true = refl
+      only true false false = refl
+      only false true true = refl
+      only false true false = refl
+      only false false true = refl
+      only false false false = refl
+
+      answered : (c : Bool) → (unless_refused p s t op.Back (if c then Some refusal.NothingLeft else None)).0 ≡ (if c then reply.Refused refusal.NothingLeft else (one_taken_back s t (standing s t).changes).0)
+      answered true = refl
+      answered false = refl
+
+      counted : (cs : Changes) → (if is_empty cs then reply.Refused refusal.NothingLeft else (one_taken_back s t cs).0) ≡ (if is_empty cs then reply.Refused refusal.NothingLeft else reply.Undone (length cs - 1))
+      counted [] = refl
+      counted (x ∷ xs) = ap reply.Undone (omega arith)

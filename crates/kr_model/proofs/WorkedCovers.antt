@@ -1,8 +1,8 @@
 -- Worked examples of the case checker: lock tables that fail some cases, and what fails.
-use Rattle.std.specs.Prelude.{◌≡◌, ℕ, List, [], ◌∷◌, Option, Some, None, length, map, filter, refl, slice_get, ◌+◌, ◌*◌, ◌==◌, if◌then◌else◌}
-use Rattle.std.proofs.Common.{subst}
+use Rattle.std.specs.Prelude.{◌≡◌, ℕ, true, false, List, [], ◌∷◌, Option, Some, None, length, map, filter, refl, slice_get, ◌==◌, if◌then◌else◌}
+use Rattle.std.proofs.Common.{◌∙◌, ap}
 use Rattle.kr_model.specs.Protocol.{Protocol}
-use Rattle.kr_model.specs.Covers.{Ask, place, cases, failed_cases, serves, modes, all_covers, count_up, IsCovered}
+use Rattle.kr_model.specs.Covers.{Ask, place, cases, failed_cases, serves, modes, all_rules, all_covers, case_count, IsCovered}
 use Rattle.kr_model.specs.declared.Row.{Row}
 use Rattle.kr_model.specs.declared.Row.TheVariants as row
 use Rattle.kr_model.specs.declared.Side.{Side}
@@ -11,12 +11,14 @@ use Rattle.kr_model.specs.declared.Span.{Span}
 use Rattle.kr_model.specs.declared.Rule.{Rule}
 use Rattle.kr_model.specs.declared.Rule.TheVariants as rule
 use Rattle.kr_model.specs.declared.Cover.{Cover}
-use Rattle.kr_model.specs.declared.Cover.TheVariants.{ReadKey, ReadGap, InsertedKey, DeletedGap}
+use Rattle.kr_model.specs.declared.Cover.TheVariants.{ReadKey, ReadGap, InsertedKey, DeletedGap, UpdatedKey}
 use Rattle.kr_model.specs.declared.Origin.{Origin}
 use Rattle.kr_model.specs.declared.Origin.TheVariants.{One, Two}
 use Rattle.kr_model.specs.declared.FailedCase.{FailedCase}
 use Rattle.kr_model.specs.Matrices.{ok_by, convert_by, for_commit, at_once}
 use Rattle.kr_model.specs.Kvl.{kvl, kvl_ask, IS, IX, S, X}
+use Rattle.kr_model.specs.KvlUpdate.{kvl_update, kvl_update_ask}
+use Rattle.kr_model.specs.Im as im
 use Rattle.kr_model.specs.RangeKey.{range_key, range_key_ask}
 use Rattle.kr_model.proofs.CaseCount.{length-cases}
 
@@ -40,6 +42,7 @@ rule_number rule.ScanStop = 5
 rule_number rule.Insert = 6
 rule_number rule.Split = 7
 rule_number rule.Delete = 8
+rule_number rule.Update = 9
 
 -- The place of a cover in the order of the checker, from 1.
 abbrev pub cover_number : Cover → ℕ
@@ -47,24 +50,33 @@ cover_number ReadKey = 1
 cover_number ReadGap = 2
 cover_number InsertedKey = 3
 cover_number DeletedGap = 4
+cover_number UpdatedKey = 5
 
--- How many cases fail of each of the eight rules, in order.
+-- How many cases fail of each of the rules, in order.
 abbrev pub failed_by_rule : Protocol → List ℕ
 failed_by_rule p =
     let fs = failed_cases p in
-    map (λ n. length (filter (λ f. rule_number f.case == n) fs)) (count_up 1 8)
+    map (λ r. length (filter (λ f. rule_number f.case == rule_number r) fs)) (all_rules p)
 
--- How many cases fail with each of the four covers, in order.
+-- How many cases fail with each of the covers, in order.
 abbrev pub failed_by_cover : Protocol → List ℕ
 failed_by_cover p =
     let fs = failed_cases p in
-    map (λ n. length (filter (λ f. cover_number f.cover == n) fs)) (count_up 1 4)
+    map (λ c. length (filter (λ f. cover_number f.cover == cover_number c) fs)) (all_covers p)
 
 -- The number of cases --
 
--- A table of 15 modes has 1764 cases.
-pub cases_of_fifteen : (p : Protocol) → p.count ≡ 15 → length (cases p) ≡ 1764
-cases_of_fifteen p e = subst (λ m. length (cases p) ≡ 4 * (m * m) + 6 * (m + 1) + 3 * ((m + 1) * (m + 1))) e (length-cases p)
+-- The number of cases for 2, 5, 11 and 15 modes, without updates.
+pub numbers_of_cases : map (λ m. case_count m false) (2 ∷ 5 ∷ 11 ∷ 15 ∷ []) ≡ 61 ∷ 244 ∷ 988 ∷ 1764 ∷ []
+numbers_of_cases = refl
+
+-- The same with updates.
+pub numbers_of_cases-updates : map (λ m. case_count m true) (2 ∷ 5 ∷ 11 ∷ 15 ∷ []) ≡ 68 ∷ 275 ∷ 1121 ∷ 2005 ∷ []
+numbers_of_cases-updates = refl
+
+-- A table of 15 modes without updates has 1764 cases.
+pub cases_of_fifteen : (p : Protocol) → p.count ≡ 15 → p.updates ≡ false → length (cases p) ≡ 1764
+cases_of_fifteen p e none = length-cases p ∙ ap (λ m. case_count m p.updates) e ∙ ap (λ b. case_count 15 b) none
 
 -- Insert always IX: key-value locking whose insert takes IX on its key whatever it holds on the next name --
 
@@ -161,18 +173,63 @@ pub delete_without_current-rules : failed_by_rule delete_without_current ≡ 0 �
 delete_without_current-rules = refl
 
 -- Delete without current: no mode serves any cover.
-pub delete_without_current-serves : map (λ c. filter (serves delete_without_current c) (modes delete_without_current)) all_covers ≡ [] ∷ [] ∷ [] ∷ [] ∷ []
+pub delete_without_current-serves : map (λ c. filter (serves delete_without_current c) (modes delete_without_current)) (all_covers delete_without_current) ≡ [] ∷ [] ∷ [] ∷ [] ∷ []
 delete_without_current-serves = refl
 
 -- Delete without current: the first failed case.
 pub delete_without_current-first : first_failed delete_without_current ≡ Some (failed rule.FetchHit ReadKey (One 0) S (row.Delete, Current) 0 0)
 delete_without_current-first = refl
 
+-- Update under IX: key-value locking with updates, whose update takes IX on its key --
+
+-- What that table asks for.
+abbrev pub update_under_ix_ask : Row → Side → ℕ → Option (ℕ × Span)
+update_under_ix_ask row.Update Current own = for_commit IX
+update_under_ix_ask r s own = kvl_update_ask r s own
+
+-- That table.
+abbrev pub update_under_ix : Protocol
+update_under_ix = record kvl_update { ask = update_under_ix_ask }
+
+-- Update under IX: 12 cases fail.
+pub update_under_ix-failed : length (failed_cases update_under_ix) ≡ 12
+update_under_ix-failed = refl
+
+-- Update under IX: 9 of them are inserts, and the 3 others are updates.
+pub update_under_ix-rules : failed_by_rule update_under_ix ≡ 0 ∷ 0 ∷ 0 ∷ 0 ∷ 0 ∷ 9 ∷ 0 ∷ 0 ∷ 3 ∷ []
+update_under_ix-rules = refl
+
+-- Update under IX: the first failed case.
+pub update_under_ix-first : first_failed update_under_ix ≡ Some (failed rule.Insert InsertedKey (Two 0 0) IX (row.Update, Current) 0 0)
+update_under_ix-first = refl
+
+-- An update that isn't kept: index-specific locking with updates, whose update doesn't keep its lock --
+
+-- What that table asks for.
+abbrev pub update_at_once_ask : Row → Side → ℕ → Option (ℕ × Span)
+update_at_once_ask row.Update Current own = at_once im.X
+update_at_once_ask r s own = im.im_ask r s own
+
+-- That table.
+abbrev pub update_at_once : Protocol
+update_at_once = record im.im { ask = update_at_once_ask; updates = true }
+
+-- An update that isn't kept: 68 cases.
+pub update_at_once-cases : length (cases update_at_once) ≡ 68
+update_at_once-cases = refl
+
+-- An update that isn't kept: the two cases that fail, both of them updates.
+pub update_at_once-failed : failed_cases update_at_once
+    ≡ failed rule.Update UpdatedKey (One 0) 0 (row.FetchHit, Current) 0 0
+    ∷ failed rule.Update UpdatedKey (One im.S) im.S (row.FetchHit, Current) 0 0
+    ∷ []
+update_at_once-failed = refl
+
 -- Tables of one mode, which stands beside none --
 
 -- A table of one mode with these requests.
 abbrev pub one_mode_with : (Row → Side → ℕ → Option (ℕ × Span)) → Protocol
-one_mode_with ask = record { count = 1; ok = ok_by ([] ∷ []); convert = convert_by ((1 ∷ []) ∷ []); ask = ask }
+one_mode_with ask = record { count = 1; ok = ok_by ([] ∷ []); convert = convert_by ((1 ∷ []) ∷ []); ask = ask; updates = false }
 
 -- The table that asks nothing.
 abbrev pub asks_nothing : Protocol
@@ -208,6 +265,7 @@ one_mode_ask row.FetchHit Next own = None
 one_mode_ask row.FetchMiss Current own = None
 one_mode_ask row.ScanKey Next own = None
 one_mode_ask row.ScanStop Current own = None
+one_mode_ask row.Update side own = None
 
 -- The one-mode table.
 abbrev pub one_mode : Protocol

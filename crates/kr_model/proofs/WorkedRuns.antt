@@ -3,6 +3,7 @@ use Rattle.std.specs.Prelude.{◌≡◌, ℕ, List, [], ◌∷◌, ◌++◌, map
 use Rattle.kr_model.specs.Protocol.{Protocol}
 use Rattle.kr_model.specs.Covers.{count_up}
 use Rattle.kr_model.specs.Kvl.{kvl, IX, S, SIX, X}
+use Rattle.kr_model.specs.KvlUpdate.{kvl_update}
 use Rattle.kr_model.specs.Im.{im}
 use Rattle.kr_model.specs.Map.{Map}
 use Rattle.kr_model.specs.Locks.{Holder, Locks, own}
@@ -13,12 +14,12 @@ use Rattle.kr_model.specs.Difference.{Difference, first_difference}
 use Rattle.kr_model.specs.declared.Name.{Name}
 use Rattle.kr_model.specs.declared.Name.TheVariants.{Key, End}
 use Rattle.kr_model.specs.declared.Op.{Op}
-use Rattle.kr_model.specs.declared.Op.TheVariants.{Fetch, Scan, Go, Insert, Delete, Commit, Abort}
+use Rattle.kr_model.specs.declared.Op.TheVariants.{Fetch, Scan, Go, Insert, Delete, Update, Commit, Abort, Back}
 use Rattle.kr_model.specs.declared.Event.{Event}
 use Rattle.kr_model.specs.declared.Reply.{Reply}
 use Rattle.kr_model.specs.declared.Reply.TheVariants as r
 use Rattle.kr_model.specs.declared.Refusal.TheVariants as refusal
-use Rattle.kr_model.proofs.WorkedCovers.{insert_always_ix, asks_nothing}
+use Rattle.kr_model.proofs.WorkedCovers.{insert_always_ix, update_at_once, asks_nothing}
 
 -- How a run is shown --
 
@@ -102,6 +103,63 @@ pub duplicate_insert : replies_and_locks kvl three (by 1 (Insert 20 9) ∷ by 2 
     ≡ (r.Duplicate ∷ r.Blocked (1 ∷ []) ∷ [], held (Key 20) 1 S ∷ [])
 duplicate_insert = refl
 
+-- Updating --
+
+-- A value updated, and the update taken back with its transaction.
+abbrev pub update_undone : List Event
+update_undone = by 1 (Update 20 9) ∷ by 2 (Fetch 20) ∷ by 1 (Update 25 1) ∷ by 1 Abort ∷ by 2 (Fetch 20) ∷ []
+
+-- Update undone: nobody reads the value before its transaction ends; an update of an absent key reads the gap.
+pub update_undone-report : report kvl_update three update_undone
+    ≡ (r.Updated 2 ∷ r.Blocked (1 ∷ []) ∷ r.Absent ∷ r.Aborted ∷ r.Found 2 ∷ [], held (Key 20) 2 S ∷ [], three, 2 ∷ [])
+update_undone-report = refl
+
+-- Update undone: serial.
+pub update_undone-verdict : verdict kvl_update three update_undone ≡ None
+update_undone-verdict = refl
+
+-- Update not offered: key-value locking refuses it, and nothing changes.
+pub update_not_offered : report kvl three (by 1 (Update 20 9) ∷ []) ≡ (r.Refused refusal.NoUpdate ∷ [], [], three, [])
+update_not_offered = refl
+
+-- An update of the value that stands there is a change all the same.
+pub update_to_the_same_value : replies kvl_update three (by 1 (Update 20 2) ∷ by 2 (Fetch 20) ∷ by 1 Back ∷ by 1 Back ∷ [])
+    ≡ r.Updated 2 ∷ r.Blocked (1 ∷ []) ∷ r.Undone 0 ∷ r.Refused refusal.NothingLeft ∷ []
+update_to_the_same_value = refl
+
+-- Two updates of a key: an abort leaves the value that stood there before the first, and not the one between.
+pub two_updates_undone : report kvl_update three (by 1 (Update 20 9) ∷ by 1 (Update 20 8) ∷ by 1 Abort ∷ by 2 (Fetch 20) ∷ [])
+    ≡ (r.Updated 2 ∷ r.Updated 9 ∷ r.Aborted ∷ r.Found 2 ∷ [], held (Key 20) 2 S ∷ [], three, 2 ∷ [])
+two_updates_undone = refl
+
+-- An updated key deleted and inserted again, and all of it taken back at once.
+pub update_delete_insert_abort : report kvl_update three (by 1 (Update 20 9) ∷ by 1 (Delete 20) ∷ by 1 (Insert 20 7) ∷ by 1 (Update 20 6) ∷ by 1 Abort ∷ [])
+    ≡ (r.Updated 2 ∷ r.Deleted 9 ∷ r.Done ∷ r.Updated 7 ∷ r.Aborted ∷ [], [], three, [])
+update_delete_insert_abort = refl
+
+-- Updates taken back one at a time: of a key inserted before, and of one that stood there.
+pub updates_back : report kvl_update three (by 1 (Insert 15 5) ∷ by 1 (Update 15 6) ∷ by 1 (Update 20 9) ∷ by 1 Back ∷ by 1 Back ∷ by 1 (Update 15 7) ∷ by 1 Back ∷ by 1 Abort ∷ [])
+    ≡ (r.Done ∷ r.Updated 5 ∷ r.Updated 2 ∷ r.Undone 2 ∷ r.Undone 1 ∷ r.Refused refusal.RollingBack ∷ r.Undone 0 ∷ r.Aborted ∷ [], [], three, [])
+updates_back = refl
+
+-- An update, an insert and an update of the inserted key, taken back one at a time.
+abbrev pub update_insert_update : List Event
+update_insert_update = by 1 (Update 20 9) ∷ by 1 (Insert 25 5) ∷ by 1 (Update 25 6) ∷ by 2 (Fetch 25) ∷ by 1 Back ∷ by 2 (Fetch 25) ∷ by 1 Back ∷ by 2 (Fetch 25) ∷ by 1 Back ∷ by 2 (Fetch 20) ∷ by 1 Abort ∷ by 2 (Fetch 20) ∷ []
+
+-- An update and a back in one transaction: another finds 25 gone once its insert is taken back, and reads 20 only after the abort, since the locks stay.
+pub update_insert_update-report : report kvl_update three update_insert_update
+    ≡ (
+      r.Updated 2 ∷ r.Done ∷ r.Updated 5 ∷ r.Blocked (1 ∷ []) ∷ r.Undone 2 ∷ r.Blocked (1 ∷ []) ∷ r.Undone 1 ∷ r.None ∷ r.Undone 0 ∷ r.Blocked (1 ∷ []) ∷ r.Aborted ∷ r.Found 2 ∷ [],
+      held (Key 20) 2 S ∷ held (Key 30) 2 S ∷ [],
+      three,
+      2 ∷ [],
+    )
+update_insert_update-report = refl
+
+-- An update and a back in one transaction: serial, also where the other commits.
+pub update_insert_update-verdict : verdict kvl_update three (update_insert_update ++ by 2 Commit ∷ []) ≡ None
+update_insert_update-verdict = refl
+
 -- Deleting and aborting --
 
 -- Delete of the last key: its gap is covered on the end.
@@ -118,6 +176,37 @@ delete_insert_abort = refl
 pub gap_widens_and_narrows : replies_and_locks kvl three (by 1 (Delete 30) ∷ by 2 (Fetch 25) ∷ by 1 Abort ∷ by 2 (Fetch 25) ∷ [])
     ≡ (r.Deleted 3 ∷ r.Blocked (1 ∷ []) ∷ r.Aborted ∷ r.None ∷ [], held (Key 30) 2 S ∷ [])
 gap_widens_and_narrows = refl
+
+-- One change at a time --
+
+-- Two changes back: a delete and an insert of one key are taken back one after the other. While the delete stands the lock on 30 keeps others from the key, and then the
+-- lock on the key itself does, until the abort. Nothing else is allowed to who rolls back.
+pub two_changes_back : report kvl three (by 1 (Delete 20) ∷ by 1 (Insert 20 9) ∷ by 1 Back ∷ by 2 (Fetch 20) ∷ by 1 (Fetch 10) ∷ by 1 Commit ∷ by 1 Back ∷ by 2 (Fetch 20) ∷ by 1 Back ∷ by 1 Abort ∷ by 2 (Fetch 20) ∷ [])
+    ≡ (
+      r.Deleted 2 ∷ r.Done ∷ r.Undone 1 ∷ r.Blocked (1 ∷ []) ∷ r.Refused refusal.RollingBack ∷ r.Refused refusal.RollingBack ∷ r.Undone 0 ∷ r.Blocked (1 ∷ []) ∷ r.Refused refusal.NothingLeft ∷ r.Aborted ∷ r.Found 2 ∷ [],
+      held (Key 20) 2 S ∷ [],
+      three,
+      2 ∷ [],
+    )
+two_changes_back = refl
+
+-- Back beside another: the key that is taken back stands above a gap that another has split.
+abbrev pub back_beside_another : List Event
+back_beside_another = by 1 (Insert 15 5) ∷ by 2 (Insert 12 7) ∷ by 1 Back ∷ by 2 Commit ∷ by 3 (Fetch 15) ∷ by 1 Abort ∷ []
+
+-- Back beside another: the gap merges, and no lock of who takes back is left.
+pub back_beside_another-report : report kvl three back_beside_another
+    ≡ (r.Done ∷ r.Done ∷ r.Undone 0 ∷ r.Committed ∷ r.None ∷ r.Aborted ∷ [], held (Key 20) 3 S ∷ [], (10, 1) ∷ (12, 7) ∷ (20, 2) ∷ (30, 3) ∷ [], 3 ∷ [])
+back_beside_another-report = refl
+
+-- Back beside another: serial.
+pub back_beside_another-verdict : verdict kvl three back_beside_another ≡ None
+back_beside_another-verdict = refl
+
+-- Back in a scan: the scan is dropped, and isn't gone on with. Who has changed nothing takes nothing back.
+pub back_in_a_scan : replies kvl three (by 1 Back ∷ by 1 (Insert 15 5) ∷ by 1 (Scan 10 30) ∷ by 1 (Fetch 10) ∷ by 1 Back ∷ by 1 Go ∷ by 1 Abort ∷ by 1 Back ∷ [])
+    ≡ r.Refused refusal.NothingLeft ∷ r.Done ∷ r.Going 10 ∷ r.Refused refusal.Busy ∷ r.Undone 0 ∷ r.Refused refusal.RollingBack ∷ r.Aborted ∷ r.Refused refusal.Ended ∷ []
+back_in_a_scan = refl
 
 -- Scans --
 
@@ -188,6 +277,21 @@ pub busy_before_bad_range : replies kvl three (by 1 (Scan 10 30) ∷ by 1 (Scan 
     ≡ r.Going 10 ∷ r.Refused refusal.Busy ∷ r.Going 20 ∷ []
 busy_before_bad_range = refl
 
+-- Busy before NoUpdate: an update in the midst of a scan, and one outside it, under a table that offers none.
+pub busy_before_no_update : replies kvl three (by 1 (Scan 10 30) ∷ by 1 (Update 20 9) ∷ by 2 (Update 20 9) ∷ [])
+    ≡ r.Going 10 ∷ r.Refused refusal.Busy ∷ r.Refused refusal.NoUpdate ∷ []
+busy_before_no_update = refl
+
+-- RollingBack before NoScan, BadRange and NoUpdate: who rolls back is told so first.
+pub rolling_back_first : replies kvl three (by 1 (Insert 15 5) ∷ by 1 Back ∷ by 1 Go ∷ by 1 (Scan 30 10) ∷ by 1 (Update 20 9) ∷ by 1 Commit ∷ by 1 Back ∷ by 1 Abort ∷ [])
+    ≡ r.Done ∷ r.Undone 0 ∷ r.Refused refusal.RollingBack ∷ r.Refused refusal.RollingBack ∷ r.Refused refusal.RollingBack ∷ r.Refused refusal.RollingBack ∷ r.Refused refusal.NothingLeft ∷ r.Aborted ∷ []
+rolling_back_first = refl
+
+-- Ended and Full before NothingLeft: by one that has ended, by one too many, and by one that has changed nothing.
+pub nothing_left_last : replies kvl three (by 1 Commit ∷ by 1 Back ∷ by 2 Back ∷ (map (λ t. by t (Fetch 10)) (count_up 2 64) ++ by 2 Back ∷ by 66 Back ∷ []))
+    ≡ r.Committed ∷ r.Refused refusal.Ended ∷ r.Refused refusal.NothingLeft ∷ (map (λ t. r.Found 1) (count_up 2 64) ++ r.Refused refusal.NothingLeft ∷ r.Refused refusal.Full ∷ [])
+nothing_left_last = refl
+
 -- Ended by its first step: a number that never did anything commits or aborts, and attempts no more.
 pub ended_by_the_first_step : report kvl three (by 1 Commit ∷ by 1 (Fetch 10) ∷ by 2 Abort ∷ by 2 (Fetch 10) ∷ by 1 Commit ∷ by 2 Abort ∷ [])
     ≡ (
@@ -205,24 +309,36 @@ abbrev pub state_after : List Event → State
 state_after events = let r = run kvl (start three) events in r.state
 
 -- Want of memory may not be answered to the commit and the abort of an active transaction.
-pub ends_take_no_memory : map (may_lack_memory (state_after (by 1 (Insert 15 5) ∷ [])) 1) (Commit ∷ Abort ∷ []) ≡ false ∷ false ∷ []
+pub ends_take_no_memory : map (may_lack_memory kvl (state_after (by 1 (Insert 15 5) ∷ [])) 1) (Commit ∷ Abort ∷ []) ≡ false ∷ false ∷ []
 ends_take_no_memory = refl
 
+-- Nor to a change taken back, of one in the midst of a scan too.
+pub back_takes_no_memory : may_lack_memory kvl (state_after (by 1 (Insert 15 5) ∷ [])) 1 Back ∷ may_lack_memory kvl (state_after (by 1 (Insert 15 5) ∷ by 1 (Scan 10 30) ∷ [])) 1 Back ∷ [] ≡ false ∷ false ∷ []
+back_takes_no_memory = refl
+
 -- Nor to the abort of one in the midst of a scan.
-pub abort_in_a_scan_takes_no_memory : may_lack_memory (state_after (by 1 (Scan 10 30) ∷ [])) 1 Abort ≡ false
+pub abort_in_a_scan_takes_no_memory : may_lack_memory kvl (state_after (by 1 (Scan 10 30) ∷ [])) 1 Abort ≡ false
 abort_in_a_scan_takes_no_memory = refl
 
 -- It may be to those of a new number, which is written down as ended.
-pub ends_of_a_new_number_take_memory : map (may_lack_memory (state_after (by 1 (Insert 15 5) ∷ [])) 2) (Commit ∷ Abort ∷ []) ≡ true ∷ true ∷ []
+pub ends_of_a_new_number_take_memory : map (may_lack_memory kvl (state_after (by 1 (Insert 15 5) ∷ [])) 2) (Commit ∷ Abort ∷ []) ≡ true ∷ true ∷ []
 ends_of_a_new_number_take_memory = refl
 
 -- It may be to every other operation that isn't refused: granted or blocked.
-pub others_take_memory : map (may_lack_memory (state_after (by 2 (Fetch 15) ∷ [])) 1) (Fetch 10 ∷ Scan 10 30 ∷ Insert 17 5 ∷ Delete 10 ∷ []) ≡ true ∷ true ∷ true ∷ true ∷ []
+pub others_take_memory : map (may_lack_memory kvl (state_after (by 2 (Fetch 15) ∷ [])) 1) (Fetch 10 ∷ Scan 10 30 ∷ Insert 17 5 ∷ Delete 10 ∷ []) ≡ true ∷ true ∷ true ∷ true ∷ []
 others_take_memory = refl
 
--- It stands in place of no other refusal: of a number that has ended, of a scan that isn't there, and of a range upside down.
-pub refusals_take_no_memory : map (may_lack_memory (state_after (by 1 Commit ∷ [])) 1) (Fetch 10 ∷ Commit ∷ [])
-    ++ map (may_lack_memory (state_after []) 1) (Go ∷ Scan 30 10 ∷ []) ≡ false ∷ false ∷ false ∷ false ∷ []
+-- So it may to an update, where updates are offered.
+pub updates_take_memory : may_lack_memory kvl_update (state_after (by 2 (Fetch 15) ∷ [])) 1 (Update 10 4) ≡ true
+updates_take_memory = refl
+
+-- It stands in place of no other refusal: of an update that isn't offered, and of a change taken back where none is left.
+pub later_refusals_take_no_memory : map (may_lack_memory kvl (state_after []) 1) (Update 10 4 ∷ Back ∷ []) ≡ false ∷ false ∷ []
+later_refusals_take_no_memory = refl
+
+-- Nor of a number that has ended, of a scan that isn't there, and of a range upside down.
+pub refusals_take_no_memory : map (may_lack_memory kvl (state_after (by 1 Commit ∷ [])) 1) (Fetch 10 ∷ Commit ∷ [])
+    ++ map (may_lack_memory kvl (state_after []) 1) (Go ∷ Scan 30 10 ∷ []) ≡ false ∷ false ∷ false ∷ false ∷ []
 refusals_take_no_memory = refl
 
 -- Verdicts --
@@ -239,6 +355,10 @@ split_not_serial-report = refl
 -- The split that isn't serial: the fetch found nothing, and finds 7 in commit order.
 pub split_not_serial-verdict : verdict insert_always_ix three split_not_serial ≡ not_serial 1 1 r.None (r.Found 7)
 split_not_serial-verdict = refl
+
+-- An update that isn't kept: another reads the value, which is then taken back, and commits.
+pub update_not_serial : verdict update_at_once three (by 1 (Update 20 9) ∷ by 2 (Fetch 20) ∷ by 1 Abort ∷ by 2 Commit ∷ []) ≡ not_serial 2 1 (r.Found 9) (r.Found 2)
+update_not_serial = refl
 
 -- Scan not serial: a key that it has read is deleted by one who commits first.
 pub scan_not_serial : verdict asks_nothing three (by 1 (Fetch 30) ∷ by 1 (Scan 10 20) ∷ by 2 (Delete 10) ∷ by 2 Commit ∷ by 1 Go ∷ by 1 Commit ∷ [])

@@ -1,5 +1,5 @@
 -- What a lock has to protect, and the cases that a covered protocol meets. No case names a key, a map or a run.
-use Rattle.std.specs.Prelude.{◌≡◌, ℕ, suc, zero, Bool, true, false, not, List, [], ◌∷◌, Option, Some, None, map, filter, if◌then◌else◌}
+use Rattle.std.specs.Prelude.{◌≡◌, ℕ, suc, zero, ◌+◌, ◌*◌, Bool, true, false, not, List, [], ◌∷◌, Option, Some, None, map, filter, if◌then◌else◌}
 use Rattle.std.specs.List.{flat_map, filter_map}
 use Rattle.std.specs.Option.{option_map_or}
 use Rattle.kr_model.specs.declared.Row.{Row}
@@ -9,7 +9,7 @@ use Rattle.kr_model.specs.declared.Side.TheVariants.{Current, Next}
 use Rattle.kr_model.specs.declared.Span.{Span}
 use Rattle.kr_model.specs.declared.Span.TheVariants.{Instant, Commit}
 use Rattle.kr_model.specs.declared.Cover.{Cover}
-use Rattle.kr_model.specs.declared.Cover.TheVariants.{ReadKey, ReadGap, InsertedKey, DeletedGap}
+use Rattle.kr_model.specs.declared.Cover.TheVariants.{ReadKey, ReadGap, InsertedKey, DeletedGap, UpdatedKey}
 use Rattle.kr_model.specs.declared.Rule.{Rule}
 use Rattle.kr_model.specs.declared.Rule.TheVariants as rule
 use Rattle.kr_model.specs.declared.Origin.{Origin}
@@ -39,12 +39,17 @@ modes_or_none p = count_up 0 (suc p.count)
 abbrev pub Ask : Type 0
 Ask = Row × Side
 
+-- What is listed only where p offers updates.
+abbrev pub if_updating : {A : Type 0} → Protocol → List A → List A
+if_updating p xs = if p.updates then xs else []
+
 -- What no other transaction may be granted beside a lock that has the cover, in order.
-abbrev pub must_refuse : Cover → List Ask
-must_refuse ReadKey = (row.Delete, Current) ∷ []
-must_refuse ReadGap = (row.Insert, Next) ∷ (row.Delete, Current) ∷ []
-must_refuse InsertedKey = (row.FetchHit, Current) ∷ (row.FetchMiss, Next) ∷ (row.ScanKey, Current) ∷ (row.ScanStop, Next) ∷ (row.Delete, Current) ∷ (row.Delete, Next) ∷ []
-must_refuse DeletedGap = (row.FetchMiss, Next) ∷ (row.ScanKey, Current) ∷ (row.ScanStop, Next) ∷ (row.Insert, Next) ∷ (row.Delete, Current) ∷ (row.Delete, Next) ∷ []
+abbrev pub must_refuse : Protocol → Cover → List Ask
+must_refuse p ReadKey = (row.Delete, Current) ∷ if_updating p ((row.Update, Current) ∷ [])
+must_refuse p ReadGap = (row.Insert, Next) ∷ (row.Delete, Current) ∷ []
+must_refuse p InsertedKey = (row.FetchHit, Current) ∷ (row.FetchMiss, Next) ∷ (row.ScanKey, Current) ∷ (row.ScanStop, Next) ∷ (row.Delete, Current) ∷ (row.Delete, Next) ∷ if_updating p ((row.Update, Current) ∷ [])
+must_refuse p DeletedGap = (row.FetchMiss, Next) ∷ (row.ScanKey, Current) ∷ (row.ScanStop, Next) ∷ (row.Insert, Next) ∷ (row.Delete, Current) ∷ (row.Delete, Next) ∷ []
+must_refuse p UpdatedKey = if_updating p ((row.FetchHit, Current) ∷ (row.ScanKey, Current) ∷ (row.Delete, Current) ∷ (row.Update, Current) ∷ [])
 
 -- An asker at a row and side, with its own modes on the name and on the next name.
 abbrev pub place : Ask → ℕ → ℕ → Place
@@ -66,7 +71,7 @@ is_open p h x = not (refuses p h x.own (p.ask x.row x.side x.own_next))
 
 -- The places that a lock in mode h leaves open, of those that the cover must refuse, in order.
 abbrev pub open_places : Protocol → Cover → ℕ → List Place
-open_places p c h = filter (is_open p h) (flat_map (places_of p) (must_refuse c))
+open_places p c h = filter (is_open p h) (flat_map (places_of p) (must_refuse p c))
 
 -- Whether a list has no elements.
 abbrev pub is_empty : {A : Type 0} → List A → Bool
@@ -97,18 +102,18 @@ pub record Case : Type 0 where
 abbrev pub case : Rule → Cover → Origin → Option ℕ → ℕ → Case
 case r c from given mode = record { rule = r; cover = c; from = from; given = given; mode = mode }
 
--- The four covers, in order.
-abbrev pub all_covers : List Cover
-all_covers = ReadKey ∷ ReadGap ∷ InsertedKey ∷ DeletedGap ∷ []
+-- The covers that p is asked for, in order.
+abbrev pub all_covers : Protocol → List Cover
+all_covers p = ReadKey ∷ ReadGap ∷ InsertedKey ∷ DeletedGap ∷ if_updating p (UpdatedKey ∷ [])
 
--- The cases of a reading row: for each of the covers and each own mode, the mode after the request serves the cover.
+-- The cases of a row that moves no key: for each of the covers and each own mode, the mode after the request serves the cover.
 abbrev pub row_cases : Protocol → Rule → Row → Side → List Cover → List Case
 row_cases p rl r side cs = flat_map (λ c. map (λ o. case rl c (One o) None (mode_after p o (p.ask r side 0))) (modes_or_none p)) cs
 
 -- The cases of a rule, in order.
 abbrev pub cases_of : Protocol → Rule → List Case
 -- A conversion keeps each cover that the held mode h serves.
-cases_of p rule.Conversion = flat_map (λ c. flat_map (λ h. map (λ q. case rule.Conversion c (Two h q) (Some h) (p.convert h q)) (modes p)) (modes p)) all_covers
+cases_of p rule.Conversion = flat_map (λ c. flat_map (λ h. map (λ q. case rule.Conversion c (Two h q) (Some h) (p.convert h q)) (modes p)) (modes p)) (all_covers p)
 -- What was read is covered.
 cases_of p rule.FetchHit = row_cases p rule.FetchHit row.FetchHit Current (ReadKey ∷ [])
 cases_of p rule.FetchMiss = row_cases p rule.FetchMiss row.FetchMiss Next (ReadGap ∷ [])
@@ -120,14 +125,20 @@ cases_of p rule.Insert = flat_map (λ n. map (λ o. case rule.Insert InsertedKey
 cases_of p rule.Split = flat_map (λ c. flat_map (λ n. map (λ o. case rule.Split c (Two n o) (Some n) (mode_after p o (p.ask row.Insert Current n))) (modes_or_none p)) (modes_or_none p)) (ReadGap ∷ DeletedGap ∷ [])
 -- A delete covers the gap that it widens, from each own mode n on the next name.
 cases_of p rule.Delete = map (λ n. case rule.Delete DeletedGap (One n) None (mode_after p n (p.ask row.Delete Next n))) (modes_or_none p)
+-- An updated key is covered.
+cases_of p rule.Update = row_cases p rule.Update row.Update Current (UpdatedKey ∷ [])
 
--- The eight rules, in order.
-abbrev pub all_rules : List Rule
-all_rules = rule.Conversion ∷ rule.FetchHit ∷ rule.FetchMiss ∷ rule.ScanKey ∷ rule.ScanStop ∷ rule.Insert ∷ rule.Split ∷ rule.Delete ∷ []
+-- The rules that p is asked for, in order.
+abbrev pub all_rules : Protocol → List Rule
+all_rules p = rule.Conversion ∷ rule.FetchHit ∷ rule.FetchMiss ∷ rule.ScanKey ∷ rule.ScanStop ∷ rule.Insert ∷ rule.Split ∷ rule.Delete ∷ if_updating p (rule.Update ∷ [])
 
 -- All cases of a protocol, in order.
 abbrev pub cases : Protocol → List Case
-cases p = flat_map (cases_of p) all_rules
+cases p = flat_map (cases_of p) (all_rules p)
+
+-- How many cases there are, by the number of modes and by whether updates are offered.
+abbrev pub case_count : ℕ → Bool → ℕ
+case_count m updates = (if updates then 5 else 4) * (m * m) + (if updates then 7 else 6) * (m + 1) + 3 * ((m + 1) * (m + 1))
 
 -- Whether the case asks anything: no mode is given, or the given one serves the cover.
 abbrev pub is_due : Protocol → Case → Bool

@@ -31,6 +31,9 @@ refusal_number refusal.NoScan = 3
 refusal_number refusal.BadRange = 4
 refusal_number refusal.Full = 5
 refusal_number refusal.Memory = 6
+refusal_number refusal.NoUpdate = 7
+refusal_number refusal.RollingBack = 8
+refusal_number refusal.NothingLeft = 9
 
 -- Whether two replies are the same.
 abbrev pub same_reply : Reply → Reply → Bool
@@ -42,8 +45,10 @@ same_reply reply.Done reply.Done = true
 same_reply reply.Duplicate reply.Duplicate = true
 same_reply (reply.Deleted v) (reply.Deleted w) = v == w
 same_reply reply.Absent reply.Absent = true
+same_reply (reply.Updated v) (reply.Updated w) = v == w
 same_reply reply.Committed reply.Committed = true
 same_reply reply.Aborted reply.Aborted = true
+same_reply (reply.Undone n) (reply.Undone l) = n == l
 same_reply (reply.Blocked a) (reply.Blocked b) = same_numbers a b
 same_reply (reply.Refused a) (reply.Refused b) = refusal_number a == refusal_number b
 same_reply _ _ = false

@@ -1,7 +1,7 @@
 -- Index-specific locking, after ARIES/IM (C. Mohan and F. Levine, SIGMOD 1992), as this project's profile has it.
-use Rattle.std.specs.Prelude.{ℕ, List, [], ◌∷◌, Option, None}
+use Rattle.std.specs.Prelude.{ℕ, false, List, [], ◌∷◌, Option, None}
 use Rattle.kr_model.specs.declared.Row.{Row}
-use Rattle.kr_model.specs.declared.Row.TheVariants.{FetchHit, FetchMiss, ScanKey, ScanStop, Insert, Delete}
+use Rattle.kr_model.specs.declared.Row.TheVariants.{FetchHit, FetchMiss, ScanKey, ScanStop, Insert, Delete, Update}
 use Rattle.kr_model.specs.declared.Side.{Side}
 use Rattle.kr_model.specs.declared.Side.TheVariants.{Current, Next}
 use Rattle.kr_model.specs.declared.Span.{Span}
@@ -44,7 +44,8 @@ im_ask FetchHit Next own = None
 im_ask FetchMiss Current own = None
 im_ask ScanKey Next own = None
 im_ask ScanStop Current own = None
+im_ask Update side own = None
 
 -- The bundled table of index-specific locking.
 abbrev pub im : Protocol
-im = record { count = 2; ok = ok_by im_beside; convert = convert_by im_converted; ask = im_ask }
+im = record { count = 2; ok = ok_by im_beside; convert = convert_by im_converted; ask = im_ask; updates = false }

@@ -1,7 +1,7 @@
 -- Key-value locking on a unique index, after ARIES/KVL (C. Mohan, VLDB 1990); which mode an insert takes, by the own mode on the next name, is this project's choice.
-use Rattle.std.specs.Prelude.{ℕ, List, [], ◌∷◌, Option, None, if◌then◌else◌}
+use Rattle.std.specs.Prelude.{ℕ, false, List, [], ◌∷◌, Option, None, if◌then◌else◌}
 use Rattle.kr_model.specs.declared.Row.{Row}
-use Rattle.kr_model.specs.declared.Row.TheVariants.{FetchHit, FetchMiss, ScanKey, ScanStop, Insert, Delete}
+use Rattle.kr_model.specs.declared.Row.TheVariants.{FetchHit, FetchMiss, ScanKey, ScanStop, Insert, Delete, Update}
 use Rattle.kr_model.specs.declared.Side.{Side}
 use Rattle.kr_model.specs.declared.Side.TheVariants.{Current, Next}
 use Rattle.kr_model.specs.declared.Span.{Span}
@@ -62,7 +62,8 @@ kvl_ask FetchHit Next own = None
 kvl_ask FetchMiss Current own = None
 kvl_ask ScanKey Next own = None
 kvl_ask ScanStop Current own = None
+kvl_ask Update side own = None
 
 -- The bundled table of key-value locking.
 abbrev pub kvl : Protocol
-kvl = record { count = 5; ok = ok_by kvl_beside; convert = convert_by kvl_converted; ask = kvl_ask }
+kvl = record { count = 5; ok = ok_by kvl_beside; convert = convert_by kvl_converted; ask = kvl_ask; updates = false }

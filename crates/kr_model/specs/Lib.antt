@@ -3,6 +3,7 @@ pub mod Covers
 pub mod ModeNames
 pub mod Matrices
 pub mod Kvl
+pub mod KvlUpdate
 pub mod Im
 pub mod RangeKey
 pub mod Map

@@ -6,6 +6,7 @@ use Rattle.kr_model.specs.declared.Op.{Op}
 use Rattle.kr_model.specs.declared.Op.TheVariants as op
 use Rattle.kr_model.specs.declared.Reply.{Reply}
 use Rattle.kr_model.specs.declared.Reply.TheVariants as reply
+use Rattle.kr_model.specs.Step.{is_back}
 use Rattle.kr_model.specs.Run.{Answered, Entry, Program}
 
 -- The active transactions, rising, each with its operations so far and their answers; and the committed programs, in commit order.
@@ -20,6 +21,10 @@ no_log = record { unfinished = []; committed = [] }
 -- The operations of t so far, with their answers.
 abbrev pub operations_so_far : Log → ℕ → List Answered
 operations_so_far l t = unwrap_or (find nat_cmp t l.unfinished) []
+
+-- The operations but for the changes taken back.
+abbrev pub without_backs : List Answered → List Answered
+without_backs os = filter (λ x. not (is_back x.0)) os
 
 -- The operations with this answer to the last of them.
 abbrev pub last_answered : Reply → List Answered → List Answered
@@ -41,12 +46,13 @@ step_logged l t o a = record { unfinished = put nat_cmp t (with_step (operations
 abbrev pub end_logged : Log → ℕ → List Program → Log
 end_logged l t programs = record { unfinished = filter (λ e. not (e.0 == t)) l.unfinished; committed = programs }
 
--- The log after one more entry of the history: a step that is blocked or refused leaves it as it was.
+-- The log after one more entry of the history: a step that is blocked or refused leaves it as it was, and so does a change taken back, since its transaction never commits.
 abbrev pub logged : Log → Entry → Log
 logged l (e, reply.Committed) = end_logged l e.txn (l.committed ++ record { txn = e.txn; operations = operations_so_far l e.txn } ∷ [])
 logged l (e, reply.Aborted) = end_logged l e.txn l.committed
 logged l (e, reply.Blocked us) = l
 logged l (e, reply.Refused r) = l
+logged l (e, reply.Undone left) = l
 logged l (e, a) = step_logged l e.txn e.op a
 
 -- The log after these entries, one after another.

@@ -29,14 +29,15 @@ abbrev pub look_access : Name → ℕ → Access
 look_access End hi = access row.ScanStop None (Some End)
 look_access (Key k) hi = if nat_le k hi then access row.ScanKey (Some (Key k)) None else access row.ScanStop None (Some (Key k))
 
--- The row and the names of an attempt, by what the index has: an insert of a present key goes by the row fetch hit, a delete of an absent one by fetch miss.
+-- The row and the names of an attempt, by what the index has: an insert of a present key goes by the row fetch hit, a delete or an update of an absent one by fetch miss.
 abbrev pub access_of : Map → Step → Access
 access_of m (attempt.Fetch k) = if is_some (get m k) then access row.FetchHit (Some (Key k)) None else access row.FetchMiss None (Some (at m k))
 access_of m (attempt.Insert k) = if is_some (get m k) then access row.FetchHit (Some (Key k)) None else access row.Insert (Some (Key k)) (Some (at m k))
 access_of m (attempt.Delete k) = if is_some (get m k) then access row.Delete (Some (Key k)) (Some (after m k)) else access row.FetchMiss None (Some (at m k))
+access_of m (attempt.Update k) = if is_some (get m k) then access row.Update (Some (Key k)) None else access row.FetchMiss None (Some (at m k))
 access_of m (attempt.Look n hi) = look_access n hi
 
--- The own mode that a row hands to `ask`: insert and delete hand that on the next name, before the operation, and the reading rows none.
+-- The own mode that a row hands to `ask`: insert and delete hand that on the next name, before the operation, and the other rows none.
 abbrev pub own_next : Locks → ℕ → Row → Option Name → ℕ
 own_next h t row.Insert (Some n) = own h t n
 own_next h t row.Delete (Some n) = own h t n

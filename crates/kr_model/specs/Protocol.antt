@@ -1,12 +1,12 @@
 -- A lock protocol: its modes, which of them may stand beside each other, and what each row of the lock table asks for.
 -- A mode is a number: 0 is none, and the modes are 1 to `count`.
-use Rattle.std.specs.Prelude.{◌≡◌, ℕ, ◌<◌, ◌≤◌, Bool, true, Option, Some}
+use Rattle.std.specs.Prelude.{◌≡◌, ℕ, ◌<◌, ◌≤◌, Bool, true, false, Option, Some, None}
 use Rattle.kr_model.specs.declared.Row.{Row}
-use Rattle.kr_model.specs.declared.Row.TheVariants.{FetchHit, FetchMiss, ScanKey, ScanStop, Insert, Delete}
+use Rattle.kr_model.specs.declared.Row.TheVariants.{FetchHit, FetchMiss, ScanKey, ScanStop, Insert, Delete, Update}
 use Rattle.kr_model.specs.declared.Side.{Side}
 use Rattle.kr_model.specs.declared.Span.{Span}
 
--- A lock table, as four functions of its modes.
+-- A lock table, as functions of its modes.
 pub record Protocol : Type 0 where
   -- how many modes there are
   pub count : ℕ
@@ -16,15 +16,18 @@ pub record Protocol : Type 0 where
   pub convert : ℕ → ℕ → ℕ
   -- ask row side own: the mode and the span asked for, or nothing; own is the asker's mode on the next name before the operation
   pub ask : Row → Side → ℕ → Option (ℕ × Span)
+  -- whether it offers updates
+  pub updates : Bool
 
--- A row is a reading row if its operation changes nothing.
-abbrev pub IsReading : Row → Type 0
-IsReading FetchHit = Unit {0}
-IsReading FetchMiss = Unit {0}
-IsReading ScanKey = Unit {0}
-IsReading ScanStop = Unit {0}
-IsReading Insert = ⊥
-IsReading Delete = ⊥
+-- A row moves no key if its operation neither inserts nor deletes one.
+abbrev pub MovesNoKey : Row → Type 0
+MovesNoKey FetchHit = Unit {0}
+MovesNoKey FetchMiss = Unit {0}
+MovesNoKey ScanKey = Unit {0}
+MovesNoKey ScanStop = Unit {0}
+MovesNoKey Insert = ⊥
+MovesNoKey Delete = ⊥
+MovesNoKey Update = Unit {0}
 
 -- A number is a mode of p if it isn't none and at most the count.
 pub record IsMode (p : Protocol) (m : ℕ) : Type 0 where
@@ -44,5 +47,7 @@ pub record IsLawful (p : Protocol) : Type 0 where
   pub convert-modes : (h q : ℕ) → IsMode p h → IsMode p q → IsMode p (p.convert h q)
   -- what is asked for is a mode
   pub ask-mode : (row : Row) (side : Side) (own q : ℕ) (span : Span) → own ≤ p.count → p.ask row side own ≡ Some (q, span) → IsMode p q
-  -- a reading row asks the same whatever is held
-  pub ask-reading : (row : Row) (side : Side) (own : ℕ) → IsReading row → own ≤ p.count → p.ask row side own ≡ p.ask row side 0
+  -- a row that moves no key asks the same whatever is held
+  pub ask-no_move : (row : Row) (side : Side) (own : ℕ) → MovesNoKey row → own ≤ p.count → p.ask row side own ≡ p.ask row side 0
+  -- where no updates are offered, an update asks for nothing
+  pub ask-no_update : (side : Side) (own : ℕ) → p.updates ≡ false → own ≤ p.count → p.ask Update side own ≡ None

@@ -1,7 +1,7 @@
 -- Range-key locking: a mode has a part for the gap below the key and a part for the key, an idea of D. Lomet's (Key Range Locking Strategies, VLDB 1993); the modes, the matrices and the rows are this project's own.
-use Rattle.std.specs.Prelude.{ℕ, ◌+◌, ◌*◌, Bool, ◌&&◌, ◌||◌, ◌==◌, [], ◌∷◌, Option, None, if◌then◌else◌, slice_index_or}
+use Rattle.std.specs.Prelude.{false, ℕ, ◌+◌, ◌*◌, Bool, ◌&&◌, ◌||◌, ◌==◌, [], ◌∷◌, Option, None, if◌then◌else◌, slice_index_or}
 use Rattle.kr_model.specs.declared.Row.{Row}
-use Rattle.kr_model.specs.declared.Row.TheVariants.{FetchHit, FetchMiss, ScanKey, ScanStop, Insert, Delete}
+use Rattle.kr_model.specs.declared.Row.TheVariants.{FetchHit, FetchMiss, ScanKey, ScanStop, Insert, Delete, Update}
 use Rattle.kr_model.specs.declared.Side.{Side}
 use Rattle.kr_model.specs.declared.Side.TheVariants.{Current, Next}
 use Rattle.kr_model.specs.declared.Span.{Span}
@@ -88,7 +88,8 @@ range_key_ask FetchHit Next own = None
 range_key_ask FetchMiss Current own = None
 range_key_ask ScanKey Next own = None
 range_key_ask ScanStop Current own = None
+range_key_ask Update side own = None
 
 -- The bundled table of range-key locking.
 abbrev pub range_key : Protocol
-range_key = record { count = 11; ok = range_key_ok; convert = range_key_convert; ask = range_key_ask }
+range_key = record { count = 11; ok = range_key_ok; convert = range_key_convert; ask = range_key_ask; updates = false }

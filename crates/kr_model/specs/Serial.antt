@@ -34,15 +34,22 @@ abbrev pub whole_delete : Map → ℕ → Option ℕ → Whole
 whole_delete m k (Some w) = (reply.Deleted w, without m k)
 whole_delete m k None = (reply.Absent, m)
 
--- An operation run whole on a map, without locks, gaps or steps; a program has no other than the first four.
+-- An update of k to v, by what stands at k.
+abbrev pub whole_update : Map → ℕ → ℕ → Option ℕ → Whole
+whole_update m k v (Some w) = (reply.Updated w, set m k v)
+whole_update m k v None = (reply.Absent, m)
+
+-- An operation run whole on a map, without locks, gaps or steps; a program has no other than the first five.
 abbrev pub whole : Map → Op → Whole
 whole m (op.Fetch k) = (found_or_none (get m k), m)
 whole m (op.Scan lo hi) = (reply.Rows (pairs_between m lo hi), m)
 whole m (op.Insert k v) = whole_insert m k v (get m k)
 whole m (op.Delete k) = whole_delete m k (get m k)
+whole m (op.Update k v) = whole_update m k v (get m k)
 whole m op.Go = (reply.Refused refusal.NoScan, m)
 whole m op.Commit = (reply.Committed, m)
 whole m op.Abort = (reply.Aborted, m)
+whole m op.Back = (reply.Refused refusal.NothingLeft, m)
 
 -- Serial --
 

@@ -1,10 +1,11 @@
 -- The machine's state: the index, the locks, and how each transaction stands.
-use Rattle.std.specs.Prelude.{ℕ, Bool, ◌==◌, List, [], Option, None, is_some, unwrap_or}
+use Rattle.std.specs.Prelude.{ℕ, Bool, false, ◌==◌, List, [], Option, None, is_some, unwrap_or}
 use Rattle.std.specs.Ordering.{nat_cmp}
 use Rattle.std.specs.FinMap.{find}
 use Rattle.std.specs.List.{list_any}
 use Rattle.kr_model.specs.Map.{Map, Changes}
 use Rattle.kr_model.specs.Locks.{Locks}
+use Rattle.kr_model.specs.Covers.{is_empty}
 
 -- A scan in progress: the ends of its range, and the pairs that it has read, rising.
 pub record Scan : Type 0 where
@@ -12,10 +13,11 @@ pub record Scan : Type 0 where
   pub hi : ℕ
   pub rows : List (ℕ × ℕ)
 
--- An active transaction: its scan in progress, if there is one, and its changes, newest first.
+-- An active transaction: its scan in progress, if there is one, its changes left, newest first, and whether it rolls back.
 pub record Active : Type 0 where
   pub scan : Option Scan
   pub changes : Changes
+  pub rolling : Bool
 
 -- The state between two steps.
 pub record State : Type 0 where
@@ -32,7 +34,7 @@ start m = record { map = m; locks = []; ended = []; active = [] }
 
 -- A transaction that has done nothing.
 abbrev pub idle : Active
-idle = record { scan = None; changes = [] }
+idle = record { scan = None; changes = []; rolling = false }
 
 -- How t stands, where it is active.
 abbrev pub active_of : State → ℕ → Option Active
@@ -49,3 +51,11 @@ has_ended s t = list_any (λ u. u == t) s.ended
 -- Whether t has a scan in progress.
 abbrev pub is_scanning : State → ℕ → Bool
 is_scanning s t = is_some (standing s t).scan
+
+-- Whether t rolls back: it has taken a change back.
+abbrev pub is_rolling : State → ℕ → Bool
+is_rolling s t = (standing s t).rolling
+
+-- Whether t has no change left that it could take back.
+abbrev pub has_nothing_left : State → ℕ → Bool
+has_nothing_left s t = is_empty (standing s t).changes

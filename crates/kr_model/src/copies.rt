@@ -37,8 +37,10 @@ impl Reply {
             Reply::Duplicate => Ok(Reply::Duplicate),
             Reply::Deleted(value) => Ok(Reply::Deleted(*value)),
             Reply::Absent => Ok(Reply::Absent),
+            Reply::Updated(value) => Ok(Reply::Updated(*value)),
             Reply::Committed => Ok(Reply::Committed),
             Reply::Aborted => Ok(Reply::Aborted),
+            Reply::Undone(left) => Ok(Reply::Undone(*left)),
             Reply::Blocked(txns) => Ok(Reply::Blocked(txns.try_copy(alloc)?)),
             Reply::Refused(refusal) => Ok(Reply::Refused(*refusal)),
         }

@@ -29,7 +29,7 @@ pub enum Name {
 pub enum Row {
     /// A fetch of a present key, or an insert of one.
     FetchHit,
-    /// A fetch of an absent key, or a delete of one.
+    /// A fetch of an absent key, or a delete or an update of one.
     FetchMiss,
     /// A scan's step on a key within its range.
     ScanKey,
@@ -39,6 +39,8 @@ pub enum Row {
     Insert,
     /// A delete of a present key.
     Delete,
+    /// An update of a present key.
+    Update,
 }
 
 /// Which of its two names an operation asks for a lock on.
@@ -70,9 +72,11 @@ pub enum Cover {
     InsertedKey,
     /// The transaction deleted a key in the gap below a name, and hasn't committed.
     DeletedGap,
+    /// The transaction updated the key, which is present, and hasn't committed.
+    UpdatedKey,
 }
 
-/// The eight groups of cases that a covered protocol meets, in the order in which they are checked.
+/// The groups of cases that a covered protocol meets, in the order in which they are checked.
 #[derive(Clone, Copy, Debug, PartialEq, Eq)]
 pub enum Rule {
     /// A conversion keeps each cover that the held mode serves.
@@ -91,6 +95,8 @@ pub enum Rule {
     Split,
     /// A delete covers the gap that it widens.
     Delete,
+    /// An update covers its key. Only where updates are offered.
+    Update,
 }
 
 /// The modes that a case is taken at.
@@ -130,7 +136,7 @@ pub struct FailedCase {
 pub enum Refusal {
     /// The transaction has committed or aborted.
     Ended,
-    /// A scan is in progress, and the operation neither goes on with it nor aborts.
+    /// A scan is in progress, and the operation neither goes on with it nor takes changes back.
     Busy,
     /// No scan is in progress to go on with.
     NoScan,
@@ -140,6 +146,12 @@ pub enum Refusal {
     Full,
     /// A growth was refused.
     Memory,
+    /// The protocol offers no updates.
+    NoUpdate,
+    /// The transaction rolls back, and the operation takes no changes back.
+    RollingBack,
+    /// The transaction has no change left to take back.
+    NothingLeft,
 }
 
 /// An operation of a transaction, by its keys and values.
@@ -155,10 +167,14 @@ pub enum Op {
     Insert(u64, u64),
     /// Deletes a key.
     Delete(u64),
+    /// Gives a key another value.
+    Update(u64, u64),
     /// Ends the transaction and keeps its changes.
     Commit,
     /// Ends the transaction and takes its changes back.
     Abort,
+    /// Takes the newest change back. From then on the transaction rolls back: it takes only this and an abort.
+    Back,
 }
 
 /// One attempt at the index: what a transaction looks up or changes. It chooses the row and the names of a plan.
@@ -167,6 +183,7 @@ pub enum Step {
     Fetch(u64),
     Insert(u64),
     Delete(u64),
+    Update(u64),
     /// A scan's step: the name that it looks at, and the upper end of its range.
     Look(Name, u64),
 }
@@ -203,10 +220,14 @@ pub enum Reply {
     Duplicate,
     /// The value of the deleted key.
     Deleted(u64),
-    /// The key to delete is absent.
+    /// The key to delete or to update is absent.
     Absent,
+    /// The value that the updated key had before.
+    Updated(u64),
     Committed,
     Aborted,
+    /// The newest change was taken back, and so many changes are left.
+    Undone(u64),
     /// These transactions hold locks that refuse the step, which changed nothing; rising, each once.
     Blocked(Txns),
     Refused(Refusal),

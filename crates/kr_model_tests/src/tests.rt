@@ -1,6 +1,6 @@
 use kr_model::{
-    Answers, Cover, Event, FailedCase, Name, Op, Origin, Pairs, Place, Program, Programs, Reply,
-    Row, Rule, Side, Txns,
+    Answers, Cover, Event, FailedCase, Name, Op, Origin, Pairs, Place, Program, Programs, Refusal,
+    Reply, Row, Rule, Side, Step, Txns,
 };
 use std::alloc::{AllocError, Global};
 
@@ -68,6 +68,59 @@ fn words_compare_by_their_parts(rt: HostRuntime) {
     );
 }
 
+#[test]
+fn words_of_updates_and_rollback_are_told_apart(rt: HostRuntime) {
+    assert!(rt; Op::Update(20, 9) == Op::Update(20, 9));
+    assert!(rt; Op::Update(20, 9) != Op::Update(20, 8));
+    assert!(rt; Op::Update(20, 9) != Op::Insert(20, 9));
+    assert!(rt; Op::Back != Op::Abort);
+    assert!(rt; Step::Update(20) != Step::Delete(20));
+    assert!(rt; Row::Update != Row::Delete);
+    assert!(rt; Cover::UpdatedKey != Cover::InsertedKey);
+    assert!(rt; Rule::Update != Rule::Delete);
+    assert!(rt; Refusal::NoUpdate != Refusal::RollingBack);
+    assert!(rt; Refusal::RollingBack != Refusal::NothingLeft);
+}
+
+#[test]
+fn words_of_updates_and_rollback_are_shown(rt: HostRuntime) -> Result<(), AllocError> {
+    let event = Event {
+        txn: 1,
+        op: Op::Update(20, 9),
+    };
+    assert_eq!(rt;
+        format!(in rt.alloc(); "{event:?}")?.as_str(),
+        "Event { txn: 1, op: Update(20, 9) }"
+    );
+    assert_eq!(rt; format!(in rt.alloc(); "{:?}", Op::Back)?.as_str(), "Back");
+    assert_eq!(rt;
+        format!(in rt.alloc(); "{:?}", Step::Update(20))?.as_str(),
+        "Update(20)"
+    );
+    assert_eq!(rt;
+        format!(in rt.alloc(); "{:?}", Row::Update)?.as_str(),
+        "Update"
+    );
+    assert_eq!(rt;
+        format!(in rt.alloc(); "{:?}", Cover::UpdatedKey)?.as_str(),
+        "UpdatedKey"
+    );
+    assert_eq!(rt;
+        format!(in rt.alloc(); "{:?}", Reply::Updated(2))?.as_str(),
+        "Updated(2)"
+    );
+    assert_eq!(rt;
+        format!(in rt.alloc(); "{:?}", Reply::Undone(0))?.as_str(),
+        "Undone(0)"
+    );
+    let refused = Reply::Refused(Refusal::RollingBack);
+    assert_eq!(rt;
+        format!(in rt.alloc(); "{refused:?}")?.as_str(),
+        "Refused(RollingBack)"
+    );
+    Ok(())
+}
+
 /// Two programs: a fetch and a scan of transaction 3, and nothing of transaction 9.
 fn two_programs(alloc: Global) -> Result<Programs, AllocError> {
     let rows = Pairs::from_vec(vec![in alloc; (10, 1), (20, 2)]?);
@@ -119,5 +172,7 @@ fn replies_are_copied_whole(rt: HostRuntime) -> Result<(), AllocError> {
         Reply::Blocked(by) => assert_eq!(rt; by.as_slice(), [3, 7].as_slice()),
         _ => panic!(rt; "not blocked"),
     }
+    assert!(rt; matches!(Reply::Updated(2).try_copy(rt.alloc())?, Reply::Updated(2)));
+    assert!(rt; matches!(Reply::Undone(3).try_copy(rt.alloc())?, Reply::Undone(3)));
     Ok(())
 }

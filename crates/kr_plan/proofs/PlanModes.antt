@@ -18,6 +18,7 @@ own_next_within count h t row.FetchHit n w = omega arith
 own_next_within count h t row.FetchMiss n w = omega arith
 own_next_within count h t row.ScanKey n w = omega arith
 own_next_within count h t row.ScanStop n w = omega arith
+own_next_within count h t row.Update n w = omega arith
 own_next_within count h t row.Insert None w = omega arith
 own_next_within count h t row.Insert (Some n) w = w t n
 own_next_within count h t row.Delete None w = omega arith

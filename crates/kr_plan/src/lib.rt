@@ -21,9 +21,9 @@ use std::alloc::Global;
 /// What an attempt asks for: its row by what the index has now, and the request of each side, `None` where nothing is
 /// asked for there.
 ///
-/// An insert of a present key goes by the row fetch hit, and a delete of an absent one by fetch miss. An insert or a
-/// delete tells the protocol the transaction's own mode on the next name. The held modes are at most the protocol's
-/// count, and the modes asked for are its modes. Takes no memory.
+/// An insert of a present key goes by the row fetch hit, and a delete or an update of an absent one by fetch miss. An
+/// insert or a delete tells the protocol the transaction's own mode on the next name. The held modes are at most the
+/// protocol's count, and the modes asked for are its modes. Takes no memory.
 pub fn plan<P: Protocol, I: Ordered, L: Holdings>(
     protocol: &P,
     index: &I,
@@ -54,6 +54,10 @@ fn names<I: Ordered>(index: &I, step: Step) -> (Row, Option<Name>, Option<Name>)
         },
         Step::Delete(key) => match index.look(key) {
             (true, _) => (Row::Delete, Some(Name::Key(key)), Some(index.after(key))),
+            (false, next) => (Row::FetchMiss, None, Some(next)),
+        },
+        Step::Update(key) => match index.look(key) {
+            (true, _) => (Row::Update, Some(Name::Key(key)), None),
             (false, next) => (Row::FetchMiss, None, Some(next)),
         },
         Step::Look(Name::Key(key), hi) => {

@@ -8,7 +8,7 @@ ghost use Rattle.kr_model.specs.Locks.{AreWithin};
 use super::*;
 use kr_index::Sorted;
 use kr_locks::List;
-use kr_protocol::Kvl;
+use kr_protocol::{Kvl, KvlUpdate};
 use std::process::Abort;
 use std::test::Fail;
 
@@ -197,4 +197,40 @@ fn refusers_under_key_value_locking(rt: HostRuntime) -> Result<(), Fail> {
     let alloc = rt.alloc();
     refusers(&rt, alloc, &Kvl, &sample(alloc)?, List::new(alloc))?;
     refusers(&rt, alloc, &&Kvl, &sample(alloc)?, List::new(alloc))
+}
+
+/// An update of a present key goes by its own row, which asks for nothing where no updates are offered.
+#[test]
+fn plans_of_updates(rt: HostRuntime) -> Result<(), Fail> {
+    let index = sample(rt.alloc())?;
+    let locks = List::new(rt.alloc());
+    let row = Row::Update;
+    let current = to_commit(Name::Key(20), X);
+    assert_eq!(rt;
+        plan(&KvlUpdate, &index, &locks, 1, Step::Update(20)),
+        Plan {
+            row,
+            current,
+            next: None
+        }
+    );
+    assert_eq!(rt;
+        plan(&Kvl, &index, &locks, 1, Step::Update(20)),
+        Plan {
+            row,
+            current: None,
+            next: None
+        }
+    );
+    let row = Row::FetchMiss;
+    let next = to_commit(Name::Key(30), S);
+    assert_eq!(rt;
+        plan(&KvlUpdate, &index, &locks, 1, Step::Update(25)),
+        Plan {
+            row,
+            current: None,
+            next
+        }
+    );
+    Ok(())
 }

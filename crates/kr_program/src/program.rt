@@ -23,7 +23,7 @@ use crate::threads::threads_over;
 use crate::words::{Task, WordsFault, Workers, read_words};
 use kr_batch::{JudgeFault, TextFault, Texts};
 use kr_cases::{Cause, Rejected, check};
-use kr_protocol::{Covered, Im, Kvl, Protocol, RangeKey};
+use kr_protocol::{Covered, Im, Kvl, KvlUpdate, Protocol, RangeKey};
 use kr_script::{ScriptFault, Sink, print};
 use kr_table::TableFault;
 use std::alloc::{AllocError, Global};
@@ -320,6 +320,7 @@ where
 {
     match table {
         "@kvl" => under(rt, Kvl, task, files, out),
+        "@kvl-update" => under(rt, KvlUpdate, task, files, out),
         "@im" => under(rt, Im, task, files, out),
         "@range-key" => under(rt, RangeKey, task, files, out),
         _ => with_file(rt, table, task, files, out),

@@ -19,6 +19,7 @@ mod pairs;
 mod scans;
 mod tables;
 mod threads;
+mod updates;
 mod verdicts;
 
 /// A table named `table`, a script named `s`, and two scripts that are always there.
@@ -190,7 +191,7 @@ struct Expected<'a> {
     opening: &'a str,
     steps: &'a str,
     index: &'a str,
-    /// Under key-value locking, index-specific locking, and key-range locking by parts.
+    /// Under key-value locking (with updates too), index-specific locking, and key-range locking by parts.
     locks: [&'a str; 3],
     replies: &'a str,
     unfinished: &'a str,
@@ -213,7 +214,13 @@ where
         replies,
         unfinished,
     } = expected;
-    for (table, locks) in ["@kvl", "@im", "@range-key"].into_iter().zip(locks) {
+    let [kvl, im, range_key] = locks;
+    for (table, locks) in [
+        ("@kvl", kvl),
+        ("@kvl-update", kvl),
+        ("@im", im),
+        ("@range-key", range_key),
+    ] {
         let report = format!(in rt.alloc();
             "{{\"index\":{index},\"locks\":{locks},\"replies\":{replies},\"unfinished\":{unfinished},\"verdict\":[\"serial\"]}}"
         )?;

@@ -116,6 +116,10 @@ impl Protocol for Im {
         }
     }
 
+    fn updates(&self) -> bool {
+        false
+    }
+
     ghost lawful = { λ _. im_lawful };
 
     ghost named = { λ _. im_named };

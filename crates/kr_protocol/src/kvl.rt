@@ -10,19 +10,19 @@ use kr_model::{Mode, Row, Side, Span};
 const NONE: Mode = 0;
 
 /// Intention shared.
-const IS: Mode = 1;
+pub(crate) const IS: Mode = 1;
 
 /// Intention exclusive.
-const IX: Mode = 2;
+pub(crate) const IX: Mode = 2;
 
 /// Shared.
-const S: Mode = 3;
+pub(crate) const S: Mode = 3;
 
 /// Shared, and intention exclusive.
-const SIX: Mode = 4;
+pub(crate) const SIX: Mode = 4;
 
 /// Exclusive.
-const X: Mode = 5;
+pub(crate) const X: Mode = 5;
 
 /// Key-value locking on a unique index, with the modes IS, IX, S, SIX and X, which are 1 to 5.
 ///
@@ -142,6 +142,10 @@ impl Protocol for Kvl {
             (Row::Delete, Side::Next) => for_commit(X),
             _ => None,
         }
+    }
+
+    fn updates(&self) -> bool {
+        false
     }
 
     ghost lawful = { λ _. kvl_lawful };

@@ -1,9 +1,10 @@
-//! Lock protocols of ordered indexes: what one is, which ones are covered, and the three that
+//! Lock protocols of ordered indexes: what one is, which ones are covered, and the four that
 //! come with the checker.
 #![tactic(auto)]
 
 mod im;
 mod kvl;
+mod kvl_update;
 mod parts;
 mod protocol;
 mod range_key;
@@ -12,6 +13,7 @@ mod request;
 pub use im::Im;
 pub use kr_model::{Mode, Row, Side, Span};
 pub use kvl::Kvl;
+pub use kvl_update::KvlUpdate;
 pub use protocol::{Covered, Protocol};
 pub use range_key::RangeKey;
 

@@ -46,11 +46,15 @@ pub trait Protocol: Drop {
         ensures { result.now ≡ name_of (names self.now) mode };
 
     /// The mode that an access asks for at one side, and how long it is held, where the asker
-    /// holds `own_next` on the next name. At `None` nothing is asked. The rows that read ask for
-    /// the same whatever `own_next` is.
+    /// holds `own_next` on the next name. At `None` nothing is asked. Only the rows of inserts and
+    /// deletes go by `own_next`.
     fn ask(&self, row: Row, side: Side, own_next: Mode) -> Option<(Mode, Span)>
         requires { own_next ≤ (table self.now).count }
         ensures { result ≡ (table self.now).ask row side own_next };
+
+    /// Whether it offers updates. Where it doesn't, an update asks for nothing and is refused.
+    fn updates(&self) -> bool
+        ensures { result ≡ (table self.now).updates };
 
     /// None adds nothing and hinders nothing, and what is converted or asked for is a mode.
     ghost lawful: { (p : Self) → IsLawful (table p) };
@@ -59,8 +63,8 @@ pub trait Protocol: Drop {
     ghost named: { (p : Self) → AreModeNames (names p) (table p).count };
 }
 
-/// A protocol of which every case holds: what is read, inserted or deleted is covered until its
-/// transaction ends, and neither a conversion nor the split of a gap loses a cover.
+/// A protocol of which every case holds: what is read, inserted, updated or deleted is covered
+/// until its transaction ends, and neither a conversion nor the split of a gap loses a cover.
 pub trait Covered: Protocol {
     /// No case of its tables fails.
     ghost covered: { (p : Self) → IsCovered (Self.table p) };
@@ -93,6 +97,10 @@ impl<P: Protocol> Protocol for &P {
 
     fn ask(&self, row: Row, side: Side, own_next: Mode) -> Option<(Mode, Span)> {
         P::ask(*self, row, side, own_next)
+    }
+
+    fn updates(&self) -> bool {
+        P::updates(*self)
     }
 
     ghost lawful = { λ p. P.lawful p.now };

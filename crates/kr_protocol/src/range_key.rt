@@ -206,6 +206,10 @@ impl Protocol for RangeKey {
         }
     }
 
+    fn updates(&self) -> bool {
+        false
+    }
+
     ghost lawful = { λ _. range_key_lawful };
 
     ghost named = { λ _. range_key_named };

@@ -2,7 +2,7 @@
 ghost use Rattle.std.specs.Prelude.{◌≡◌};
 ghost use Rattle.kr_model.specs.Covers.{IsCovered};
 
-use crate::{Covered, Im, Kvl, Mode, Protocol, RangeKey, Row, Side, Span};
+use crate::{Covered, Im, Kvl, KvlUpdate, Mode, Protocol, RangeKey, Row, Side, Span};
 use std::alloc::{AllocError, Global};
 use std::test::Fail;
 
@@ -48,6 +48,7 @@ fn drawn_rules<P: Protocol>(alloc: Global, protocol: &P) -> Result<String, Alloc
         Row::ScanStop,
         Row::Insert,
         Row::Delete,
+        Row::Update,
     ];
     let mut text = String::new(alloc);
     for row in rows {
@@ -107,6 +108,26 @@ IX IX IX X X X
 IX! IX! IX! IX! IX! IX!
 X! X! X! X! X! X!
 X X X X X X
+- - - - - -
+- - - - - -
+";
+
+/// The same with updates.
+const KVL_UPDATE_RULES: &str = "\
+S S S S S S
+- - - - - -
+- - - - - -
+S S S S S S
+S S S S S S
+- - - - - -
+- - - - - -
+S S S S S S
+IX IX IX X X X
+IX! IX! IX! IX! IX! IX!
+X! X! X! X! X! X!
+X X X X X X
+X X X X X X
+- - - - - -
 ";
 
 const RANGE_KEY_COMPATIBILITY: &str = "\
@@ -152,6 +173,8 @@ I-X I-X I-X X-X X-X X-X I-X I-X I-X X-X X-X X-X
 I-N! I-N! I-N! I-N! I-N! I-N! I-N! I-N! I-N! I-N! I-N! I-N!
 X-X! X-X! X-X! X-X! X-X! X-X! X-X! X-X! X-X! X-X! X-X! X-X!
 X-N X-N X-N X-N X-N X-N X-N X-N X-N X-N X-N X-N
+- - - - - - - - - - - -
+- - - - - - - - - - - -
 ";
 
 #[test]
@@ -172,7 +195,34 @@ fn rows_of_key_value_locking(rt: HostRuntime) -> Result<(), Fail> {
     let rows: [u16; 6] = [0, 32, 56, 52, 60, 62];
     for requested in 0..6_u8 {
         assert_eq!(rt; Kvl.row(requested), rows[requested as usize]);
+        assert_eq!(rt; KvlUpdate.row(requested), rows[requested as usize]);
     }
+    Ok(())
+}
+
+#[test]
+fn key_value_locking_with_updates(rt: HostRuntime) -> Result<(), Fail> {
+    let alloc = rt.alloc();
+    assert_eq!(rt; covered_count(&KvlUpdate), 5);
+    assert_eq!(rt;
+        drawn_compatibility(alloc, &KvlUpdate)?.as_str(),
+        KVL_COMPATIBILITY
+    );
+    assert_eq!(rt;
+        drawn_conversion(alloc, &KvlUpdate)?.as_str(),
+        KVL_CONVERSION
+    );
+    assert_eq!(rt; drawn_rules(alloc, &KvlUpdate)?.as_str(), KVL_UPDATE_RULES);
+    Ok(())
+}
+
+#[test]
+fn updates_are_offered_by_one(rt: HostRuntime) -> Result<(), Fail> {
+    assert!(rt; KvlUpdate.updates());
+    assert!(rt; (&KvlUpdate).updates());
+    assert!(rt; !Kvl.updates());
+    assert!(rt; !Im.updates());
+    assert!(rt; !RangeKey.updates());
     Ok(())
 }
 
@@ -190,7 +240,7 @@ fn index_specific_locking(rt: HostRuntime) -> Result<(), Fail> {
     );
     assert_eq!(rt;
         drawn_rules(alloc, &Im)?.as_str(),
-        "S S S\n- - -\n- - -\nS S S\nS S S\n- - -\n- - -\nS S S\nX X X\nX! X! X!\nX! X! X!\nX X X\n"
+        "S S S\n- - -\n- - -\nS S S\nS S S\n- - -\n- - -\nS S S\nX X X\nX! X! X!\nX! X! X!\nX X X\n- - -\n- - -\n"
     );
     Ok(())
 }

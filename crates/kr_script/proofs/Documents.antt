@@ -17,16 +17,16 @@ use Rattle.serde_json.specs.Read.{of_json, of_items, of_members, number_of, numb
 use Rattle.serde_json.specs.View.{items_of}
 use Rattle.serde_json.proofs.OnLiterals.{serde_json_on_literals}
 use Rattle.kr_model.specs.declared.Op.{Op}
-use Rattle.kr_model.specs.declared.Op.TheVariants.{Fetch, Scan, Go, Insert, Delete, Commit, Abort}
+use Rattle.kr_model.specs.declared.Op.TheVariants.{Fetch, Scan, Go, Insert, Delete, Update, Commit, Abort, Back}
 use Rattle.kr_model.specs.declared.Event.{Event}
 use Rattle.kr_model.specs.Map.{Map}
 use Rattle.kr_script.specs.Json.{whole}
 use Rattle.kr_script.specs.Report.{pair_data, pairs_data}
 use Rattle.kr_script.specs.Script.{Script}
 use Rattle.kr_script.specs.Steps.{event_of, step_of, items_of_op}
-use Rattle.kr_script.specs.Faults.{is_above, opening_faults, step_faults, faults}
+use Rattle.kr_script.specs.Faults.{format_faults, is_two, is_above, opening_faults, step_faults, faults}
 use Rattle.kr_script.specs.Reading.{pairs_of, events_of, script_in, document, reading_of}
-use Rattle.kr_script.specs.Tokens.{IsNext, AreNext, word_of, behind_word}
+use Rattle.kr_script.specs.Tokens.{IsNext, AreNext, format_number, word_of, behind_word}
 
 -- Values --
 
@@ -149,30 +149,33 @@ items_of_step (Scan lo hi) = refl
 items_of_step Go = refl
 items_of_step (Insert k v) = refl
 items_of_step (Delete k) = refl
+items_of_step (Update k v) = refl
 items_of_step Commit = refl
 items_of_step Abort = refl
+items_of_step Back = refl
 
--- events whose steps read back
-abbrev pub ReadBack : List Event → Type 0
-ReadBack es = map (λ e. event_of (step_of e)) es ≡ map Some es
+-- events whose steps read back, in format 2 or in format 1
+abbrev pub ReadBack : Bool → List Event → Type 0
+ReadBack two es = map (λ e. event_of two (step_of e)) es ≡ map Some es
 
-first_back : (e : Event) (es : List Event) → ReadBack (e ∷ es) → (event_of (step_of e) ≡ Some e) × ReadBack es
-first_back e es h = parts (event_of (step_of e)) (Some e) (map (λ f. event_of (step_of f)) es) (map Some es) h
-  where
-    parts : {A : Type 0} (a b : A) (xs ys : List A) → a ∷ xs ≡ b ∷ ys → (a ≡ b) × (xs ≡ ys)
-    parts a b xs ys e = (cc, cc)
+module _ (two : Bool) where
+  first_back : (e : Event) (es : List Event) → ReadBack two (e ∷ es) → (event_of two (step_of e) ≡ Some e) × ReadBack two es
+  first_back e es h = parts (event_of two (step_of e)) (Some e) (map (λ f. event_of two (step_of f)) es) (map Some es) h
+    where
+      parts : {A : Type 0} (a b : A) (xs ys : List A) → a ∷ xs ≡ b ∷ ys → (a ≡ b) × (xs ≡ ys)
+      parts a b xs ys e = (cc, cc)
 
-pub back_further : (es : List Event) (e : Event) → ReadBack es → event_of (step_of e) ≡ Some e → ReadBack (es ++ e ∷ [])
-back_further [] e h k = rw k refl
-back_further (f ∷ es) e h k = let parts = first_back f es h in rw (parts.0, back_further es e parts.1 k) refl
+  pub back_further : (es : List Event) (e : Event) → ReadBack two es → event_of two (step_of e) ≡ Some e → ReadBack two (es ++ e ∷ [])
+  back_further [] e h k = rw k refl
+  back_further (f ∷ es) e h k = let parts = first_back f es h in rw (parts.0, back_further es e parts.1 k) refl
 
-pub no_step_fault : (i : ℕ) (es : List Event) → ReadBack es → step_faults i (items_of (map step_of es)) ≡ []
-no_step_fault i [] h = refl
-no_step_fault i (e ∷ es) h = let parts = first_back e es h in rw (parts.0, no_step_fault (i + 1) es parts.1) refl
+  pub no_step_fault : (i : ℕ) (es : List Event) → ReadBack two es → step_faults two i (items_of (map step_of es)) ≡ []
+  no_step_fault i [] h = refl
+  no_step_fault i (e ∷ es) h = let parts = first_back e es h in rw (parts.0, no_step_fault (i + 1) es parts.1) refl
 
-pub events_back : (es : List Event) → ReadBack es → events_of (items_of (map step_of es)) ≡ es
-events_back [] h = refl
-events_back (e ∷ es) h = let parts = first_back e es h in rw (parts.0, events_back es parts.1) refl
+  pub events_back : (es : List Event) → ReadBack two es → events_of two (items_of (map step_of es)) ≡ es
+  events_back [] h = refl
+  events_back (e ∷ es) h = let parts = first_back e es h in rw (parts.0, events_back es parts.1) refl
 
 pub many_steps : (es : List Event) → items_len (items_of (map step_of es)) ≡ length es
 many_steps [] = refl
@@ -180,23 +183,23 @@ many_steps (e ∷ es) = let more = many_steps es in omega arith
 
 -- The document --
 
--- a script as a document
-abbrev pub document_of : Map → List Event → Data
-document_of ps es =
-    object (member (codes "format") (whole 1) (member (codes "opening") (pairs_data ps) (member (codes "steps") (array (items_of (map step_of es))) no_members)))
+-- a script as a document, in format 2 or in format 1
+abbrev pub document_of : Bool → Map → List Event → Data
+document_of two ps es =
+    object (member (codes "format") (whole (format_number two)) (member (codes "opening") (pairs_data ps) (member (codes "steps") (array (items_of (map step_of es))) no_members)))
 
 three_put : (f o s : Data) → put (codes "steps") s (put (codes "opening") o (put (codes "format") f no_members)) ≡ member (codes "format") f (member (codes "opening") o (member (codes "steps") s no_members))
 unfolding serde_json_on_literals
 three_put f o s = refl
 
 -- the tokens of a script are those of its document
-pub document_next : (t0 t1 t2 t3 t4 t5 t6 t7 : List Token) (ps : Map) (es : List Event)
-    → read_key t0 ≡ Some (Some (codes "format"), t1) → IsNext 126 t1 (whole 1) t2
+pub document_next : (t0 t1 t2 t3 t4 t5 t6 t7 : List Token) (two : Bool) (ps : Map) (es : List Event)
+    → read_key t0 ≡ Some (Some (codes "format"), t1) → IsNext 126 t1 (whole (format_number two)) t2
     → read_key t2 ≡ Some (Some (codes "opening"), t3) → IsNext 126 t3 (pairs_data ps) t4
     → read_key t4 ≡ Some (Some (codes "steps"), t5) → IsNext 126 t5 (array (items_of (map step_of es))) t6
     → read_key t6 ≡ Some (None, t7)
-    → (j : json.Json) × (value 127 (Token.begin_object ∷ t0) ≡ Some (j, t7)) × (of_json j ≡ Some (document_of ps es))
-document_next t0 t1 t2 t3 t4 t5 t6 t7 ps es kf f ko o ks s end =
+    → (j : json.Json) × (value 127 (Token.begin_object ∷ t0) ≡ Some (j, t7)) × (of_json j ≡ Some (document_of two ps es))
+document_next t0 t1 t2 t3 t4 t5 t6 t7 two ps es kf f ko o ks s end =
     let p = value 126 in
     let n = length t0 in
     let s1 = read_key-shorter t0 (Some (codes "format")) t1 kf in
@@ -215,19 +218,25 @@ document_next t0 t1 t2 t3 t4 t5 t6 t7 ps es kf f ko o ks s end =
           ∙ ap (parse_map (json.member (codes "opening") o.json))
           (members_more p (n - 1 - 1) (codes "steps") t4 t5 t6 s.json (omega arith) ks s.is
           ∙ ap (parse_map (json.member (codes "steps") s.json)) (members_end p (n - 1 - 1 - 1) t6 t7 (omega arith) end)))),
-      rw (f.reads, o.reads, s.reads) (ap (λ l. Some (object l)) (three_put (whole 1) (pairs_data ps) (array (items_of (map step_of es))))),
+      rw (f.reads, o.reads, s.reads) (ap (λ l. Some (object l)) (three_put (whole (format_number two)) (pairs_data ps) (array (items_of (map step_of es))))),
     )
 
+-- the number of a format has no fault, and is of that format
+format_reads : (two : Bool) → (format_faults (Some (format_number two)) ≡ []) × (is_two (Some (format_number two)) ≡ two)
+format_reads true = (refl, refl)
+format_reads false = (refl, refl)
+
 -- the document of a script has no fault, and is that script
-pub document_reads : (ps : Map) (es : List Event) → opening_faults 0 None (items_of (map pair_data ps)) ≡ [] → ReadBack es → length ps ≤ 100000 → length es ≤ 100000
-    → reading_of (Some (document_of ps es)) ≡ Ok (record { opening = ps; steps = es })
+pub document_reads : (two : Bool) (ps : Map) (es : List Event) → opening_faults 0 None (items_of (map pair_data ps)) ≡ [] → ReadBack two es → length ps ≤ 100000 → length es ≤ 100000
+    → reading_of (Some (document_of two ps es)) ≡ Ok (record { opening = ps; steps = es })
 unfolding serde_json_on_literals
-document_reads ps es rising back few_pairs few_steps =
+document_reads two ps es rising back few_pairs few_steps =
     let pairs = items_of (map pair_data ps) in
     let steps = items_of (map step_of es) in
+    let format = format_reads two in
     let low_pairs : nat_lt (items_len pairs) 100001 ≡ true = rw (many_pairs ps) (grind (arith, nat_tests)) in
     let low_steps : nat_lt (items_len steps) 100001 ≡ true = rw (many_steps es) (grind (arith, nat_tests)) in
-    rw (low_pairs, low_steps, rising, no_step_fault 0 es back, pairs_back ps, events_back es back) refl
+    rw (format.0, format.1, low_pairs, low_steps, rising, no_step_fault two 0 es back, pairs_back ps, events_back two es back) refl
 
 -- a text whose tokens are a document with this reading reads so
 pub text_reads : (bytes : List ℕ) (s : Script) → IsUtf8 bytes → ((j : json.Json) × (value 127 (tokens bytes) ≡ Some (j, [])) × (reading_of (of_json j) ≡ Ok s))

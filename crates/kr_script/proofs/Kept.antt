@@ -72,11 +72,11 @@ length-pairs_of (item d ds) =
     omega arith
 
 -- there are no more events than elements
-pub length-events_of : (ds : Items) → length (events_of ds) ≤ items_len ds
-length-events_of no_items = omega arith
-length-events_of (item d ds) =
-    let more = length-events_of ds in
-    let here = length-with_some (event_of d) (events_of ds) in
+pub length-events_of : (two : Bool) (ds : Items) → length (events_of two ds) ≤ items_len ds
+length-events_of two no_items = omega arith
+length-events_of two (item d ds) =
+    let more = length-events_of two ds in
+    let here = length-with_some (event_of two d) (events_of two ds) in
     omega arith
 
 -- where no fault tells of too many, there are at most 100,000

@@ -1,5 +1,5 @@
 -- A value reads as an event exactly where it is the event's step.
-use Rattle.std.proofs.Common.{◌≡◌, ℕ, ◌<◌, ◌^◌, ◌==◌, codes, Bool, true, false, cond, nat_lt, Option, Some, None, refl, ap, ◌∙◌, inl, inr, ◌⊎◌, arith}
+use Rattle.std.proofs.Common.{◌≡◌, ℕ, ◌<◌, ◌^◌, ◌==◌, codes, Bool, true, false, cond, nat_lt, Option, Some, None, refl, ap, sym, ◌∙◌, inl, inr, ◌⊎◌, arith}
 use Rattle.std.specs.Prelude.{bytes_eq, option_map, option_and_then, List}
 use Rattle.std.proofs.lemmas.Bool.Decides.{nat_tests, Decides-eqb, Decides-ltb}
 use Rattle.std.proofs.lemmas.Slice.Eq.{bytes_eq-Decides}
@@ -7,10 +7,10 @@ use Rattle.serde_json.specs.Data.{Data, unsigned, negative, float, null, boolean
 use Rattle.serde_json.specs.Find.{get_item, as_number, as_str, as_u64}
 use Rattle.serde_json.specs.Events.{items_len}
 use Rattle.kr_model.specs.declared.Op.{Op}
-use Rattle.kr_model.specs.declared.Op.TheVariants.{Fetch, Scan, Go, Insert, Delete, Commit, Abort}
+use Rattle.kr_model.specs.declared.Op.TheVariants.{Fetch, Scan, Go, Insert, Delete, Update, Commit, Abort, Back}
 use Rattle.kr_model.specs.declared.Event.{Event}
 use Rattle.kr_script.specs.Json.{whole, number_at, word_at, both}
-use Rattle.kr_script.specs.Steps.{one_number, two_numbers, alone, op_of, as_event, event_of, items_of_op, step_of}
+use Rattle.kr_script.specs.Steps.{one_number, two_numbers, alone, op_of, later_op_of, as_event, event_of, items_of_op, is_later, step_of}
 
 -- what a number and a text are
 number_is : (o : Option Data) (n : ℕ) → option_and_then as_u64 (option_and_then as_number o) ≡ Some n → o ≡ Some (whole n)
@@ -115,10 +115,22 @@ alone_items o name form ds op a g h made =
     let is : op ≡ o = cc in
     rw (is, form) (two ds a (string name) ((Decides-eqb (items_len ds) 2).0 len) g h)
 
+-- the same of a form of format 2
+later_items : (ds : Items) (word : List ℕ) (op : Op) (a : Data) → get_item 0 ds ≡ Some a → get_item 1 ds ≡ Some (string word)
+    → later_op_of word (items_len ds) (array ds) ≡ Some op → AreItems ds a op
+later_items ds word op a g h o =
+    elim (chosen (bytes_eq word (codes "update")) _ _ _ o) [
+      | inl y ↦ two_items (λ p. Update p.0 p.1) (codes "update") (λ p. refl) ds op a g (named ds word (codes "update") y.0 h) y.1
+      | inr n ↦ elim (chosen (bytes_eq word (codes "back")) _ _ _ n.1) [
+        | inl y ↦ alone_items Back (codes "back") refl ds op a g (named ds word (codes "back") y.0 h) y.1
+        | inr n ↦ cc
+      ]
+    ]
+
 -- the items of a list whose word and length are those of an operation
-op_items : (ds : Items) (word : List ℕ) (op : Op) (a : Data) → get_item 0 ds ≡ Some a → get_item 1 ds ≡ Some (string word)
-    → op_of word (items_len ds) (array ds) ≡ Some op → AreItems ds a op
-op_items ds word op a g h o =
+op_items : (two : Bool) (ds : Items) (word : List ℕ) (op : Op) (a : Data) → get_item 0 ds ≡ Some a → get_item 1 ds ≡ Some (string word)
+    → op_of two word (items_len ds) (array ds) ≡ Some op → AreItems ds a op
+op_items two ds word op a g h o =
     elim (chosen (bytes_eq word (codes "fetch")) _ _ _ o) [
       | inl y ↦ one_items Fetch (codes "fetch") (λ k. refl) ds op a g (named ds word (codes "fetch") y.0 h) y.1
       | inr n ↦ elim (chosen (bytes_eq word (codes "scan")) _ _ _ n.1) [
@@ -133,6 +145,44 @@ op_items ds word op a g h o =
                 | inl y ↦ alone_items Commit (codes "commit") refl ds op a g (named ds word (codes "commit") y.0 h) y.1
                 | inr n ↦ elim (chosen (bytes_eq word (codes "abort")) _ _ _ n.1) [
                   | inl y ↦ alone_items Abort (codes "abort") refl ds op a g (named ds word (codes "abort") y.0 h) y.1
+                  | inr n ↦ elim (chosen two (later_op_of word (items_len ds) (array ds)) None (Some op) n.1) [
+                    | inl y ↦ later_items ds word op a g h y.1
+                    | inr n ↦ cc
+                  ]
+                ]
+              ]
+            ]
+          ]
+        ]
+      ]
+    ]
+
+alone_is : (len : ℕ) (o op : Op) → alone len o ≡ Some op → is_later op ≡ is_later o
+alone_is len o op h =
+    let (two, same) = tested (len == 2) (Some o) op h in
+    let is : op ≡ o = cc in
+    ap (λ (z : Op). is_later z) is
+
+mapped_is : {A : Type 0} (f : A → Op) (o : Option A) (op : Op) → ((a : A) → is_later (f a) ≡ false) → option_map f o ≡ Some op → is_later op ≡ false
+mapped_is f o op none h = let (a, at, is) = mapped f o op h in ap (λ (z : Op). is_later z) is ∙ none a
+
+-- in format 1 no form of format 2 is read
+earlier : (word : List ℕ) (len : ℕ) (d : Data) (op : Op) → op_of false word len d ≡ Some op → is_later op ≡ false
+earlier word len d op o =
+    elim (chosen (bytes_eq word (codes "fetch")) _ _ _ o) [
+      | inl y ↦ mapped_is Fetch (one_number len d) op (λ k. refl) y.1
+      | inr n ↦ elim (chosen (bytes_eq word (codes "scan")) _ _ _ n.1) [
+        | inl y ↦ mapped_is (λ p. Scan p.0 p.1) (two_numbers len d) op (λ p. refl) y.1
+        | inr n ↦ elim (chosen (bytes_eq word (codes "go")) _ _ _ n.1) [
+          | inl y ↦ alone_is len Go op y.1
+          | inr n ↦ elim (chosen (bytes_eq word (codes "insert")) _ _ _ n.1) [
+            | inl y ↦ mapped_is (λ p. Insert p.0 p.1) (two_numbers len d) op (λ p. refl) y.1
+            | inr n ↦ elim (chosen (bytes_eq word (codes "delete")) _ _ _ n.1) [
+              | inl y ↦ mapped_is Delete (one_number len d) op (λ k. refl) y.1
+              | inr n ↦ elim (chosen (bytes_eq word (codes "commit")) _ _ _ n.1) [
+                | inl y ↦ alone_is len Commit op y.1
+                | inr n ↦ elim (chosen (bytes_eq word (codes "abort")) _ _ _ n.1) [
+                  | inl y ↦ alone_is len Abort op y.1
                   | inr n ↦ cc
                 ]
               ]
@@ -142,42 +192,53 @@ op_items ds word op a g h o =
       ]
     ]
 
+-- a form of format 2 is read in format 2 alone
+later_in_two : (two : Bool) (word : List ℕ) (len : ℕ) (d : Data) (op : Op) → op_of two word len d ≡ Some op → is_later op ≡ true → two ≡ true
+later_in_two true word len d op o later = refl
+later_in_two false word len d op o later = absurd (no (sym (earlier word len d op o) ∙ later))
+  where
+    no : false ≡ true → ⊥
+    no e = cc
+
 finished : (ds : Items) (txn : ℕ) (op : Op) (e : Event) → e ≡ record { txn = txn; op = op } → ds ≡ item (whole txn) (items_of_op op) → txn < 2 ^ 32
     → (array ds ≡ step_of e) × (e.txn < 2 ^ 32)
 finished ds txn op e is items lt = rw (is, items) (refl, lt)
 
 -- what reads as an event is its step
-is_step_of_list : (ds : Items) (e : Event) → event_of (array ds) ≡ Some e → (array ds ≡ step_of e) × (e.txn < 2 ^ 32)
-is_step_of_list ds e h =
+is_step_of_list : (two : Bool) (ds : Items) (e : Event) → event_of two (array ds) ≡ Some e → (array ds ≡ step_of e) × (e.txn < 2 ^ 32) × (is_later e.op ≡ true → two ≡ true)
+is_step_of_list two ds e h =
     let (txn, at_txn, more) = some_of _ (number_at 0 (array ds)) e h in
     let (word, at_word, tail) = some_of _ (word_at 1 (array ds)) e more in
-    let (op, at_op, made) = some_of (as_event txn) (op_of word (items_len ds) (array ds)) e tail in
-    let items = op_items ds word op (whole txn) (number_is _ txn at_txn) (word_is _ word at_word) at_op in
+    let (op, at_op, made) = some_of (as_event txn) (op_of two word (items_len ds) (array ds)) e tail in
+    let items = op_items two ds word op (whole txn) (number_is _ txn at_txn) (word_is _ word at_word) at_op in
     let (fits, event) = tested (nat_lt txn (2 ^ 32)) (Some (record { txn = txn; op = op })) e made in
     let is : e ≡ record { txn = txn; op = op } = cc in
-    finished ds txn op e is items ((Decides-ltb txn (2 ^ 32)).0 fits)
+    let done = finished ds txn op e is items ((Decides-ltb txn (2 ^ 32)).0 fits) in
+    (done.0, done.1, λ later. later_in_two two word (items_len ds) (array ds) op at_op (ap (λ (x : Event). is_later x.op) (sym is) ∙ later))
 
 -- a value that reads as an event is the step that the event is written as
-pub is_step : (d : Data) (e : Event) → event_of d ≡ Some e → (d ≡ step_of e) × (e.txn < 2 ^ 32)
-is_step null e h = cc
-is_step (boolean b) e h = cc
-is_step (number n) e h = cc
-is_step (string s) e h = cc
-is_step (array ds) e h = is_step_of_list ds e h
-is_step (object ms) e h = cc
+pub is_step : (two : Bool) (d : Data) (e : Event) → event_of two d ≡ Some e → (d ≡ step_of e) × (e.txn < 2 ^ 32) × (is_later e.op ≡ true → two ≡ true)
+is_step two null e h = cc
+is_step two (boolean b) e h = cc
+is_step two (number n) e h = cc
+is_step two (string s) e h = cc
+is_step two (array ds) e h = is_step_of_list two ds e h
+is_step two (object ms) e h = cc
 
 fits : (t : ℕ) → t < 2 ^ 32 → nat_lt t (2 ^ 32) ≡ true
 fits t h = grind (arith, nat_tests)
 
-read_items : (t : ℕ) (op : Op) → t < 2 ^ 32 → event_of (array (item (whole t) (items_of_op op))) ≡ Some (record { txn = t; op = op })
-read_items t (Fetch k) h = rw (fits t h) refl
-read_items t (Scan lo hi) h = rw (fits t h) refl
-read_items t Go h = rw (fits t h) refl
-read_items t (Insert k v) h = rw (fits t h) refl
-read_items t (Delete k) h = rw (fits t h) refl
-read_items t Commit h = rw (fits t h) refl
-read_items t Abort h = rw (fits t h) refl
+read_items : (two : Bool) (t : ℕ) (op : Op) → t < 2 ^ 32 → (is_later op ≡ true → two ≡ true) → event_of two (array (item (whole t) (items_of_op op))) ≡ Some (record { txn = t; op = op })
+read_items two t (Fetch k) h later = rw (fits t h) refl
+read_items two t (Scan lo hi) h later = rw (fits t h) refl
+read_items two t Go h later = rw (fits t h) refl
+read_items two t (Insert k v) h later = rw (fits t h) refl
+read_items two t (Delete k) h later = rw (fits t h) refl
+read_items two t (Update k v) h later = rw (later refl, fits t h) refl
+read_items two t Commit h later = rw (fits t h) refl
+read_items two t Abort h later = rw (fits t h) refl
+read_items two t Back h later = rw (later refl, fits t h) refl
 
 -- an event reads back from its step
-pub reads_back : (d : Data) (e : Event) → d ≡ step_of e → e.txn < 2 ^ 32 → event_of d ≡ Some e
-reads_back d e is h = ap event_of is ∙ read_items e.txn e.op h
+pub reads_back : (two : Bool) (d : Data) (e : Event) → d ≡ step_of e → e.txn < 2 ^ 32 → (is_later e.op ≡ true → two ≡ true) → event_of two d ≡ Some e
+reads_back two d e is h later = ap (λ z. event_of two z) is ∙ read_items two e.txn e.op h later

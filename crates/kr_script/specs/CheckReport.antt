@@ -30,6 +30,7 @@ rule_name rule.ScanStop = codes "G5"
 rule_name rule.Insert = codes "G6"
 rule_name rule.Split = codes "G7"
 rule_name rule.Delete = codes "G8"
+rule_name rule.Update = codes "G9"
 
 -- The printed name of a cover.
 abbrev pub cover_name : Cover → List ℕ
@@ -37,6 +38,7 @@ cover_name cover.ReadKey = codes "RK"
 cover_name cover.ReadGap = codes "RG"
 cover_name cover.InsertedKey = codes "IK"
 cover_name cover.DeletedGap = codes "DG"
+cover_name cover.UpdatedKey = codes "UK"
 
 -- The name of a row of a lock table.
 abbrev pub row_name : Row → List ℕ
@@ -46,6 +48,7 @@ row_name row.ScanKey = codes "scan-key"
 row_name row.ScanStop = codes "scan-stop"
 row_name row.Insert = codes "insert"
 row_name row.Delete = codes "delete"
+row_name row.Update = codes "update"
 
 -- The name of a side.
 abbrev pub side_name : Side → List ℕ

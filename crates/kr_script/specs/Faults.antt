@@ -1,5 +1,5 @@
 -- The faults of a document, in the order in which they are told.
-use Rattle.std.specs.Prelude.{◌≡◌, ℕ, ◌+◌, ◌||◌, ◌==◌, codes, List, [], ◌∷◌, ◌++◌, Bool, true, nat_lt, bytes_eq, if◌then◌else◌, Option, Some, None, IfSome, is_some, option_map, option_and_then, Result, Ok, Err, string_bytes}
+use Rattle.std.specs.Prelude.{◌≡◌, ℕ, ◌+◌, ◌||◌, ◌==◌, codes, List, [], ◌∷◌, ◌++◌, Bool, true, false, nat_lt, bytes_eq, if◌then◌else◌, Option, Some, None, IfSome, is_some, option_map, option_and_then, Result, Ok, Err, string_bytes}
 use Rattle.serde_json.specs.Data.{Data, Items, no_items, item, Members, no_members, member}
 use Rattle.serde_json.specs.Find.{as_object}
 use Rattle.serde_json.specs.Events.{items_len}
@@ -76,7 +76,16 @@ unless b f = if b then [] else f ∷ []
 -- The faults of the member `format`, as a whole number if it is one.
 abbrev pub format_faults : Option ℕ → List Fault
 format_faults None = field (codes "format") ∷ []
-format_faults (Some n) = unless (n == 1) format
+format_faults (Some n) = unless (n == 1 || n == 2) format
+
+-- Whether the format is 2.
+abbrev pub is_two : Option ℕ → Bool
+is_two None = false
+is_two (Some n) = n == 2
+
+-- Whether the script is of format 2.
+abbrev pub two_in : Data → Bool
+two_in d = is_two (number_in (codes "format") d)
 
 -- Whether a script has a member of this name.
 abbrev pub is_member_name : List ℕ → Bool
@@ -114,10 +123,10 @@ abbrev pub opening_faults : ℕ → Option ℕ → Items → List Fault
 opening_faults i before no_items = []
 opening_faults i before (item d ds) = pair_faults i before (pair_of d) ++ opening_faults (i + 1) (option_map (λ p. p.0) (pair_of d)) ds
 
--- Each element of `steps`, from an index on, that is no step.
-abbrev pub step_faults : ℕ → Items → List Fault
-step_faults i no_items = []
-step_faults i (item d ds) = unless (is_some (event_of d)) (step i) ++ step_faults (i + 1) ds
+-- Each element of `steps`, from an index on, that is no step of the format.
+abbrev pub step_faults : Bool → ℕ → Items → List Fault
+step_faults two i no_items = []
+step_faults two i (item d ds) = unless (is_some (event_of two d)) (step i) ++ step_faults two (i + 1) ds
 
 -- All faults of a document, in the order in which they are told; none of these looks at another.
 abbrev pub faults : Data → List Fault
@@ -130,4 +139,4 @@ faults d =
     ++ (size_faults (codes "opening") d
     ++ (size_faults (codes "steps") d
     ++ (opening_faults 0 None (items_in (codes "opening") d)
-    ++ step_faults 0 (items_in (codes "steps") d))))))))
+    ++ step_faults (two_in d) 0 (items_in (codes "steps") d))))))))

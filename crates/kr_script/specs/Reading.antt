@@ -1,5 +1,5 @@
 -- What bytes read as: a script, or the first of their faults.
-use Rattle.std.specs.Prelude.{◌≡◌, ℕ, codes, List, [], ◌∷◌, length, nat_lt, if◌then◌else◌, Option, Some, None, IfSome, Result, Ok, Err}
+use Rattle.std.specs.Prelude.{◌≡◌, ℕ, codes, List, [], ◌∷◌, length, Bool, nat_lt, if◌then◌else◌, Option, Some, None, IfSome, Result, Ok, Err}
 use Rattle.std.specs.Str.{is_utf8}
 use Rattle.serde_json.specs.Data.{Data, Items, no_items, item}
 use Rattle.serde_json.specs.Read.{read}
@@ -9,7 +9,7 @@ use Rattle.kr_script.specs.declared.faults.ScriptFault.{ScriptFault}
 use Rattle.kr_script.specs.Json.{items_in}
 use Rattle.kr_script.specs.Script.{Script}
 use Rattle.kr_script.specs.Steps.{event_of}
-use Rattle.kr_script.specs.Faults.{Fault, too_long, not_json, fault_of, first, faults, pair_of}
+use Rattle.kr_script.specs.Faults.{Fault, too_long, not_json, fault_of, first, faults, two_in, pair_of}
 
 -- A list with x in front, where there is an x.
 abbrev pub with_some : {A : Type 0} → Option A → List A → List A
@@ -21,14 +21,14 @@ abbrev pub pairs_of : Items → Map
 pairs_of no_items = []
 pairs_of (item d ds) = with_some (pair_of d) (pairs_of ds)
 
--- The elements that are steps, as events.
-abbrev pub events_of : Items → List Event
-events_of no_items = []
-events_of (item d ds) = with_some (event_of d) (events_of ds)
+-- The elements that are steps of the format, as events.
+abbrev pub events_of : Bool → Items → List Event
+events_of two no_items = []
+events_of two (item d ds) = with_some (event_of two d) (events_of two ds)
 
 -- The script that a document with no faults is.
 abbrev pub script_in : Data → Script
-script_in d = record { opening = pairs_of (items_in (codes "opening") d); steps = events_of (items_in (codes "steps") d) }
+script_in d = record { opening = pairs_of (items_in (codes "opening") d); steps = events_of (two_in d) (items_in (codes "steps") d) }
 
 -- The fault, if there is one, and else the script.
 abbrev pub unless_faulty : Option Fault → Script → Result Script Fault

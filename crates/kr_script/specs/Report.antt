@@ -37,6 +37,9 @@ refusal_name refusal.NoScan = codes "NoScan"
 refusal_name refusal.BadRange = codes "BadRange"
 refusal_name refusal.Full = codes "Full"
 refusal_name refusal.Memory = codes "Memory"
+refusal_name refusal.NoUpdate = codes "NoUpdate"
+refusal_name refusal.RollingBack = codes "RollingBack"
+refusal_name refusal.NothingLeft = codes "NothingLeft"
 
 -- A reply: a word, and behind it what the reply tells.
 abbrev pub reply_data : Reply → Data
@@ -48,8 +51,10 @@ reply_data reply.Done = after_word (codes "done") no_items
 reply_data reply.Duplicate = after_word (codes "duplicate") no_items
 reply_data (reply.Deleted v) = after_word (codes "deleted") (item (whole v) no_items)
 reply_data reply.Absent = after_word (codes "absent") no_items
+reply_data (reply.Updated v) = after_word (codes "updated") (item (whole v) no_items)
 reply_data reply.Committed = after_word (codes "committed") no_items
 reply_data reply.Aborted = after_word (codes "aborted") no_items
+reply_data (reply.Undone n) = after_word (codes "undone") (item (whole n) no_items)
 reply_data (reply.Blocked txns) = after_word (codes "blocked") (item (numbers_data txns) no_items)
 reply_data (reply.Refused r) = after_word (codes "refused") (item (whole (refusal_number r)) (item (string (refusal_name r)) no_items))
 

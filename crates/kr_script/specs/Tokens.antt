@@ -1,11 +1,11 @@
 -- Values that come next among the tokens of a text.
-use Rattle.std.specs.Prelude.{◌≡◌, ◌<◌, ℕ, List, [], ◌∷◌, length, codes, Some, None}
+use Rattle.std.specs.Prelude.{◌≡◌, ◌<◌, ℕ, List, [], ◌∷◌, length, codes, Bool, if◌then◌else◌, Some, None}
 use Rattle.json.specs.Token.{Token}
 use Rattle.json.specs.Json.{Json, after_end_array, value}
 use Rattle.serde_json.specs.Data.{Data}
 use Rattle.serde_json.specs.Read.{of_json}
 use Rattle.kr_model.specs.declared.Op.{Op}
-use Rattle.kr_model.specs.declared.Op.TheVariants.{Fetch, Scan, Go, Insert, Delete, Commit, Abort}
+use Rattle.kr_model.specs.declared.Op.TheVariants.{Fetch, Scan, Go, Insert, Delete, Update, Commit, Abort, Back}
 use Rattle.kr_script.specs.Json.{whole}
 
 -- One value comes next, which nests no deeper than the number, and then these tokens.
@@ -21,6 +21,10 @@ abbrev pub AreNext : ℕ → List Token → List Data → List Token → Type 0
 AreNext depth old [] new = new ≡ old
 AreNext depth old (d ∷ ds) new = (between : List Token) × IsNext depth old d between × AreNext depth between ds new
 
+-- The number of a format: format 2 or format 1.
+abbrev pub format_number : Bool → ℕ
+format_number two = if two then 2 else 1
+
 -- The word of an operation.
 abbrev pub word_of : Op → List ℕ
 word_of (Fetch k) = codes "fetch"
@@ -28,8 +32,10 @@ word_of (Scan lo hi) = codes "scan"
 word_of Go = codes "go"
 word_of (Insert k v) = codes "insert"
 word_of (Delete k) = codes "delete"
+word_of (Update k v) = codes "update"
 word_of Commit = codes "commit"
 word_of Abort = codes "abort"
+word_of Back = codes "back"
 
 -- The numbers behind it.
 abbrev pub behind_word : Op → List Data
@@ -38,5 +44,7 @@ behind_word (Scan lo hi) = whole lo ∷ whole hi ∷ []
 behind_word Go = []
 behind_word (Insert k v) = whole k ∷ whole v ∷ []
 behind_word (Delete k) = whole k ∷ []
+behind_word (Update k v) = whole k ∷ whole v ∷ []
 behind_word Commit = []
 behind_word Abort = []
+behind_word Back = []

@@ -22,6 +22,7 @@ fn rule_name(rule: Rule) -> &'static str
         Rule::Insert => "G6",
         Rule::Split => "G7",
         Rule::Delete => "G8",
+        Rule::Update => "G9",
     }
 }
 
@@ -33,6 +34,7 @@ fn cover_name(cover: Cover) -> &'static str
         Cover::ReadGap => "RG",
         Cover::InsertedKey => "IK",
         Cover::DeletedGap => "DG",
+        Cover::UpdatedKey => "UK",
     }
 }
 
@@ -46,6 +48,7 @@ fn row_name(row: Row) -> &'static str
         Row::ScanStop => "scan-stop",
         Row::Insert => "insert",
         Row::Delete => "delete",
+        Row::Update => "update",
     }
 }
 
@@ -121,7 +124,7 @@ fn check_value<P: Protocol>(
     ensures { IfOk result (λ v. view v ≡ check_data (P.table protocol.now) (P.names protocol.now) failed.now) }
 {
     let modes = protocol.count();
-    let cases = cases(modes);
+    let cases = cases(modes, protocol.updates());
     if failed.is_empty() {
         return json!(in alloc; {"accepted": true, "cases": cases, "modes": modes});
     }

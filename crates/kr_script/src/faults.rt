@@ -17,7 +17,7 @@ pub enum ScriptFault {
     /// The bytes are no JSON text, or nest deeper than 127.
     #[error("fault 2 NotJson")]
     NotJson,
-    /// The format is a whole number other than 1.
+    /// The format is a whole number other than 1 and 2.
     #[error("fault 3 Format")]
     Format,
     /// The member of this name is unknown, missing or of the wrong kind; with the empty name, the
@@ -28,7 +28,7 @@ pub enum ScriptFault {
     /// isn't above the one before it.
     #[error("fault 5 Opening at {0}")]
     Opening(usize),
-    /// The element at this index of `steps`, from 0, has the form of no step.
+    /// The element at this index of `steps`, from 0, has the form of no step of the script's format.
     #[error("fault 6 Step at {0}")]
     Step(usize),
     /// The member of this name has more than 100,000 elements.

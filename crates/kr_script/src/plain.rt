@@ -1,6 +1,6 @@
 //! Scripts in their plain form, read token by token with no value made of the document: the members `format`, `opening`
 //! and `steps` in this order, and no fault.
-ghost use Rattle.std.specs.Prelude.{◌≡◌, ◌∷◌, ◌≤◌, ◌<◌, [], ℕ, IfSome, OnSome, None, Ok, Some, map, vec_len};
+ghost use Rattle.std.specs.Prelude.{◌≡◌, ◌∷◌, ◌≤◌, ◌<◌, [], ℕ, IfSome, OnSome, None, Ok, Some, map, true, vec_len};
 ghost use Rattle.json.specs.Token.{begin_array, begin_object};
 ghost use Rattle.json.specs.Json.{Json, read_key, value};
 ghost use Rattle.serde_json.specs.Data.{array, string, unsigned};
@@ -8,10 +8,10 @@ ghost use Rattle.serde_json.specs.Read.{number_of, of_json};
 ghost use Rattle.serde_json.specs.View.{items_of};
 ghost use Rattle.kr_script.specs.Json.{whole};
 ghost use Rattle.kr_script.specs.Report.{pair_data, pairs_data};
-ghost use Rattle.kr_script.specs.Steps.{event_of, step_of};
+ghost use Rattle.kr_script.specs.Steps.{event_of, is_later, step_of};
 ghost use Rattle.kr_script.specs.Faults.{opening_faults};
 ghost use Rattle.kr_script.specs.Reading.{document, reading_of};
-ghost use Rattle.kr_script.specs.Tokens.{AreNext, IsNext, behind_word, word_of};
+ghost use Rattle.kr_script.specs.Tokens.{AreNext, IsNext, behind_word, format_number, word_of};
 
 use crate::Script;
 use crate::reading::{MAX_ELEMENTS, is_above};
@@ -142,9 +142,11 @@ fn read_pairs(alloc: Global, reader: &mut Reader<'_>) -> Option<Vec<(u64, u64)>>
     Some(pairs)
 }
 
-fn read_op(reader: &mut Reader<'_>, word: &str) -> Option<Op>
+/// The operation of this word, in format 2 or in format 1, with its numbers.
+fn read_op(two: bool, reader: &mut Reader<'_>, word: &str) -> Option<Op>
     ensures word { IfSome result (λ op. word.now ≡ word_of op) }
     ensures next { IfSome result (λ op. AreNext 124 reader.old (behind_word op) reader.new) }
+    ensures later { IfSome result (λ op. is_later op ≡ true → two ≡ true) }
 {
     match word {
         "fetch" => Some(Op::Fetch(read_one(reader)?)),
@@ -158,20 +160,25 @@ fn read_op(reader: &mut Reader<'_>, word: &str) -> Option<Op>
             Some(Op::Insert(key, value))
         }
         "delete" => Some(Op::Delete(read_one(reader)?)),
+        "update" if two => {
+            let (key, value) = read_two(reader)?;
+            Some(Op::Update(key, value))
+        }
         "commit" => Some(Op::Commit),
         "abort" => Some(Op::Abort),
+        "back" if two => Some(Op::Back),
         _ => None,
     }
 }
 
-fn read_event(reader: &mut Reader<'_>) -> Option<Event>
+fn read_event(two: bool, reader: &mut Reader<'_>) -> Option<Event>
     ensures next { IfSome result (λ event. IsNext 125 reader.old (step_of event) reader.new) }
-    ensures back { IfSome result (λ event. event_of (step_of event) ≡ Some event) }
+    ensures back { IfSome result (λ event. event_of two (step_of event) ≡ Some event) }
 {
     open_array(reader)?;
     let txn = u32::try_from(read_number(reader)?).ok()?;
     let word = read_word(reader)?;
-    let op = read_op(reader, word)?;
+    let op = read_op(two, reader, word)?;
     if reader.take_end_array() {
         Some(Event { txn, op })
     } else {
@@ -179,16 +186,16 @@ fn read_event(reader: &mut Reader<'_>) -> Option<Event>
     }
 }
 
-/// The events of an array.
-fn read_events(alloc: Global, reader: &mut Reader<'_>) -> Option<Vec<Event>>
+/// The events of an array of steps, in format 2 or in format 1.
+fn read_events(alloc: Global, two: bool, reader: &mut Reader<'_>) -> Option<Vec<Event>>
     ensures next { IfSome result (λ events. IsNext 126 reader.old (array (items_of (map step_of events.items))) reader.new) }
-    ensures back { IfSome result (λ events. map (λ e. event_of (step_of e)) events.items ≡ map Some events.items) }
+    ensures back { IfSome result (λ events. map (λ e. event_of two (step_of e)) events.items ≡ map Some events.items) }
     ensures few { IfSome result (λ events. vec_len events ≤ 100000) }
 {
     open_array(reader)?;
     let mut events = Vec::new(alloc);
     'events: while !reader.take_end_array() {
-        let event = read_event(reader)?;
+        let event = read_event(two, reader)?;
         if events.len() == MAX_ELEMENTS {
             return None;
         }
@@ -197,18 +204,28 @@ fn read_events(alloc: Global, reader: &mut Reader<'_>) -> Option<Vec<Event>>
     Some(events)
 }
 
+/// Whether the format is 2, where it is 1 or 2.
+fn read_format(reader: &mut Reader<'_>) -> Option<bool>
+    ensures { IfSome result (λ two. IsNext 126 reader.old (whole (format_number two)) reader.new) }
+{
+    let format = read_number(reader)?;
+    match format {
+        1 => Some(false),
+        2 => Some(true),
+        _ => None,
+    }
+}
+
 fn read_members(alloc: Global, reader: &mut Reader<'_>) -> Option<Script>
     ensures { IfSome result (λ script. (j : Json) × (value 127 reader.old ≡ Some (j, reader.new)) × (reading_of (of_json j) ≡ Ok script)) }
 {
     open_object(reader)?;
     pass_name(reader, "format")?;
-    if read_number(reader)? != 1 {
-        return None;
-    }
+    let two = read_format(reader)?;
     pass_name(reader, "opening")?;
     let opening = read_pairs(alloc, reader)?;
     pass_name(reader, "steps")?;
-    let steps = read_events(alloc, reader)?;
+    let steps = read_events(alloc, two, reader)?;
     close_object(reader)?;
     Some(Script::new(opening, steps))
 }

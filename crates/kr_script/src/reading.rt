@@ -5,7 +5,7 @@ ghost use Rattle.serde_json.specs.View.{view, items_view, members_view};
 ghost use Rattle.kr_script.specs.declared.faults.ScriptFault.TheVariants as told_as;
 ghost use Rattle.kr_script.specs.Json.{number_in, list_in};
 ghost use Rattle.kr_script.specs.Faults as fault;
-ghost use Rattle.kr_script.specs.Faults.{Passes, Tells, format_faults, name_faults, list_faults, opening_faults, step_faults, unless};
+ghost use Rattle.kr_script.specs.Faults.{Passes, Tells, format_faults, two_in, name_faults, list_faults, opening_faults, step_faults, unless};
 ghost use Rattle.kr_script.specs.Reading as spec;
 ghost use Rattle.kr_script.specs.Reading.{Gives, reading, reading_of};
 
@@ -39,12 +39,16 @@ fn too_many(alloc: Global, name: &str) -> ScriptFault
     }
 }
 
-fn test_format(alloc: Global, value: &Value) -> Result<(), ScriptFault>
-    ensures { Passes result (format_faults (number_in (codes "format") (view value.now))) }
+/// Whether the format is 2, or the fault that it is neither 1 nor 2.
+fn test_format(alloc: Global, value: &Value) -> Result<bool, ScriptFault>
+    ensures { MatchResult result
+        (λ two. (format_faults (number_in (codes "format") (view value.now)) ≡ []) × (two_in (view value.now) ≡ two))
+        (λ e. Tells e (format_faults (number_in (codes "format") (view value.now)))) }
 {
     match value.get("format").and_then(Value::as_u64) {
         None => Err(field(alloc, "format")),
-        Some(1) => Ok(()),
+        Some(1) => Ok(false),
+        Some(2) => Ok(true),
         Some(_) => Err(ScriptFault::Format),
     }
 }
@@ -129,16 +133,16 @@ fn pairs_of(alloc: Global, list: &[Value]) -> Result<Vec<(u64, u64)>, ScriptFaul
     Ok(pairs)
 }
 
-fn events_of(alloc: Global, list: &[Value]) -> Result<Vec<Event>, ScriptFault>
+fn events_of(alloc: Global, two: bool, list: &[Value]) -> Result<Vec<Event>, ScriptFault>
     ensures { MatchResult result
-        (λ v. (step_faults 0 (items_view list.now) ≡ []) × (v.items ≡ spec.events_of (items_view list.now)))
-        (λ e. Tells e (step_faults 0 (items_view list.now))) }
+        (λ v. (step_faults two 0 (items_view list.now) ≡ []) × (v.items ≡ spec.events_of two (items_view list.now)))
+        (λ e. Tells e (step_faults two 0 (items_view list.now))) }
 {
     let Ok(mut events) = Vec::with_capacity(alloc, list.len()) else {
         return Err(ScriptFault::Memory);
     };
     for (i, item) in list.iter().enumerate() {
-        let Some(event) = event_of(item) else {
+        let Some(event) = event_of(two, item) else {
             return Err(ScriptFault::Step(i));
         };
         if events.push(event).is_err() {
@@ -156,19 +160,19 @@ fn script_of(alloc: Global, value: &Value) -> Result<Script, ScriptFault>
     let Some(members) = value.as_object() else {
         return Err(field(alloc, ""));
     };
-    test_format(alloc, value)?;
+    let two = test_format(alloc, value)?;
     test_names(alloc, members)?;
     let opening = list_at(alloc, value, "opening")?;
     let steps = list_at(alloc, value, "steps")?;
     test_size(alloc, opening, "opening")?;
     test_size(alloc, steps, "steps")?;
     let opening = pairs_of(alloc, opening)?;
-    let steps = events_of(alloc, steps)?;
+    let steps = events_of(alloc, two, steps)?;
     Ok(Script::new(opening, steps))
 }
 
-/// The script that the bytes are, or the first of their faults. `Memory` comes only where a growth
-/// was refused, and so at no empty text and at none that is too long.
+/// The script that the bytes are, of format 1 or 2, or the first of their faults. `Memory` comes only
+/// where a growth was refused, and so at no empty text and at none that is too long.
 pub fn read_script(alloc: Global, bytes: &[u8]) -> Result<Script, ScriptFault>
     ensures reads { Gives result (reading bytes.now) }
     ensures memory { (result ≡ Err told_as.Memory) → (0 < length bytes.now) × (length bytes.now ≤ 16777216) }

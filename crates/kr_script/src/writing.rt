@@ -100,6 +100,9 @@ fn number_of(refusal: Refusal) -> u64
         Refusal::BadRange => 4,
         Refusal::Full => 5,
         Refusal::Memory => 6,
+        Refusal::NoUpdate => 7,
+        Refusal::RollingBack => 8,
+        Refusal::NothingLeft => 9,
     }
 }
 
@@ -115,6 +118,9 @@ fn quoted_refusal(refusal: Refusal) -> &'static str
         Refusal::BadRange => r#""BadRange""#,
         Refusal::Full => r#""Full""#,
         Refusal::Memory => r#""Memory""#,
+        Refusal::NoUpdate => r#""NoUpdate""#,
+        Refusal::RollingBack => r#""RollingBack""#,
+        Refusal::NothingLeft => r#""NothingLeft""#,
     }
 }
 
@@ -147,8 +153,10 @@ pub fn write_reply(out: &mut String, reply: &Reply) -> Result<(), AllocError>
         Reply::Duplicate => out.push_str(r#"["duplicate"]"#),
         Reply::Deleted(value) => write_with_number(out, r#"["deleted","#, *value),
         Reply::Absent => out.push_str(r#"["absent"]"#),
+        Reply::Updated(value) => write_with_number(out, r#"["updated","#, *value),
         Reply::Committed => out.push_str(r#"["committed"]"#),
         Reply::Aborted => out.push_str(r#"["aborted"]"#),
+        Reply::Undone(left) => write_with_number(out, r#"["undone","#, *left),
         Reply::Blocked(txns) => write_with_numbers(out, r#"["blocked","#, txns.as_slice()),
         Reply::Refused(refusal) => write_refusal(out, *refusal),
     }
@@ -302,8 +310,10 @@ fn write_op(out: &mut String, op: Op) -> Result<(), AllocError>
         Op::Go => out.push_str(r#","go"]"#),
         Op::Insert(key, value) => write_with_two_numbers(out, r#","insert","#, key, value),
         Op::Delete(key) => write_with_number(out, r#","delete","#, key),
+        Op::Update(key, value) => write_with_two_numbers(out, r#","update","#, key, value),
         Op::Commit => out.push_str(r#","commit"]"#),
         Op::Abort => out.push_str(r#","abort"]"#),
+        Op::Back => out.push_str(r#","back"]"#),
     }
 }
 

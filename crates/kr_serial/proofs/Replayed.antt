@@ -19,4 +19,4 @@ pub record IsRest (p : Protocol) (first : State) (begun : Log) (all : List Event
 -- The committed programs of a log that went along with a run are those of the run.
 pub programs_of_run : (p : Protocol) (opening : Map) (events : List Event) (l : Log) → (let r = run p (start opening) events in l ≡ log_after no_log r.history)
     → l.committed ≡ (let r = run p (start opening) events in programs r.history)
-programs_of_run p opening events l is = ap (λ x. x.committed) is ∙ ap (λ x. x.committed) (log_of_run p opening events)
+programs_of_run p opening events l is = let log = log_of_run p opening events in ap (λ x. x.committed) is ∙ log.committed

@@ -1,7 +1,7 @@
 //! Whole operations on a map.
 ghost use Rattle.std.specs.Prelude.{◌≡◌, ℕ, IfOk, OnOk, IsTrue};
 ghost use Rattle.kr_model.specs.Map.{Map, IsMap, pairs_between};
-ghost use Rattle.kr_model.specs.Serial.{found_or_none, whole_insert, whole_delete, whole};
+ghost use Rattle.kr_model.specs.Serial.{found_or_none, whole_insert, whole_delete, whole_update, whole};
 ghost use Rattle.kr_model.specs.Difference.{same_pairs, same_reply};
 
 use kr_model::{Op, Pairs, Refusal, Reply};
@@ -29,9 +29,11 @@ pub fn is_answer(map: &BTreeMap<u64, u64>, op: Op, given: &Reply) -> bool
         },
         Op::Insert(key, _) => is_inserted(given, map.get(&key).copied()),
         Op::Delete(key) => is_deleted(given, map.get(&key).copied()),
+        Op::Update(key, _) => is_updated(given, map.get(&key).copied()),
         Op::Go => matches!(given, Reply::Refused(Refusal::NoScan)),
         Op::Commit => matches!(given, Reply::Committed),
         Op::Abort => matches!(given, Reply::Aborted),
+        Op::Back => matches!(given, Reply::Refused(Refusal::NothingLeft)),
     }
 }
 
@@ -61,6 +63,16 @@ fn is_deleted(given: &Reply, value: Option<u64>) -> bool
 {
     match value {
         Some(value) => matches!(given, Reply::Deleted(deleted) if *deleted == value),
+        None => matches!(given, Reply::Absent),
+    }
+}
+
+/// Whether this is the answer of an update, by what stands at the key.
+fn is_updated(given: &Reply, value: Option<u64>) -> bool
+    ensures { (m : Map) (k v : ℕ) → result ≡ same_reply given.now (whole_update m k v value).0 }
+{
+    match value {
+        Some(value) => matches!(given, Reply::Updated(updated) if *updated == value),
         None => matches!(given, Reply::Absent),
     }
 }
@@ -118,9 +130,14 @@ pub fn answer(alloc: Global, map: &BTreeMap<u64, u64>, op: Op) -> Result<Reply, 
             Some(value) => Ok(Reply::Deleted(*value)),
             None => Ok(Reply::Absent),
         },
+        Op::Update(key, _) => match map.get(&key) {
+            Some(value) => Ok(Reply::Updated(*value)),
+            None => Ok(Reply::Absent),
+        },
         Op::Go => Ok(Reply::Refused(Refusal::NoScan)),
         Op::Commit => Ok(Reply::Committed),
         Op::Abort => Ok(Reply::Aborted),
+        Op::Back => Ok(Reply::Refused(Refusal::NothingLeft)),
     }
 }
 
@@ -147,6 +164,13 @@ pub fn follow(map: &mut BTreeMap<u64, u64>, op: Op, given: &Reply) -> Result<(),
             }
             _ => Ok(()),
         },
-        Op::Fetch(_) | Op::Scan(_, _) | Op::Go | Op::Commit | Op::Abort => Ok(()),
+        Op::Update(key, value) => match given {
+            Reply::Updated(_) => {
+                map.insert(key, value)?;
+                Ok(())
+            }
+            _ => Ok(()),
+        },
+        Op::Fetch(_) | Op::Scan(_, _) | Op::Go | Op::Commit | Op::Abort | Op::Back => Ok(()),
     }
 }

@@ -1,4 +1,5 @@
 mod ample;
+mod changing;
 mod crowds;
 mod judging;
 mod plain;

@@ -1,6 +1,6 @@
 -- A table keeps the laws of a protocol.
-use Rattle.std.proofs.Common.{◌≡◌, ◌≢◌, ℕ, ◌+◌, ◌-◌, ◌*◌, ◌<◌, ◌≤◌, ◌&&◌, ◌||◌, ◌==◌, List, [], ◌∷◌, ◌++◌, length, Bool, true, false, not, Some, None, refl, subst, arith, slice_index_or, nat_lt, nat_le, suc, zero}
-use Rattle.std.specs.Prelude.{bytes_eq, All, AllPairs}
+use Rattle.std.proofs.Common.{◌≡◌, ◌≢◌, ℕ, ◌+◌, ◌-◌, ◌*◌, ◌<◌, ◌≤◌, ◌&&◌, ◌||◌, ◌==◌, List, [], ◌∷◌, ◌++◌, length, Bool, true, false, not, Option, Some, None, is_some, refl, subst, arith, slice_index_or, nat_lt, nat_le, suc, zero}
+use Rattle.std.specs.Prelude.{bytes_eq, All, AllPairs, unwrap_or}
 use Rattle.kr_model.specs.ModeNames.{AreModeNames, IsModeName, none_name}
 use Rattle.kr_table.specs.Testing.{is_good, is_mode, is_printable}
 use Rattle.kr_table.proofs.Puts.{equal_itself}
@@ -9,11 +9,11 @@ use Rattle.std.specs.List.{list_all}
 use Rattle.std.proofs.lemmas.Bool.{and_parts}
 use Rattle.std.proofs.lemmas.Bool.Decides.{nat_tests}
 use Rattle.kr_model.specs.declared.Row.{Row}
-use Rattle.kr_model.specs.declared.Row.TheVariants.{FetchHit, FetchMiss, ScanKey, ScanStop, Insert, Delete}
+use Rattle.kr_model.specs.declared.Row.TheVariants.{FetchHit, FetchMiss, ScanKey, ScanStop, Insert, Delete, Update}
 use Rattle.kr_model.specs.declared.Side.{Side}
 use Rattle.kr_model.specs.declared.Side.TheVariants.{Current, Next}
 use Rattle.kr_model.specs.declared.Span.{Span}
-use Rattle.kr_model.specs.Protocol.{Protocol, IsLawful, IsMode, IsReading}
+use Rattle.kr_model.specs.Protocol.{Protocol, IsLawful, IsMode, MovesNoKey}
 use Rattle.kr_table.specs.Tables.{TableData, Request, IsTable, protocol_of, ask_of, in_range, asks_mode, are_good}
 use Rattle.kr_modes.specs.Matrix.{convert_of, IsMatrix}
 
@@ -54,8 +54,10 @@ asks x t FetchHit Next own = refl
 asks x t FetchMiss Current own = refl
 asks x t ScanKey Next own = refl
 asks x t ScanStop Current own = refl
+asks x t Update Current own = t.update
+asks x t Update Next own = refl
 
-reads : (x : TableData) (row : Row) (side : Side) (own : ℕ) → IsReading row → ask_of x row side own ≡ ask_of x row side 0
+reads : (x : TableData) (row : Row) (side : Side) (own : ℕ) → MovesNoKey row → ask_of x row side own ≡ ask_of x row side 0
 reads x FetchHit Current own is = refl
 reads x FetchMiss Next own is = refl
 reads x ScanKey Current own is = refl
@@ -64,8 +66,18 @@ reads x FetchHit Next own is = refl
 reads x FetchMiss Current own is = refl
 reads x ScanKey Next own is = refl
 reads x ScanStop Current own is = refl
+reads x Update Current own is = refl
+reads x Update Next own is = refl
 reads x Insert side own is = absurd is
 reads x Delete side own is = absurd is
+
+none_asked : (o : Option Request) → is_some o ≡ false → unwrap_or o None ≡ None
+none_asked None h = refl
+none_asked (Some r) h = absurd (cc)
+
+no_update : (x : TableData) (side : Side) (own : ℕ) → is_some x.update ≡ false → ask_of x Update side own ≡ None
+no_update x Current own none = none_asked x.update none
+no_update x Next own none = refl
 
 within_square : (m a b : ℕ) → a < m → b < m → a * m + b < m * m
 within_square m a b h k = grind arith
@@ -109,7 +121,8 @@ lawful_of x t =
       convert-none_asked = λ h b. convert_none x h;
       convert-modes = λ h q ih iq. mode_converted x h q t ih iq;
       ask-mode = λ row side own q span b e. mode_of_request (protocol_of x) (ask_of x row side own) q span (asks x t row side own) e;
-      ask-reading = λ row side own is b. reads x row side own is;
+      ask-no_move = λ row side own is b. reads x row side own is;
+      ask-no_update = λ side own none b. no_update x side own none;
     }
 
 -- names of modes --

@@ -8,7 +8,7 @@ use Rattle.kr_model.specs.declared.Span.TheVariants.{Instant, Commit}
 use Rattle.kr_modes.specs.Matrix.{Matrix}
 use Rattle.kr_table.specs.Faults.{Fault, too_long, not_toml, first}
 use Rattle.kr_table.specs.Members.{names_of, modes_in, items_in, items_within, data_in, text_in, pair_in}
-use Rattle.kr_table.specs.Testing.{is_mode, faults}
+use Rattle.kr_table.specs.Testing.{is_mode, faults, updates_in}
 use Rattle.kr_table.specs.Tables.{Request, TableData}
 
 -- The modes --
@@ -79,11 +79,15 @@ asked modes (item d ds) own = if fits own d then request modes d else asked mode
 abbrev pub asked_each : List (List ℕ) → Items → List Request
 asked_each modes ds = map (asked modes ds) (codes "none" ∷ modes)
 
+-- What an update asks for, where updates are offered.
+abbrev pub asked_update : Bool → List (List ℕ) → Data → Option Request
+asked_update u modes rules = if u then Some (asked modes (clauses_of rules (codes "update") (codes "current")) (codes "none")) else None
+
 -- The whole --
 
--- The table of modes of these names, by `compatible`, `convert` and `rules`.
-abbrev pub table_of_parts : List (List ℕ) → Data → Data → Data → TableData
-table_of_parts modes compatible convert rules = record {
+-- The table of modes of these names, by `compatible`, `convert` and `rules`, and whether it offers updates.
+abbrev pub table_of_parts : Bool → List (List ℕ) → Data → Data → Data → TableData
+table_of_parts u modes compatible convert rules = record {
   modes = matrix_in modes compatible convert;
   fetch_hit = asked modes (clauses_of rules (codes "fetch-hit") (codes "current")) (codes "none");
   fetch_miss = asked modes (clauses_of rules (codes "fetch-miss") (codes "next")) (codes "none");
@@ -93,11 +97,12 @@ table_of_parts modes compatible convert rules = record {
   insert_next = asked_each modes (clauses_of rules (codes "insert") (codes "next"));
   delete_current = asked_each modes (clauses_of rules (codes "delete") (codes "current"));
   delete_next = asked_each modes (clauses_of rules (codes "delete") (codes "next"));
+  update = asked_update u modes rules;
 }
 
 -- The table that a document with no faults is.
 abbrev pub table_of : Data → TableData
-table_of d = table_of_parts (modes_in d) (data_in (codes "compatible") d) (data_in (codes "convert") d) (data_in (codes "rules") d)
+table_of d = table_of_parts (updates_in d) (modes_in d) (data_in (codes "compatible") d) (data_in (codes "convert") d) (data_in (codes "rules") d)
 
 -- The fault, if there is one, and else the table.
 abbrev pub unless_faulty : Option Fault → TableData → Result TableData Fault

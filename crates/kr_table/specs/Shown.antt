@@ -14,4 +14,5 @@ data_of p = record {
   insert_next = p.insert_next.items;
   delete_current = p.delete_current.items;
   delete_next = p.delete_next.items;
+  update = p.update;
 }

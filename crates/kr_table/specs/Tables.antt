@@ -1,8 +1,8 @@
 -- What a table says, and its meaning as a lock protocol.
-use Rattle.std.specs.Prelude.{◌≡◌, ℕ, ◌+◌, ◌*◌, ◌&&◌, List, [], ◌∷◌, ◌++◌, length, Bool, true, nat_lt, nat_le, Option, Some, None, slice_index_or}
+use Rattle.std.specs.Prelude.{◌≡◌, ℕ, ◌+◌, ◌*◌, ◌&&◌, List, [], ◌∷◌, ◌++◌, length, Bool, true, nat_lt, nat_le, Option, Some, None, slice_index_or, unwrap_or, is_some}
 use Rattle.std.specs.List.{list_all}
 use Rattle.kr_model.specs.declared.Row.{Row}
-use Rattle.kr_model.specs.declared.Row.TheVariants.{FetchHit, FetchMiss, ScanKey, ScanStop, Insert, Delete}
+use Rattle.kr_model.specs.declared.Row.TheVariants.{FetchHit, FetchMiss, ScanKey, ScanStop, Insert, Delete, Update}
 use Rattle.kr_model.specs.declared.Side.{Side}
 use Rattle.kr_model.specs.declared.Side.TheVariants.{Current, Next}
 use Rattle.kr_model.specs.declared.Span.{Span}
@@ -15,7 +15,7 @@ abbrev pub Request : Type 0
 Request = Option (ℕ × Span)
 
 -- The modes with their names and matrices, and what each row asks for at its sides. Insert and delete have a request for
--- each own mode on the next name, from none.
+-- each own mode on the next name, from none. Where updates are offered, the last is what they ask for.
 pub record TableData : Type 0 where
   pub modes : Matrix
   pub fetch_hit : Request
@@ -26,6 +26,7 @@ pub record TableData : Type 0 where
   pub insert_next : List Request
   pub delete_current : List Request
   pub delete_next : List Request
+  pub update : Option Request
 
 -- Its meaning --
 
@@ -43,10 +44,12 @@ ask_of x FetchHit Next own = None
 ask_of x FetchMiss Current own = None
 ask_of x ScanKey Next own = None
 ask_of x ScanStop Current own = None
+ask_of x Update Current own = unwrap_or x.update None
+ask_of x Update Next own = None
 
 -- The protocol that a table is.
 abbrev pub protocol_of : TableData → Protocol
-protocol_of x = record { count = length x.modes.names; ok = ok_of x.modes; convert = convert_of x.modes; ask = ask_of x }
+protocol_of x = record { count = length x.modes.names; ok = ok_of x.modes; convert = convert_of x.modes; ask = ask_of x; updates = is_some x.update }
 
 -- What holds of every table, as tests --
 
@@ -85,3 +88,4 @@ pub record IsTable (x : TableData) : Type 0 where
   pub insert_next : IsAsked (length x.modes.names) x.insert_next
   pub delete_current : IsAsked (length x.modes.names) x.delete_current
   pub delete_next : IsAsked (length x.modes.names) x.delete_next
+  pub update : asks_mode (length x.modes.names) (unwrap_or x.update None) ≡ true

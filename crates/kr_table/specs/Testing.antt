@@ -10,7 +10,16 @@ use Rattle.kr_table.specs.Members.{integer_in, list_in, table_in, text_in, items
 -- The faults of the member `format`, as a whole number if it is one.
 abbrev pub format_faults : Option ℤ → List Fault
 format_faults None = field (codes "format") ∷ []
-format_faults (Some z) = unless (int_eq z (pos 1)) format
+format_faults (Some z) = unless (int_eq z (pos 1) || int_eq z (pos 2)) format
+
+-- Whether the format is 2.
+abbrev pub is_two : Option ℤ → Bool
+is_two None = false
+is_two (Some z) = int_eq z (pos 2)
+
+-- Whether the document offers updates: its format is 2.
+abbrev pub updates_in : Data → Bool
+updates_in d = is_two (integer_in (codes "format") d)
 
 -- Whether a table has a member of this name.
 abbrev pub is_member_name : List ℕ → Bool
@@ -116,25 +125,25 @@ missing_pairs (h ∷ hs) modes d = missing_of h modes d ++ missing_pairs hs mode
 
 -- Rules --
 
--- Whether the row is of an operation that changes the index; such a row has both sides, and clauses with `own`.
+-- Whether the row is of an operation that moves keys; such a row has both sides, and clauses with `own`.
 abbrev pub is_changing : List ℕ → Bool
 is_changing row = bytes_eq row (codes "insert") || bytes_eq row (codes "delete")
 
--- Whether the row asks at the current name.
-abbrev pub has_current : List ℕ → Bool
-has_current row = bytes_eq row (codes "fetch-hit") || bytes_eq row (codes "scan-key") || is_changing row
+-- Whether the row asks at the current name; the row of updates is there only where they are offered.
+abbrev pub has_current : Bool → List ℕ → Bool
+has_current u row = bytes_eq row (codes "fetch-hit") || bytes_eq row (codes "scan-key") || is_changing row || (u && bytes_eq row (codes "update"))
 
 -- Whether the row asks at the next name.
 abbrev pub has_next : List ℕ → Bool
 has_next row = bytes_eq row (codes "fetch-miss") || bytes_eq row (codes "scan-stop") || is_changing row
 
 -- Whether there is a row of this name.
-abbrev pub is_row : List ℕ → Bool
-is_row row = has_current row || has_next row
+abbrev pub is_row : Bool → List ℕ → Bool
+is_row u row = has_current u row || has_next row
 
 -- Whether the row has a side of this name.
-abbrev pub is_side : List ℕ → List ℕ → Bool
-is_side row side = (bytes_eq side (codes "current") && has_current row) || (bytes_eq side (codes "next") && has_next row)
+abbrev pub is_side : Bool → List ℕ → List ℕ → Bool
+is_side u row side = (bytes_eq side (codes "current") && has_current u row) || (bytes_eq side (codes "next") && has_next row)
 
 -- Whether a clause may have a member of this name.
 abbrev pub is_clause_word : List ℕ → Bool
@@ -173,7 +182,7 @@ is_own modes (Some ds) = all_own modes ds
 abbrev pub clause_path : List ℕ → List ℕ → ℕ → List ℕ
 clause_path row side i = codes "rules." ++ row ++ codes "." ++ side ++ codes "." ++ decimal i
 
--- The faults of the `own` of a clause, if it has one: it may stand in a row that changes the index alone.
+-- The faults of the `own` of a clause, if it has one: it may stand in a row that moves keys alone.
 abbrev pub own_faults : List (List ℕ) → List ℕ → List ℕ → ℕ → Option Data → List Fault
 own_faults modes row side i None = []
 own_faults modes row side i (Some d) =
@@ -190,29 +199,29 @@ clauses_faults modes row side i no_items = []
 clauses_faults modes row side i (item d ds) = clause_faults modes row side i d ++ clauses_faults modes row side (i + 1) ds
 
 -- Each side that is no array or that the row hasn't, and the faults of its clauses, before the next side.
-abbrev pub side_faults : List (List ℕ) → List ℕ → Members → List Fault
-side_faults modes row no_members = []
-side_faults modes row (member side d ms) =
-    unless (is_side row side && is_some (as_array d)) (rule (codes "rules." ++ row ++ codes "." ++ side))
-    ++ (clauses_faults modes row side 0 (items_within d) ++ side_faults modes row ms)
+abbrev pub side_faults : Bool → List (List ℕ) → List ℕ → Members → List Fault
+side_faults u modes row no_members = []
+side_faults u modes row (member side d ms) =
+    unless (is_side u row side && is_some (as_array d)) (rule (codes "rules." ++ row ++ codes "." ++ side))
+    ++ (clauses_faults modes row side 0 (items_within d) ++ side_faults u modes row ms)
 
 -- Each row that is no table or unknown, and the faults of its sides, before the next row.
-abbrev pub row_faults : List (List ℕ) → Members → List Fault
-row_faults modes no_members = []
-row_faults modes (member row d ms) =
-    unless (is_row row && is_some (as_table d)) (rule (codes "rules." ++ row))
-    ++ (side_faults modes row (members_of d) ++ row_faults modes ms)
+abbrev pub row_faults : Bool → List (List ℕ) → Members → List Fault
+row_faults u modes no_members = []
+row_faults u modes (member row d ms) =
+    unless (is_row u row && is_some (as_table d)) (rule (codes "rules." ++ row))
+    ++ (side_faults u modes row (members_of d) ++ row_faults u modes ms)
 
 -- The whole --
 
--- The faults of `compatible`, `convert` and `rules`, given the names of the modes.
-abbrev pub content_faults : List (List ℕ) → Data → Data → Data → List Fault
-content_faults modes entries conversions rules =
+-- The faults of `compatible`, `convert` and `rules`, given whether updates are offered and the names of the modes.
+abbrev pub content_faults : Bool → List (List ℕ) → Data → Data → Data → List Fault
+content_faults u modes entries conversions rules =
     entry_faults modes (members_of entries)
     ++ (missing_faults modes entries
     ++ (held_faults modes (members_of conversions)
     ++ (missing_pairs modes modes conversions
-    ++ row_faults modes (members_of rules))))
+    ++ row_faults u modes (members_of rules))))
 
 -- All faults of a document, each kind without regard to the others.
 abbrev pub faults : Data → List Fault
@@ -225,4 +234,4 @@ faults d =
     ++ (table_faults (codes "rules") d
     ++ (count_faults (items_len (items_in (codes "modes") d))
     ++ (mode_faults 0 [] (items_in (codes "modes") d)
-    ++ content_faults (modes_in d) (data_in (codes "compatible") d) (data_in (codes "convert") d) (data_in (codes "rules") d))))))))
+    ++ content_faults (updates_in d) (modes_in d) (data_in (codes "compatible") d) (data_in (codes "convert") d) (data_in (codes "rules") d))))))))

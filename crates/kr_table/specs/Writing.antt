@@ -1,5 +1,5 @@
 -- The document that is written for a table.
-use Rattle.std.specs.Prelude.{codes, pos, ℕ, ◌<◌, List, [], ◌∷◌, ◌++◌, map, take, drop, length, Bool, false, if◌then◌else◌, Some, None}
+use Rattle.std.specs.Prelude.{codes, pos, Option, ℕ, ◌<◌, List, [], ◌∷◌, ◌++◌, map, take, drop, length, Bool, false, if◌then◌else◌, Some, None}
 use Rattle.std.specs.Ordering.{nat_cmp, match_ordering}
 use Rattle.std.specs.Cmp.Lexicographic.{slice_cmp}
 use Rattle.toml.specs.Data.{Data, string, integer, array, table, Items, no_items, item, Members, no_members, member}
@@ -56,7 +56,7 @@ word_of Commit = codes "commit"
 abbrev pub plain_clause : List (List ℕ) → ℕ → Span → Members
 plain_clause names q s = put (codes "span") (string (word_of s)) (put (codes "mode") (string (name_of names q)) no_members)
 
--- The clauses of a side of a row whose operation changes nothing.
+-- The clauses of a side of a row whose operation moves no key.
 abbrev pub plain_clauses : List (List ℕ) → Request → Items
 plain_clauses names None = no_items
 plain_clauses names (Some (q, s)) = item (table (plain_clause names q s)) no_items
@@ -92,9 +92,9 @@ both_sides current next = put (codes "next") (array next) (put (codes "current")
 abbrev pub changing_row : List (List ℕ) → List Request → List Request → Members
 changing_row names current next = both_sides (own_clauses names (codes "none" ∷ names) current) (own_clauses names (codes "none" ∷ names) next)
 
--- The member `rules`: all rows, and all sides of each.
-abbrev pub written_rules : TableData → Members
-written_rules x =
+-- The rows that every table has, and all sides of each.
+abbrev pub all_rows : TableData → Members
+all_rows x =
     put (codes "delete") (table (changing_row x.modes.names x.delete_current x.delete_next))
     (put (codes "insert") (table (changing_row x.modes.names x.insert_current x.insert_next))
     (put (codes "scan-stop") (table (one_side (codes "next") (plain_clauses x.modes.names x.scan_stop)))
@@ -102,7 +102,21 @@ written_rules x =
     (put (codes "fetch-miss") (table (one_side (codes "next") (plain_clauses x.modes.names x.fetch_miss)))
     (put (codes "fetch-hit") (table (one_side (codes "current") (plain_clauses x.modes.names x.fetch_hit))) no_members)))))
 
+-- The row of updates, where they are offered.
+abbrev pub with_update : List (List ℕ) → Option Request → Members → Members
+with_update names None ms = ms
+with_update names (Some r) ms = put (codes "update") (table (one_side (codes "current") (plain_clauses names r))) ms
+
+-- The member `rules`.
+abbrev pub written_rules : TableData → Members
+written_rules x = with_update x.modes.names x.update (all_rows x)
+
 -- The whole --
+
+-- The format of a table: 2 where updates are offered.
+abbrev pub format_of : Option Request → ℕ
+format_of None = 1
+format_of (Some r) = 2
 
 -- The document that is written for a table.
 abbrev pub written : TableData → Members
@@ -111,7 +125,7 @@ written x =
     (put (codes "convert") (table (with_conversion x.modes.names x.modes.names x.modes.conversion no_members))
     (put (codes "compatible") (table (with_compatible x.modes.names x.modes.names x.modes.compatible no_members))
     (put (codes "modes") (array (strings x.modes.names))
-    (put (codes "format") (integer (pos 1)) no_members))))
+    (put (codes "format") (integer (pos (format_of x.update))) no_members))))
 
 -- The text is that of the table: what `toml` writes for its document.
 abbrev pub IsTextOf : TableData → List ℕ → Type 0

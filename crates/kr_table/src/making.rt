@@ -200,12 +200,24 @@ fn asked_each(
     Ok(requests)
 }
 
-/// What a row asks for whose operation changes nothing.
+/// What a row asks for whose operation moves no key.
 fn asked_at(modes: &[String], rules: &Value, row: &str, side: &str) -> Option<(Mode, Span)>
     requires { length modes.now ≤ 15 }
     ensures { result ≡ spec.asked (map string_bytes modes.now) (spec.clauses_of (view rules.now) row.now side.now) (codes "none") }
 {
     asked(modes, clauses_of(rules, row, side), "none")
+}
+
+/// What an update asks for, where updates are offered.
+fn update_at(updates: bool, modes: &[String], rules: &Value) -> Option<Option<(Mode, Span)>>
+    requires { length modes.now ≤ 15 }
+    ensures { result ≡ spec.asked_update updates (map string_bytes modes.now) (view rules.now) }
+{
+    if updates {
+        Some(asked_at(modes, rules, "update", "current"))
+    } else {
+        None
+    }
 }
 
 /// What a row asks for at each own mode, from none.
@@ -238,9 +250,10 @@ fn modes_of(
     Ok(Modes::new(names, ok, conversion))
 }
 
-/// The table of modes of these names, by `compatible`, `convert` and `rules`.
+/// The table of modes of these names, by `compatible`, `convert` and `rules`, and whether it offers updates.
 pub fn parts_of(
     alloc: Global,
+    updates: bool,
     names: Vec<String>,
     compatible: &Value,
     convert: &Value,
@@ -248,13 +261,14 @@ pub fn parts_of(
 ) -> Result<Parts, AllocError>
     requires few { length names.items ≤ 15 }
     requires matrix { IsMatrix (spec.matrix_in (map string_bytes names.items) (view compatible.now) (view convert.now)) }
-    ensures { IfOk result (λ p. data_of p ≡ spec.table_of_parts (map string_bytes names.items) (view compatible.now) (view convert.now) (view rules.now)) }
+    ensures { IfOk result (λ p. data_of p ≡ spec.table_of_parts updates (map string_bytes names.items) (view compatible.now) (view convert.now) (view rules.now)) }
 {
     let list = names.as_slice();
     let fetch_hit = asked_at(list, rules, "fetch-hit", "current");
     let fetch_miss = asked_at(list, rules, "fetch-miss", "next");
     let scan_key = asked_at(list, rules, "scan-key", "current");
     let scan_stop = asked_at(list, rules, "scan-stop", "next");
+    let update = update_at(updates, list, rules);
     let insert_current = each_at(alloc, list, rules, "insert", "current")?;
     let insert_next = each_at(alloc, list, rules, "insert", "next")?;
     let delete_current = each_at(alloc, list, rules, "delete", "current")?;
@@ -270,5 +284,6 @@ pub fn parts_of(
         insert_next,
         delete_current,
         delete_next,
+        update,
     })
 }

@@ -41,7 +41,7 @@ fn judge(alloc: Global, value: &Value) -> Result<Table, TableFault>
     let Some(members) = value.as_table() else {
         return Err(TableFault::NotToml);
     };
-    test_format(alloc, value)?;
+    let updates = test_format(alloc, value)?;
     test_names(alloc, members)?;
     let list = list_at(alloc, value, "modes")?;
     let compatible = table_at(alloc, value, "compatible")?;
@@ -52,8 +52,8 @@ fn judge(alloc: Global, value: &Value) -> Result<Table, TableFault>
         Ok(names) => names,
         Err(e) => return Err(e),
     };
-    test_content(alloc, names.as_slice(), compatible, convert, rules)?;
-    match parts_of(alloc, names, compatible, convert, rules) {
+    test_content(alloc, updates, names.as_slice(), compatible, convert, rules)?;
+    match parts_of(alloc, updates, names, compatible, convert, rules) {
         Ok(parts) => Ok(Table::new(parts)),
         Err(_) => Err(TableFault::Memory),
     }

@@ -10,7 +10,7 @@ use kr_modes::{Mode, Modes};
 use kr_protocol::{Protocol, Row, Side, Span};
 
 /// What a table is made of. Insert and delete have a request for each own mode on the next name,
-/// from none.
+/// from none. Where updates are offered, the last is what they ask for.
 #[derive(Debug, Drop)]
 pub struct Parts {
     pub modes: Modes,
@@ -22,6 +22,7 @@ pub struct Parts {
     pub insert_next: Vec<Option<(Mode, Span)>>,
     pub delete_current: Vec<Option<(Mode, Span)>>,
     pub delete_next: Vec<Option<(Mode, Span)>>,
+    pub update: Option<Option<(Mode, Span)>>,
 }
 
 /// A lock table that was read: its modes and what its rows ask for. It takes memory only where it is
@@ -88,8 +89,16 @@ impl Protocol for Table {
             (Row::Insert, Side::Next) => self.parts.insert_next[own_next as usize],
             (Row::Delete, Side::Current) => self.parts.delete_current[own_next as usize],
             (Row::Delete, Side::Next) => self.parts.delete_next[own_next as usize],
+            (Row::Update, Side::Current) => match self.parts.update {
+                Some(request) => request,
+                None => None,
+            },
             (_, _) => None,
         }
+    }
+
+    fn updates(&self) -> bool {
+        self.parts.update.is_some()
     }
 
     ghost lawful = { λ t. t.lawful };

@@ -19,9 +19,10 @@ pub use modes::{modes_of, test_count};
 use std::alloc::Global;
 use toml::Value;
 
-/// Tests `compatible`, `convert` and `rules`, given the names of the modes.
+/// Tests `compatible`, `convert` and `rules`, given whether updates are offered and the names of the modes.
 pub fn test_content(
     alloc: Global,
+    updates: bool,
     modes: &[String],
     compatible: &Value,
     convert: &Value,
@@ -30,7 +31,7 @@ pub fn test_content(
     requires compatible_is_table { is_some (as_table (view compatible.now)) ≡ true }
     requires convert_is_table { is_some (as_table (view convert.now)) ≡ true }
     requires rules_is_table { is_some (as_table (view rules.now)) ≡ true }
-    ensures { Passes result (spec.content_faults (map string_bytes modes.now) (view compatible.now) (view convert.now) (view rules.now)) }
+    ensures { Passes result (spec.content_faults updates (map string_bytes modes.now) (view compatible.now) (view convert.now) (view rules.now)) }
 {
     let (Some(entries), Some(held), Some(rows)) = (
         compatible.as_table(),
@@ -43,5 +44,5 @@ pub fn test_content(
     test_missing(alloc, modes, compatible)?;
     test_held(alloc, modes, held)?;
     test_missing_pairs(alloc, modes, convert)?;
-    test_rows(alloc, modes, rows)
+    test_rows(alloc, updates, modes, rows)
 }

@@ -1,5 +1,5 @@
 //! Writing a table.
-ghost use Rattle.std.specs.Prelude.{◌≡◌, ◌≤◌, ◌<◌, ◌*◌, ◌+◌, ◌++◌, Err, IfOk, Ok, OnOk, [], ◌∷◌, codes, false, length, map, string_bytes, true};
+ghost use Rattle.std.specs.Prelude.{◌≡◌, ◌≤◌, ◌<◌, ◌*◌, ◌+◌, ◌++◌, Err, IfOk, Ok, OnOk, [], ◌∷◌, codes, false, length, map, pos, string_bytes, true};
 ghost use Rattle.toml.specs.View.{table_view, view, members_view};
 ghost use Rattle.toml.specs.Data.{array, string as a_text, table as a_table, no_members, members_depth, members_have_valid_dates};
 ghost use Rattle.toml.specs.Text.{IsDocumentText};
@@ -180,7 +180,7 @@ fn plain_clause(
     Ok(clause)
 }
 
-/// The clauses of a side of a row whose operation changes nothing.
+/// The clauses of a side of a row whose operation moves no key.
 fn plain_clauses(
     alloc: Global,
     names: &[String],
@@ -271,10 +271,10 @@ fn both_sides(alloc: Global, current: Value, next: Value) -> Result<Value, Alloc
     Ok(Value::Table(sides))
 }
 
-/// The member `rules`.
-fn rules_of(alloc: Global, p: &Parts) -> Result<Document, AllocError>
+/// The rows that every table has.
+fn all_rows(alloc: Global, p: &Parts) -> Result<Document, AllocError>
     requires { IsTable (data_of p.now) }
-    ensures { IfOk result (λ t. members_view t.entries ≡ spec.written_rules (data_of p.now)) }
+    ensures { IfOk result (λ t. members_view t.entries ≡ spec.all_rows (data_of p.now)) }
 {
     let names = p.modes.names();
     let mut rules = Document::new(alloc);
@@ -305,6 +305,30 @@ fn rules_of(alloc: Global, p: &Parts) -> Result<Document, AllocError>
     Ok(rules)
 }
 
+/// The member `rules`: the row of updates is there where they are offered.
+fn rules_of(alloc: Global, p: &Parts) -> Result<Document, AllocError>
+    requires { IsTable (data_of p.now) }
+    ensures { IfOk result (λ t. members_view t.entries ≡ spec.written_rules (data_of p.now)) }
+{
+    let mut rules = all_rows(alloc, p)?;
+    if let Some(request) = p.update {
+        let clauses = plain_clauses(alloc, p.modes.names(), request)?;
+        let update = one_side(alloc, "current", clauses)?;
+        put_in(alloc, &mut rules, "update", update)?;
+    }
+    Ok(rules)
+}
+
+/// The number of the format.
+fn format_of(p: &Parts) -> i64
+    ensures { result ≡ pos (spec.format_of p.now.update) }
+{
+    match p.update {
+        Some(_) => 2,
+        None => 1,
+    }
+}
+
 /// The document that is written for a table.
 fn document_of(alloc: Global, p: &Parts) -> Result<Document, AllocError>
     requires { IsTable (data_of p.now) }
@@ -312,7 +336,7 @@ fn document_of(alloc: Global, p: &Parts) -> Result<Document, AllocError>
 {
     let names = p.modes.names();
     let mut document = Document::new(alloc);
-    put_in(alloc, &mut document, "format", Value::Integer(1))?;
+    put_in(alloc, &mut document, "format", Value::Integer(format_of(p)))?;
     put_in(alloc, &mut document, "modes", texts_of(alloc, names)?)?;
     let compatible = compatible_entries(alloc, names, p.modes.compatible())?;
     put_in(alloc, &mut document, "compatible", Value::Table(compatible))?;

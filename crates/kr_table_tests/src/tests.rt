@@ -1,8 +1,8 @@
 //! The first fault of wrong tables, and that the bundled tables are what they stand for.
 mod ample;
 
-use kr_protocol::{Im, Kvl, Protocol, RangeKey, Row, Side};
-use kr_table::texts::{IM, KVL, RANGE_KEY};
+use kr_protocol::{Im, Kvl, KvlUpdate, Mode, Protocol, RangeKey, Row, Side, Span};
+use kr_table::texts::{IM, KVL, KVL_UPDATE, RANGE_KEY};
 use kr_table::{Table, TableFault, read, write};
 use std::alloc::{AllocError, Global};
 use std::test::Fail;
@@ -67,7 +67,7 @@ fn told_of_rules(alloc: Global, rules: &str) -> Result<String, AllocError> {
 }
 
 /// A line of the plain table, what stands in its place, and what is told of it.
-const FAULTS_OF_THE_DOCUMENT: [(usize, &str, &str); 12] = [
+const FAULTS_OF_THE_DOCUMENT: [(usize, &str, &str); 16] = [
     (0, "format = 1", "none"),
     (0, "zeta = 1\nformat = 1", "fault 4 Field at zeta"),
     (0, "'' = 1\nformat = 1", "fault 4 Field at "),
@@ -75,7 +75,11 @@ const FAULTS_OF_THE_DOCUMENT: [(usize, &str, &str); 12] = [
     (0, "format = 1.0", "fault 4 Field at format"),
     (0, "", "fault 4 Field at format"),
     (0, "format = -1", "fault 3 Format"),
-    (0, "format = 2", "fault 3 Format"),
+    (0, "format = 0", "fault 3 Format"),
+    (0, "format = 2", "none"),
+    (0, "format = 2.0", "fault 4 Field at format"),
+    (0, "format = 3", "fault 3 Format"),
+    (0, "zeta = 1\nformat = 2", "fault 4 Field at zeta"),
     (1, r#"modes = "A""#, "fault 4 Field at modes"),
     (2, "compatible = []", "fault 4 Field at compatible"),
     (3, "", "fault 4 Field at convert"),
@@ -288,10 +292,75 @@ fn tells_faults_of_spans_and_own_modes(rt: HostRuntime) -> Result<(), AllocError
     Ok(())
 }
 
+/// A format and rules in place of the plain table's, and what is told of them.
+const FAULTS_OF_UPDATES: [(&str, &str, &str); 10] = [
+    (
+        "format = 1",
+        r#"update = { current = [{ mode = "A", span = "commit" }] }"#,
+        "fault 9 Rule at rules.update",
+    ),
+    (
+        "format = 1",
+        "update = { next = [] }",
+        "fault 9 Rule at rules.update",
+    ),
+    (
+        "format = 2",
+        r#"update = { current = [{ mode = "A", span = "commit" }] }"#,
+        "none",
+    ),
+    ("format = 2", "update = []", "fault 9 Rule at rules.update"),
+    (
+        "format = 2",
+        "update = { next = [] }",
+        "fault 9 Rule at rules.update.next",
+    ),
+    (
+        "format = 2",
+        "update = { current = {} }",
+        "fault 9 Rule at rules.update.current",
+    ),
+    (
+        "format = 2",
+        r#"update = { current = [{ mode = "B", span = "commit" }] }"#,
+        "fault 9 Rule at rules.update.current.0",
+    ),
+    (
+        "format = 2",
+        r#"update = { current = [{ own = [], mode = "A", span = "commit" }] }"#,
+        "fault 10 OwnNotAllowed at rules.update.current.0",
+    ),
+    (
+        "format = 2",
+        r#"update = { current = [{ mode = "A", span = "commit" }, { own = ["none"], mode = "A", span = "commit" }] }"#,
+        "fault 10 OwnNotAllowed at rules.update.current.1",
+    ),
+    (
+        "format = 2",
+        "scan-stop = { current = [] }, update = { next = [] }",
+        "fault 9 Rule at rules.scan-stop.current",
+    ),
+];
+
+#[test]
+fn tells_faults_of_updates(rt: HostRuntime) -> Result<(), AllocError> {
+    let alloc = rt.alloc();
+    for (format, rules, fault) in FAULTS_OF_UPDATES {
+        let line = format!(in alloc; "rules = {{ {rules} }}")?;
+        let text = changed(alloc, (0, format), (4, line.as_str()))?;
+        assert_eq!(rt;
+            told(alloc, text.as_bytes())?.as_str(),
+            fault,
+            "{format} {rules}"
+        );
+    }
+    Ok(())
+}
+
 /// Two lines of the plain table, what stands in place of each, and what is told first.
 const THE_FIRST_FAULT_OF_THE_DOCUMENT: [(usize, &str, usize, &str, &str); 7] = [
-    (0, "format = 2", 4, "rules = [", "fault 2 NotToml"),
-    (0, "format = 2\nzeta = 1", 1, "", "fault 3 Format"),
+    (0, "format = 3", 4, "rules = [", "fault 2 NotToml"),
+    (0, "format = 3\nzeta = 1", 1, "", "fault 3 Format"),
     (
         0,
         "zeta = 1\nformat = 1\neta = 1",
@@ -443,7 +512,8 @@ fn refuses_broken_tables(rt: HostRuntime) -> Result<(), Fail> {
     for (text, fault) in [
         ("format = 1\nmodes = [\"IS\"", "fault 2 NotToml"),
         ("format = 1", "fault 4 Field at modes"),
-        ("format = 2", "fault 3 Format"),
+        ("format = 2", "fault 4 Field at modes"),
+        ("format = 3", "fault 3 Format"),
         ("", "fault 4 Field at format"),
         (front, "fault 4 Field at rules"),
     ] {
@@ -479,13 +549,14 @@ fn refuses_long_texts_first(rt: HostRuntime) -> Result<(), AllocError> {
     Ok(())
 }
 
-const ROWS: [Row; 6] = [
+const ROWS: [Row; 7] = [
     Row::FetchHit,
     Row::FetchMiss,
     Row::ScanKey,
     Row::ScanStop,
     Row::Insert,
     Row::Delete,
+    Row::Update,
 ];
 
 /// Whether two protocols with as many modes ask for the same at each row and side.
@@ -507,7 +578,7 @@ fn ask_alike<P: Protocol, Q: Protocol>(one: &P, other: &Q) -> bool {
 
 /// Whether two protocols answer each call alike.
 fn are_alike<P: Protocol, Q: Protocol>(one: &P, other: &Q) -> bool {
-    if one.count() != other.count() {
+    if one.count() != other.count() || one.updates() != other.updates() {
         return false;
     }
     for mode in 0..one.count() + 1 {
@@ -530,6 +601,9 @@ fn bundled_tables_are_what_they_stand_for(rt: HostRuntime) -> Result<(), Fail> {
     let alloc = rt.alloc();
     let kvl = read(alloc, KVL.as_bytes())?;
     assert!(rt; are_alike(&kvl, &Kvl), "kvl");
+    let kvl_update = read(alloc, KVL_UPDATE.as_bytes())?;
+    assert!(rt; are_alike(&kvl_update, &KvlUpdate), "kvl-update");
+    assert!(rt; !are_alike(&kvl_update, &Kvl), "updates");
     let im = read(alloc, IM.as_bytes())?;
     assert!(rt; are_alike(&im, &Im), "im");
     let range_key = read(alloc, RANGE_KEY.as_bytes())?;
@@ -542,12 +616,68 @@ fn bundled_tables_are_what_they_stand_for(rt: HostRuntime) -> Result<(), Fail> {
 fn tables_are_read_back(rt: HostRuntime) -> Result<(), Fail> {
     let alloc = rt.alloc();
     let plain = changed(alloc, (0, "format = 1"), (0, "format = 1"))?;
-    for text in [KVL, IM, RANGE_KEY, plain.as_str()] {
+    for text in [KVL, KVL_UPDATE, IM, RANGE_KEY, plain.as_str()] {
         let table = read(alloc, text.as_bytes())?;
         let written = write(alloc, &table)?;
         let again = read(alloc, written.as_bytes())?;
         assert!(rt; are_alike(&table, &again), "{text}");
     }
+    Ok(())
+}
+
+/// Rules of format 2 in place of the plain table's, and what an update asks for.
+const ROWS_OF_UPDATES: [(&str, Option<(Mode, Span)>); 6] = [
+    ("", None),
+    ("update = {}", None),
+    ("update = { current = [] }", None),
+    (
+        r#"update = { current = [{ mode = "A", span = "commit" }] }"#,
+        Some((1, Span::Commit)),
+    ),
+    (
+        r#"update = { current = [{ mode = "A", span = "instant" }] }"#,
+        Some((1, Span::Instant)),
+    ),
+    (
+        r#"update = { current = [{ mode = "A", span = "instant" }, { mode = "A", span = "commit" }] }"#,
+        Some((1, Span::Instant)),
+    ),
+];
+
+#[test]
+fn tables_that_offer_updates_are_read_back(rt: HostRuntime) -> Result<(), Fail> {
+    let alloc = rt.alloc();
+    for (rules, asked) in ROWS_OF_UPDATES {
+        let line = format!(in alloc; "rules = {{ {rules} }}")?;
+        let text = changed(alloc, (0, "format = 2"), (4, line.as_str()))?;
+        let table = read(alloc, text.as_bytes())?;
+        assert!(rt; table.updates(), "{rules}");
+        for own in 0..table.count() + 1 {
+            assert_eq!(rt;
+                table.ask(Row::Update, Side::Current, own),
+                asked,
+                "{rules}"
+            );
+            assert_eq!(rt; table.ask(Row::Update, Side::Next, own), None, "{rules}");
+        }
+        let written = write(alloc, &table)?;
+        let again = read(alloc, written.as_bytes())?;
+        assert!(rt; are_alike(&table, &again), "{rules}");
+    }
+    Ok(())
+}
+
+#[test]
+fn the_format_alone_makes_two_tables(rt: HostRuntime) -> Result<(), Fail> {
+    let alloc = rt.alloc();
+    let first = changed(alloc, (0, "format = 1"), (0, "format = 1"))?;
+    let second = changed(alloc, (0, "format = 2"), (0, "format = 2"))?;
+    let without = read(alloc, first.as_bytes())?;
+    let with = read(alloc, second.as_bytes())?;
+    assert!(rt; !without.updates());
+    assert!(rt; with.updates());
+    assert!(rt; ask_alike(&without, &with));
+    assert!(rt; !are_alike(&without, &with));
     Ok(())
 }
 

@@ -1,13 +1,14 @@
-//! Eight threads of a thousand transactions each, on sixteen keys: the closed history is that of one run, and serial.
+//! Eight threads of a thousand transactions each, on sixteen keys, of which some are taken back one change at a time: the
+//! closed history is that of one run, and serial.
 ghost use Rattle.std.specs.Prelude.{◌≡◌};
 ghost use Rattle.kr_model.specs.Map.{IsMap};
-ghost use Rattle.kr_model.specs.Kvl.{kvl};
+ghost use Rattle.kr_model.specs.KvlUpdate.{kvl_update};
 
 use kr_engine::{
     Engine, EngineFault, EngineName, Entry, History, Op, PlaceRow, Reply, Seat, Share, Txn,
 };
-use kr_model::Event;
-use kr_protocol::Kvl;
+use kr_model::{Event, Refusal};
+use kr_protocol::KvlUpdate;
 use kr_serial::{judge, run};
 use std::alloc::{AllocError, Global};
 use std::marker::Brand;
@@ -30,12 +31,28 @@ fn operation_of(number: u64) -> Op {
     match (number >> 40) % 4 {
         0 => Op::Insert(key, number >> 50),
         1 => Op::Delete(key),
+        2 => Op::Update(key, number >> 50),
         _ => Op::Fetch(key),
     }
 }
 
-/// Four operations of a transaction and its commit, or an abort where a deadlock is told. Whether each was done.
-fn transact<K: EngineName, R: Wait>(rt: &R, seat: &mut Seat<'_, Kvl, K>, txn: Txn) -> bool {
+/// Takes up to two changes of a transaction back, one at a time, and aborts it, which takes back the rest. Whether each
+/// was done.
+fn roll_back<K: EngineName, R: Wait>(rt: &R, seat: &mut Seat<'_, KvlUpdate, K>) -> bool {
+    let mut good = true;
+    for _ in 0..2u32 {
+        match seat.call(rt, Op::Back) {
+            Ok(_) => {}
+            Err(EngineFault::Refused(Reply::Refused(Refusal::NothingLeft))) => {}
+            Err(_) => good = false,
+        }
+    }
+    seat.call(rt, Op::Abort).is_ok() && good
+}
+
+/// Four operations of a transaction and its commit, or an abort where a deadlock is told; every fourth is rolled back.
+/// Whether each was done.
+fn transact<K: EngineName, R: Wait>(rt: &R, seat: &mut Seat<'_, KvlUpdate, K>, txn: Txn) -> bool {
     if seat.begin(rt, txn).is_err() {
         return false;
     }
@@ -52,6 +69,9 @@ fn transact<K: EngineName, R: Wait>(rt: &R, seat: &mut Seat<'_, Kvl, K>, txn: Tx
             }
         }
     }
+    if txn % 4 == 0 {
+        return roll_back(rt, seat);
+    }
     seat.call(rt, Op::Commit).is_ok()
 }
 
@@ -59,7 +79,7 @@ fn transact<K: EngineName, R: Wait>(rt: &R, seat: &mut Seat<'_, Kvl, K>, txn: Tx
 #[derive(Drop)]
 struct Job<'a, K: EngineName> {
     first: Txn,
-    seat: Seat<'a, Kvl, K>,
+    seat: Seat<'a, KvlUpdate, K>,
 }
 
 /// A seat's transactions, one after another. Its share, if each was ended.
@@ -77,7 +97,7 @@ fn work<K: EngineName, R: Wait>(rt: &R, job: Job<'_, K>) -> Option<Share<K>> {
 fn jobs_of<'a, K: EngineName, R: Wait>(
     rt: &R,
     alloc: Global,
-    engine: &'a Engine<Kvl, K>,
+    engine: &'a Engine<KvlUpdate, K>,
 ) -> Result<Vec<Job<'a, K>>, AllocError> {
     let mut jobs = Vec::new(alloc);
     for worker in 0..8u32 {
@@ -117,6 +137,8 @@ fn is_same(one: &Reply, other: &Reply) -> bool {
     match (one, other) {
         (Reply::Found(value), Reply::Found(found)) => value == found,
         (Reply::Deleted(value), Reply::Deleted(deleted)) => value == deleted,
+        (Reply::Updated(value), Reply::Updated(updated)) => value == updated,
+        (Reply::Undone(left), Reply::Undone(remaining)) => left == remaining,
         (Reply::None, Reply::None)
         | (Reply::Done, Reply::Done)
         | (Reply::Duplicate, Reply::Duplicate)
@@ -147,7 +169,7 @@ fn is_replayed(alloc: Global, opening: &[(u64, u64)], history: &History) -> Resu
 {
     let entries = history.entries.as_slice();
     let events = events_of(alloc, entries)?;
-    let ran = run(alloc, &Kvl, opening, events.as_slice())
+    let ran = run(alloc, &KvlUpdate, opening, events.as_slice())
         .ok()
         .ok_or("run")?;
     let verdict = judge(alloc, &ran).ok().ok_or("judge")?;
@@ -164,6 +186,15 @@ fn is_replayed(alloc: Global, opening: &[(u64, u64)], history: &History) -> Resu
     )
 }
 
+/// Whether a key was updated, and a change taken back before the last of its transaction.
+fn has_both(entries: &[Entry]) -> bool {
+    let updated = entries
+        .iter()
+        .any(|entry| matches!(entry.reply, Reply::Updated(_)));
+    let undone = entries.iter().any(|entry| matches!(entry.reply, Reply::Undone(left) if left > 0));
+    updated && undone
+}
+
 /// Whether all of this is so of an engine in which eight threads have done their transactions.
 fn soaks<K: EngineName + Send + Sync, R: Threads + Wait + Sync>(
     rt: &R,
@@ -173,22 +204,22 @@ fn soaks<K: EngineName + Send + Sync, R: Threads + Wait + Sync>(
 ) -> Result<bool, Fail>
     requires row { row ≡ K.places }
     requires opening { opening.now ≡ K.opening }
-    requires table { kvl ≡ K.table }
+    requires table { kvl_update ≡ K.table }
     requires is_map { IsMap opening.now }
 {
-    let mut engine = Engine::<Kvl, K>::new(alloc, Kvl, opening, row)?;
+    let mut engine = Engine::<KvlUpdate, K>::new(alloc, KvlUpdate, opening, row)?;
     let jobs = jobs_of(rt, alloc, &engine)?;
     let shares = thread::map_vec(rt, jobs, &|job| work(rt, job))?;
     let Some(shares) = all_of(alloc, shares)? else {
         return Ok(false);
     };
     let history = engine.close(&shares).ok().ok_or("closed")?;
-    is_replayed(alloc, opening, &history)
+    Ok(has_both(&history.entries) && is_replayed(alloc, opening, &history)?)
 }
 
 #[test]
 fn eight_threads(rt: HostRuntime) -> Result<(), Fail> {
-    let row = PlaceRow::new(rt.alloc(), 50_000).ok().ok_or("row")?;
+    let row = PlaceRow::new(rt.alloc(), 100_000).ok().ok_or("row")?;
     assert!(rt; soaks::<Brand, _>(&rt, rt.alloc(), &[(3, 1), (7, 2), (11, 3)], row)?);
     Ok(())
 }

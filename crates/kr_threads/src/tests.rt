@@ -3,9 +3,10 @@ ghost use Rattle.std.specs.Prelude.{◌<◌, ◌≤◌};
 mod deadlock;
 mod gates;
 mod many;
+mod updates;
 
 use crate::{Gate, Passage, run_threads};
-use kr_protocol::Kvl;
+use kr_protocol::{Covered, Kvl};
 use kr_script::{Script, Threaded, read_script, report_threads};
 use kr_serial::{judge, run};
 use std::alloc::Global;
@@ -13,28 +14,54 @@ use std::sync::Wait;
 use std::test::Fail;
 use std::thread::Threads;
 
-/// A script of these steps, on an opening index of three pairs.
-fn script_of(alloc: Global, steps: &str) -> Result<Script, Fail> {
+/// A script of this format with these steps, on an opening index of three pairs.
+fn script_of(alloc: Global, format: u32, steps: &str) -> Result<Script, Fail> {
     let text = format!(in alloc;
-        "{{\"format\":1,\"opening\":[[10,1],[20,2],[30,3]],\"steps\":{steps}}}"
+        "{{\"format\":{format},\"opening\":[[10,1],[20,2],[30,3]],\"steps\":{steps}}}"
     )?;
     Ok(read_script(alloc, text.as_bytes()).ok().ok_or("script")?)
 }
 
 /// Whether what is shown beside the history is what a run of its steps leaves, one after another: the replies, the
 /// programs, the index and the locks.
-fn is_replayed(alloc: Global, script: &Script, done: &Threaded) -> Result<bool, Fail> {
+fn is_replayed<P: Covered>(
+    alloc: Global,
+    protocol: &P,
+    script: &Script,
+    done: &Threaded,
+) -> Result<bool, Fail> {
     let mut steps = Vec::new(alloc);
     for answered in &done.history {
         steps.push(answered.event)?;
     }
-    let ran = run(alloc, &Kvl, script.opening(), &steps)
+    let ran = run(alloc, protocol, script.opening(), &steps)
         .ok()
         .ok_or("replay")?;
     Ok(format!(in alloc; "{:?}", done.ran)? == format!(in alloc; "{ran:?}")?)
 }
 
-/// What a run of these steps shows, which is compared with a replay.
+/// What a run of a script shows, which is compared with a replay.
+fn done_under<P: Covered + Sync, G: Gate + Sync, R: Threads + Wait + Sync>(
+    rt: &R,
+    alloc: Global,
+    protocol: &P,
+    script: &Script,
+    workers: usize,
+    gate: &G,
+) -> Result<Threaded, Fail>
+    requires { (0 < workers) × (workers ≤ 64) }
+{
+    let done = run_threads(rt, alloc, protocol, script, workers, gate)
+        .ok()
+        .ok_or("runs")?;
+    if is_replayed(alloc, protocol, script, &done)? {
+        Ok(done)
+    } else {
+        Err("replayed")?
+    }
+}
+
+/// The same of these steps under key-value locking.
 fn done_by<G: Gate + Sync, R: Threads + Wait + Sync>(
     rt: &R,
     alloc: Global,
@@ -44,15 +71,8 @@ fn done_by<G: Gate + Sync, R: Threads + Wait + Sync>(
 ) -> Result<Threaded, Fail>
     requires { (0 < workers) × (workers ≤ 64) }
 {
-    let script = script_of(alloc, steps)?;
-    let done = run_threads(rt, alloc, &Kvl, &script, workers, gate)
-        .ok()
-        .ok_or("runs")?;
-    if is_replayed(alloc, &script, &done)? {
-        Ok(done)
-    } else {
-        Err("replayed")?
-    }
+    let script = script_of(alloc, 1, steps)?;
+    done_under(rt, alloc, &Kvl, &script, workers, gate)
 }
 
 /// The report of a run of these steps.

@@ -13,7 +13,7 @@ scan_of s = record { lo = s.lo; hi = s.hi; rows = s.rows.items }
 
 -- How an active transaction stands: its changes newest first.
 abbrev pub active_of : Standing → state.Active
-active_of s = record { scan = option_map scan_of s.scan; changes = reverse s.changes.items }
+active_of s = record { scan = option_map scan_of s.scan; changes = reverse s.changes.items; rolling = s.rolling }
 
 -- The number of an active transaction, and how it stands.
 abbrev pub entry : Standing → ℕ × state.Active

@@ -41,8 +41,10 @@ pub struct Standing {
     pub txn: Txn,
     /// Its scan in progress, if there is one.
     pub scan: Option<Scan>,
-    /// Its changes, oldest first: each a key, and the value that stood there before, or nothing.
+    /// Its changes left, oldest first: each a key, and the value that stood there before, or nothing.
     pub changes: Vec<(u64, Option<u64>)>,
+    /// Whether it rolls back: a change of it was taken back.
+    pub rolling: bool,
 }
 
 impl Standing {
@@ -55,6 +57,7 @@ impl Standing {
             txn,
             scan: None,
             changes: Vec::new(alloc),
+            rolling: false,
         }
     }
 }

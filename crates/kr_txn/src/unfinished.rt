@@ -69,8 +69,10 @@ pub fn what_to_log(reply: &Reply) -> Logging
         Reply::Duplicate => Logging::Operation,
         Reply::Deleted(_) => Logging::Operation,
         Reply::Absent => Logging::Operation,
+        Reply::Updated(_) => Logging::Operation,
         Reply::Committed => Logging::Committing,
         Reply::Aborted => Logging::Aborting,
+        Reply::Undone(_) => Logging::Nothing,
         Reply::Blocked(_) => Logging::Nothing,
         Reply::Refused(_) => Logging::Nothing,
     }
@@ -84,11 +86,17 @@ pub fn with_step(operations: Vec<(Op, Reply)>, op: Op, reply: Reply) -> Vec<(Op,
     let mut operations = operations;
     match op {
         Op::Go => go_on(operations, reply),
-        Op::Fetch(_) | Op::Scan(_, _) | Op::Insert(_, _) | Op::Delete(_) | Op::Commit | Op::Abort =>
-            {
-                operations.push_reserved((op, reply));
-                operations
-            }
+        Op::Fetch(_)
+        | Op::Scan(_, _)
+        | Op::Insert(_, _)
+        | Op::Delete(_)
+        | Op::Update(_, _)
+        | Op::Commit
+        | Op::Abort
+        | Op::Back => {
+            operations.push_reserved((op, reply));
+            operations
+        }
     }
 }
 

@@ -1,9 +1,9 @@
 //! Checks with ample memory, none of which answers want of memory: accepted and refused, each again and again, by reference,
 //! and once more when accepted.
-use super::{DeletesNextInstant, InsertAlwaysIx};
+use super::{DeletesNextInstant, InsertAlwaysIx, UpdateUnderIx, open_key};
 use kr_cases::{Cause, FailedCase, Rejected, check};
 use kr_model::{Cover, Mode, Origin, Place, Row, Rule, Side};
-use kr_protocol::{Im, Kvl, Protocol, RangeKey};
+use kr_protocol::{Im, Kvl, KvlUpdate, Protocol, RangeKey};
 use std::alloc::Global;
 use std::process::Abort;
 
@@ -40,6 +40,7 @@ fn accepted_again_and_again(rt: HostRuntime) {
     let alloc = rt.alloc();
     for _ in 0..20 {
         assert_eq!(rt; failed(&rt, alloc, &Kvl), (0, None));
+        assert_eq!(rt; failed(&rt, alloc, KvlUpdate), (0, None));
         assert_eq!(rt; failed(&rt, alloc, &&Im), (0, None));
         assert_eq!(rt; failed(&rt, alloc, RangeKey), (0, None));
         match check(alloc, Kvl) {
@@ -68,8 +69,10 @@ fn refused_again_and_again(rt: HostRuntime) {
         Row::FetchMiss,
         Side::Next,
     );
+    let key = open_key(Rule::Insert, Cover::InsertedKey, Origin::Two(0, 0));
     for _ in 0..20 {
         assert_eq!(rt; failed(&rt, alloc, InsertAlwaysIx), (15, Some(split)));
+        assert_eq!(rt; failed(&rt, alloc, &UpdateUnderIx), (12, Some(key)));
         assert_eq!(rt; failed(&rt, alloc, &DeletesNextInstant), (4, Some(gap)));
     }
 }

@@ -57,6 +57,87 @@ fn odd_steps(rt: HostRuntime) -> Result<(), AllocError> {
     Ok(())
 }
 
+/// Steps that are scripts in format 2 alone, and some that are none there.
+const LATER: [(&str, &str); 9] = [
+    ("[[1,\"back\"],[1,\"update\",1,2]]", "none"),
+    (
+        "[[1,\"update\",18446744073709551615,18446744073709551615]]",
+        "none",
+    ),
+    ("[[1,\"b\\u0061ck\"]]", "none"),
+    (
+        "[[1,\"update\",1,18446744073709551616]]",
+        "fault 6 Step at 0",
+    ),
+    ("[[1,\"back\"],[1,\"update\",1,2.0]]", "fault 6 Step at 1"),
+    ("[[1,\"update\",1,-0]]", "fault 6 Step at 0"),
+    ("[[1,\"update\",1]]", "fault 6 Step at 0"),
+    ("[[1,\"back\",1]]", "fault 6 Step at 0"),
+    ("[[1,\"back\",]]", "fault 2 NotJson"),
+];
+
+#[test]
+fn odd_steps_of_format_2(rt: HostRuntime) -> Result<(), AllocError> {
+    let alloc = rt.alloc();
+    for (steps, fault) in LATER {
+        let text = format!(in alloc; "{{\"format\":2,\"opening\":[],\"steps\":{steps}}}")?;
+        assert_eq!(rt;
+            script_fault(alloc, text.as_bytes())?.as_str(),
+            fault,
+            "{steps}"
+        );
+        let text = format!(in alloc; "{{\"format\":1,\"opening\":[],\"steps\":{steps}}}")?;
+        assert!(rt;
+            script_fault(alloc, text.as_bytes())?
+                .as_str()
+                .starts_with("fault "),
+            "{steps}"
+        );
+    }
+    Ok(())
+}
+
+/// A format that stands twice or behind the steps, and counts as the last of its kind.
+const FORMATS: [(&str, &str); 6] = [
+    (
+        "{\"format\":1,\"opening\":[],\"steps\":[[1,\"back\"]],\"format\":2}",
+        "none",
+    ),
+    (
+        "{\"format\":2,\"opening\":[],\"steps\":[[1,\"back\"]],\"format\":1}",
+        "fault 6 Step at 0",
+    ),
+    (
+        "{\"steps\":[[1,\"back\"]],\"opening\":[],\"format\":2}",
+        "none",
+    ),
+    (
+        "{\"format\":3,\"opening\":[],\"steps\":[[1,\"back\"]]}",
+        "fault 3 Format",
+    ),
+    (
+        "{\"format\":2.0,\"opening\":[],\"steps\":[]}",
+        "fault 4 Field at format",
+    ),
+    (
+        "{\"format\":18446744073709551615,\"opening\":[],\"steps\":[]}",
+        "fault 3 Format",
+    ),
+];
+
+#[test]
+fn odd_formats(rt: HostRuntime) -> Result<(), AllocError> {
+    let alloc = rt.alloc();
+    for (text, fault) in FORMATS {
+        assert_eq!(rt;
+            script_fault(alloc, text.as_bytes())?.as_str(),
+            fault,
+            "{text}"
+        );
+    }
+    Ok(())
+}
+
 const MEMBERS: [(&str, &str); 7] = [
     ("\"steps\":[[1,\"go\"]],\"steps\":[]", "none"),
     ("\"steps\":[],\"steps\":0", "fault 4 Field at steps"),
@@ -90,7 +171,10 @@ fn odd_members(rt: HostRuntime) -> Result<(), AllocError> {
     Ok(())
 }
 
-const TABLES: [(&str, &str); 13] = [
+const TABLES: [(&str, &str); 16] = [
+    ("format = 2", "fault 4 Field at modes"),
+    ("format = 0x2", "fault 4 Field at modes"),
+    ("format = 3", "fault 3 Format"),
     ("format = 1\nformat = 1", "fault 2 NotToml"),
     ("format = 1\n[modes]\n[modes]", "fault 2 NotToml"),
     ("format = 0x1", "fault 4 Field at modes"),

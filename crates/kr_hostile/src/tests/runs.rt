@@ -1,7 +1,7 @@
 //! Scripts that are read, run, judged and reported.
 
 use super::tables::table_of;
-use kr_protocol::{Kvl, Protocol};
+use kr_protocol::{Kvl, KvlUpdate, Protocol};
 use kr_script::{Script, ScriptFault, read_script, report_run};
 use kr_serial::{Ran, Verdict, judge, run_any};
 use std::alloc::{AllocError, Global};
@@ -27,6 +27,15 @@ const SPLIT_REPORT: &str =
 /// The same under key-value locking.
 const SERIAL_REPORT: &str =
     r#"{"index":[[10,1],[15,5],[20,2],[30,3]],"locks":[],"replies":[["none"],["done"],["blocked",[1]],["committed"],["committed"]],"unfinished":[],"verdict":["serial"]}"#;
+
+/// A script of format 2: an update, an insert and an update of its key are taken back one after another, and another
+/// transaction fetches between.
+const BACK: &str =
+    r#"{"format":2,"opening":[[10,1],[20,2],[30,3]],"steps":[[1,"update",20,9],[1,"insert",25,5],[1,"update",25,6],[1,"back"],[2,"fetch",25],[1,"back"],[2,"fetch",25],[1,"back"],[1,"commit"],[1,"abort"],[2,"commit"]]}"#;
+
+/// The report of its run under key-value locking with updates.
+const BACK_REPORT: &str =
+    r#"{"index":[[10,1],[20,2],[30,3]],"locks":[],"replies":[["updated",2],["done"],["updated",5],["undone",2],["blocked",[1]],["undone",1],["none"],["undone",0],["refused",8,"RollingBack"],["aborted"],["committed"]],"unfinished":[],"verdict":["serial"]}"#;
 
 /// The script that a text is, read again where a growth was refused.
 pub fn script_of(rt: &impl Abort, alloc: Global, text: &str) -> Result<Script, ScriptFault> {
@@ -79,6 +88,15 @@ fn split_under_key_value_locking(rt: HostRuntime) -> Result<(), Fail> {
     let script = script_of(&rt, alloc, SPLIT)?;
     let text = report(alloc, &Kvl, &script)?;
     assert_eq!(rt; text.as_str(), SERIAL_REPORT);
+    Ok(())
+}
+
+#[test]
+fn changes_back_under_key_value_locking(rt: HostRuntime) -> Result<(), Fail> {
+    let alloc = rt.alloc();
+    let script = script_of(&rt, alloc, BACK)?;
+    let text = report(alloc, &KvlUpdate, &script)?;
+    assert_eq!(rt; text.as_str(), BACK_REPORT);
     Ok(())
 }
 

@@ -19,7 +19,9 @@ enum Short {
     Nothing(usize),
     Done(usize),
     Found(usize, u64),
+    Deleted(usize, u64),
     Committed(usize),
+    Undone(usize, u64),
     Blocked(Txn),
     Memory,
     Other,
@@ -30,7 +32,9 @@ fn of_receipt(receipt: &Receipt) -> Short {
         Reply::None => Short::Nothing(receipt.place),
         Reply::Done => Short::Done(receipt.place),
         Reply::Found(value) => Short::Found(receipt.place, *value),
+        Reply::Deleted(value) => Short::Deleted(receipt.place, *value),
         Reply::Committed => Short::Committed(receipt.place),
+        Reply::Undone(left) => Short::Undone(receipt.place, *left),
         _ => Short::Other,
     }
 }
@@ -94,12 +98,12 @@ fn begun<'a, K: EngineName, R: Wait>(
     Ok((seat, began))
 }
 
-/// Whether the engine, closed with this share, shows five entries, again where a growth was refused.
+/// Whether the engine, closed with this share, shows seven entries, again where a growth was refused.
 fn closes<K: EngineName>(engine: &mut Engine<Kvl, K>, shares: &[Share<K>]) -> bool {
     match engine.close(shares) {
-        Ok(history) => history.entries.len() == 5,
+        Ok(history) => history.entries.len() == 7,
         Err(CloseFault::Memory) => match engine.close(shares) {
-            Ok(history) => history.entries.len() == 5,
+            Ok(history) => history.entries.len() == 7,
             Err(_) => false,
         },
         Err(_) => false,
@@ -152,6 +156,11 @@ fn plays<K: EngineName, R: Wait + Abort>(
     assert_eq!(rt; tried(rt, &mut third, Op::Fetch(17)), Short::Blocked(2));
     assert_eq!(rt; call(rt, &mut second, Op::Commit), Short::Committed(3));
     assert_eq!(rt; called(rt, &mut third, Op::Fetch(17)), Short::Found(4, 5));
+    assert_eq!(rt;
+        called(rt, &mut third, Op::Delete(17)),
+        Short::Deleted(5, 5)
+    );
+    assert_eq!(rt; called(rt, &mut third, Op::Back), Short::Undone(6, 0));
     Ok(third.leave(rt))
 }
 

@@ -1,16 +1,16 @@
-//! Steps of a machine: a scan that meets a delete, and a step in two parts.
+//! Steps of a machine: a scan that meets a delete, a step in two parts, and changes that are taken back one at a time.
 ghost use Rattle.std.specs.Prelude.{◌≡◌, None, IfOk};
 
 use kr_index::Tree;
 use kr_locks::{Buckets, Memory};
 use kr_machine::{Machine, Mode, Name, Txn};
 use kr_model::{Op, Pairs, Refusal, Reply, Txns};
-use kr_protocol::Kvl;
+use kr_protocol::KvlUpdate;
 use std::alloc::Global;
 use std::process::Abort;
 use std::test::Fail;
 
-type KvlMachine = Machine<Kvl, Tree, Buckets>;
+type KvlMachine = Machine<KvlUpdate, Tree, Buckets>;
 
 /// What can be seen of a machine.
 #[derive(Drop)]
@@ -56,6 +56,8 @@ enum Want {
     /// Two rows.
     Rows((u64, u64), (u64, u64)),
     Deleted(u64),
+    Updated(u64),
+    Undone(u64),
     Done,
     /// Blocked by one transaction.
     Blocked(Txn),
@@ -66,7 +68,9 @@ enum Want {
 fn is(reply: &Reply, want: Want) -> bool {
     match (reply, want) {
         (Reply::Going(key), Want::Going(wanted)) => *key == wanted,
-        (Reply::Deleted(value), Want::Deleted(wanted)) => *value == wanted,
+        (Reply::Deleted(value), Want::Deleted(wanted))
+        | (Reply::Updated(value), Want::Updated(wanted)) => *value == wanted,
+        (Reply::Undone(left), Want::Undone(wanted)) => *left == wanted,
         (Reply::Rows(rows), Want::Rows(first, last)) => rows.as_slice() == [first, last].as_slice(),
         (Reply::Blocked(txns), Want::Blocked(txn)) => txns.as_slice() == [txn].as_slice(),
         (Reply::Done, Want::Done)
@@ -98,7 +102,7 @@ fn row(rt: &impl Abort, machine: &mut KvlMachine, txn: Txn, op: Op, want: Want) 
     Ok(())
 }
 
-/// A machine with three keys under key-value locking.
+/// A machine with three keys under key-value locking with updates.
 fn opened(alloc: Global) -> Result<KvlMachine, Memory>
     ensures { IfOk result (λ machine. machine.pending ≡ None) }
 {
@@ -106,7 +110,7 @@ fn opened(alloc: Global) -> Result<KvlMachine, Memory>
         Ok(index) => index,
         Err(_) => Tree::from_pairs(alloc, &[(10, 1), (20, 2), (30, 3)])?,
     };
-    Ok(Machine::new(alloc, Kvl, index, Buckets::new(alloc)))
+    Ok(Machine::new(alloc, KvlUpdate, index, Buckets::new(alloc)))
 }
 
 /// A scan is blocked by a delete of its next key, which is then taken back.
@@ -187,4 +191,30 @@ fn step_in_two_parts(rt: HostRuntime) -> Result<(), Fail> {
     does_insert(&rt, &mut machine)?;
     row(&rt, &mut machine, 1, Op::Commit, Want::Committed)?;
     shows(&rt, &machine, 4, 1)
+}
+
+/// Takes the newest change back, which takes no memory.
+fn takes_back(rt: &impl Abort, machine: &mut KvlMachine, txn: Txn, left: u64)
+    requires { machine.old.pending ≡ None }
+    ensures { machine.new.pending ≡ None }
+{
+    let reply = machine.step(txn, Op::Back);
+    assert!(rt; is(&reply, Want::Undone(left)), "{reply:?}");
+}
+
+#[test]
+fn changes_go_back_one_by_one(rt: HostRuntime) -> Result<(), Fail> {
+    let mut machine = opened(rt.alloc())?;
+    row(&rt, &mut machine, 1, Op::Update(20, 9), Want::Updated(2))?;
+    row(&rt, &mut machine, 1, Op::Insert(25, 5), Want::Done)?;
+    row(&rt, &mut machine, 1, Op::Update(25, 6), Want::Updated(5))?;
+    row(&rt, &mut machine, 1, Op::Delete(30), Want::Deleted(3))?;
+    row(&rt, &mut machine, 1, Op::Scan(10, 25), Want::Going(10))?;
+    takes_back(&rt, &mut machine, 1, 3);
+    takes_back(&rt, &mut machine, 1, 2);
+    row(&rt, &mut machine, 2, Op::Fetch(25), Want::Blocked(1))?;
+    takes_back(&rt, &mut machine, 1, 1);
+    takes_back(&rt, &mut machine, 1, 0);
+    row(&rt, &mut machine, 1, Op::Abort, Want::Aborted)?;
+    shows(&rt, &machine, 3, 0)
 }

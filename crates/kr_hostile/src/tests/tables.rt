@@ -1,9 +1,9 @@
 //! Tables that are read, written and checked.
 
 use kr_cases::{Cause, FailedCase, Rejected, check};
-use kr_protocol::{Im, Kvl, Protocol, RangeKey};
+use kr_protocol::{Im, Kvl, KvlUpdate, Protocol, RangeKey};
 use kr_script::report_check;
-use kr_table::texts::KVL;
+use kr_table::texts::{KVL, KVL_UPDATE};
 use kr_table::{Table, TableFault, WriteFault, read, write};
 use std::alloc::Global;
 use std::process::Abort;
@@ -50,18 +50,34 @@ fn text_of(rt: &impl Abort, alloc: Global, table: &Table) -> Result<String, Writ
     }
 }
 
-#[test]
-fn key_value_locking_is_read_and_written(rt: HostRuntime) -> Result<(), Fail> {
-    let alloc = rt.alloc();
-    let table = table_of(&rt, alloc, KVL)?;
+/// Reads a text of key-value locking, writes the table, and reads and writes that.
+fn is_read_and_written(
+    rt: &impl Abort,
+    alloc: Global,
+    text: &str,
+    updates: bool,
+) -> Result<(), Fail> {
+    let table = table_of(rt, alloc, text)?;
     assert_eq!(rt; table.count(), 5);
     assert_eq!(rt; table.name(4), "SIX");
-    let text = text_of(&rt, alloc, &table)?;
-    let again = table_of(&rt, alloc, text.as_str())?;
+    assert_eq!(rt; table.updates(), updates);
+    let text = text_of(rt, alloc, &table)?;
+    let again = table_of(rt, alloc, text.as_str())?;
     assert!(rt; again.count() == 5 && again.convert(2, 3) == 4 && !again.ok(2, 3));
-    let second = text_of(&rt, alloc, &again)?;
+    assert_eq!(rt; again.updates(), updates);
+    let second = text_of(rt, alloc, &again)?;
     assert_eq!(rt; second.as_str(), text.as_str());
     Ok(())
+}
+
+#[test]
+fn key_value_locking_is_read_and_written(rt: HostRuntime) -> Result<(), Fail> {
+    is_read_and_written(&rt, rt.alloc(), KVL, false)
+}
+
+#[test]
+fn key_value_locking_with_updates_is_read_and_written(rt: HostRuntime) -> Result<(), Fail> {
+    is_read_and_written(&rt, rt.alloc(), KVL_UPDATE, true)
 }
 
 #[test]
@@ -114,6 +130,7 @@ fn refused_table_is_given_back(rt: HostRuntime) -> Result<(), Fail> {
 #[test]
 fn takes_none_to_accept_a_table(rt: HostRuntime) {
     assert!(rt; check(rt.alloc(), Kvl).is_ok());
+    assert!(rt; check(rt.alloc(), KvlUpdate).is_ok());
     assert!(rt; check(rt.alloc(), Im).is_ok());
     assert!(rt; check(rt.alloc(), RangeKey).is_ok());
 }

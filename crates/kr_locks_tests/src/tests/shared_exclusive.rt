@@ -1,6 +1,6 @@
 // A protocol of two modes for the tests: shared stands beside shared, and a conversion takes the higher of the two.
 
-ghost use Rattle.std.specs.Prelude.{ℕ, Bool, ◌&&◌, ◌||◌, ◌==◌, nat_lt, None, if◌then◌else◌, refl, [], ◌∷◌, codes};
+ghost use Rattle.std.specs.Prelude.{ℕ, Bool, ◌&&◌, ◌||◌, ◌==◌, nat_lt, None, if◌then◌else◌, refl, [], ◌∷◌, codes, false};
 ghost use Rattle.kr_model.proofs.Tested.{lawful_by_test};
 ghost use Rattle.kr_model.proofs.NamesTested.{named_by_test};
 
@@ -18,7 +18,7 @@ pub const EXCLUSIVE: Mode = 2;
 pub struct SharedExclusive;
 
 impl Protocol for SharedExclusive {
-    ghost table = { λ _. record { count = 2; ok = λ q h. q == 0 || h == 0 || (q == 1 && h == 1); convert = λ h q. if nat_lt h q then q else h; ask = λ row side own. None } };
+    ghost table = { λ _. record { count = 2; ok = λ q h. q == 0 || h == 0 || (q == 1 && h == 1); convert = λ h q. if nat_lt h q then q else h; ask = λ row side own. None; updates = false } };
 
     ghost names = { λ _. codes "shared" ∷ codes "exclusive" ∷ [] };
 
@@ -52,6 +52,10 @@ impl Protocol for SharedExclusive {
 
     fn ask(&self, _row: Row, _side: Side, _own_next: u8) -> Option<(u8, Span)> {
         None
+    }
+
+    fn updates(&self) -> bool {
+        false
     }
 
     ghost lawful = { λ _. lawful_by_test _ refl };

@@ -3,6 +3,7 @@
 ghost use Rattle.std.specs.Prelude.{◌≡◌, None};
 
 use super::*;
+use kr_protocol::KvlUpdate;
 
 /// The ends of the keys, a key in the middle, and some beside them.
 const KEYS: [u64; 6] = [0, 1, 7, 1 << 63, u64::MAX - 1, u64::MAX];
@@ -13,9 +14,11 @@ const TXNS: [Txn; 3] = [0, 1, u32::MAX];
 /// What is known beside a machine.
 #[derive(Drop)]
 struct Beside {
-    /// The changes, but for those of aborted transactions, oldest first; each with what it left under the key.
+    /// The changes, but for those taken back, oldest first; each with what it left under the key.
     changes: Vec<(Txn, u64, Option<u64>)>,
     ended: Vec<Txn>,
+    /// The transactions that roll back, each once for each change that was taken back.
+    rolling: Vec<Txn>,
 }
 
 impl Beside {
@@ -28,6 +31,31 @@ impl Beside {
             }
         }
         value
+    }
+
+    /// How many changes of a transaction there are.
+    fn left(&self, txn: Txn) -> u64 {
+        let mut left = 0u64;
+        for change in &self.changes {
+            if change.0 == txn {
+                left = left.saturating_add(1);
+            }
+        }
+        left
+    }
+
+    /// Why an operation is refused, where it is.
+    fn refusal(&self, txn: Txn, op: Op) -> Option<Refusal> {
+        if self.ended.as_slice().contains(&txn) {
+            return Some(Refusal::Ended);
+        }
+        if self.rolling.as_slice().contains(&txn) && !matches!(op, Op::Back | Op::Abort) {
+            return Some(Refusal::RollingBack);
+        }
+        if op == Op::Back && self.left(txn) == 0 {
+            return Some(Refusal::NothingLeft);
+        }
+        None
     }
 
     /// Whether each of these rows is a pair of the range, and the keys rise.
@@ -53,7 +81,7 @@ impl Beside {
     }
 
     /// Whether this is the reply of a granted operation, a scan being taken to its end.
-    fn answers(&self, op: Op, reply: &Reply) -> bool {
+    fn answers(&self, txn: Txn, op: Op, reply: &Reply) -> bool {
         match op {
             Op::Fetch(key) => match self.get(key) {
                 Some(value) => matches!(reply, Reply::Found(found) if *found == value),
@@ -67,9 +95,17 @@ impl Beside {
                 Some(value) => matches!(reply, Reply::Deleted(was) if *was == value),
                 None => matches!(reply, Reply::Absent),
             },
+            Op::Update(key, _) => match self.get(key) {
+                Some(value) => matches!(reply, Reply::Updated(was) if *was == value),
+                None => matches!(reply, Reply::Absent),
+            },
             Op::Scan(lo, hi) => self.is_scan(reply, lo, hi),
             Op::Commit => matches!(reply, Reply::Committed),
             Op::Abort => matches!(reply, Reply::Aborted),
+            Op::Back => match reply {
+                Reply::Undone(left) => left.saturating_add(1) == self.left(txn),
+                _ => false,
+            },
             Op::Go => false,
         }
     }
@@ -93,15 +129,38 @@ impl Beside {
                     self.changes.push((txn, key, Some(value)))?;
                 }
             }
-            Op::Delete(key) => self.changes.push((txn, key, None))?,
+            Op::Delete(key) => {
+                if self.get(key).is_some() {
+                    self.changes.push((txn, key, None))?;
+                }
+            }
+            Op::Update(key, value) => {
+                if self.get(key).is_some() {
+                    self.changes.push((txn, key, Some(value)))?;
+                }
+            }
             Op::Commit => self.ended.push(txn)?,
             Op::Abort => {
                 self.changes.retain(|change| change.0 != txn);
                 self.ended.push(txn)?;
             }
+            Op::Back => {
+                self.forget_newest(txn);
+                self.rolling.push(txn)?;
+            }
             Op::Fetch(_) | Op::Scan(_, _) | Op::Go => {}
         }
         Ok(())
+    }
+
+    /// Takes out the newest change of a transaction, if it has one.
+    fn forget_newest(&mut self, txn: Txn) {
+        for i in (0..self.changes.len()).rev() {
+            if self.changes[i].0 == txn {
+                let _ = self.changes.remove(i);
+                return;
+            }
+        }
     }
 }
 
@@ -133,6 +192,8 @@ enum Sweep {
     Crowd,
     /// Steps at random, by a few transactions at a time.
     Random(u64),
+    /// The same with updates, and changes taken back.
+    Changes(u64),
 }
 
 /// One of the operations on a key.
@@ -192,8 +253,21 @@ fn random_op(random: u64, key: u64) -> Op {
     }
 }
 
+/// An operation at a key, by a random number, that mostly changes it or takes a change back.
+fn random_change(random: u64, key: u64) -> Op {
+    match random % 13 {
+        0 => Op::Fetch(key),
+        1 | 2 | 3 => Op::Insert(key, random),
+        4 => Op::Delete(key),
+        5 | 6 | 7 => Op::Update(key, random),
+        8 | 9 | 10 => Op::Back,
+        11 => Op::Commit,
+        _ => Op::Abort,
+    }
+}
+
 /// The step at a place of a sweep at random.
-fn random_step(seed: u64, place: u32) -> (Txn, Op) {
+fn random_step(seed: u64, place: u32, changes: bool) -> (Txn, Op) {
     let random = mixed(seed.wrapping_mul(1_000).wrapping_add(u64::from(place)));
     let txn = place / 12 * 4 + (random >> 40) as u32 % 4;
     let key = if random >> 63 == 0 {
@@ -201,6 +275,9 @@ fn random_step(seed: u64, place: u32) -> (Txn, Op) {
     } else {
         random >> 55
     };
+    if changes {
+        return (txn, random_change(random >> 32, key));
+    }
     (txn, random_op(random >> 32, key))
 }
 
@@ -209,7 +286,8 @@ fn step_at(sweep: Sweep, place: u32) -> (Txn, Op) {
     match sweep {
         Sweep::Boundary => boundary_step(place),
         Sweep::Crowd => crowd_step(place),
-        Sweep::Random(seed) => random_step(seed, place),
+        Sweep::Random(seed) => random_step(seed, place, false),
+        Sweep::Changes(seed) => random_step(seed, place, true),
     }
 }
 
@@ -234,11 +312,11 @@ fn to_its_end<P: Protocol, I: Ordered, L: Holdings>(
 
 /// Compares the reply of an operation, and tells whether the operation is done.
 fn is_done(rt: &impl Abort, beside: &Beside, txn: Txn, op: Op, reply: Reply) -> bool {
-    let has_ended = beside.ended.as_slice().contains(&txn);
+    let refusal = beside.refusal(txn, op);
     let fits = match &reply {
-        Reply::Refused(refusal) => has_ended && *refusal == Refusal::Ended,
-        Reply::Blocked(_) => !has_ended,
-        _ => !has_ended && beside.answers(op, &reply),
+        Reply::Refused(told) => refusal == Some(*told),
+        Reply::Blocked(_) => refusal.is_none(),
+        _ => refusal.is_none() && beside.answers(txn, op, &reply),
     };
     expect_fits(rt, fits, txn, op, &reply);
     !matches!(reply, Reply::Refused(_) | Reply::Blocked(_))
@@ -297,6 +375,7 @@ fn attempt_all<P: Protocol>(
     let mut beside = Beside {
         changes: Vec::new(alloc),
         ended: Vec::new(alloc),
+        rolling: Vec::new(alloc),
     };
     attempt_each(rt, &mut machine, &mut beside, sweep, places)
 }
@@ -308,6 +387,7 @@ fn ample_memory(rt: HostRuntime) -> Result<(), Fail> {
     attempt_all(&rt, alloc, Kvl, Sweep::Crowd, 193)?;
     for seed in 0..4 {
         attempt_all(&rt, alloc, Im, Sweep::Random(seed), 120)?;
+        attempt_all(&rt, alloc, KvlUpdate, Sweep::Changes(seed), 120)?;
     }
     Ok(())
 }

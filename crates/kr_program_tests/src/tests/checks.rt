@@ -1,6 +1,6 @@
 //! Checks of tables, bundled and from files.
 use super::{Texts, run_program, told, told_over};
-use kr_table::texts::{IM, KVL, RANGE_KEY};
+use kr_table::texts::{IM, KVL, KVL_UPDATE, RANGE_KEY};
 use std::alloc::{AllocError, Global};
 use std::process::Abort;
 use std::sync::Wait;
@@ -48,6 +48,8 @@ where
 fn bundled_tables(rt: HostRuntime) -> Result<(), Fail> {
     let kvl = "{\"accepted\":true,\"cases\":244,\"modes\":5}\n";
     accepts(&rt, "@kvl", KVL, kvl)?;
+    let kvl_update = "{\"accepted\":true,\"cases\":275,\"modes\":5}\n";
+    accepts(&rt, "@kvl-update", KVL_UPDATE, kvl_update)?;
     let im = "{\"accepted\":true,\"cases\":61,\"modes\":2}\n";
     accepts(&rt, "@im", IM, im)?;
     let range_key = "{\"accepted\":true,\"cases\":988,\"modes\":11}\n";
@@ -123,6 +125,59 @@ fn insert_always_ix(rt: HostRuntime) -> Result<(), Fail> {
 }
 
 #[test]
+fn update_under_ix(rt: HostRuntime) -> Result<(), Fail> {
+    let table = with(
+        rt.alloc(),
+        KVL_UPDATE,
+        "[rules.update]\ncurrent = [{ mode = \"X\"",
+        "[rules.update]\ncurrent = [{ mode = \"IX\"",
+    )?;
+    let report = refuses(
+        &rt,
+        table.as_str(),
+        r#"{"accepted":false,"cases":275,"failed":[{"case":"G6","cover":"IK","from":["none","none"],"mode":"IX","open":["update","current","none","none"]},"#,
+        12,
+    )?;
+    fail_by_group(&rt, report.as_str(), [0, 0, 0, 0, 0, 9, 0, 0, 3]);
+    Ok(())
+}
+
+/// Key-value locking whose updates give the lock on their key up at once.
+pub fn updates_instant(alloc: Global) -> Result<String, Fail> {
+    with(
+        alloc,
+        KVL_UPDATE,
+        "[rules.update]\ncurrent = [{ mode = \"X\", span = \"commit\"",
+        "[rules.update]\ncurrent = [{ mode = \"X\", span = \"instant\"",
+    )
+}
+
+/// The report of its check.
+const UPDATES_INSTANT: &str =
+    r#"{"accepted":false,"cases":275,"failed":[{"case":"G9","cover":"UK","from":["none"],"mode":"none","open":["fetch-hit","current","none","none"]},{"case":"G9","cover":"UK","from":["IS"],"mode":"IS","open":["fetch-hit","current","none","none"]},{"case":"G9","cover":"UK","from":["S"],"mode":"S","open":["fetch-hit","current","none","none"]}],"modes":5}"#;
+
+#[test]
+fn lock_of_updates_instant(rt: HostRuntime) -> Result<(), Fail> {
+    let table = updates_instant(rt.alloc())?;
+    let line = format!(in rt.alloc(); "{UPDATES_INSTANT}\n")?;
+    checks(&rt, table.as_str(), line.as_str(), 1)
+}
+
+/// A table of format 2 offers updates, also where it has no row for them.
+#[test]
+fn no_row_for_updates(rt: HostRuntime) -> Result<(), Fail> {
+    let table = with(rt.alloc(), KVL, "format = 1", "format = 2")?;
+    let report = refuses(
+        &rt,
+        table.as_str(),
+        r#"{"accepted":false,"cases":275,"failed":[{"case":"G2","cover":"RK","from":["none"],"mode":"S","open":["update","current","none","none"]},"#,
+        54,
+    )?;
+    fail_by_group(&rt, report.as_str(), [0, 6, 0, 6, 0, 36, 0, 0, 6]);
+    Ok(())
+}
+
+#[test]
 fn insert_n_x(rt: HostRuntime) -> Result<(), Fail> {
     let table = with(
         rt.alloc(),
@@ -159,9 +214,9 @@ fn next_lock_of_deletes_instant(rt: HostRuntime) -> Result<(), Fail> {
 }
 
 /// How many cases of each group fail, by the names that are printed.
-fn fail_by_group<R: Abort>(rt: &R, report: &str, counts: [usize; 8]) {
+fn fail_by_group<R: Abort>(rt: &R, report: &str, counts: [usize; 9]) {
     let mut group = 0_usize;
-    for name in ["G1", "G2", "G3", "G4", "G5", "G6", "G7", "G8"] {
+    for name in ["G1", "G2", "G3", "G4", "G5", "G6", "G7", "G8", "G9"] {
         if group < counts.len() {
             assert_eq!(rt; count(report, name), counts[group], "{name}");
             group += 1;
@@ -181,7 +236,7 @@ fn delete_without_current(rt: HostRuntime) -> Result<(), Fail> {
         "",
     )?;
     let report = refuses(&rt, table.as_str(), WITHOUT_CURRENT, 72)?;
-    fail_by_group(&rt, report.as_str(), [0, 6, 6, 12, 6, 36, 0, 6]);
+    fail_by_group(&rt, report.as_str(), [0, 6, 6, 12, 6, 36, 0, 6, 0]);
     Ok(())
 }
 
@@ -189,7 +244,7 @@ fn delete_without_current(rt: HostRuntime) -> Result<(), Fail> {
 fn cut_before_deletes(rt: HostRuntime) -> Result<(), Fail> {
     let (front, _) = KVL.split_once("[rules.delete]").ok_or("no deletes")?;
     let report = refuses(&rt, front, WITHOUT_CURRENT, 72)?;
-    fail_by_group(&rt, report.as_str(), [0, 6, 6, 12, 6, 36, 0, 6]);
+    fail_by_group(&rt, report.as_str(), [0, 6, 6, 12, 6, 36, 0, 6, 0]);
     Ok(())
 }
 
@@ -209,7 +264,7 @@ fn the_table_that_asks_nothing(rt: HostRuntime) -> Result<(), Fail> {
         r#"{"accepted":false,"cases":28,"failed":[{"case":"G2","cover":"RK","from":["none"],"mode":"none","open":["delete","current","none","none"]},"#,
         16,
     )?;
-    fail_by_group(&rt, report.as_str(), [0, 2, 2, 4, 2, 4, 0, 2]);
+    fail_by_group(&rt, report.as_str(), [0, 2, 2, 4, 2, 4, 0, 2, 0]);
     Ok(())
 }
 

@@ -1,9 +1,9 @@
 //! Runs under covered protocols, which are serial: each bundled table as a type, and as a file that was checked.
 use kr_cases::check;
-use kr_protocol::{Covered, Im, Kvl, RangeKey};
+use kr_protocol::{Covered, Im, Kvl, KvlUpdate, RangeKey};
 use kr_script::{Script, read_script};
 use kr_serial::{judge, run};
-use kr_table::texts::{IM, KVL, RANGE_KEY};
+use kr_table::texts::{IM, KVL, KVL_UPDATE, RANGE_KEY};
 use std::process::Abort;
 use std::test::Fail;
 
@@ -36,9 +36,11 @@ fn is_serial_checked<R: AllocGlobal + Abort>(
 pub fn serial_under_each<R: AllocGlobal + Abort>(rt: &R, script: &str) -> Result<(), Fail> {
     let script = read_script(rt.alloc(), script.as_bytes()).map_err(|_| "no script")?;
     is_serial(rt, &Kvl, &script)?;
+    is_serial(rt, &KvlUpdate, &script)?;
     is_serial(rt, &Im, &script)?;
     is_serial(rt, &RangeKey, &script)?;
     is_serial_checked(rt, KVL, &script)?;
+    is_serial_checked(rt, KVL_UPDATE, &script)?;
     is_serial_checked(rt, IM, &script)?;
     is_serial_checked(rt, RANGE_KEY, &script)
 }

@@ -88,8 +88,24 @@ fn words_that_are_not_read(rt: HostRuntime) -> Result<(), Fail> {
     for (words, line) in [
         (["run", "@kvl", "t"], "kr: t: cannot be read\n"),
         (["run", "@kvl", "@kvl"], "kr: @kvl: cannot be read\n"),
+        (
+            ["run", "@kvl", "@kvl-update"],
+            "kr: @kvl-update: cannot be read\n",
+        ),
         (["run", "kvl", "s"], "kr: kvl: cannot be read\n"),
         (["run", "@kvl2", "s"], "kr: @kvl2: cannot be read\n"),
+        (
+            ["run", "kvl-update", "s"],
+            "kr: kvl-update: cannot be read\n",
+        ),
+        (
+            ["run", "@kvl_update", "s"],
+            "kr: @kvl_update: cannot be read\n",
+        ),
+        (
+            ["run", "@kvl-updates", "s"],
+            "kr: @kvl-updates: cannot be read\n",
+        ),
         (["run", "@kvl", "a\nb"], "kr: a\\u{a}b: cannot be read\n"),
         (
             ["run", "\u{1b}[1m", "s"],

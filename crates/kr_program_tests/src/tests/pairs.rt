@@ -4,7 +4,7 @@ ghost use Rattle.std.specs.Prelude.{◌≡◌, ℕ, []};
 use kr_index::{Ordered, Sorted, Tree};
 use kr_locks::{Buckets, Holdings, List};
 use kr_machine::Machine;
-use kr_protocol::{Im, Kvl, Protocol, RangeKey};
+use kr_protocol::{Im, Kvl, KvlUpdate, Protocol, RangeKey};
 use kr_script::{Script, read_script};
 use kr_serial::replay;
 use std::alloc::{AllocError, Global};
@@ -56,6 +56,7 @@ fn agrees<R: AllocGlobal + Abort, P: Protocol>(
 pub fn agree_under_each<R: AllocGlobal + Abort>(rt: &R, script: &str) -> Result<(), Fail> {
     let script = read_script(rt.alloc(), script.as_bytes()).map_err(|_| "no script")?;
     agrees(rt, &Kvl, &script)?;
+    agrees(rt, &KvlUpdate, &script)?;
     agrees(rt, &Im, &script)?;
     agrees(rt, &RangeKey, &script)
 }

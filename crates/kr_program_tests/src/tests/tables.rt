@@ -1,6 +1,6 @@
 //! Tables from files.
 use super::{OPENING, PHANTOM, Texts, told_over};
-use kr_table::texts::{IM, KVL, RANGE_KEY};
+use kr_table::texts::{IM, KVL, KVL_UPDATE, RANGE_KEY};
 use std::alloc::{AllocError, Global};
 use std::process::Abort;
 use std::sync::Wait;
@@ -59,7 +59,7 @@ fn faults_of_a_table_and_its_modes(rt: HostRuntime) -> Result<(), Fail> {
     )?;
     tells(&rt, 0, r#"format = "1""#, "fault 4 Field at format")?;
     tells(&rt, 0, "format = -1", "fault 3 Format")?;
-    tells(&rt, 0, "format = 2", "fault 3 Format")?;
+    tells(&rt, 0, "format = 3", "fault 3 Format")?;
     tells(&rt, 1, "modes = []", "fault 5 ModeCount")?;
     tells(&rt, 1, r#"modes = ["A", "A"]"#, "fault 6 ModeName at 1")?;
     Ok(())
@@ -99,7 +99,48 @@ fn faults_of_matrices_and_rules(rt: HostRuntime) -> Result<(), Fail> {
     )?;
     tells(&rt, 0, "format = 1\nmodes = [\"IS\"", "fault 2 NotToml")?;
     tells(&rt, 4, "", "fault 4 Field at rules")?;
-    Ok(())
+    tells(
+        &rt,
+        4,
+        "rules = { update = { current = [] } }",
+        "fault 9 Rule at rules.update",
+    )
+}
+
+/// The same of that table in format 2.
+fn tells_later<R: std::rt::Files + AllocGlobal + Threads + Wait + Sync + Abort>(
+    rt: &R,
+    rules: &str,
+    fault: &str,
+) -> Result<(), Fail>
+where
+    R::File: Send + Sync,
+    R::Dir: Send + Sync,
+{
+    let lines = format!(in rt.alloc();
+        "format = 2\nmodes = [\"A\"]\ncompatible = {{ A = [] }}\nconvert = {{ A = {{ A = \"A\" }} }}\n{rules}"
+    )?;
+    let said = format!(in rt.alloc(); "kr: table: {fault}\n")?;
+    says_of_table(rt, lines.as_str(), said.as_str())
+}
+
+#[test]
+fn faults_of_a_rule_for_updates(rt: HostRuntime) -> Result<(), Fail> {
+    tells_later(
+        &rt,
+        "rules = { update = { next = [] } }",
+        "fault 9 Rule at rules.update.next",
+    )?;
+    tells_later(
+        &rt,
+        r#"rules = { update = { current = [{ own = ["A"], mode = "A", span = "commit" }] } }"#,
+        "fault 10 OwnNotAllowed at rules.update.current.0",
+    )?;
+    tells_later(
+        &rt,
+        "rules = { upsert = {} }",
+        "fault 9 Rule at rules.upsert",
+    )
 }
 
 /// What the program says of a table, with a script that is one.
@@ -130,6 +171,7 @@ fn broken_tables(rt: HostRuntime) -> Result<(), Fail> {
         "kr: table: fault 2 NotToml\n",
     )?;
     says_of_table(&rt, "format = 1", "kr: table: fault 4 Field at modes\n")?;
+    says_of_table(&rt, "format = 2", "kr: table: fault 4 Field at modes\n")?;
     says_of_table(&rt, "", "kr: table: fault 4 Field at format\n")?;
     says_of_table(&rt, front, "kr: table: fault 4 Field at rules\n")
 }
@@ -170,6 +212,7 @@ where
 #[test]
 fn tables_from_files(rt: HostRuntime) -> Result<(), Fail> {
     phantom_under(&rt, KVL, "@kvl", "S")?;
+    phantom_under(&rt, KVL_UPDATE, "@kvl-update", "S")?;
     phantom_under(&rt, IM, "@im", "S")?;
     phantom_under(&rt, RANGE_KEY, "@range-key", "S-N")
 }

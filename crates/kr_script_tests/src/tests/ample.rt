@@ -7,7 +7,7 @@ use kr_follows::{Cause, StepFault};
 use kr_model::{
     Cover, Event, Mode, Op, Origin, Pairs, Place, Refusal, Reply, Row, Rule, Side, Txn, Txns,
 };
-use kr_protocol::Kvl;
+use kr_protocol::{Kvl, KvlUpdate};
 use kr_script::{
     Answered, Script, Threaded, read_script, report_check, report_run, report_threads,
     report_verdict,
@@ -22,8 +22,8 @@ const KEYS: [u64; 4] = [0, 7, 1 << 63, u64::MAX];
 /// Numbers of transactions at which a number turns.
 const NUMBERS: [Txn; 3] = [0, 7, u32::MAX];
 
-/// The words of the operations, with how many numbers follow each.
-const WORDS: [(&str, u8); 7] = [
+/// The words of the operations, with how many numbers follow each: the first seven are those of format 1.
+const WORDS: [(&str, u8); 9] = [
     ("fetch", 1),
     ("scan", 2),
     ("go", 0),
@@ -31,7 +31,12 @@ const WORDS: [(&str, u8); 7] = [
     ("delete", 1),
     ("commit", 0),
     ("abort", 0),
+    ("update", 2),
+    ("back", 0),
 ];
+
+/// The formats, and whether each has the later words too.
+const FORMATS: [(usize, bool); 2] = [(1, false), (2, true)];
 
 /// The operation of that index.
 fn op_of(word: usize, key: u64, value: u64) -> Op {
@@ -42,25 +47,31 @@ fn op_of(word: usize, key: u64, value: u64) -> Op {
         3 => Op::Insert(key, value),
         4 => Op::Delete(key),
         5 => Op::Commit,
-        _ => Op::Abort,
+        6 => Op::Abort,
+        7 => Op::Update(key, value),
+        _ => Op::Back,
     }
 }
 
-/// The key and the value of the step at an index: each boundary key with each such value, and then the index itself.
-fn numbers_at(i: usize) -> (u64, u64) {
-    if i < 336 {
-        (KEYS[i / 7 % 4], KEYS[i / 28 % 4])
+/// The transaction, the key and the value of the step at an index, with or without the later words: each number of a
+/// transaction with each boundary key and each such value, and then the index itself.
+fn numbers_at(later: bool, i: usize) -> (Txn, u64, u64) {
+    let round = if later { i / 9 } else { i / 7 };
+    let txn = NUMBERS[round % 3];
+    if round < 48 {
+        (txn, KEYS[round % 4], KEYS[round / 4 % 4])
     } else {
-        (i as u64, !(i as u64))
+        (txn, i as u64, !(i as u64))
     }
 }
 
-/// The step at an index.
-fn event_at(i: usize) -> Event {
-    let (key, value) = numbers_at(i);
+/// The step at an index, with or without the later words.
+fn event_at(later: bool, i: usize) -> Event {
+    let (txn, key, value) = numbers_at(later, i);
+    let word = if later { i % 9 } else { i % 7 };
     Event {
-        txn: NUMBERS[i % 3],
-        op: op_of(i % 7, key, value),
+        txn,
+        op: op_of(word, key, value),
     }
 }
 
@@ -70,10 +81,9 @@ fn comma(i: usize) -> &'static str {
 }
 
 /// That step as it is written in a script.
-fn step_at(alloc: Global, i: usize) -> Result<String, AllocError> {
-    let txn = NUMBERS[i % 3];
-    let (word, numbers) = WORDS[i % 7];
-    let (key, value) = numbers_at(i);
+fn step_at(alloc: Global, later: bool, i: usize) -> Result<String, AllocError> {
+    let (word, numbers) = if later { WORDS[i % 9] } else { WORDS[i % 7] };
+    let (txn, key, value) = numbers_at(later, i);
     match numbers {
         0 => format!(in alloc; "[{txn},\"{word}\"]"),
         1 => format!(in alloc; "[{txn},\"{word}\",{key}]"),
@@ -92,40 +102,57 @@ fn opening_of(alloc: Global, pairs: usize) -> Result<String, AllocError> {
     Ok(text)
 }
 
-/// So many steps as they are written in a script.
-fn steps_of(alloc: Global, steps: usize) -> Result<String, AllocError> {
+/// So many steps as they are written in a script, with or without the later words.
+fn steps_of(alloc: Global, later: bool, steps: usize) -> Result<String, AllocError> {
     let mut text = String::new(alloc);
     for i in 0..steps {
         text.push_str(comma(i))?;
-        text.push_str(step_at(alloc, i)?.as_str())?;
+        text.push_str(step_at(alloc, later, i)?.as_str())?;
     }
     Ok(text)
 }
 
-/// Whether a script has so many pairs and steps, and they are these.
-fn is_script(script: &Script, pairs: usize, steps: usize) -> bool {
+/// Whether a script has so many pairs and steps, with or without the later words, and they are these.
+fn is_script(script: &Script, later: bool, pairs: usize, steps: usize) -> bool {
     for (i, pair) in script.opening().iter().enumerate() {
         if *pair != (KEYS[i % 4], KEYS[i % 4]) {
             return false;
         }
     }
     for (i, event) in script.steps().iter().enumerate() {
-        if *event != event_at(i) {
+        if *event != event_at(later, i) {
             return false;
         }
     }
     script.opening().len() == pairs && script.steps().len() == steps
 }
 
-/// Whether a script of so many pairs and steps is read.
+/// Whether a text is read as such a script.
+fn is_text_of(alloc: Global, text: &str, later: bool, pairs: usize, steps: usize) -> bool {
+    match read_script(alloc, text.as_bytes()) {
+        Ok(script) => is_script(&script, later, pairs, steps),
+        Err(_) => false,
+    }
+}
+
+/// Whether a script of so many pairs and steps is read in each format, with the members in the plain order and in another.
 fn is_read(alloc: Global, pairs: usize, steps: usize) -> Result<bool, AllocError> {
     let opening = opening_of(alloc, pairs)?;
-    let events = steps_of(alloc, steps)?;
-    let text = format!(in alloc; "{{\"format\":1,\"opening\":[{opening}],\"steps\":[{events}]}}")?;
-    match read_script(alloc, text.as_bytes()) {
-        Ok(script) => Ok(is_script(&script, pairs, steps)),
-        Err(_) => Ok(false),
+    for (format, later) in FORMATS {
+        let events = steps_of(alloc, later, steps)?;
+        let plain = format!(in alloc;
+            "{{\"format\":{format},\"opening\":[{opening}],\"steps\":[{events}]}}"
+        )?;
+        let other = format!(in alloc;
+            "{{\"steps\":[{events}],\"format\":{format},\"opening\":[{opening}]}}"
+        )?;
+        if !is_text_of(alloc, plain.as_str(), later, pairs, steps)
+            || !is_text_of(alloc, other.as_str(), later, pairs, steps)
+        {
+            return Ok(false);
+        }
     }
+    Ok(true)
 }
 
 #[test]
@@ -133,17 +160,21 @@ fn scripts_of_each_length(rt: HostRuntime) -> Result<(), Fail> {
     for steps in 0..100 {
         assert!(rt; is_read(rt.alloc(), steps % 5, steps)?, "{steps}");
     }
-    assert!(rt; is_read(rt.alloc(), 4, 800)?);
+    assert!(rt; is_read(rt.alloc(), 4, 1000)?);
     Ok(())
 }
 
-/// Whether the report of a run is this: a transaction inserts a key, fetches it and scans it, and another's fetch is
-/// blocked.
+/// Whether the report of a run is this: a transaction inserts a key, updates it, fetches it and scans it, another's fetch is
+/// blocked, and the update is taken back.
 fn is_reported(alloc: Global, txn: Txn, key: u64, value: u64) -> Result<bool, AllocError> {
     let events = [
         Event {
             txn,
-            op: Op::Insert(key, value),
+            op: Op::Insert(key, !value),
+        },
+        Event {
+            txn,
+            op: Op::Update(key, value),
         },
         Event {
             txn,
@@ -157,14 +188,16 @@ fn is_reported(alloc: Global, txn: Txn, key: u64, value: u64) -> Result<bool, Al
             txn: 8,
             op: Op::Fetch(key),
         },
+        Event { txn, op: Op::Back },
     ];
-    let ran = run_any(alloc, &Kvl, &[], &events)?;
-    let text = report_run(alloc, &Kvl, &ran, &Verdict::Serial)?;
+    let before = !value;
+    let ran = run_any(alloc, &KvlUpdate, &[], &events)?;
+    let text = report_run(alloc, &KvlUpdate, &ran, &Verdict::Serial)?;
     let told = format!(in alloc;
-        "[\"done\"],[\"found\",{value}],[\"rows\",[[{key},{value}]]],[\"blocked\",[{txn}]]"
+        "[\"done\"],[\"updated\",{before}],[\"found\",{value}],[\"rows\",[[{key},{value}]]],[\"blocked\",[{txn}]],[\"undone\",1]"
     )?;
     let wanted = format!(in alloc;
-        "{{\"index\":[[{key},{value}]],\"locks\":[[{key},{txn},\"SIX\"]],\"replies\":[{told}],\"unfinished\":[{txn}],\"verdict\":[\"serial\"]}}"
+        "{{\"index\":[[{key},{before}]],\"locks\":[[{key},{txn},\"X\"]],\"replies\":[{told}],\"unfinished\":[{txn}],\"verdict\":[\"serial\"]}}"
     )?;
     Ok(text.as_str() == wanted.as_str())
 }
@@ -245,7 +278,7 @@ fn fault_at(alloc: Global, i: usize) -> Result<StepFault, AllocError> {
     Ok(StepFault {
         txn,
         step: KEYS[i % 4],
-        op: event_at(i).op,
+        op: event_at(true, i).op,
         cause,
     })
 }
@@ -266,7 +299,7 @@ fn threaded(alloc: Global, count: usize) -> Result<Threaded, AllocError> {
     let mut faults = Vec::new(alloc);
     for i in 0..count {
         history.push(Answered {
-            event: event_at(i),
+            event: event_at(true, i),
             reply: Reply::Found(KEYS[i % 4]),
         })?;
         faults.push(fault_at(alloc, i)?)?;
@@ -283,7 +316,7 @@ fn is_threaded(alloc: Global, count: usize) -> Result<bool, AllocError> {
     let mut history = String::new(alloc);
     let mut faults = String::new(alloc);
     for i in 0..count {
-        let (comma, step, value) = (comma(i), step_at(alloc, i)?, KEYS[i % 4]);
+        let (comma, step, value) = (comma(i), step_at(alloc, true, i)?, KEYS[i % 4]);
         let done = format!(in alloc; "{comma}[{step},[\"found\",{value}]]")?;
         history.push_str(done.as_str())?;
         faults.push_str(missed_at(alloc, i)?.as_str())?;
@@ -305,7 +338,7 @@ fn runs_in_threads_of_each_size(rt: HostRuntime) -> Result<(), Fail> {
 }
 
 /// The groups of cases, and how they are printed.
-const RULES: [(Rule, &str); 8] = [
+const RULES: [(Rule, &str); 9] = [
     (Rule::Conversion, "G1"),
     (Rule::FetchHit, "G2"),
     (Rule::FetchMiss, "G3"),
@@ -314,24 +347,27 @@ const RULES: [(Rule, &str); 8] = [
     (Rule::Insert, "G6"),
     (Rule::Split, "G7"),
     (Rule::Delete, "G8"),
+    (Rule::Update, "G9"),
 ];
 
 /// The covers, and how they are printed.
-const COVERS: [(Cover, &str); 4] = [
+const COVERS: [(Cover, &str); 5] = [
     (Cover::ReadKey, "RK"),
     (Cover::ReadGap, "RG"),
     (Cover::InsertedKey, "IK"),
     (Cover::DeletedGap, "DG"),
+    (Cover::UpdatedKey, "UK"),
 ];
 
 /// Places, and how they are printed before the modes.
-const PLACES: [(Row, Side, &str); 6] = [
+const PLACES: [(Row, Side, &str); 7] = [
     (Row::FetchHit, Side::Current, "\"fetch-hit\",\"current\""),
     (Row::FetchMiss, Side::Next, "\"fetch-miss\",\"next\""),
     (Row::ScanKey, Side::Current, "\"scan-key\",\"current\""),
     (Row::ScanStop, Side::Next, "\"scan-stop\",\"next\""),
     (Row::Insert, Side::Current, "\"insert\",\"current\""),
     (Row::Delete, Side::Next, "\"delete\",\"next\""),
+    (Row::Update, Side::Current, "\"update\",\"current\""),
 ];
 
 /// Modes of key-value locking with one number beyond them, and how they are printed.
@@ -348,10 +384,10 @@ const MODES: [(Mode, &str); 7] = [
 /// A failed case, each with other names as the index goes on.
 fn failed_at(i: usize) -> FailedCase {
     let (mode, own) = (MODES[i % 7].0, MODES[i / 7 % 7].0);
-    let (row, side, _) = PLACES[i % 6];
+    let (row, side, _) = PLACES[i / 49 % 7];
     FailedCase {
-        case: RULES[i % 8].0,
-        cover: COVERS[i % 4].0,
+        case: RULES[i % 9].0,
+        cover: COVERS[i % 5].0,
         from: if i % 2 == 0 {
             Origin::One(own)
         } else {
@@ -370,7 +406,8 @@ fn failed_at(i: usize) -> FailedCase {
 /// That case as it is printed.
 fn case_at(alloc: Global, i: usize) -> Result<String, AllocError> {
     let (mode, own) = (MODES[i % 7].1, MODES[i / 7 % 7].1);
-    let (comma, case, cover, place) = (comma(i), RULES[i % 8].1, COVERS[i % 4].1, PLACES[i % 6].2);
+    let (comma, case, cover) = (comma(i), RULES[i % 9].1, COVERS[i % 5].1);
+    let place = PLACES[i / 49 % 7].2;
     let from = if i % 2 == 0 {
         format!(in alloc; "\"{own}\"")?
     } else {
@@ -389,9 +426,9 @@ fn is_refused(alloc: Global, count: usize) -> Result<bool, AllocError> {
         failed.push(failed_at(i))?;
         cases.push_str(case_at(alloc, i)?.as_str())?;
     }
-    let text = report_check(alloc, &Kvl, failed.as_slice())?;
+    let text = report_check(alloc, &KvlUpdate, failed.as_slice())?;
     let wanted = format!(in alloc;
-        "{{\"accepted\":false,\"cases\":244,\"failed\":[{cases}],\"modes\":5}}"
+        "{{\"accepted\":false,\"cases\":275,\"failed\":[{cases}],\"modes\":5}}"
     )?;
     Ok(text.as_str() == wanted.as_str())
 }

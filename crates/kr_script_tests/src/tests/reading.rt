@@ -46,11 +46,29 @@ fn reads_the_greatest_numbers(rt: HostRuntime) -> Result<(), Fail> {
     Ok(())
 }
 
+/// Each form of a step of format 1, in a script whose members stand in the plain order, and one where they don't; and the same
+/// for each form of format 2.
+const EACH_FORM: [(&str, usize); 4] = [
+    (
+        r#"{"format":1,"opening":[],"steps":[[7,"fetch",1],[7,"scan",2,3],[7,"go"],[7,"insert",4,5],[7,"delete",6],[7,"commit"],[7,"abort"]]}"#,
+        7,
+    ),
+    (
+        r#"{"steps":[[7,"fetch",1],[7,"scan",2,3],[7,"go"],[7,"insert",4,5],[7,"delete",6],[7,"commit"],[7,"abort"]],"opening":[],"format":1}"#,
+        7,
+    ),
+    (
+        r#"{"format":2,"opening":[],"steps":[[7,"fetch",1],[7,"scan",2,3],[7,"go"],[7,"insert",4,5],[7,"delete",6],[7,"commit"],[7,"abort"],[7,"update",8,9],[7,"back"]]}"#,
+        9,
+    ),
+    (
+        r#"{"steps":[[7,"fetch",1],[7,"scan",2,3],[7,"go"],[7,"insert",4,5],[7,"delete",6],[7,"commit"],[7,"abort"],[7,"update",8,9],[7,"back"]],"opening":[],"format":2}"#,
+        9,
+    ),
+];
+
 #[test]
 fn reads_each_form_of_a_step(rt: HostRuntime) -> Result<(), Fail> {
-    let text =
-        "{\"format\":1,\"opening\":[],\"steps\":[[7,\"fetch\",1],[7,\"scan\",2,3],[7,\"go\"],[7,\"insert\",4,5],[7,\"delete\",6],[7,\"commit\"],[7,\"abort\"]]}";
-    let script = read_script(rt.alloc(), text.as_bytes())?;
     let ops = [
         Op::Fetch(1),
         Op::Scan(2, 3),
@@ -59,10 +77,15 @@ fn reads_each_form_of_a_step(rt: HostRuntime) -> Result<(), Fail> {
         Op::Delete(6),
         Op::Commit,
         Op::Abort,
+        Op::Update(8, 9),
+        Op::Back,
     ];
-    assert_eq!(rt; script.steps().len(), ops.len());
-    for (event, op) in script.steps().iter().zip(ops) {
-        assert!(rt; *event == Event { txn: 7, op });
+    for (text, forms) in EACH_FORM {
+        let script = read_script(rt.alloc(), text.as_bytes())?;
+        assert_eq!(rt; script.steps().len(), forms);
+        for (event, op) in script.steps().iter().zip(ops) {
+            assert!(rt; *event == Event { txn: 7, op });
+        }
     }
     Ok(())
 }
@@ -84,7 +107,7 @@ fn told(alloc: Global, bytes: &[u8]) -> Result<String, AllocError> {
     }
 }
 
-const DOCUMENTS: [(&str, &str); 32] = [
+const DOCUMENTS: [(&str, &str); 48] = [
     ("", "fault 2 NotJson"),
     (
         "{\"format\":1,\"opening\":[],\"steps\":[]} 1",
@@ -94,8 +117,8 @@ const DOCUMENTS: [(&str, &str); 32] = [
     ("{}", "fault 4 Field at format"),
     ("{\"format\":1.0,\"zz\":0}", "fault 4 Field at format"),
     ("{\"format\":-1}", "fault 4 Field at format"),
-    ("{\"format\":2,\"zz\":0}", "fault 3 Format"),
-    ("{\"format\":1,\"format\":2}", "fault 3 Format"),
+    ("{\"format\":3,\"zz\":0}", "fault 3 Format"),
+    ("{\"format\":1,\"format\":3}", "fault 3 Format"),
     (
         "{\"format\":1,\"steps\":0,\"b\":1,\"a\":1}",
         "fault 4 Field at a",
@@ -183,6 +206,61 @@ const DOCUMENTS: [(&str, &str); 32] = [
         "fault 6 Step at 0",
     ),
     ("{\"format\":1,\"opening\":[],\"steps\":[]}", "none"),
+    (
+        "{\"format\":1,\"opening\":[],\"steps\":[[1,\"back\"]]}",
+        "fault 6 Step at 0",
+    ),
+    (
+        "{\"format\":2,\"opening\":[],\"steps\":[[1,\"update\",1,2],[1,\"back\"],[1,\"fetch\",1]]}",
+        "none",
+    ),
+    (
+        "{\"format\":2,\"opening\":[],\"steps\":[[1,\"back\"],[1,\"update\",1]]}",
+        "fault 6 Step at 1",
+    ),
+    (
+        "{\"format\":2,\"opening\":[],\"steps\":[[1,\"back\",1]]}",
+        "fault 6 Step at 0",
+    ),
+    (
+        "{\"format\":2,\"opening\":[],\"steps\":[[1,\"update\",1,2,3]]}",
+        "fault 6 Step at 0",
+    ),
+    (
+        "{\"format\":2,\"opening\":[],\"steps\":[[1,\"back\"],[4294967296,\"back\"]]}",
+        "fault 6 Step at 1",
+    ),
+    (
+        "{\"format\":2,\"opening\":[],\"steps\":[[1,\"Update\",1,2]]}",
+        "fault 6 Step at 0",
+    ),
+    (
+        "{\"format\":1,\"opening\":[],\"steps\":[[1,\"commit\"],[1,\"update\",1],[1,\"back\"]]}",
+        "fault 6 Step at 1",
+    ),
+    (
+        "{\"steps\":[[1,\"commit\"],[1,\"back\"]],\"opening\":[],\"format\":1}",
+        "fault 6 Step at 1",
+    ),
+    (
+        "{\"format\":2,\"opening\":[[5,1],[5,2]],\"steps\":[[1,\"back\",1]]}",
+        "fault 5 Opening at 1",
+    ),
+    ("{\"format\":2}", "fault 4 Field at opening"),
+    ("{\"format\":2,\"opening\":[]}", "fault 4 Field at steps"),
+    ("{\"format\":2,\"zz\":0}", "fault 4 Field at zz"),
+    (
+        "{\"format\":0,\"opening\":[],\"steps\":[]}",
+        "fault 3 Format",
+    ),
+    (
+        "{\"format\":1,\"opening\":[],\"steps\":[[1,\"back\"]],\"format\":2}",
+        "none",
+    ),
+    (
+        "{\"format\":2,\"opening\":[],\"steps\":[[1,\"back\"]],\"format\":1}",
+        "fault 6 Step at 0",
+    ),
 ];
 
 #[test]

@@ -8,12 +8,12 @@ use kr_script::{report_run, report_verdict};
 use kr_serial::{Index, Ran, Replies, Triples, Verdict};
 use std::alloc::{AllocError, Global};
 
-// Two modes, which stand beside each other and are never asked for.
+// Two modes, which stand beside each other and are never asked for. Updates are offered.
 #[derive(Drop)]
-struct Sample;
+pub struct Sample;
 
 impl Protocol for Sample {
-    ghost table = { λ _. record { count = 2; ok = λ q h. true; convert = λ h q. max h q; ask = λ row side own. None } };
+    ghost table = { λ _. record { count = 2; ok = λ q h. true; convert = λ h q. max h q; ask = λ row side own. None; updates = true } };
 
     ghost names = { λ _. codes "S" ∷ (88 ∷ 34 ∷ 92 ∷ []) ∷ [] };
 
@@ -45,7 +45,11 @@ impl Protocol for Sample {
         None
     }
 
-    ghost lawful = { λ _. lawful_by_test (record { count = 2; ok = λ q h. true; convert = λ h q. max h q; ask = λ row side own. None }) refl };
+    fn updates(&self) -> bool {
+        true
+    }
+
+    ghost lawful = { λ _. lawful_by_test (record { count = 2; ok = λ q h. true; convert = λ h q. max h q; ask = λ row side own. None; updates = true }) refl };
 
     ghost named = { λ _. Prim.search rules };
 }
@@ -84,8 +88,10 @@ fn each_reply(alloc: Global) -> Result<Vec<Reply>, AllocError> {
         Reply::Duplicate,
         Reply::Deleted(18_446_744_073_709_551_615),
         Reply::Absent,
+        Reply::Updated(4),
         Reply::Committed,
         Reply::Aborted,
+        Reply::Undone(3),
         Reply::Blocked(Txns::from_vec(vec![in alloc; 1, 2]?)),
         Reply::Refused(Refusal::Ended),
         Reply::Refused(Refusal::Busy),
@@ -93,12 +99,15 @@ fn each_reply(alloc: Global) -> Result<Vec<Reply>, AllocError> {
         Reply::Refused(Refusal::BadRange),
         Reply::Refused(Refusal::Full),
         Reply::Refused(Refusal::Memory),
+        Reply::Refused(Refusal::NoUpdate),
+        Reply::Refused(Refusal::RollingBack),
+        Reply::Refused(Refusal::NothingLeft),
     ]?;
     Ok(replies)
 }
 
 const EACH_REPLY: &str =
-    "{\"index\":[],\"locks\":[[0,0,\"none\"],[0,1,\"\"],[\"End\",4294967295,\"X\\\"\\\\\"]],\"replies\":[[\"found\",5],[\"none\"],[\"going\",7],[\"rows\",[[1,2],[3,4]]],[\"done\"],[\"duplicate\"],[\"deleted\",18446744073709551615],[\"absent\"],[\"committed\"],[\"aborted\"],[\"blocked\",[1,2]],[\"refused\",1,\"Ended\"],[\"refused\",2,\"Busy\"],[\"refused\",3,\"NoScan\"],[\"refused\",4,\"BadRange\"],[\"refused\",5,\"Full\"],[\"refused\",6,\"Memory\"]],\"unfinished\":[],\"verdict\":[\"not-serial\",1,2,[\"rows\",[[10,1],[20,2]]],[\"rows\",[[20,2]]]]}";
+    "{\"index\":[],\"locks\":[[0,0,\"none\"],[0,1,\"\"],[\"End\",4294967295,\"X\\\"\\\\\"]],\"replies\":[[\"found\",5],[\"none\"],[\"going\",7],[\"rows\",[[1,2],[3,4]]],[\"done\"],[\"duplicate\"],[\"deleted\",18446744073709551615],[\"absent\"],[\"updated\",4],[\"committed\"],[\"aborted\"],[\"undone\",3],[\"blocked\",[1,2]],[\"refused\",1,\"Ended\"],[\"refused\",2,\"Busy\"],[\"refused\",3,\"NoScan\"],[\"refused\",4,\"BadRange\"],[\"refused\",5,\"Full\"],[\"refused\",6,\"Memory\"],[\"refused\",7,\"NoUpdate\"],[\"refused\",8,\"RollingBack\"],[\"refused\",9,\"NothingLeft\"]],\"unfinished\":[],\"verdict\":[\"not-serial\",1,2,[\"rows\",[[10,1],[20,2]]],[\"rows\",[[20,2]]]]}";
 
 #[test]
 fn reports_each_reply(rt: HostRuntime) -> Result<(), AllocError> {

@@ -59,7 +59,13 @@ fn each_step(alloc: Global) -> Result<Vec<Answered>, AllocError> {
         ),
         answered(0, Op::Insert(15, 7), Reply::Done),
         answered(0, Op::Delete(15), Reply::Deleted(7)),
+        answered(
+            0,
+            Op::Update(10, 18_446_744_073_709_551_615),
+            Reply::Updated(1)
+        ),
         answered(1, Op::Commit, Reply::Committed),
+        answered(0, Op::Back, Reply::Undone(2)),
         answered(0, Op::Abort, Reply::Aborted),
     ]?;
     Ok(steps)
@@ -79,12 +85,18 @@ fn each_cause(alloc: Global) -> Result<Vec<StepFault>, AllocError> {
             op: Op::Go,
             cause: Cause::Refused(Reply::Refused(Refusal::NoScan)),
         },
+        StepFault {
+            txn: 2,
+            step: 18_446_744_073_709_551_615,
+            op: Op::Back,
+            cause: Cause::Refused(Reply::Refused(Refusal::NothingLeft)),
+        },
     ]?;
     Ok(faults)
 }
 
 const EACH_STEP: &str =
-    "{\"faults\":[[1,2,[\"deadlock\",[1,3,2]]],[2,18446744073709551615,[\"refused\",3,\"NoScan\"]]],\"history\":[[[1,\"fetch\",10],[\"found\",1]],[[4294967295,\"scan\",5,18446744073709551615],[\"going\",10]],[[4294967295,\"go\"],[\"rows\",[[10,1]]]],[[0,\"insert\",15,7],[\"done\"]],[[0,\"delete\",15],[\"deleted\",7]],[[1,\"commit\"],[\"committed\"]],[[0,\"abort\"],[\"aborted\"]]],\"index\":[[10,1]],\"unfinished\":[2,4294967295],\"verdict\":[\"not-serial\",1,1,[\"found\",1],[\"none\"]]}";
+    "{\"faults\":[[1,2,[\"deadlock\",[1,3,2]]],[2,18446744073709551615,[\"refused\",3,\"NoScan\"]],[2,18446744073709551615,[\"refused\",9,\"NothingLeft\"]]],\"history\":[[[1,\"fetch\",10],[\"found\",1]],[[4294967295,\"scan\",5,18446744073709551615],[\"going\",10]],[[4294967295,\"go\"],[\"rows\",[[10,1]]]],[[0,\"insert\",15,7],[\"done\"]],[[0,\"delete\",15],[\"deleted\",7]],[[0,\"update\",10,18446744073709551615],[\"updated\",1]],[[1,\"commit\"],[\"committed\"]],[[0,\"back\"],[\"undone\",2]],[[0,\"abort\"],[\"aborted\"]]],\"index\":[[10,1]],\"unfinished\":[2,4294967295],\"verdict\":[\"not-serial\",1,1,[\"found\",1],[\"none\"]]}";
 
 #[test]
 fn reports_each_step_and_each_cause(rt: HostRuntime) -> Result<(), AllocError> {

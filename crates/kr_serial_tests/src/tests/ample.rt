@@ -3,7 +3,7 @@
 use super::plain::Plain;
 use kr_index::Memory;
 use kr_model::{Event, Op, Refusal};
-use kr_protocol::{Im, Kvl, RangeKey};
+use kr_protocol::{Im, Kvl, KvlUpdate, RangeKey};
 use kr_serial::{Ran, Reply, Txn, Verdict, judge, run, run_any};
 use std::alloc::Global;
 use std::process::Abort;
@@ -129,16 +129,20 @@ fn each_operation(rt: HostRuntime) -> Result<(), Fail> {
     Ok(())
 }
 
-/// What the one who acts first does, and then the other, who commits first, in each of seven ways in which an answer isn't the
+/// What the one who acts first does, and then the other, who commits first, in each of ten ways in which an answer isn't the
 /// one of the commit order. In the odd ones the key is there at first.
 fn clash(i: u32, key: u64, value: u64) -> (Op, Op) {
     let (insert, delete) = (Op::Insert(key, value), Op::Delete(key));
+    let (update, other) = (Op::Update(key, value), Op::Update(key, !value));
     match i {
         0 => (Op::Fetch(key), insert),
         1 => (Op::Fetch(key), delete),
         2 => (Op::Scan(key, key), insert),
         3 | 6 => (insert, delete),
-        _ => (delete, insert),
+        4 | 5 => (delete, insert),
+        7 => (Op::Fetch(key), other),
+        8 => (update, insert),
+        _ => (other, update),
     }
 }
 
@@ -153,6 +157,9 @@ fn are_answers(i: u32, key: u64, value: u64, given: &Reply, serial: &Reply) -> b
         (3, Reply::Duplicate, Reply::Done) | (5, Reply::Done, Reply::Duplicate) => true,
         (4, Reply::Absent, Reply::Deleted(deleted)) => *deleted == value,
         (6, Reply::Deleted(deleted), Reply::Absent) => *deleted == value,
+        (7, Reply::Found(given), Reply::Found(serial)) => *given == value && *serial == !value,
+        (8, Reply::Absent, Reply::Updated(updated)) => *updated == value,
+        (9, Reply::Updated(given), Reply::Updated(serial)) => *given == !value && *serial == value,
         _ => false,
     }
 }
@@ -174,9 +181,12 @@ fn ran_clash(alloc: Global, i: u32, txns: (Txn, Txn), key: u64, value: u64) -> R
     }
 }
 
-/// Whether the verdict on a clash tells it: up to 4 it is in the answer of the one who acts first, and then in the other's.
+/// Whether the verdict on a clash tells it: in three of them it is in the answer of the one who acts second.
 fn tells(verdict: &Verdict, i: u32, txns: (Txn, Txn), key: u64, value: u64) -> bool {
-    let whose = if i < 5 { txns.0 } else { txns.1 };
+    let whose = match i {
+        5 | 6 | 9 => txns.1,
+        _ => txns.0,
+    };
     match verdict {
         Verdict::Serial => false,
         Verdict::NotSerial {
@@ -190,7 +200,7 @@ fn tells(verdict: &Verdict, i: u32, txns: (Txn, Txn), key: u64, value: u64) -> b
 
 /// Whether each clash of two transactions is told.
 fn are_told(alloc: Global, txns: (Txn, Txn), key: u64, value: u64) -> Result<bool, Memory> {
-    for i in 0..7 {
+    for i in 0..10 {
         let ran = ran_clash(alloc, i, txns, key, value)?;
         if !tells(&judge(alloc, &ran)?, i, txns, key, value) {
             return Ok(false);
@@ -241,8 +251,24 @@ fn random_op(number: u64) -> Op {
     }
 }
 
-/// 400 steps that look random: five transactions at a time take 30 steps, and then each commits, or aborts where it can't.
-fn random_steps(seed: u64) -> [Event; 400] {
+/// An operation that looks random, with updates and backs among them.
+fn random_change(number: u64) -> Op {
+    let key = key_by(number >> 8);
+    match (number >> 16) % 12 {
+        0 => Op::Fetch(key),
+        1 => Op::Scan(key, key_by(number >> 24)),
+        2 | 3 => Op::Go,
+        4 | 5 => Op::Insert(key, number),
+        6 => Op::Delete(key),
+        7..=9 => Op::Update(key, number),
+        10 => Op::Back,
+        _ => Op::Commit,
+    }
+}
+
+/// 400 steps that look random, with updates and backs or without: five transactions at a time take 30 steps, and then each
+/// commits, or aborts where it can't.
+fn random_steps(seed: u64, later: bool) -> [Event; 400] {
     let mut events = [event(0, Op::Commit); 400];
     let mut number = seed;
     for step in 0..400_u32 {
@@ -251,25 +277,43 @@ fn random_steps(seed: u64) -> [Event; 400] {
         events[step as usize] = match step % 40 {
             30..=34 => event(first + step % 5, Op::Commit),
             35..=39 => event(first + step % 5, Op::Abort),
+            _ if later => event(first + (number % 5) as u32, random_change(number)),
             _ => event(first + (number % 5) as u32, random_op(number)),
         };
     }
     events
 }
 
-/// Whether such steps in one of the ways are serial, with each transaction at its end.
-fn is_serial(alloc: Global, way: u32, seed: u64) -> Result<bool, Memory> {
-    let ran = ran_by(alloc, way, &random_steps(seed))?;
+/// Whether a run is serial, with each transaction at its end.
+fn is_serial(alloc: Global, ran: &Ran) -> Result<bool, Memory> {
     let is_over = ran.unfinished.as_slice().is_empty() && ran.locks.as_slice().is_empty();
-    Ok(is_over & judge(alloc, &ran)?.is_serial())
+    Ok(is_over & judge(alloc, ran)?.is_serial())
 }
 
 #[test]
 fn random_steps_under_covered_protocols(rt: HostRuntime) -> Result<(), Fail> {
     for seed in 1..=20 {
         for way in 0..6 {
-            assert!(rt; is_serial(rt.alloc(), way, seed)?, "{way} {seed}");
+            let ran = ran_by(rt.alloc(), way, &random_steps(seed, false))?;
+            assert!(rt; is_serial(rt.alloc(), &ran)?, "{way} {seed}");
         }
+    }
+    Ok(())
+}
+
+#[test]
+fn random_updates_and_backs_under_covered_protocols(rt: HostRuntime) -> Result<(), Fail> {
+    let alloc = rt.alloc();
+    for seed in 1..=20 {
+        let events = random_steps(seed, true);
+        for way in 0..6 {
+            let ran = ran_by(alloc, way, &events)?;
+            assert!(rt; is_serial(alloc, &ran)?, "{way} {seed}");
+        }
+        let ran = run(alloc, &KvlUpdate, &[], &events)?;
+        assert!(rt; is_serial(alloc, &ran)?, "{seed}");
+        let ran = run_any(alloc, &KvlUpdate, &[], &events)?;
+        assert!(rt; is_serial(alloc, &ran)?, "{seed}");
     }
     Ok(())
 }
@@ -287,7 +331,7 @@ const DIFFERENCES: [(usize, Txn, u64); 20] = [
 /// How many programs such steps leave without locks, and the transaction and the number of the first operation whose answer isn't
 /// the one of the commit order.
 fn difference(alloc: Global, seed: u64) -> Result<(usize, Txn, u64), Memory> {
-    let ran = run_any(alloc, &Plain, &[], &random_steps(seed))?;
+    let ran = run_any(alloc, &Plain, &[], &random_steps(seed, false))?;
     let programs = ran.programs.as_slice().len();
     match judge(alloc, &ran)? {
         Verdict::Serial => Ok((programs, 0, 0)),

@@ -161,3 +161,68 @@ fn changes_stand_for_the_next(rt: HostRuntime) -> Result<(), AllocError> {
     assert!(rt; judged(alloc, changes(alloc)?, reads)?.is_serial());
     Ok(())
 }
+
+/// Updates of a present and of an absent key.
+fn updates(alloc: Global) -> Result<Program, AllocError> {
+    let updates = one(alloc, 6, Op::Update(20, 9), Reply::Updated(2))?;
+    then(updates, Op::Update(25, 8), Reply::Absent)
+}
+
+// The next finds the value of an update, no key that was updated while absent, and updates and deletes from there.
+#[test]
+fn updates_stand_for_the_next(rt: HostRuntime) -> Result<(), AllocError> {
+    let alloc = rt.alloc();
+    let reads = one(alloc, 4, Op::Fetch(20), Reply::Found(9))?;
+    let reads = then(reads, Op::Fetch(25), Reply::None)?;
+    let reads = then(reads, Op::Update(20, 9), Reply::Updated(9))?;
+    let reads = then(reads, Op::Update(20, 7), Reply::Updated(9))?;
+    let reads = then(reads, Op::Delete(20), Reply::Deleted(7))?;
+    let reads = then(reads, Op::Update(20, 1), Reply::Absent)?;
+    let reads = then(reads, Op::Scan(0, 30), rows(alloc, &[(10, 1), (30, 3)])?)?;
+    assert!(rt; judged(alloc, updates(alloc)?, reads)?.is_serial());
+    Ok(())
+}
+
+// Two updates of one key, each told what stood there first.
+#[test]
+fn update_not_serial(rt: HostRuntime) -> Result<(), AllocError> {
+    let alloc = rt.alloc();
+    let updates_too = one(alloc, 4, Op::Update(20, 7), Reply::Updated(2))?;
+    match judged(alloc, updates(alloc)?, updates_too)? {
+        Verdict::NotSerial {
+            txn,
+            operation,
+            given: Reply::Updated(2),
+            serial: Reply::Updated(9),
+        } => assert_eq!(rt; (txn, operation), (4, 1)),
+        _ => panic!(rt; "the second update isn't told"),
+    }
+    Ok(())
+}
+
+// An update of a key that another has deleted, and one that finds no key where another has brought it.
+#[test]
+fn updates_told_of_a_key_and_of_none(rt: HostRuntime) -> Result<(), AllocError> {
+    let alloc = rt.alloc();
+    let deletes = one(alloc, 2, Op::Delete(20), Reply::Deleted(2))?;
+    match judged(alloc, deletes, updates(alloc)?)? {
+        Verdict::NotSerial {
+            txn,
+            operation,
+            given: Reply::Updated(2),
+            serial: Reply::Absent,
+        } => assert_eq!(rt; (txn, operation), (6, 1)),
+        _ => panic!(rt; "the update of a deleted key isn't told"),
+    }
+    let inserts = one(alloc, 2, Op::Insert(25, 5), Reply::Done)?;
+    match judged(alloc, inserts, updates(alloc)?)? {
+        Verdict::NotSerial {
+            txn,
+            operation,
+            given: Reply::Absent,
+            serial: Reply::Updated(5),
+        } => assert_eq!(rt; (txn, operation), (6, 2)),
+        _ => panic!(rt; "the update of an inserted key isn't told"),
+    }
+    Ok(())
+}

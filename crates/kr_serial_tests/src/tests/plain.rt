@@ -7,12 +7,12 @@ use kr_model::{Row, Side, Span};
 use kr_protocol::Protocol;
 use kr_serial::Mode;
 
-/// One mode, which is never asked for.
+/// One mode, which is never asked for. Updates are offered.
 #[derive(Drop)]
 pub struct Plain;
 
 impl Protocol for Plain {
-    ghost table = { λ _. record { count = 1; ok = λ q h. true; convert = λ h q. max h q; ask = λ row side own. None } };
+    ghost table = { λ _. record { count = 1; ok = λ q h. true; convert = λ h q. max h q; ask = λ row side own. None; updates = true } };
 
     ghost names = { λ _. codes "A" ∷ [] };
 
@@ -43,7 +43,11 @@ impl Protocol for Plain {
         None
     }
 
-    ghost lawful = { λ _. lawful_by_test (record { count = 1; ok = λ q h. true; convert = λ h q. max h q; ask = λ row side own. None }) refl };
+    fn updates(&self) -> bool {
+        true
+    }
+
+    ghost lawful = { λ _. lawful_by_test (record { count = 1; ok = λ q h. true; convert = λ h q. max h q; ask = λ row side own. None; updates = true }) refl };
 
     ghost named = { λ _. Prim.search rules };
 }

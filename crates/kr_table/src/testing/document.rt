@@ -1,5 +1,5 @@
 //! The members of a document: its format, no unknown ones, and an array and three tables.
-ghost use Rattle.std.specs.Prelude.{◌≡◌, MatchResult, Some, codes, is_some, true};
+ghost use Rattle.std.specs.Prelude.{◌≡◌, MatchResult, [], Some, codes, is_some, true};
 ghost use Rattle.toml.specs.View.{view, items_view, members_view};
 ghost use Rattle.toml.specs.Data.{get, as_table};
 ghost use Rattle.kr_table.specs.Faults.{Passes, Tells};
@@ -11,13 +11,16 @@ use crate::testing::paths::field;
 use std::alloc::Global;
 use toml::{Table, Value};
 
-/// Tests that the format is 1.
-pub fn test_format(alloc: Global, value: &Value) -> Result<(), TableFault>
-    ensures { Passes result (spec.format_faults (integer_in (codes "format") (view value.now))) }
+/// Whether updates are offered, which is so in format 2, or the fault that the format is neither 1 nor 2.
+pub fn test_format(alloc: Global, value: &Value) -> Result<bool, TableFault>
+    ensures { MatchResult result
+        (λ u. (spec.format_faults (integer_in (codes "format") (view value.now)) ≡ []) × (spec.updates_in (view value.now) ≡ u))
+        (λ e. Tells e (spec.format_faults (integer_in (codes "format") (view value.now)))) }
 {
     match value.get("format").and_then(Value::as_integer) {
         None => Err(field(alloc, "format")),
-        Some(1) => Ok(()),
+        Some(1) => Ok(false),
+        Some(2) => Ok(true),
         Some(_) => Err(TableFault::Format),
     }
 }

@@ -12,17 +12,17 @@ use crate::testing::paths::{own_clause, rule_clause, rule_row, rule_side};
 use std::alloc::Global;
 use toml::{Table, Value};
 
-/// Whether the row is of an operation that changes the index.
+/// Whether the row is of an operation that moves keys.
 fn is_changing(row: &str) -> bool
     ensures { result ≡ spec.is_changing row.now }
 {
     row == "insert" || row == "delete"
 }
 
-fn has_current(row: &str) -> bool
-    ensures { result ≡ spec.has_current row.now }
+fn has_current(updates: bool, row: &str) -> bool
+    ensures { result ≡ spec.has_current updates row.now }
 {
-    row == "fetch-hit" || row == "scan-key" || is_changing(row)
+    row == "fetch-hit" || row == "scan-key" || is_changing(row) || (updates && row == "update")
 }
 
 fn has_next(row: &str) -> bool
@@ -31,16 +31,16 @@ fn has_next(row: &str) -> bool
     row == "fetch-miss" || row == "scan-stop" || is_changing(row)
 }
 
-fn is_row(row: &str) -> bool
-    ensures { result ≡ spec.is_row row.now }
+fn is_row(updates: bool, row: &str) -> bool
+    ensures { result ≡ spec.is_row updates row.now }
 {
-    has_current(row) || has_next(row)
+    has_current(updates, row) || has_next(row)
 }
 
-fn is_side(row: &str, side: &str) -> bool
-    ensures { result ≡ spec.is_side row.now side.now }
+fn is_side(updates: bool, row: &str, side: &str) -> bool
+    ensures { result ≡ spec.is_side updates row.now side.now }
 {
-    (side == "current" && has_current(row)) || (side == "next" && has_next(row))
+    (side == "current" && has_current(updates, row)) || (side == "next" && has_next(row))
 }
 
 fn is_clause_word(word: &str) -> bool
@@ -173,14 +173,20 @@ fn test_clauses(
 }
 
 /// Tests each side of a row, with its clauses.
-fn test_sides(alloc: Global, modes: &[String], row: &str, sides: &Table) -> Result<(), TableFault>
-    ensures { Passes result (spec.side_faults (map string_bytes modes.now) row.now (members_view sides.now.entries)) }
+fn test_sides(
+    alloc: Global,
+    updates: bool,
+    modes: &[String],
+    row: &str,
+    sides: &Table,
+) -> Result<(), TableFault>
+    ensures { Passes result (spec.side_faults updates (map string_bytes modes.now) row.now (members_view sides.now.entries)) }
 {
     for (side, value) in sides.iter() {
         let Some(list) = value.as_array() else {
             return Err(rule_side(alloc, row, side.as_str()));
         };
-        if !is_side(row, side.as_str()) {
+        if !is_side(updates, row, side.as_str()) {
             return Err(rule_side(alloc, row, side.as_str()));
         }
         test_clauses(alloc, modes, row, side.as_str(), list.as_slice())?;
@@ -189,17 +195,22 @@ fn test_sides(alloc: Global, modes: &[String], row: &str, sides: &Table) -> Resu
 }
 
 /// Tests each row of `rules`, with its sides.
-pub fn test_rows(alloc: Global, modes: &[String], rules: &Table) -> Result<(), TableFault>
-    ensures { Passes result (spec.row_faults (map string_bytes modes.now) (members_view rules.now.entries)) }
+pub fn test_rows(
+    alloc: Global,
+    updates: bool,
+    modes: &[String],
+    rules: &Table,
+) -> Result<(), TableFault>
+    ensures { Passes result (spec.row_faults updates (map string_bytes modes.now) (members_view rules.now.entries)) }
 {
     for (row, value) in rules.iter() {
         let Some(sides) = value.as_table() else {
             return Err(rule_row(alloc, row.as_str()));
         };
-        if !is_row(row.as_str()) {
+        if !is_row(updates, row.as_str()) {
             return Err(rule_row(alloc, row.as_str()));
         }
-        test_sides(alloc, modes, row.as_str(), sides)?;
+        test_sides(alloc, updates, modes, row.as_str(), sides)?;
     }
     Ok(())
 }

@@ -2,7 +2,7 @@
 //! matrices that aren't symmetric; and each bundled table cut before each of its parts.
 use super::{are_alike, told};
 use kr_protocol::{Protocol, Row, Side, Span};
-use kr_table::texts::{IM, KVL, RANGE_KEY};
+use kr_table::texts::{IM, KVL, KVL_UPDATE, RANGE_KEY};
 use kr_table::{Table, read, write};
 use std::alloc::{AllocError, Global};
 use std::process::Abort;
@@ -35,11 +35,11 @@ fn conversions(alloc: Global, count: u8, held: u8) -> Result<String, AllocError>
     Ok(entries)
 }
 
-/// A table of so many modes: a mode stands beside itself and those after it, and an insert asks on the next name for the own
-/// mode there.
-fn document(alloc: Global, count: u8) -> Result<String, AllocError> {
+/// A table of so many modes, in one of the two formats: a mode stands beside itself and those after it, an insert asks on the
+/// next name for the own mode there, and an update, where there is one, on its key for the last mode.
+fn document(alloc: Global, format: u8, count: u8) -> Result<String, AllocError> {
     let mut text = format!(in alloc;
-        "format = 1\nmodes = {}\n[compatible]\n",
+        "format = {format}\nmodes = {}\n[compatible]\n",
         names(alloc, 1, count)?
     )?;
     for mode in 1..=count {
@@ -57,6 +57,10 @@ fn document(alloc: Global, count: u8) -> Result<String, AllocError> {
         text.push_str(clause.as_str())?;
     }
     text.push_str("]\n")?;
+    if format == 2 {
+        let clause = format!(in alloc; "{{ mode = \"M{count}\", span = \"commit\" }}")?;
+        text.push_str(format!(in alloc; "[rules.update]\ncurrent = [{clause}]\n")?.as_str())?;
+    }
     Ok(text)
 }
 
@@ -79,15 +83,20 @@ fn answers(rt: &impl Abort, table: &Table, count: u8) {
 #[test]
 fn each_number_of_modes(rt: HostRuntime) -> Result<(), Fail> {
     let alloc = rt.alloc();
-    for count in 1..=15 {
-        let table = read(alloc, document(alloc, count)?.as_bytes())?;
-        answers(&rt, &table, count);
-        let written = write(alloc, &table)?;
-        let again = read(alloc, written.as_bytes())?;
-        assert!(rt; are_alike(&table, &again), "{count}");
+    for format in 1..=2_u8 {
+        for count in 1..=15 {
+            let table = read(alloc, document(alloc, format, count)?.as_bytes())?;
+            answers(&rt, &table, count);
+            let update = (format == 2).then_some((count, Span::Commit));
+            assert_eq!(rt; table.updates(), format == 2, "{count}");
+            assert_eq!(rt; table.ask(Row::Update, Side::Current, 0), update, "{count}");
+            let written = write(alloc, &table)?;
+            let again = read(alloc, written.as_bytes())?;
+            assert!(rt; are_alike(&table, &again), "{format} {count}");
+        }
+        let many = document(alloc, format, 16)?;
+        assert_eq!(rt; told(alloc, many.as_bytes())?.as_str(), "fault 5 ModeCount");
     }
-    let many = document(alloc, 16)?;
-    assert_eq!(rt; told(alloc, many.as_bytes())?.as_str(), "fault 5 ModeCount");
     Ok(())
 }
 
@@ -103,7 +112,7 @@ const CUTS: [(&str, &str); 6] = [
 
 #[test]
 fn bundled_tables_cut(rt: HostRuntime) -> Result<(), Fail> {
-    for text in [KVL, IM, RANGE_KEY] {
+    for text in [KVL, KVL_UPDATE, IM, RANGE_KEY] {
         for (part, fault) in CUTS {
             let (front, _) = text.split_once(part).ok_or("no part")?;
             assert_eq!(rt;
@@ -113,5 +122,14 @@ fn bundled_tables_cut(rt: HostRuntime) -> Result<(), Fail> {
             );
         }
     }
+    Ok(())
+}
+
+#[test]
+fn updates_are_offered_without_their_row(rt: HostRuntime) -> Result<(), Fail> {
+    let (front, _) = KVL_UPDATE.split_once("[rules.update]").ok_or("no row")?;
+    let table = read(rt.alloc(), front.as_bytes())?;
+    assert!(rt; table.updates());
+    assert_eq!(rt; table.ask(Row::Update, Side::Current, 0), None);
     Ok(())
 }

@@ -13,7 +13,8 @@ fn event(txn: u32, op: Op) -> Event
     Event { txn, op }
 }
 
-/// Transaction 1 fetches 30 and scans 10 to 20 in two steps, while 2 deletes 20, commits, and 3 aborts.
+/// Transaction 1 fetches 30 and scans 10 to 20 in two steps, while 2 deletes 20, updates 40 and commits, and 3 takes an
+/// insert back and aborts.
 fn noted(alloc: Global) -> Result<Log, Fail> {
     let mut log = Log::new(alloc);
     log.make_room(1)?;
@@ -27,7 +28,10 @@ fn noted(alloc: Global) -> Result<Log, Fail> {
     log.make_room(2)?;
     log.note(event(2, Op::Delete(20)), Reply::Deleted(2));
     log.make_room(3)?;
-    log.note(event(3, Op::Insert(40, 1)), Reply::Done);
+    log.note(event(3, Op::Insert(50, 1)), Reply::Done);
+    log.note(event(3, Op::Back), Reply::Undone(0));
+    log.make_room(2)?;
+    log.note(event(2, Op::Update(40, 1)), Reply::Updated(4));
     log.make_room(2)?;
     log.note(event(2, Op::Commit), Reply::Committed);
     log.note(event(3, Op::Abort), Reply::Aborted);
@@ -52,9 +56,11 @@ fn programs_stand_in_commit_order(rt: HostRuntime) -> Result<(), Fail> {
     assert_eq!(rt; programs[1].txn, 1);
     assert_eq!(rt; programs[2].txn, 7);
     let second = programs[0].operations.as_slice();
-    assert_eq!(rt; second.len(), 1);
+    assert_eq!(rt; second.len(), 2);
     assert!(rt; second[0].0 == Op::Delete(20));
     assert!(rt; matches!(&second[0].1, Reply::Deleted(2)));
+    assert!(rt; second[1].0 == Op::Update(40, 1));
+    assert!(rt; matches!(&second[1].1, Reply::Updated(4)));
     let first = programs[1].operations.as_slice();
     assert_eq!(rt; first.len(), 2);
     assert!(rt; first[0].0 == Op::Fetch(30));

@@ -1,7 +1,10 @@
-use Rattle.std.proofs.Common.{◌≡◌, ℕ, ◌+◌, ◌*◌, length, subst}
-use Rattle.kr_model.specs.Covers.{cases}
+use Rattle.std.proofs.Common.{◌∙◌, ap₂}
+use Rattle.kr_model.specs.Covers.{case_count}
 use Rattle.kr_model.proofs.CaseCount.{length-cases}
 use Rattle.kr_cases.proofs.checker.cases.Goals as goal
 
-pub returns : goal.returns
-returns c = λ p e. subst (λ (m : ℕ). length (cases p) ≡ 4 * (m * m) + 6 * (m + 1) + 3 * ((m + 1) * (m + 1))) e (length-cases p)
+pub returns-then-updates : goal.returns-then-updates
+returns-then-updates c = λ p e f. length-cases p ∙ ap₂ case_count e (f ∙ c.if-updates.true)
+
+pub returns-else-updates : goal.returns-else-updates
+returns-else-updates c = λ p e f. length-cases p ∙ ap₂ case_count e (f ∙ c.if-updates.false)

@@ -8,4 +8,4 @@ use Rattle.kr_cases.proofs.finder.failed_cases.Given as goal
 abbrev pub invariant-loop-rule : goal.invariant-loop-rule
 invariant-loop-rule g l =
     let p = g.P.Protocol.table l.protocol in
-    l.failed.items ≡ failures p (flat_map (cases_of p) (take l.rule-index all_rules))
+    l.failed.items ≡ failures p (flat_map (cases_of p) (take l.rule-index (all_rules p)))

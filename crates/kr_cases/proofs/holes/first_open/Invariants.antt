@@ -7,4 +7,4 @@ use Rattle.kr_cases.proofs.holes.first_open.Given as goal
 abbrev pub invariant-loop-ask : goal.invariant-loop-ask
 invariant-loop-ask g l =
     let p = g.P.Protocol.table l.protocol in
-    filter (is_open p l.held) (flat_map (places_of p) (take l.ask-index (must_refuse l.fn.cover))) ≡ []
+    filter (is_open p l.held) (flat_map (places_of p) (take l.ask-index (must_refuse p l.fn.cover))) ≡ []

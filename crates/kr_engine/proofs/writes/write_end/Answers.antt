@@ -1,11 +1,14 @@
 use Rattle.std.proofs.Common.{◌≡◌, List, Some, None, true, refl, ap, ◌∙◌, sym, subst, rules}
-use Rattle.std.specs.Prelude.{slice_set}
+use Rattle.std.specs.Prelude.{slice_set, slice_index_or}
 use Rattle.std.proofs.lemmas.List.{get_or-set_same, set-set}
+use Rattle.kr_model.specs.declared.Reply.{Reply}
 use Rattle.kr_model.specs.State.{State}
 use Rattle.kr_model.specs.Step.{step}
 use Rattle.kr_model.specs.Run.{is_granted}
 use Rattle.kr_engine.specs.declared.numbers.Number.{Number}
+use Rattle.kr_engine.specs.Histories.{entry, event}
 use Rattle.kr_engine.specs.Numbers.{HaveEnds, number_at, nobody}
+use Rattle.kr_engine.proofs.Ends.{end_granted}
 use Rattle.kr_engine.proofs.Ended.{ends_taken, ends_back, ends_stay, works}
 use Rattle.kr_engine.proofs.writes.write_end.Goals as goal
 
@@ -36,3 +39,14 @@ returns-clause-ends g c =
     let list : c.put_end.new.self ≡ slice_set ns at back = c.put_end.ensures.list ∙ ap (λ (v : List Number). slice_set v at back) c.take_end-made.ensures.list ∙ set-set ns at n back in
     subst (HaveEnds c.cancel.new.self.state) (sym list)
     (ends_stay s c.cancel.new.self.state (slice_set ns at back) (ap (λ (x : State). x.ended) state) (ends_back s ns c.args.txn at back c.place-at.ensures same refl (works p s c.args.txn c.args.op granted) c.requires.ends))
+
+pub returns-in-Ok-set_as-clause-note : goal.returns-in-Ok-set_as-clause-note
+returns-in-Ok-set_as-clause-note g c =
+    let p = g.P.Protocol.table c.args.machine.now.protocol in
+    let s = c.args.machine.now.state in
+    let granted : is_granted (step p s c.args.txn c.args.op).0 ≡ true = sym (ap is_granted c.in-Ok.ensures.reply) ∙ c.in-Ok.ensures.granted in
+    let reply : c.finish.result ≡ (step p s c.args.txn c.args.op).0 = search rules in
+    let same : c.end_reply.result ≡ c.finish.result = c.end_reply.ensures ∙ sym (reply ∙ end_granted p s c.args.txn c.args.op c.requires.is_end granted) in
+    let cell : c.of.result.cell ≡ slice_index_or c.args.row.now c.args.place 0 = search rules in
+    let written : c.of.result.known ≡ Some (entry c.args.seat (event c.args.txn c.args.op) c.end_reply.result) = search rules in
+    (cell, written ∙ ap (λ (r : Reply). Some (entry c.args.seat (event c.args.txn c.args.op) r)) same)

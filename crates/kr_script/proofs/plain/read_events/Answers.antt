@@ -21,7 +21,7 @@ events-preserved c =
       next = subst (λ ds. AreNext 125 start ds c.read_event.new.reader) (sym (ap (map step_of) items ∙ map-append step_of before (event ∷ [])))
           (one_more_next 125 start l.reader c.read_event.new.reader (map step_of before) (step_of event) l.invariant.next next);
       opened = l.invariant.opened;
-      back = subst ReadBack (sym items) (back_further before event l.invariant.back c.in_ok-event.ensures.back);
+      back = subst (ReadBack c.args.two) (sym items) (back_further c.args.two before event l.invariant.back c.in_ok-event.ensures.back);
       few = grind arith;
     }
 

@@ -10,7 +10,7 @@ abbrev pub invariant-events : goal.invariant-events
 invariant-events l = record {
   next : AreNext 125 l.initial.reader (map step_of l.events.items) l.reader;
   opened : l.fn.reader ≡ Token.begin_array ∷ l.initial.reader;
-  back : ReadBack l.events.items;
+  back : ReadBack l.two l.events.items;
   few : length l.events.items ≤ 100000;
 }
 

@@ -7,6 +7,6 @@ use Rattle.kr_script.proofs.reading.events_of.Given as goal
 -- no fault so far, and the events so far
 abbrev pub invariant-loop-i : goal.invariant-loop-i
 invariant-loop-i l = record {
-  faults : step_faults 0 (items_view l.list) ≡ step_faults l.i (items_view (drop l.i l.list));
-  events : events_of (items_view l.list) ≡ l.events.items ++ events_of (items_view (drop l.i l.list));
+  faults : step_faults l.two 0 (items_view l.list) ≡ step_faults l.two l.i (items_view (drop l.i l.list));
+  events : events_of l.two (items_view l.list) ≡ l.events.items ++ events_of l.two (items_view (drop l.i l.list));
 }

@@ -3,7 +3,7 @@ use Rattle.std.proofs.lemmas.Result.{err_from_is_err_and}
 use Rattle.serde_json.specs.Events.{items_len}
 use Rattle.serde_json.specs.View.{view, items_view}
 use Rattle.kr_script.specs.Json.{items_in}
-use Rattle.kr_script.specs.Faults.{faults, opening_faults, step_faults, too_many}
+use Rattle.kr_script.specs.Faults.{faults, opening_faults, step_faults, two_in, too_many}
 use Rattle.kr_script.specs.Reading.{script_in}
 use Rattle.kr_script.proofs.Kept.{rising, few, length-pairs_of, length-events_of}
 use Rattle.kr_script.proofs.Firsts.{tells_more}
@@ -14,7 +14,7 @@ returns-in_err-opening-2 c =
     let p = err_from_is_err_and c.from_residual-in_err-opening-2.result c.from_residual-in_err-opening-2.ensures.1 in
     let d = view c.args.value.now in
     let here = opening_faults 0 None (items_view c.in_ok-opening.opening.now) in
-    let rest = step_faults 0 (items_in (codes "steps") d) in
+    let rest = step_faults (two_in d) 0 (items_in (codes "steps") d) in
     let e : faults d ≡ here ++ rest = search rules in
     rw (p.1, p.2, e) (tells_more c.in_err-opening-2.field-0.0 here rest (script_in d) c.in_err-opening-2.ensures)
 
@@ -29,5 +29,5 @@ new-requires c =
     record {
       rising = rw pairs (rising ds c.in_ok-opening-2.ensures.0);
       few_pairs = omega (arith, ap length pairs, length-pairs_of ds, few_pairs);
-      few_steps = omega (arith, ap length events, length-events_of es, few_steps);
+      few_steps = omega (arith, ap length events, length-events_of c.in_ok-two.two es, few_steps);
     }

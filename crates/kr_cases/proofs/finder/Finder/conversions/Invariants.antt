@@ -1,6 +1,5 @@
 use Rattle.std.proofs.Common.{◌≡◌, ◌++◌, take}
 use Rattle.std.specs.List.{flat_map}
-use Rattle.kr_model.specs.Covers.{all_covers}
 use Rattle.kr_cases.specs.Cases.{failures, conversions_of}
 use Rattle.kr_cases.proofs.finder.Finder.conversions.Given as goal
 
@@ -8,4 +7,4 @@ use Rattle.kr_cases.proofs.finder.Finder.conversions.Given as goal
 abbrev pub invariant-loop-cover : goal.invariant-loop-cover
 invariant-loop-cover g l =
     let p = g.P.Protocol.table l.self.protocol.now in
-    l.failed.items ≡ l.fn.failed.items ++ failures p (flat_map (conversions_of p) (take l.cover-index all_covers))
+    l.failed.items ≡ l.fn.failed.items ++ failures p (flat_map (conversions_of p) (take l.cover-index l.covers))

@@ -1,4 +1,4 @@
-use Rattle.std.specs.Prelude.{◌≡◌, ℕ, ◌&&◌, ◌||◌, ◌==◌, nat_lt, None, cond, refl}
+use Rattle.std.specs.Prelude.{◌≡◌, ℕ, false, ◌&&◌, ◌||◌, ◌==◌, nat_lt, None, cond, refl}
 use Rattle.std.specs.Int.{bit_at}
 use Rattle.std.proofs.Common.{arith, subst, sym}
 use Rattle.kr_model.specs.Protocol.{Protocol}
@@ -8,7 +8,7 @@ use Rattle.kr_protocol.proofs.RowLaws.{row_from}
 use Rattle.kr_locks_tests.proofs.tests.shared_exclusive.SharedExclusiveProtocol.row.Goals as goal
 
 shared : Protocol
-shared = record { count = 2; ok = λ q h. q == 0 || h == 0 || (q == 1 && h == 1); convert = λ h q. cond (nat_lt h q) q h; ask = λ row side own. None }
+shared = record { count = 2; ok = λ q h. q == 0 || h == 0 || (q == 1 && h == 1); convert = λ h q. cond (nat_lt h q) q h; ask = λ row side own. None; updates = false }
 
 row_of_shared : IsRow shared 1 4
 unfolding shared

@@ -4,7 +4,7 @@ use Rattle.kr_protocol.proofs.RowLaws.{no_conflicts}
 use Rattle.kr_serial_tests.proofs.tests.plain.PlainProtocol.row.Goals as goal
 
 alone : Protocol
-alone = record { count = 1; ok = λ q h. true; convert = λ h q. max h q; ask = λ row side own. None }
+alone = record { count = 1; ok = λ q h. true; convert = λ h q. max h q; ask = λ row side own. None; updates = true }
 
 pub returns : goal.returns
 unfolding alone
