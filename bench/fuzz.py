@@ -25,7 +25,7 @@ TOP = os.path.dirname(os.path.dirname(os.path.abspath(__file__)))
 RUNS, SEED = int(sys.argv[1]), int(sys.argv[2])
 KR = os.path.abspath(sys.argv[3] if len(sys.argv) > 3 and sys.argv[3] else f"{TOP}/crates/kr/out/kr")
 AT_ONCE, AT_A_TIME = 3, 500
-BUNDLED = ["@kvl", "@im", "@range-key"]
+BUNDLED = ["@kvl", "@kvl-update", "@im", "@range-key"]
 
 
 def texts(*patterns):

@@ -37,17 +37,18 @@ os.close(READER)  # before any child is made, which would hold it for a moment
 
 def all_words():
     """Each form of the words, over the shipped tables and scripts."""
-    tables = ["@kvl", "@im", "@range-key"]
+    tables = ["@kvl", "@kvl-update", "@im", "@range-key"]
     files = sorted(glob.glob("tables/*.toml") + glob.glob("examples/**/*.toml", recursive=True))
     scripts = sorted(glob.glob("examples/**/*.json", recursive=True))
     yield from ([], ["jump"], ["run", "@kvl", "none.json"], ["check", "none.toml"], ["check", "tables"])
     yield from (["check", table] for table in tables + files)
-    yield from (["run", tables[i % 3], script] for i, script in enumerate(scripts))
+    yield from (["run", tables[i % len(tables)], script] for i, script in enumerate(scripts))
     for script in sorted(glob.glob("examples/wrong/*.json")):
         yield ["run", script.replace(".json", ".toml"), script]
     yield from (["judge", table, *scripts[:3]] for table in ["@kvl", "tables/range-key.toml", files[0]])
     yield ["judge", "@im", *[it for it in scripts if "faulty" not in it]]
     yield ["threads", "@kvl", "examples/wrong/split.json", "--workers", "1"]
+    yield ["threads", "@kvl-update", "examples/updates-back.json", "--workers", "1"]
     yield ["threads", "examples/wrong/split.toml", "examples/wrong/split.json", "--workers", "1"]
 
 

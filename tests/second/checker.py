@@ -1,7 +1,8 @@
 """The checker of lock tables, written from docs/DEFINITIONS.md ("Covers and cases") alone."""
 
-MUST_REFUSE = {
-    'RK': [('delete', 'current')],
+COVERS = ['RK', 'RG', 'IK', 'DG', 'UK']
+MUST_REFUSE = {  # UK, and the places in the row update, only where updates are offered
+    'RK': [('delete', 'current'), ('update', 'current')],
     'RG': [('insert', 'next'), ('delete', 'current')],
     'IK': [
         ('fetch-hit', 'current'),
@@ -10,6 +11,7 @@ MUST_REFUSE = {
         ('scan-stop', 'next'),
         ('delete', 'current'),
         ('delete', 'next'),
+        ('update', 'current'),
     ],
     'DG': [
         ('fetch-miss', 'next'),
@@ -19,20 +21,25 @@ MUST_REFUSE = {
         ('delete', 'current'),
         ('delete', 'next'),
     ],
+    'UK': [('fetch-hit', 'current'), ('scan-key', 'current'), ('delete', 'current'), ('update', 'current')],
 }
 
 
 class Checker:
     def __init__(self, table):
         self.table = table
+        self.covers = COVERS if table.updates else COVERS[:-1]
         self.first_open = {
-            (cover, held): next(self.open_places(cover, held), None) for cover in MUST_REFUSE for held in table.with_none
+            (cover, held): next(self.open_places(cover, held), None) for cover in self.covers for held in table.with_none
         }
+
+    def must_refuse(self, cover):
+        return [(row, side) for row, side in MUST_REFUSE[cover] if row != 'update' or self.table.updates]
 
     def open_places(self, cover, held):
         """The rows and sides, with two own modes of the asker, at which the held mode lets a request in."""
         table = self.table
-        for row, side in MUST_REFUSE[cover]:
+        for row, side in self.must_refuse(cover):
             for own in table.with_none:
                 for own_next in table.with_none if side == 'current' else [own]:
                     asked = table.ask(row, side, own_next)
@@ -46,7 +53,7 @@ class Checker:
         """Each case: its group, cover, the modes that it is taken at, and the mode that has to serve the cover, or None
         where it holds in any case."""
         modes, owns, ask, after = self.table.modes, self.table.with_none, self.table.ask, self.table.mode_after
-        for cover in MUST_REFUSE:
+        for cover in self.covers:
             for held in modes:
                 for asked in modes:
                     yield 'G1', cover, [held, asked], self.table.convert(held, asked) if self.serves(held, cover) else None
@@ -69,6 +76,8 @@ class Checker:
                     yield 'G7', cover, [own_next, own], mode if self.serves(own_next, cover) else None
         for own_next in owns:
             yield 'G8', 'DG', [own_next], after(own_next, ask('delete', 'next', own_next))
+        for own in owns if self.table.updates else []:
+            yield 'G9', 'UK', [own], after(own, ask('update', 'current', 0))
 
     def report(self):
         """What `kr check` prints, as an object."""

@@ -18,7 +18,8 @@ class Scan:
 @dataclass
 class Active:
     scan: Optional[Scan] = None
-    changes: list = field(default_factory=list)  # oldest first: a key, and what stood there before
+    changes: list = field(default_factory=list)  # those left, oldest first: a key, and what stood there before
+    is_rolling: bool = False  # whether it rolls back
 
 
 def put_back(index, changes):
@@ -49,12 +50,18 @@ class Run:
             return [1, 'Ended']
         if active is None and len(self.active) == MOST_ACTIVE:
             return [5, 'Full']
-        if in_scan and operation not in ('go', 'abort'):
+        if active is not None and active.is_rolling and operation not in ('back', 'abort'):
+            return [8, 'RollingBack']
+        if in_scan and operation not in ('go', 'back', 'abort'):
             return [2, 'Busy']
         if operation == 'go' and not in_scan:
             return [3, 'NoScan']
         if operation == 'scan' and words[0] > words[1]:
             return [4, 'BadRange']
+        if operation == 'update' and not self.table.updates:
+            return [7, 'NoUpdate']
+        if operation == 'back' and not (active and active.changes):
+            return [9, 'NothingLeft']
         return None
 
     def access(self, operation, words, scan):
@@ -66,6 +73,8 @@ class Run:
             return 'delete', {'current': key, 'next': self.at(key + 1)}
         if operation == 'insert' and not is_present:
             return 'insert', {'current': key, 'next': self.at(key)}
+        if operation == 'update' and is_present:
+            return 'update', {'current': key}
         return ('fetch-hit', {'current': key}) if is_present else ('fetch-miss', {'next': self.at(key)})
 
     def requests(self, txn, row, names):
@@ -87,6 +96,8 @@ class Run:
             reply = ['refused', *refusal]
         elif operation in ('commit', 'abort'):
             reply = self.end(txn, operation)
+        elif operation == 'back':
+            reply = self.back(self.active[txn])
         else:
             reply = self.attempt(txn, operation, words)
         self.history.append(((txn, operation, words), reply))
@@ -99,6 +110,11 @@ class Run:
         self.ended.add(txn)
         self.locks = {(name, other): mode for (name, other), mode in self.locks.items() if other != txn}
         return ['committed' if operation == 'commit' else 'aborted']
+
+    def back(self, active):
+        put_back(self.index, [active.changes.pop()])
+        active.scan, active.is_rolling = None, True
+        return ['undone', len(active.changes)]
 
     def attempt(self, txn, operation, words):
         scan = None
@@ -128,7 +144,7 @@ class Run:
         answer = whole(self.index, operation, key, value)
         if answer[0] == 'done':
             active.changes.append((key, None))
-        elif answer[0] == 'deleted':
+        elif answer[0] in ('deleted', 'updated'):
             active.changes.append((key, answer[1]))
         return answer
 
@@ -182,4 +198,7 @@ def whole(index, operation, key, other=None):
     if operation == 'delete':
         index.pop(key, None)
         return ['absent'] if before is None else ['deleted', before]
+    if operation == 'update':
+        index.update({key: other} if before is not None else {})
+        return ['absent'] if before is None else ['updated', before]
     return ['none'] if before is None else ['found', before]

@@ -9,6 +9,10 @@ CHANGING = ('insert', 'delete')
 GREATEST = (1 << 64) - 1
 ODD_NAMES = ['"', '\\', ' ', '~' * 24, "it's", 'a.b', '[x]', '#', 'None', '{}']
 SPANS = ['commit', 'commit', 'instant']
+OPERATIONS = {  # of each format, with how often each is chosen
+    1: {'fetch': 20, 'insert': 25, 'delete': 20, 'scan': 12, 'go': 1, 'commit': 10, 'abort': 5},
+    2: {'fetch': 20, 'insert': 18, 'delete': 14, 'update': 20, 'scan': 12, 'go': 1, 'commit': 10, 'abort': 4, 'back': 1},
+}
 
 
 def inline(members):
@@ -16,10 +20,10 @@ def inline(members):
 
 
 class Draft:
-    """A table that may still be changed: its modes, the pairs that may stand together, conversions and clauses."""
+    """A table that may still be changed: its modes, the pairs that may stand together, conversions, clauses and format."""
 
-    def __init__(self, modes, compatible, convert, rules):
-        self.modes, self.compatible, self.convert, self.rules = modes, compatible, convert, rules
+    def __init__(self, modes, compatible, convert, rules, format):
+        self.modes, self.compatible, self.convert, self.rules, self.format = modes, compatible, convert, rules, format
 
     @staticmethod
     def of_text(text):
@@ -29,16 +33,17 @@ class Draft:
             {(requested, held) for requested, row in table['compatible'].items() for held in row},
             {(held, requested): mode for held, row in table['convert'].items() for requested, mode in row.items()},
             {(row, side): clauses for row, sides in table['rules'].items() for side, clauses in sides.items()},
+            table['format'],
         )
 
     @staticmethod
-    def random(random):
+    def random(random, format):
         modes = random.sample([*ODD_NAMES, *(f'M{it}' for it in range(20))], random.choice([1, 2, 2, 3, 3, 4, 5, 6, 15]))
         density = random.random()
-        draft = Draft(modes, {(q, h) for q in modes for h in modes if random.random() < density}, {}, {})
+        draft = Draft(modes, {(q, h) for q in modes for h in modes if random.random() < density}, {}, {}, format)
         draft.convert = {(h, q): random.choice(modes) for h in modes for q in modes}
         for row, sides in SIDES.items():
-            for side in sides:
+            for side in sides if row != 'update' or format == 2 else []:
                 draft.rules[row, side] = [draft.clause(random, row) for _ in range(random.choice([0, 1, 1, 1, 2, 3]))]
         return draft
 
@@ -47,6 +52,15 @@ class Draft:
         if row in CHANGING and random.random() < 0.4:
             clause['own'] = random.choices(['none', *self.modes], k=random.randint(0, len(self.modes)))
         return clause
+
+    def offer_updates(self, random):
+        """Makes the table one of format 2. Mostly an update asks for what a delete asks of its key, and keeps it."""
+        self.format = 2
+        clause = self.clause(random, 'update')
+        if random.random() < 0.7:
+            clause = {'mode': self.rules['delete', 'current'][0]['mode'], 'span': 'commit'}
+        if random.random() < 0.9:
+            self.rules['update', 'current'] = [clause]
 
     def change(self, random):
         """Changes one entry. Most of these keep what the table refuses, so that many stay accepted."""
@@ -74,7 +88,7 @@ class Draft:
 
     def text(self):
         word = json.dumps
-        lines = ['format = 1', f'modes = {word(self.modes)}', '[compatible]']
+        lines = [f'format = {self.format}', f'modes = {word(self.modes)}', '[compatible]']
         lines += [f'{word(q)} = {word([h for h in self.modes if (q, h) in self.compatible])}' for q in self.modes]
         lines.append('[convert]')
         lines += [f'{word(h)} = {inline({q: self.convert[h, q] for q in self.modes})}' for h in self.modes]
@@ -85,12 +99,12 @@ class Draft:
 
 
 class Script:
-    """A random script. Its steps are chosen while they are run, so that scans go on, blocked steps are tried again, and
-    most transactions end once."""
+    """A random script of a format. Its steps are chosen while they are run, so that scans go on, blocked steps are tried
+    again, and most transactions end once."""
 
-    def __init__(self, random, run_of):
+    def __init__(self, random, run_of, format):
         """`run_of` gives a run from an opening map."""
-        self.random, self.steps, self.blocked = random, [], {}
+        self.random, self.format, self.steps, self.blocked = random, format, [], {}
         self.keys = random.choice([range(12), range(5), [0, 1, 2, GREATEST - 1, GREATEST]])
         self.opening = [[key, random.randrange(10)] for key in self.keys if random.random() < 0.5]
         self.run = run_of(self.opening)
@@ -115,19 +129,23 @@ class Script:
         again = self.blocked.pop(txn, None)
         if again and self.random.random() < 0.5:
             return again
-        return [txn, *operation(self.random, self.run.active.get(txn), self.keys)]
+        return [txn, *operation(self.random, self.run.active.get(txn), self.keys, self.format)]
 
     def text(self):
-        return json.dumps({'format': 1, 'opening': self.opening, 'steps': self.steps})
+        return json.dumps({'format': self.format, 'opening': self.opening, 'steps': self.steps})
 
 
-def operation(random, active, keys):
+def operation(random, active, keys, format):
     if active and active.scan and random.random() < 0.85:
         return ['go']
-    name = random.choices(['fetch', 'insert', 'delete', 'scan', 'go', 'commit', 'abort'], [20, 25, 20, 12, 1, 10, 5])[0]
+    if active and active.is_rolling and random.random() < 0.85:
+        return ['back' if active.changes and random.random() < 0.8 else 'abort']
+    if format == 2 and active and len(active.changes) > 1 and random.random() < 0.1:
+        return ['back']
+    name = random.choices(list(OPERATIONS[format]), list(OPERATIONS[format].values()))[0]
     if name == 'scan':
         ends = random.choice(keys), random.choice(keys)
         return [name, *(sorted(ends) if random.random() < 0.9 else ends)]
-    if name == 'insert':
+    if name in ('insert', 'update'):
         return [name, random.choice(keys), random.choice([random.randrange(100), GREATEST])]
     return [name, random.choice(keys)] if name in ('fetch', 'delete') else [name]

@@ -10,12 +10,14 @@ SIDES = {  # the rows, each with its sides
     'scan-stop': ['next'],
     'insert': ['current', 'next'],
     'delete': ['current', 'next'],
+    'update': ['current'],  # in format 2 alone
 }
 
 
 class Table:
     def __init__(self, text):
         document = tomllib.loads(text)
+        self.updates = document['format'] == 2  # whether it offers updates
         self.names = ['none', *document['modes']]
         self.modes = range(1, len(self.names))
         self.with_none = range(len(self.names))
