@@ -6,6 +6,3 @@ mod modes;
 
 pub use kr_model::Mode;
 pub use modes::Modes;
-
-#[cfg(test)]
-mod tests;

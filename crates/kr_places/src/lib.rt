@@ -7,8 +7,6 @@ mod known_cells;
 mod name;
 mod row;
 mod seen;
-#[cfg(test)]
-mod tests;
 mod watch;
 
 pub use known::Known;

@@ -10,8 +10,6 @@ ghost use Rattle.kr_txn.specs.Standings.{active_of, entries, IsInOrder, IsPositi
 
 mod ended;
 mod log;
-#[cfg(test)]
-mod tests;
 mod unfinished;
 
 pub use ended::Ended;

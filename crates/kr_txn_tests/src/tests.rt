@@ -4,7 +4,8 @@ ghost use Rattle.kr_txn.specs.Standings.{IsInOrder};
 mod ended;
 mod log;
 
-use super::*;
+use kr_txn::{Ended, Memory, Standing, Txn, numbers, position, put_in, take_out};
+use std::alloc::Global;
 use std::test::Fail;
 
 /// Puts a new transaction into a list, in the place of itself where it is there already.

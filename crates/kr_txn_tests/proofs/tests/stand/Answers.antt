@@ -1,6 +1,6 @@
 use Rattle.kr_txn.specs.Standings.{active_of, entries, IsInOrder}
 use Rattle.kr_txn.proofs.Lists.{find-without, in_order-without, in_order-put}
-use Rattle.kr_txn.proofs.tests.stand.Goals as goal
+use Rattle.kr_txn_tests.proofs.tests.stand.Goals as goal
 
 pub put_in-requires-clause-others : goal.put_in-requires-clause-others
 put_in-requires-clause-others c = rw (c.new.ensures.txn, c.take_out.ensures.rest) (find-without c.args.txn (entries c.reserve.new.self.items))

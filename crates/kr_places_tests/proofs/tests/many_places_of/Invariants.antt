@@ -1,5 +1,5 @@
 use Rattle.std.proofs.Common.{◌≡◌, ◌≤◌, length}
-use Rattle.kr_places.proofs.tests.many_places_of.Given as goal
+use Rattle.kr_places_tests.proofs.tests.many_places_of.Given as goal
 
 -- one more is known of after each turn, and the seat knows no more
 abbrev pub invariant-loop-place : goal.invariant-loop-place

@@ -1,6 +1,6 @@
 //! Numbers that end in orders other than rising, so many that the recent ones are merged several times.
 
-use crate::{Ended, Memory, Txn};
+use kr_txn::{Ended, Memory, Txn};
 use std::test::Fail;
 
 fn end(ended: &mut Ended, txn: Txn) -> Result<(), Memory> {

@@ -1,6 +1,6 @@
 use Rattle.std.proofs.Common.{[]}
 use Rattle.kr_model.specs.Kvl.{kvl}
-use Rattle.kr_places.proofs.tests.many_places.Given as goal
+use Rattle.kr_places_tests.proofs.tests.many_places.Given as goal
 
 -- the name of this row, before any step
 abbrev pub ghosts-many_places_of : goal.ghosts-many_places_of

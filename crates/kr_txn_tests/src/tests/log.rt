@@ -2,8 +2,8 @@
 
 ghost use Rattle.std.specs.Prelude.{◌≡◌};
 
-use crate::Log;
 use kr_model::{Event, Op, Pairs, Refusal, Reply, Txns};
+use kr_txn::Log;
 use std::alloc::Global;
 use std::test::Fail;
 
