@@ -8,9 +8,6 @@ ghost use Rattle.kr_model.specs.Plan.{plan_of, plan_by, access, access_of, side_
 ghost use Rattle.kr_model.proofs.Numbers.{merged};
 ghost use Rattle.kr_plan.specs.Modes.{SideIsMode, ArePlanModes};
 
-#[cfg(test)]
-mod tests;
-
 use kr_index::Ordered;
 use kr_locks::{Holdings, Memory};
 pub use kr_model::{Mode, Name, Txn};

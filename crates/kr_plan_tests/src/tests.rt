@@ -5,10 +5,12 @@
 ghost use Rattle.std.specs.Prelude.{◌≡◌, ◌≤◌, []};
 ghost use Rattle.kr_model.specs.Locks.{AreWithin};
 
-use super::*;
-use kr_index::Sorted;
-use kr_locks::List;
-use kr_protocol::{Kvl, KvlUpdate};
+use kr_index::{Ordered, Sorted};
+use kr_locks::{Holdings, List, Memory};
+use kr_model::{Mode, Name, Plan, Row, Span, Step, Txn};
+use kr_plan::{blockers, granted, plan};
+use kr_protocol::{Kvl, KvlUpdate, Protocol};
+use std::alloc::Global;
 use std::process::Abort;
 use std::test::Fail;
 
