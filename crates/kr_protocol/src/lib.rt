@@ -16,6 +16,3 @@ pub use kvl::Kvl;
 pub use kvl_update::KvlUpdate;
 pub use protocol::{Covered, Protocol};
 pub use range_key::RangeKey;
-
-#[cfg(test)]
-mod tests;

@@ -2,7 +2,7 @@
 ghost use Rattle.std.specs.Prelude.{◌≡◌};
 ghost use Rattle.kr_model.specs.Covers.{IsCovered};
 
-use crate::{Covered, Im, Kvl, KvlUpdate, Mode, Protocol, RangeKey, Row, Side, Span};
+use kr_protocol::{Covered, Im, Kvl, KvlUpdate, Mode, Protocol, RangeKey, Row, Side, Span};
 use std::alloc::{AllocError, Global};
 use std::test::Fail;
 
