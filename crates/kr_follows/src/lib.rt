@@ -4,8 +4,6 @@
 mod dealt;
 mod faults;
 mod following;
-#[cfg(test)]
-mod tests;
 
 pub use dealt::Dealt;
 pub use faults::{Cause, StepFault};

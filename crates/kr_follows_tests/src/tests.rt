@@ -1,4 +1,4 @@
-use crate::{Cause, Dealt, StepFault, follows};
+use kr_follows::{Cause, Dealt, StepFault, follows};
 use kr_model::{Event, Op, Refusal, Reply, Txn, Txns};
 use std::alloc::{AllocError, Global};
 
