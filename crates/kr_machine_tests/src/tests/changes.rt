@@ -1,259 +1,218 @@
 //! Updates, and changes taken back one at a time.
-ghost use Rattle.std.specs.Prelude.{◌≡◌, None};
 
-use super::*;
-use kr_protocol::KvlUpdate;
-
-/// What each of the machines here opens with.
-const OPENING: [(u64, u64); 3] = [(10, 1), (20, 2), (30, 3)];
-
-/// Attempts an operation that is refused.
-fn expect_refused<P: Protocol, I: Ordered, L: Holdings>(
-    rt: &impl Abort,
-    machine: &mut Machine<P, I, L>,
-    txn: Txn,
-    op: Op,
-    refusal: Refusal,
-)
-    requires { machine.old.pending ≡ None }
-    ensures { machine.new.pending ≡ None }
-{
-    expect(rt, machine, txn, op, Reply::Refused(refusal));
-}
+use super::story::{
+    Answer, INDEX_SPECIFIC, IX, KEY_VALUE, Line, Lock, Opening, S, Story, THREE_PAIRS, View, X,
+};
+use super::telling::{on_plain_parts, on_scarce_parts};
+use kr_locks::Memory;
+use kr_machine::Name;
+use kr_model::{Op, Refusal};
+use kr_protocol::{Im, Kvl, KvlUpdate};
 
 /// Two changes of one key are taken back one by one, the newer one first, and all locks are kept until the abort.
-fn two_changes_back<P: Protocol, I: Ordered, L: Holdings>(
-    rt: &impl Abort,
-    mut machine: Machine<P, I, L>,
-) -> Result<(), Fail>
-    requires { machine.pending ≡ None }
-{
-    expect(rt, &mut machine, 1, Op::Delete(20), Reply::Deleted(2));
-    expect(rt, &mut machine, 1, Op::Insert(20, 9), Reply::Done);
-    expect(rt, &mut machine, 1, Op::Back, Reply::Undone(1));
-    expect_blocked(rt, &mut machine, 2, Op::Fetch(20), 1);
-    expect_refused(rt, &mut machine, 1, Op::Fetch(10), Refusal::RollingBack);
-    expect_refused(rt, &mut machine, 1, Op::Commit, Refusal::RollingBack);
-    expect(rt, &mut machine, 1, Op::Back, Reply::Undone(0));
-    expect_blocked(rt, &mut machine, 2, Op::Fetch(20), 1);
-    expect_refused(rt, &mut machine, 1, Op::Back, Refusal::NothingLeft);
-    expect(rt, &mut machine, 1, Op::Abort, Reply::Aborted);
-    expect(rt, &mut machine, 2, Op::Fetch(20), Reply::Found(2));
-    expect_view(rt, &machine, &OPENING, &[((Name::Key(20), 2), S)], &[2])
-}
+const TWO_CHANGES_BACK: Story = Story {
+    opening: Opening::ThreePairs,
+    lines: &[
+        Line::Step(1, Op::Delete(20), Answer::Deleted(2)),
+        Line::Step(1, Op::Insert(20, 9), Answer::Done),
+        Line::Step(1, Op::Back, Answer::Undone(1)),
+        Line::Step(2, Op::Fetch(20), Answer::BlockedBy(1)),
+        Line::Step(1, Op::Fetch(10), Answer::Refused(Refusal::RollingBack)),
+        Line::Step(1, Op::Commit, Answer::Refused(Refusal::RollingBack)),
+        Line::Step(1, Op::Back, Answer::Undone(0)),
+        Line::Step(2, Op::Fetch(20), Answer::BlockedBy(1)),
+        Line::Step(1, Op::Back, Answer::Refused(Refusal::NothingLeft)),
+        Line::Step(1, Op::Abort, Answer::Aborted),
+        Line::Step(2, Op::Fetch(20), Answer::Found(2)),
+        Line::Shows(View {
+            index: THREE_PAIRS,
+            locks: &[Lock(Name::Key(20), 2, S)],
+            unfinished: &[2],
+        }),
+    ],
+};
 
 /// An insert is taken back above a key that another has inserted meanwhile.
-fn back_beside_another<P: Protocol, I: Ordered, L: Holdings>(
-    rt: &impl Abort,
-    mut machine: Machine<P, I, L>,
-) -> Result<(), Fail>
-    requires { machine.pending ≡ None }
-{
-    expect(rt, &mut machine, 1, Op::Insert(15, 5), Reply::Done);
-    expect(rt, &mut machine, 2, Op::Insert(12, 7), Reply::Done);
-    expect(rt, &mut machine, 1, Op::Back, Reply::Undone(0));
-    expect(rt, &mut machine, 2, Op::Commit, Reply::Committed);
-    expect(rt, &mut machine, 3, Op::Fetch(15), Reply::None);
-    expect(rt, &mut machine, 1, Op::Abort, Reply::Aborted);
-    expect_view(
-        rt,
-        &machine,
-        &[(10, 1), (12, 7), (20, 2), (30, 3)],
-        &[((Name::Key(20), 3), S)],
-        &[3],
-    )
-}
+const BACK_BESIDE_ANOTHER: Story = Story {
+    opening: Opening::ThreePairs,
+    lines: &[
+        Line::Step(1, Op::Insert(15, 5), Answer::Done),
+        Line::Step(2, Op::Insert(12, 7), Answer::Done),
+        Line::Step(1, Op::Back, Answer::Undone(0)),
+        Line::Step(2, Op::Commit, Answer::Committed),
+        Line::Step(3, Op::Fetch(15), Answer::None),
+        Line::Step(1, Op::Abort, Answer::Aborted),
+        Line::Shows(View {
+            index: &[(10, 1), (12, 7), (20, 2), (30, 3)],
+            locks: &[Lock(Name::Key(20), 3, S)],
+            unfinished: &[3],
+        }),
+    ],
+};
 
 /// A scan in progress is dropped, and nothing is to be taken back of a transaction that has changed nothing.
-fn back_in_a_scan<P: Protocol, I: Ordered, L: Holdings>(
-    rt: &impl Abort,
-    mut machine: Machine<P, I, L>,
-) -> Result<(), Fail>
-    requires { machine.pending ≡ None }
-{
-    expect_refused(rt, &mut machine, 1, Op::Back, Refusal::NothingLeft);
-    assert!(rt; !machine.active(1));
-    expect(rt, &mut machine, 1, Op::Insert(15, 5), Reply::Done);
-    expect(rt, &mut machine, 1, Op::Scan(10, 20), Reply::Going(10));
-    expect_refused(rt, &mut machine, 1, Op::Commit, Refusal::Busy);
-    expect(rt, &mut machine, 1, Op::Back, Reply::Undone(0));
-    expect_refused(rt, &mut machine, 1, Op::Go, Refusal::RollingBack);
-    expect_refused(rt, &mut machine, 1, Op::Insert(15, 5), Refusal::RollingBack);
-    let locks = [((Name::Key(10), 1), S), ((Name::Key(15), 1), IX)];
-    expect_view(rt, &machine, &OPENING, &locks, &[1])?;
-    expect(rt, &mut machine, 1, Op::Abort, Reply::Aborted);
-    expect_refused(rt, &mut machine, 1, Op::Back, Refusal::Ended);
-    expect_view(rt, &machine, &OPENING, &[], &[])
-}
+const BACK_IN_A_SCAN: Story = Story {
+    opening: Opening::ThreePairs,
+    lines: &[
+        Line::Step(1, Op::Back, Answer::Refused(Refusal::NothingLeft)),
+        Line::Inactive(1),
+        Line::Step(1, Op::Insert(15, 5), Answer::Done),
+        Line::Step(1, Op::Scan(10, 20), Answer::Going(10)),
+        Line::Step(1, Op::Commit, Answer::Refused(Refusal::Busy)),
+        Line::Step(1, Op::Back, Answer::Undone(0)),
+        Line::Step(1, Op::Go, Answer::Refused(Refusal::RollingBack)),
+        Line::Step(1, Op::Insert(15, 5), Answer::Refused(Refusal::RollingBack)),
+        Line::Shows(View {
+            index: THREE_PAIRS,
+            locks: &[Lock(Name::Key(10), 1, S), Lock(Name::Key(15), 1, IX)],
+            unfinished: &[1],
+        }),
+        Line::Step(1, Op::Abort, Answer::Aborted),
+        Line::Step(1, Op::Back, Answer::Refused(Refusal::Ended)),
+        Line::Shows(View {
+            index: THREE_PAIRS,
+            locks: &[],
+            unfinished: &[],
+        }),
+    ],
+};
 
 /// Nobody reads an updated value before its transaction ends, and an abort takes it back.
-fn update_undone<P: Protocol, I: Ordered, L: Holdings>(
-    rt: &impl Abort,
-    mut machine: Machine<P, I, L>,
-) -> Result<(), Fail>
-    requires { machine.pending ≡ None }
-{
-    expect(rt, &mut machine, 1, Op::Update(20, 9), Reply::Updated(2));
-    expect_blocked(rt, &mut machine, 2, Op::Fetch(20), 1);
-    expect(rt, &mut machine, 1, Op::Update(25, 1), Reply::Absent);
-    expect(rt, &mut machine, 1, Op::Abort, Reply::Aborted);
-    expect(rt, &mut machine, 2, Op::Fetch(20), Reply::Found(2));
-    expect_view(rt, &machine, &OPENING, &[((Name::Key(20), 2), S)], &[2])
-}
+const UPDATE_UNDONE: Story = Story {
+    opening: Opening::ThreePairs,
+    lines: &[
+        Line::Step(1, Op::Update(20, 9), Answer::Updated(2)),
+        Line::Step(2, Op::Fetch(20), Answer::BlockedBy(1)),
+        Line::Step(1, Op::Update(25, 1), Answer::Absent),
+        Line::Step(1, Op::Abort, Answer::Aborted),
+        Line::Step(2, Op::Fetch(20), Answer::Found(2)),
+        Line::Shows(View {
+            index: THREE_PAIRS,
+            locks: &[Lock(Name::Key(20), 2, S)],
+            unfinished: &[2],
+        }),
+    ],
+};
 
 /// After two updates of one key an abort leaves neither value, and a commit the newer one.
-fn updates_twice<P: Protocol, I: Ordered, L: Holdings>(
-    rt: &impl Abort,
-    mut machine: Machine<P, I, L>,
-) -> Result<(), Fail>
-    requires { machine.pending ≡ None }
-{
-    expect(rt, &mut machine, 1, Op::Update(20, 8), Reply::Updated(2));
-    expect(rt, &mut machine, 1, Op::Update(20, 9), Reply::Updated(8));
-    expect(rt, &mut machine, 1, Op::Abort, Reply::Aborted);
-    expect_view(rt, &machine, &OPENING, &[], &[])?;
-    expect(rt, &mut machine, 2, Op::Update(20, 8), Reply::Updated(2));
-    expect(rt, &mut machine, 2, Op::Update(20, 9), Reply::Updated(8));
-    expect(rt, &mut machine, 2, Op::Commit, Reply::Committed);
-    expect_view(rt, &machine, &[(10, 1), (20, 9), (30, 3)], &[], &[])
-}
+const UPDATES_TWICE: Story = Story {
+    opening: Opening::ThreePairs,
+    lines: &[
+        Line::Step(1, Op::Update(20, 8), Answer::Updated(2)),
+        Line::Step(1, Op::Update(20, 9), Answer::Updated(8)),
+        Line::Step(1, Op::Abort, Answer::Aborted),
+        Line::Shows(View {
+            index: THREE_PAIRS,
+            locks: &[],
+            unfinished: &[],
+        }),
+        Line::Step(2, Op::Update(20, 8), Answer::Updated(2)),
+        Line::Step(2, Op::Update(20, 9), Answer::Updated(8)),
+        Line::Step(2, Op::Commit, Answer::Committed),
+        Line::Shows(View {
+            index: &[(10, 1), (20, 9), (30, 3)],
+            locks: &[],
+            unfinished: &[],
+        }),
+    ],
+};
 
 /// Updates of a key of the opening and of an inserted one are taken back one at a time, with fetches of another between.
-fn updates_back<P: Protocol, I: Ordered, L: Holdings>(
-    rt: &impl Abort,
-    mut machine: Machine<P, I, L>,
-) -> Result<(), Fail>
-    requires { machine.pending ≡ None }
-{
-    expect(rt, &mut machine, 1, Op::Update(20, 9), Reply::Updated(2));
-    expect(rt, &mut machine, 1, Op::Insert(25, 5), Reply::Done);
-    expect(rt, &mut machine, 1, Op::Update(25, 6), Reply::Updated(5));
-    expect_blocked(rt, &mut machine, 2, Op::Fetch(25), 1);
-    expect(rt, &mut machine, 1, Op::Back, Reply::Undone(2));
-    let index = [(10, 1), (20, 9), (25, 5), (30, 3)];
-    let locks = [((Name::Key(20), 1), X), ((Name::Key(25), 1), X)];
-    expect_view(rt, &machine, &index, &locks, &[1])?;
-    expect_blocked(rt, &mut machine, 2, Op::Fetch(25), 1);
-    expect(rt, &mut machine, 1, Op::Back, Reply::Undone(1));
-    expect(rt, &mut machine, 2, Op::Fetch(25), Reply::None);
-    expect_blocked(rt, &mut machine, 2, Op::Fetch(20), 1);
-    expect(rt, &mut machine, 1, Op::Back, Reply::Undone(0));
-    expect_blocked(rt, &mut machine, 2, Op::Fetch(20), 1);
-    expect_refused(rt, &mut machine, 1, Op::Update(20, 7), Refusal::RollingBack);
-    expect(rt, &mut machine, 1, Op::Abort, Reply::Aborted);
-    expect(rt, &mut machine, 2, Op::Fetch(20), Reply::Found(2));
-    let locks = [((Name::Key(20), 2), S), ((Name::Key(30), 2), S)];
-    expect_view(rt, &machine, &OPENING, &locks, &[2])
-}
+const UPDATES_BACK: Story = Story {
+    opening: Opening::ThreePairs,
+    lines: &[
+        Line::Step(1, Op::Update(20, 9), Answer::Updated(2)),
+        Line::Step(1, Op::Insert(25, 5), Answer::Done),
+        Line::Step(1, Op::Update(25, 6), Answer::Updated(5)),
+        Line::Step(2, Op::Fetch(25), Answer::BlockedBy(1)),
+        Line::Step(1, Op::Back, Answer::Undone(2)),
+        Line::Shows(View {
+            index: &[(10, 1), (20, 9), (25, 5), (30, 3)],
+            locks: &[Lock(Name::Key(20), 1, X), Lock(Name::Key(25), 1, X)],
+            unfinished: &[1],
+        }),
+        Line::Step(2, Op::Fetch(25), Answer::BlockedBy(1)),
+        Line::Step(1, Op::Back, Answer::Undone(1)),
+        Line::Step(2, Op::Fetch(25), Answer::None),
+        Line::Step(2, Op::Fetch(20), Answer::BlockedBy(1)),
+        Line::Step(1, Op::Back, Answer::Undone(0)),
+        Line::Step(2, Op::Fetch(20), Answer::BlockedBy(1)),
+        Line::Step(1, Op::Update(20, 7), Answer::Refused(Refusal::RollingBack)),
+        Line::Step(1, Op::Abort, Answer::Aborted),
+        Line::Step(2, Op::Fetch(20), Answer::Found(2)),
+        Line::Shows(View {
+            index: THREE_PAIRS,
+            locks: &[Lock(Name::Key(20), 2, S), Lock(Name::Key(30), 2, S)],
+            unfinished: &[2],
+        }),
+    ],
+};
 
 /// A table without updates refuses one.
-fn update_not_offered<P: Protocol, I: Ordered, L: Holdings>(
-    rt: &impl Abort,
-    mut machine: Machine<P, I, L>,
-) -> Result<(), Fail>
-    requires { machine.pending ≡ None }
-{
-    expect_refused(rt, &mut machine, 1, Op::Update(20, 9), Refusal::NoUpdate);
-    expect_refused(rt, &mut machine, 1, Op::Update(25, 9), Refusal::NoUpdate);
-    expect_view(rt, &machine, &OPENING, &[], &[])
-}
+const UPDATE_NOT_OFFERED: Story = Story {
+    opening: Opening::ThreePairs,
+    lines: &[
+        Line::Step(1, Op::Update(20, 9), Answer::Refused(Refusal::NoUpdate)),
+        Line::Step(1, Op::Update(25, 9), Answer::Refused(Refusal::NoUpdate)),
+        Line::Shows(View {
+            index: THREE_PAIRS,
+            locks: &[],
+            unfinished: &[],
+        }),
+    ],
+};
 
-/// Gives an update up, and then a change taken back, which leaves nothing; and then does each.
-fn gives_changes_up_first<P: Protocol, I: Ordered, L: Holdings>(
-    rt: &impl Abort,
-    mut machine: Machine<P, I, L>,
-) -> Result<(), Fail>
-    requires { machine.pending ≡ None }
-{
-    two_parts(
-        rt,
-        &mut machine,
-        Op::Update(20, 9),
-        Reply::Updated(2),
-        false,
-    );
-    expect_view(rt, &machine, &OPENING, &[], &[])?;
-    two_parts(rt, &mut machine, Op::Update(20, 9), Reply::Updated(2), true);
-    two_parts(rt, &mut machine, Op::Back, Reply::Undone(0), false);
-    let locks = [((Name::Key(20), 1), X)];
-    expect_view(rt, &machine, &[(10, 1), (20, 9), (30, 3)], &locks, &[1])?;
-    expect(rt, &mut machine, 1, Op::Fetch(20), Reply::Found(9));
-    two_parts(rt, &mut machine, Op::Back, Reply::Undone(0), true);
-    expect_refused(rt, &mut machine, 1, Op::Fetch(20), Refusal::RollingBack);
-    expect_view(rt, &machine, &OPENING, &locks, &[1])
-}
+/// An update is given up, and then a change taken back, which leaves nothing; and then each is done.
+const GIVES_CHANGES_UP_FIRST: Story = Story {
+    opening: Opening::ThreePairs,
+    lines: &[
+        Line::GivenUp(1, Op::Update(20, 9), Answer::Updated(2)),
+        Line::Shows(View {
+            index: THREE_PAIRS,
+            locks: &[],
+            unfinished: &[],
+        }),
+        Line::Finished(1, Op::Update(20, 9), Answer::Updated(2)),
+        Line::GivenUp(1, Op::Back, Answer::Undone(0)),
+        Line::Shows(View {
+            index: &[(10, 1), (20, 9), (30, 3)],
+            locks: &[Lock(Name::Key(20), 1, X)],
+            unfinished: &[1],
+        }),
+        Line::Step(1, Op::Fetch(20), Answer::Found(9)),
+        Line::Finished(1, Op::Back, Answer::Undone(0)),
+        Line::Step(1, Op::Fetch(20), Answer::Refused(Refusal::RollingBack)),
+        Line::Shows(View {
+            index: THREE_PAIRS,
+            locks: &[Lock(Name::Key(20), 1, X)],
+            unfinished: &[1],
+        }),
+    ],
+};
 
-/// Updates, and changes taken back. Tells whether memory was refused.
-fn insists_on_changes<P: Protocol, I: Ordered, L: Holdings>(
-    rt: &impl Abort,
-    alloc: Global,
-    mut machine: Machine<P, I, L>,
-) -> Result<bool, Fail>
-    requires { machine.pending ≡ None }
-{
-    let mut met = insist(rt, &mut machine, 1, Op::Update(20, 9), Reply::Updated(2))?;
-    met |= insist(rt, &mut machine, 1, Op::Update(25, 1), Reply::Absent)?;
-    met |= insist(rt, &mut machine, 2, Op::Fetch(20), blocked_by(alloc, 1)?)?;
-    met |= insist(rt, &mut machine, 1, Op::Update(20, 8), Reply::Updated(9))?;
-    met |= insist(rt, &mut machine, 1, Op::Back, Reply::Undone(1))?;
-    met |= insist(rt, &mut machine, 1, Op::Back, Reply::Undone(0))?;
-    met |= insist(rt, &mut machine, 1, Op::Abort, Reply::Aborted)?;
-    expect_view(rt, &machine, &OPENING, &[], &[])?;
-    Ok(met)
+#[test]
+fn changes_taken_back(rt: HostRuntime) -> Result<(), Memory> {
+    let stories = [TWO_CHANGES_BACK, BACK_BESIDE_ANOTHER, BACK_IN_A_SCAN];
+    on_plain_parts(&rt, rt.alloc(), Kvl, KEY_VALUE, &stories)?;
+    on_scarce_parts(&rt, rt.alloc(), &Kvl, KEY_VALUE, &stories)
 }
 
 #[test]
-fn changes_taken_back(rt: HostRuntime) -> Result<(), Fail> {
-    let alloc = rt.alloc();
-    two_changes_back(&rt, plain(alloc, Kvl)?)?;
-    two_changes_back(&rt, scant(alloc, &Kvl, None, None)?)?;
-    back_beside_another(&rt, plain(alloc, Kvl)?)?;
-    back_beside_another(&rt, scant(alloc, &Kvl, None, None)?)?;
-    back_in_a_scan(&rt, plain(alloc, Kvl)?)?;
-    back_in_a_scan(&rt, scant(alloc, &Kvl, None, None)?)
+fn updates(rt: HostRuntime) -> Result<(), Memory> {
+    let stories = [UPDATE_UNDONE, UPDATES_TWICE, UPDATES_BACK];
+    on_plain_parts(&rt, rt.alloc(), KvlUpdate, KEY_VALUE, &stories)?;
+    on_scarce_parts(&rt, rt.alloc(), &KvlUpdate, KEY_VALUE, &stories)
 }
 
 #[test]
-fn updates(rt: HostRuntime) -> Result<(), Fail> {
-    let alloc = rt.alloc();
-    update_undone(&rt, plain(alloc, KvlUpdate)?)?;
-    update_undone(&rt, scant(alloc, &KvlUpdate, None, None)?)?;
-    updates_twice(&rt, plain(alloc, KvlUpdate)?)?;
-    updates_twice(&rt, scant(alloc, &KvlUpdate, None, None)?)?;
-    updates_back(&rt, plain(alloc, KvlUpdate)?)?;
-    updates_back(&rt, scant(alloc, &KvlUpdate, None, None)?)?;
-    update_not_offered(&rt, plain(alloc, Kvl)?)?;
-    update_not_offered(&rt, scant(alloc, Im, None, None)?)
+fn updates_not_offered(rt: HostRuntime) -> Result<(), Memory> {
+    on_plain_parts(&rt, rt.alloc(), Kvl, KEY_VALUE, &[UPDATE_NOT_OFFERED])?;
+    on_scarce_parts(&rt, rt.alloc(), Im, INDEX_SPECIFIC, &[UPDATE_NOT_OFFERED])
 }
 
 #[test]
-fn changes_in_two_parts(rt: HostRuntime) -> Result<(), Fail> {
-    let alloc = rt.alloc();
-    gives_changes_up_first(&rt, plain(alloc, KvlUpdate)?)?;
-    gives_changes_up_first(&rt, scant(alloc, &KvlUpdate, None, None)?)
-}
-
-/// Refuses the first call that may lack memory, then the second, and so on: before each of the 7 steps the index and the
-/// locks are copied; 2 steps pin a key, 2 keep a new lock, and one asks for blockers. A change that is taken back isn't
-/// refused memory, nor is the abort.
-#[test]
-fn refused_memory_of_changes(rt: HostRuntime) -> Result<(), Fail> {
-    let alloc = rt.alloc();
-    for calls in 0..10 {
-        let machine = scant(alloc, KvlUpdate, Some(calls), None)?;
-        assert_eq!(rt;
-            insists_on_changes(&rt, alloc, machine)?,
-            calls < 9,
-            "{calls}"
-        );
-    }
-    for calls in 0..11 {
-        let machine = scant(alloc, &KvlUpdate, None, Some(calls))?;
-        assert_eq!(rt;
-            insists_on_changes(&rt, alloc, machine)?,
-            calls < 10,
-            "{calls}"
-        );
-    }
-    Ok(())
+fn changes_in_two_parts(rt: HostRuntime) -> Result<(), Memory> {
+    let stories = [GIVES_CHANGES_UP_FIRST];
+    on_plain_parts(&rt, rt.alloc(), KvlUpdate, KEY_VALUE, &stories)?;
+    on_scarce_parts(&rt, rt.alloc(), &KvlUpdate, KEY_VALUE, &stories)
 }

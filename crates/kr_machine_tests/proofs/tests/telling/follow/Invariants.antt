@@ -1,5 +1,5 @@
 use Rattle.std.proofs.Common.{◌≡◌, None}
-use Rattle.kr_machine_tests.proofs.tests.fills_up.Given as goal
+use Rattle.kr_machine_tests.proofs.tests.telling.follow.Given as goal
 
 -- No step is pending.
 abbrev pub invariant-loop-txn : goal.invariant-loop-txn
