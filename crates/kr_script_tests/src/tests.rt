@@ -1,6 +1,7 @@
 //! Scripts that are read, and reports and faults that are printed.
 mod ample;
 mod check_reports;
+mod faults;
 mod format_two;
 mod reading;
 mod reports;

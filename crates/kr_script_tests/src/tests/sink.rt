@@ -4,6 +4,7 @@ use kr_script::{Failed, Io, PrintFault, Sink, print, put_all};
 use std::alloc::{AllocError, Global};
 use std::io;
 use std::io::{ErrorKind, Write};
+use std::process::Abort;
 
 // Takes one byte a write, and fails at the write of one number, counted from 1.
 #[derive(Drop)]
@@ -60,19 +61,30 @@ impl Sink for Shut {
     }
 }
 
+/// Prints on a sink that fails at the write of a number, compares what was answered and taken, and tells the number of
+/// writes.
+fn prints(
+    rt: &impl Abort,
+    alloc: Global,
+    failing: u64,
+    answer: Result<(), PrintFault>,
+    taken: &[u8],
+) -> u64 {
+    let mut out = slow_sink(alloc, failing);
+    assert!(rt; print(&mut out, "abc") == answer);
+    assert_eq!(rt; out.writer().taken.as_slice(), taken);
+    out.writer().writes
+}
+
 #[test]
 fn goes_on_behind_what_was_taken(rt: HostRuntime) {
-    let mut out = slow_sink(rt.alloc(), 0);
-    assert!(rt; print(&mut out, "abc") == Ok(()));
-    assert_eq!(rt; out.writer().taken.as_slice(), b"abc\n".as_slice());
+    let _ = prints(&rt, rt.alloc(), 0, Ok(()), b"abc\n");
 }
 
 #[test]
 fn stops_at_a_put_that_fails(rt: HostRuntime) {
-    let mut out = slow_sink(rt.alloc(), 3);
-    assert!(rt; print(&mut out, "abc") == Err(PrintFault));
-    assert_eq!(rt; out.writer().taken.as_slice(), b"ab".as_slice());
-    assert_eq!(rt; out.writer().writes, 3);
+    let writes = prints(&rt, rt.alloc(), 3, Err(PrintFault), b"ab");
+    assert_eq!(rt; writes, 3);
 }
 
 #[test]
@@ -101,12 +113,15 @@ fn shows_its_faults(rt: HostRuntime) -> Result<(), AllocError> {
     Ok(())
 }
 
+/// Puts bytes on a sink that fails at the write of a number, and compares what was answered and taken.
+fn puts(rt: &impl Abort, alloc: Global, failing: u64, is_ok: bool, taken: &[u8]) {
+    let mut out = slow_sink(alloc, failing);
+    assert!(rt; put_all(&mut out, b"ab\nc\n").is_ok() == is_ok);
+    assert_eq!(rt; out.writer().taken.as_slice(), taken);
+}
+
 #[test]
 fn puts_bytes_and_stops_within_them(rt: HostRuntime) {
-    let mut whole = slow_sink(rt.alloc(), 0);
-    assert!(rt; put_all(&mut whole, b"ab\nc\n").is_ok());
-    assert_eq!(rt; whole.writer().taken.as_slice(), b"ab\nc\n".as_slice());
-    let mut cut = slow_sink(rt.alloc(), 4);
-    assert!(rt; put_all(&mut cut, b"ab\nc\n").is_err());
-    assert_eq!(rt; cut.writer().taken.as_slice(), b"ab\n".as_slice());
+    puts(&rt, rt.alloc(), 0, true, b"ab\nc\n");
+    puts(&rt, rt.alloc(), 4, false, b"ab\n");
 }
