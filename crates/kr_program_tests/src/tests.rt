@@ -1,7 +1,7 @@
 use self::covered::serial_under_each;
 use self::pairs::agree_under_each;
 use kr_program::{FileFault, Files, execute};
-use kr_script::{Failed, Io, Sink};
+use kr_script::Io;
 use std::alloc::{AllocError, Global};
 use std::process::Abort;
 use std::sync::Wait;
@@ -21,6 +21,7 @@ mod tables;
 mod threads;
 mod updates;
 mod verdicts;
+mod words;
 
 /// A table named `table`, a script named `s`, and two scripts that are always there.
 #[derive(Drop)]
@@ -52,22 +53,6 @@ impl Files for Texts<'_> {
     }
 }
 
-/// Output that can't be written, of which more puts have failed than are counted.
-#[derive(Drop)]
-struct Broken;
-
-impl Sink for Broken {
-    ghost use Rattle.std.specs.Prelude.{None};
-
-    ghost taken = { λ _. None };
-
-    ghost failures = { λ _. 18446744073709551615 };
-
-    fn put(&mut self, _bytes: &[u8]) -> Result<usize, Failed> {
-        Err(Failed)
-    }
-}
-
 const OPENING: &str = "[[10,1],[20,2],[30,3]]";
 
 /// A script that reads a gap and then inserts into it, by two transactions.
@@ -78,49 +63,69 @@ const PHANTOM: &str =
 const SPLIT: &str =
     r#"{"format":1,"opening":[[10,1],[20,2],[30,3]],"steps":[[1,"fetch",12],[1,"insert",15,5],[2,"insert",12,7],[2,"commit"],[1,"commit"]]}"#;
 
-fn owned(alloc: Global, words: &[&str]) -> Result<Vec<String>, AllocError> {
-    let mut all = Vec::new(alloc);
-    for word in words {
-        all.push(String::from_str(alloc, *word)?)?;
+/// A table of one mode that asks for nothing.
+const PLAIN: &str =
+    "format = 1\nmodes = [\"A\"]\ncompatible = { A = [] }\nconvert = { A = { A = \"A\" } }\nrules = {}\n";
+
+/// A change of a table's text.
+#[derive(Clone, Copy)]
+enum Change<'a> {
+    /// The first part, which stands there once, is replaced by the second.
+    Put(&'a str, &'a str),
+    /// The text ends before this part.
+    Cut(&'a str),
+}
+
+/// A text of a table after changes.
+#[derive(Clone, Copy)]
+struct Table<'a> {
+    text: &'a str,
+    changes: &'a [Change<'a>],
+}
+
+/// Where no word names a table's file.
+const NO_TABLE: Table = Table {
+    text: "",
+    changes: &[],
+};
+
+/// The table that asks for nothing.
+const PLAIN_TABLE: Table = Table {
+    text: PLAIN,
+    changes: &[],
+};
+
+fn changed(alloc: Global, text: &str, change: Change) -> Result<String, Fail> {
+    match change {
+        Change::Put(old, new) => {
+            let (before, after) = text.split_once(old).ok_or("no such part")?;
+            Ok(format!(in alloc; "{before}{new}{after}")?)
+        }
+        Change::Cut(part) => {
+            let (before, _) = text.split_once(part).ok_or("no such part")?;
+            Ok(String::from_str(alloc, before)?)
+        }
     }
-    Ok(all)
 }
 
-/// What the program writes on its two streams, and its status, where there is no table.
-fn told<R: std::rt::Files + AllocGlobal + Threads + Wait + Sync + Abort>(
-    rt: &R,
-    words: &[&str],
-    script: &str,
-    out: &str,
-    err: &str,
-    status: u8,
-) -> Result<(), Fail>
-where
-    R::File: Send + Sync,
-    R::Dir: Send + Sync,
-{
-    told_over(rt, words, &Texts { table: "", script }, out, err, status)
+fn table_text(alloc: Global, table: Table) -> Result<String, Fail> {
+    let mut text = String::from_str(alloc, table.text)?;
+    for change in table.changes {
+        text = changed(alloc, text.as_str(), *change)?;
+    }
+    Ok(text)
 }
 
-/// What the program writes on its two streams, and its status.
-fn told_over<R: std::rt::Files + AllocGlobal + Threads + Wait + Sync + Abort>(
-    rt: &R,
-    words: &[&str],
-    files: &Texts,
-    out: &str,
-    err: &str,
+/// A run of the program: its words, its files, and what it leaves on its two streams, with its status.
+#[derive(Clone, Copy)]
+struct Row<'a> {
+    name: &'a str,
+    words: &'a [&'a str],
+    table: Table<'a>,
+    script: &'a str,
     status: u8,
-) -> Result<(), Fail>
-where
-    R::File: Send + Sync,
-    R::Dir: Send + Sync,
-{
-    let script = files.script;
-    let ran = run_program(rt, words, files)?;
-    assert_eq!(rt; ran.status, status, "{script}");
-    assert_eq!(rt; ran.out.as_slice(), out.as_bytes(), "{script}");
-    assert_eq!(rt; ran.err.as_slice(), err.as_bytes(), "{script}");
-    Ok(())
+    out: &'a str,
+    err: &'a str,
 }
 
 /// What a run of the program left.
@@ -129,6 +134,14 @@ struct Program {
     status: u8,
     out: Vec<u8>,
     err: Vec<u8>,
+}
+
+fn owned(alloc: Global, words: &[&str]) -> Result<Vec<String>, AllocError> {
+    let mut all = Vec::new(alloc);
+    for word in words {
+        all.push(String::from_str(alloc, *word)?)?;
+    }
+    Ok(all)
 }
 
 fn run_program<R: std::rt::Files + AllocGlobal + Threads + Wait + Sync>(
@@ -152,42 +165,65 @@ where
     })
 }
 
-/// The text of a script.
-fn script_of(alloc: Global, opening: &str, steps: &str) -> Result<String, AllocError> {
-    format!(in alloc; "{{\"format\":1,\"opening\":{opening},\"steps\":{steps}}}")
-}
-
-/// Runs steps on an opening map under a bundled table, and compares the report; they are serial under each, with the same
-/// replies at each index with each lock table.
-fn reports<R: std::rt::Files + AllocGlobal + Threads + Wait + Sync + Abort>(
+/// Runs the program as a row says, and compares what it leaves.
+fn leaves<R: std::rt::Files + AllocGlobal + Threads + Wait + Sync + Abort>(
     rt: &R,
-    table: &str,
-    opening: &str,
-    steps: &str,
-    report: &str,
+    row: &Row,
 ) -> Result<(), Fail>
 where
     R::File: Send + Sync,
     R::Dir: Send + Sync,
 {
-    let alloc = rt.alloc();
-    let script = script_of(alloc, opening, steps)?;
-    serial_under_each(rt, script.as_str())?;
-    agree_under_each(rt, script.as_str())?;
-    let line = format!(in alloc; "{report}\n")?;
-    told(
-        rt,
-        ["run", table, "s"].as_slice(),
-        script.as_str(),
-        line.as_str(),
-        "",
-        0,
-    )
+    let table = table_text(rt.alloc(), row.table)?;
+    let files = Texts {
+        table: table.as_str(),
+        script: row.script,
+    };
+    let ran = run_program(rt, row.words, &files)?;
+    let name = row.name;
+    assert_eq!(rt; ran.status, row.status, "{name}");
+    assert_eq!(rt; ran.out.as_slice(), row.out.as_bytes(), "{name}");
+    assert_eq!(rt; ran.err.as_slice(), row.err.as_bytes(), "{name}");
+    Ok(())
+}
+
+/// Runs the program as each row says.
+fn each_leaves<R: std::rt::Files + AllocGlobal + Threads + Wait + Sync + Abort>(
+    rt: &R,
+    rows: &[Row],
+) -> Result<(), Fail>
+where
+    R::File: Send + Sync,
+    R::Dir: Send + Sync,
+{
+    for row in rows {
+        leaves(rt, row)?;
+    }
+    Ok(())
+}
+
+/// The same of rows whose scripts are serial under each bundled table, with the same replies at each index with each lock
+/// table.
+fn each_reports<R: std::rt::Files + AllocGlobal + Threads + Wait + Sync + Abort>(
+    rt: &R,
+    rows: &[Row],
+) -> Result<(), Fail>
+where
+    R::File: Send + Sync,
+    R::Dir: Send + Sync,
+{
+    for row in rows {
+        serial_under_each(rt, row.script)?;
+        agree_under_each(rt, row.script)?;
+        leaves(rt, row)?;
+    }
+    Ok(())
 }
 
 /// What a script leaves under each of the bundled tables, where only the modes of the locks differ.
 #[derive(Clone, Copy)]
 struct Expected<'a> {
+    name: &'a str,
     opening: &'a str,
     steps: &'a str,
     index: &'a str,
@@ -197,34 +233,84 @@ struct Expected<'a> {
     unfinished: &'a str,
 }
 
-/// Runs steps under each of the bundled tables, and compares the reports.
-fn under_each<R: std::rt::Files + AllocGlobal + Threads + Wait + Sync + Abort>(
+/// Runs a script under a bundled table, and compares the report, with these locks.
+fn reports_locks<R: std::rt::Files + AllocGlobal + Threads + Wait + Sync + Abort>(
     rt: &R,
-    expected: Expected<'_>,
+    expected: &Expected,
+    table: &str,
+    script: &str,
+    locks: &str,
 ) -> Result<(), Fail>
 where
     R::File: Send + Sync,
     R::Dir: Send + Sync,
 {
     let Expected {
-        opening,
-        steps,
+        name,
+        opening: _,
+        steps: _,
         index,
-        locks,
+        locks: _,
         replies,
         unfinished,
-    } = expected;
-    let [kvl, im, range_key] = locks;
+    } = *expected;
+    let report = format!(in rt.alloc();
+        "{{\"index\":{index},\"locks\":{locks},\"replies\":{replies},\"unfinished\":{unfinished},\"verdict\":[\"serial\"]}}\n"
+    )?;
+    let words = ["run", table, "s"];
+    let row = Row {
+        name,
+        words: words.as_slice(),
+        table: NO_TABLE,
+        script,
+        status: 0,
+        out: report.as_str(),
+        err: "",
+    };
+    leaves(rt, &row)
+}
+
+/// The text of a script.
+fn script_of(alloc: Global, opening: &str, steps: &str) -> Result<String, AllocError> {
+    format!(in alloc; "{{\"format\":1,\"opening\":{opening},\"steps\":{steps}}}")
+}
+
+/// Runs steps under each of the bundled tables, and compares the reports; they are serial under each, with the same replies at
+/// each index with each lock table.
+fn under_each<R: std::rt::Files + AllocGlobal + Threads + Wait + Sync + Abort>(
+    rt: &R,
+    expected: &Expected,
+) -> Result<(), Fail>
+where
+    R::File: Send + Sync,
+    R::Dir: Send + Sync,
+{
+    let script = script_of(rt.alloc(), expected.opening, expected.steps)?;
+    serial_under_each(rt, script.as_str())?;
+    agree_under_each(rt, script.as_str())?;
+    let [kvl, im, range_key] = expected.locks;
     for (table, locks) in [
         ("@kvl", kvl),
         ("@kvl-update", kvl),
         ("@im", im),
         ("@range-key", range_key),
     ] {
-        let report = format!(in rt.alloc();
-            "{{\"index\":{index},\"locks\":{locks},\"replies\":{replies},\"unfinished\":{unfinished},\"verdict\":[\"serial\"]}}"
-        )?;
-        reports(rt, table, opening, steps, report.as_str())?;
+        reports_locks(rt, expected, table, script.as_str(), locks)?;
+    }
+    Ok(())
+}
+
+/// The same of several scripts.
+fn all_under_each<R: std::rt::Files + AllocGlobal + Threads + Wait + Sync + Abort>(
+    rt: &R,
+    all: &[Expected],
+) -> Result<(), Fail>
+where
+    R::File: Send + Sync,
+    R::Dir: Send + Sync,
+{
+    for expected in all {
+        under_each(rt, expected)?;
     }
     Ok(())
 }

@@ -1,7 +1,7 @@
 //! Runs and verdicts with ample memory, none of which ends with want of memory: scripts at boundary keys, values and numbers, under a
 //! table that asks for nothing and under key-value locking, without updates and with them.
-use super::verdicts::PLAIN;
-use super::{Texts, told_over};
+use super::{Change, NO_TABLE, PLAIN, PLAIN_TABLE, Row, Table, leaves};
+use std::alloc::{AllocError, Global};
 use std::process::Abort;
 use std::sync::Wait;
 use std::test::Fail;
@@ -10,50 +10,153 @@ use std::thread::Threads;
 /// Keys and values at which a number turns.
 const KEYS: [u64; 4] = [0, 7, 1 << 63, u64::MAX];
 
-/// The table that asks for nothing, in format 2: it offers updates.
-const PLAIN_UPDATE: &str =
-    "format = 2\nmodes = [\"A\"]\ncompatible = { A = [] }\nconvert = { A = { A = \"A\" } }\nrules = {}\n";
+/// Numbers of transactions, of which 8 is none.
+const TXNS: [u32; 3] = [0, 7, u32::MAX];
 
-/// Runs a script and judges it under a table, and compares the report, which begins so and ends with the verdict, and the
-/// line of the verdict.
-fn answers<R: std::rt::Files + AllocGlobal + Threads + Wait + Sync + Abort>(
+/// The table that asks for nothing, in format 2: it offers updates.
+const PLAIN_UPDATE_TABLE: Table = Table {
+    text: PLAIN,
+    changes: &[Change::Put("format = 1", "format = 2")],
+};
+
+/// A fetch of a key, which another transaction then deletes, and commits first. Without locks the answer isn't the one of the
+/// commit order; under key-value locking the delete is blocked.
+const FETCH_AND_DELETE: &str =
+    r#"{"format":1,"opening":[[K,V]],"steps":[[T,"fetch",K],[8,"delete",K],[8,"commit"],[T,"commit"]]}"#;
+
+/// An update of a key, which another transaction reads before it is taken back. Without locks the answer isn't the one of the
+/// commit order; under key-value locking with updates the fetch is blocked.
+const UPDATE_AND_BACK: &str =
+    r#"{"format":2,"opening":[[K,V]],"steps":[[T,"update",K,O],[8,"fetch",K],[T,"back"],[8,"commit"],[T,"abort"]]}"#;
+
+/// What the letters K, V, O and T stand for: a key, its value, another value, and a transaction.
+#[derive(Clone, Copy)]
+struct Numbers {
+    key: u64,
+    value: u64,
+    other: u64,
+    txn: u64,
+}
+
+/// A text with its numbers.
+fn numbered(alloc: Global, text: &str, numbers: Numbers) -> Result<String, AllocError> {
+    let mut all = String::new(alloc);
+    for letter in text.chars() {
+        let number = match letter {
+            'K' => numbers.key,
+            'V' => numbers.value,
+            'O' => numbers.other,
+            'T' => numbers.txn,
+            other => {
+                all.push(other)?;
+                continue;
+            }
+        };
+        all.push_str(format!(in alloc; "{number}")?.as_str())?;
+    }
+    Ok(all)
+}
+
+/// Runs and verdicts, at numbers that letters stand for.
+const ROWS: &[Row] = &[
+    Row {
+        name: "run, no locks",
+        words: &["run", "table", "s"],
+        table: PLAIN_TABLE,
+        script: FETCH_AND_DELETE,
+        status: 1,
+        out: "{\"index\":[],\"locks\":[],\"replies\":[[\"found\",V],[\"deleted\",V],[\"committed\"],[\"committed\"]],\"unfinished\":[],\"verdict\":[\"not-serial\",T,1,[\"found\",V],[\"none\"]]}\n",
+        err: "",
+    },
+    Row {
+        name: "judge, no locks",
+        words: &["judge", "table", "s"],
+        table: PLAIN_TABLE,
+        script: FETCH_AND_DELETE,
+        status: 1,
+        out: "{\"script\":\"s\",\"verdict\":[\"not-serial\",T,1,[\"found\",V],[\"none\"]]}\n",
+        err: "",
+    },
+    Row {
+        name: "run, key-value locking",
+        words: &["run", "@kvl", "s"],
+        table: NO_TABLE,
+        script: FETCH_AND_DELETE,
+        status: 0,
+        out: "{\"index\":[[K,V]],\"locks\":[],\"replies\":[[\"found\",V],[\"blocked\",[T]],[\"committed\"],[\"committed\"]],\"unfinished\":[],\"verdict\":[\"serial\"]}\n",
+        err: "",
+    },
+    Row {
+        name: "judge, key-value locking",
+        words: &["judge", "@kvl", "s"],
+        table: NO_TABLE,
+        script: FETCH_AND_DELETE,
+        status: 0,
+        out: "{\"script\":\"s\",\"verdict\":[\"serial\"]}\n",
+        err: "",
+    },
+    Row {
+        name: "run, no locks, of updates",
+        words: &["run", "table", "s"],
+        table: PLAIN_UPDATE_TABLE,
+        script: UPDATE_AND_BACK,
+        status: 1,
+        out: "{\"index\":[[K,V]],\"locks\":[],\"replies\":[[\"updated\",V],[\"found\",O],[\"undone\",0],[\"committed\"],[\"aborted\"]],\"unfinished\":[],\"verdict\":[\"not-serial\",8,1,[\"found\",O],[\"found\",V]]}\n",
+        err: "",
+    },
+    Row {
+        name: "judge, no locks, of updates",
+        words: &["judge", "table", "s"],
+        table: PLAIN_UPDATE_TABLE,
+        script: UPDATE_AND_BACK,
+        status: 1,
+        out: "{\"script\":\"s\",\"verdict\":[\"not-serial\",8,1,[\"found\",O],[\"found\",V]]}\n",
+        err: "",
+    },
+    Row {
+        name: "run, key-value locking with updates",
+        words: &["run", "@kvl-update", "s"],
+        table: NO_TABLE,
+        script: UPDATE_AND_BACK,
+        status: 0,
+        out: "{\"index\":[[K,V]],\"locks\":[],\"replies\":[[\"updated\",V],[\"blocked\",[T]],[\"undone\",0],[\"committed\"],[\"aborted\"]],\"unfinished\":[],\"verdict\":[\"serial\"]}\n",
+        err: "",
+    },
+    Row {
+        name: "judge, key-value locking with updates",
+        words: &["judge", "@kvl-update", "s"],
+        table: NO_TABLE,
+        script: UPDATE_AND_BACK,
+        status: 0,
+        out: "{\"script\":\"s\",\"verdict\":[\"serial\"]}\n",
+        err: "",
+    },
+];
+
+/// Runs the program as a row says, with the numbers in the place of the letters.
+fn leaves_at<R: std::rt::Files + AllocGlobal + Threads + Wait + Sync + Abort>(
     rt: &R,
-    table: &str,
-    files: &Texts,
-    beginning: &str,
-    verdict: &str,
-    status: u8,
+    row: &Row,
+    numbers: Numbers,
 ) -> Result<(), Fail>
 where
     R::File: Send + Sync,
     R::Dir: Send + Sync,
 {
     let alloc = rt.alloc();
-    let report = format!(in alloc; "{beginning},\"unfinished\":[],\"verdict\":{verdict}}}\n")?;
-    let line = format!(in alloc; "{{\"script\":\"s\",\"verdict\":{verdict}}}\n")?;
-    told_over(
-        rt,
-        ["run", table, "s"].as_slice(),
-        files,
-        report.as_str(),
-        "",
-        status,
-    )?;
-    told_over(
-        rt,
-        ["judge", table, "s"].as_slice(),
-        files,
-        line.as_str(),
-        "",
-        status,
-    )
+    let script = numbered(alloc, row.script, numbers)?;
+    let out = numbered(alloc, row.out, numbers)?;
+    let row = Row {
+        script: script.as_str(),
+        out: out.as_str(),
+        ..*row
+    };
+    leaves(rt, &row)
 }
 
-/// A fetch of a key, which another transaction then deletes, and commits first. Without locks the answer isn't the one of the
-/// commit order; under key-value locking the delete is blocked.
-fn answers_at<R: std::rt::Files + AllocGlobal + Threads + Wait + Sync + Abort>(
+/// Runs each row at a key with a value, by each transaction.
+fn each_leaves_at<R: std::rt::Files + AllocGlobal + Threads + Wait + Sync + Abort>(
     rt: &R,
-    txn: u32,
     key: u64,
     value: u64,
 ) -> Result<(), Fail>
@@ -61,86 +164,25 @@ where
     R::File: Send + Sync,
     R::Dir: Send + Sync,
 {
-    let alloc = rt.alloc();
-    let script = format!(in alloc;
-        "{{\"format\":1,\"opening\":[[{key},{value}]],\"steps\":[[{txn},\"fetch\",{key}],[8,\"delete\",{key}],[8,\"commit\"],[{txn},\"commit\"]]}}"
-    )?;
-    let files = Texts {
-        table: PLAIN,
-        script: script.as_str(),
-    };
-    let ends = "[\"committed\"],[\"committed\"]]";
-    let beginning = format!(in alloc;
-        "{{\"index\":[],\"locks\":[],\"replies\":[[\"found\",{value}],[\"deleted\",{value}],{ends}"
-    )?;
-    let verdict = format!(in alloc; "[\"not-serial\",{txn},1,[\"found\",{value}],[\"none\"]]")?;
-    answers(rt, "table", &files, beginning.as_str(), verdict.as_str(), 1)?;
-    let beginning = format!(in alloc;
-        "{{\"index\":[[{key},{value}]],\"locks\":[],\"replies\":[[\"found\",{value}],[\"blocked\",[{txn}]],{ends}"
-    )?;
-    answers(rt, "@kvl", &files, beginning.as_str(), "[\"serial\"]", 0)
+    for txn in TXNS {
+        let numbers = Numbers {
+            key,
+            value,
+            other: u64::MAX - value,
+            txn: u64::from(txn),
+        };
+        for row in ROWS {
+            leaves_at(rt, row, numbers)?;
+        }
+    }
+    Ok(())
 }
 
 #[test]
 fn each_boundary(rt: HostRuntime) -> Result<(), Fail> {
     for key in KEYS {
         for value in KEYS {
-            for txn in [0, 7, u32::MAX] {
-                answers_at(&rt, txn, key, value)?;
-            }
-        }
-    }
-    Ok(())
-}
-
-/// An update of a key, which another transaction reads before it is taken back. Without locks the answer isn't the one of the
-/// commit order; under key-value locking with updates the fetch is blocked.
-fn takes_back_at<R: std::rt::Files + AllocGlobal + Threads + Wait + Sync + Abort>(
-    rt: &R,
-    txn: u32,
-    key: u64,
-    value: u64,
-) -> Result<(), Fail>
-where
-    R::File: Send + Sync,
-    R::Dir: Send + Sync,
-{
-    let alloc = rt.alloc();
-    let other = u64::MAX - value;
-    let script = format!(in alloc;
-        "{{\"format\":2,\"opening\":[[{key},{value}]],\"steps\":[[{txn},\"update\",{key},{other}],[8,\"fetch\",{key}],[{txn},\"back\"],[8,\"commit\"],[{txn},\"abort\"]]}}"
-    )?;
-    let files = Texts {
-        table: PLAIN_UPDATE,
-        script: script.as_str(),
-    };
-    let updated = format!(in alloc;
-        "{{\"index\":[[{key},{value}]],\"locks\":[],\"replies\":[[\"updated\",{value}]"
-    )?;
-    let ends = "[\"undone\",0],[\"committed\"],[\"aborted\"]]";
-    let beginning = format!(in alloc; "{updated},[\"found\",{other}],{ends}")?;
-    let verdict = format!(in alloc;
-        "[\"not-serial\",8,1,[\"found\",{other}],[\"found\",{value}]]"
-    )?;
-    answers(rt, "table", &files, beginning.as_str(), verdict.as_str(), 1)?;
-    let beginning = format!(in alloc; "{updated},[\"blocked\",[{txn}]],{ends}")?;
-    answers(
-        rt,
-        "@kvl-update",
-        &files,
-        beginning.as_str(),
-        "[\"serial\"]",
-        0,
-    )
-}
-
-#[test]
-fn each_boundary_of_updates(rt: HostRuntime) -> Result<(), Fail> {
-    for key in KEYS {
-        for value in KEYS {
-            for txn in [0, 7, u32::MAX] {
-                takes_back_at(&rt, txn, key, value)?;
-            }
+            each_leaves_at(&rt, key, value)?;
         }
     }
     Ok(())

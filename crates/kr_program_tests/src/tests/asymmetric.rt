@@ -1,10 +1,6 @@
 //! A table that tells which way it is read: U may be asked for beside a held S, and S not beside a held U; S with U gives U, and U with S gives X.
-use super::checks::{checks, with};
-use super::{Texts, told_over};
-use std::process::Abort;
-use std::sync::Wait;
+use super::{Change, Row, Table, each_leaves};
 use std::test::Fail;
-use std::thread::Threads;
 
 /// A fetch asks for S on what it finds, and a scan for U on what it reads.
 const ASYMMETRIC: &str = r#"format = 1
@@ -41,78 +37,66 @@ next = [{ mode = "X", span = "commit" }]
 current = [{ mode = "X", span = "instant" }]
 "#;
 
-/// Runs a script under that table, and compares the report.
-fn runs<R: std::rt::Files + AllocGlobal + Threads + Wait + Sync + Abort>(
-    rt: &R,
-    script: &str,
-    report: &str,
-) -> Result<(), Fail>
-where
-    R::File: Send + Sync,
-    R::Dir: Send + Sync,
-{
-    let files = Texts {
-        table: ASYMMETRIC,
-        script,
-    };
-    told_over(rt, ["run", "table", "s"].as_slice(), &files, report, "", 0)
-}
-
-#[test]
-fn both_ways(rt: HostRuntime) -> Result<(), Fail> {
-    runs(
-        &rt,
-        r#"{"format":1,"opening":[[10,1],[20,2]],"steps":[[1,"fetch",10],[2,"scan",10,10],[3,"fetch",10],[4,"scan",20,20],[5,"fetch",20],[2,"fetch",10],[1,"commit"],[2,"fetch",10]]}"#,
-        "{\"index\":[[10,1],[20,2]],\"locks\":[[10,2,\"X\"],[20,4,\"U\"]],\"replies\":[[\"found\",1],[\"rows\",[[10,1]]],[\"blocked\",[2]],[\"rows\",[[20,2]]],[\"blocked\",[4]],[\"blocked\",[1]],[\"committed\"],[\"found\",1]],\"unfinished\":[2,4],\"verdict\":[\"serial\"]}\n",
-    )
-}
-
-#[test]
-fn s_with_u(rt: HostRuntime) -> Result<(), Fail> {
-    runs(
-        &rt,
-        r#"{"format":1,"opening":[[10,1],[20,2]],"steps":[[1,"fetch",10],[2,"fetch",10],[1,"scan",10,10],[3,"fetch",10]]}"#,
-        "{\"index\":[[10,1],[20,2]],\"locks\":[[10,1,\"U\"],[10,2,\"S\"]],\"replies\":[[\"found\",1],[\"found\",1],[\"rows\",[[10,1]]],[\"blocked\",[1]]],\"unfinished\":[1,2],\"verdict\":[\"serial\"]}\n",
-    )
-}
-
-#[test]
-fn accepted(rt: HostRuntime) -> Result<(), Fail> {
-    let report = "{\"accepted\":true,\"cases\":108,\"modes\":3}\n";
-    checks(&rt, ASYMMETRIC, report, 0)
-}
+const ASYMMETRIC_TABLE: Table = Table {
+    text: ASYMMETRIC,
+    changes: &[],
+};
 
 /// What fails where who asks for S holds S after it, whatever it held, and a delete asks for S on the next name.
-const GIVEN_UP: [&str; 8] = [
-    r#"{"case":"G1","cover":"IK","from":["U","S"],"mode":"S","open":["fetch-hit","current","none","none"]}"#,
-    r#"{"case":"G1","cover":"IK","from":["X","S"],"mode":"S","open":["fetch-hit","current","none","none"]}"#,
-    r#"{"case":"G1","cover":"DG","from":["U","S"],"mode":"S","open":["fetch-miss","next","none","none"]}"#,
-    r#"{"case":"G1","cover":"DG","from":["X","S"],"mode":"S","open":["fetch-miss","next","none","none"]}"#,
-    r#"{"case":"G8","cover":"DG","from":["none"],"mode":"S","open":["fetch-miss","next","none","none"]}"#,
-    r#"{"case":"G8","cover":"DG","from":["S"],"mode":"S","open":["fetch-miss","next","none","none"]}"#,
-    r#"{"case":"G8","cover":"DG","from":["U"],"mode":"S","open":["fetch-miss","next","none","none"]}"#,
-    r#"{"case":"G8","cover":"DG","from":["X"],"mode":"S","open":["fetch-miss","next","none","none"]}"#,
+const GIVEN_UP: &str =
+    "{\"accepted\":false,\"cases\":108,\"failed\":[{\"case\":\"G1\",\"cover\":\"IK\",\"from\":[\"U\",\"S\"],\"mode\":\"S\",\"open\":[\"fetch-hit\",\"current\",\"none\",\"none\"]},{\"case\":\"G1\",\"cover\":\"IK\",\"from\":[\"X\",\"S\"],\"mode\":\"S\",\"open\":[\"fetch-hit\",\"current\",\"none\",\"none\"]},{\"case\":\"G1\",\"cover\":\"DG\",\"from\":[\"U\",\"S\"],\"mode\":\"S\",\"open\":[\"fetch-miss\",\"next\",\"none\",\"none\"]},{\"case\":\"G1\",\"cover\":\"DG\",\"from\":[\"X\",\"S\"],\"mode\":\"S\",\"open\":[\"fetch-miss\",\"next\",\"none\",\"none\"]},{\"case\":\"G8\",\"cover\":\"DG\",\"from\":[\"none\"],\"mode\":\"S\",\"open\":[\"fetch-miss\",\"next\",\"none\",\"none\"]},{\"case\":\"G8\",\"cover\":\"DG\",\"from\":[\"S\"],\"mode\":\"S\",\"open\":[\"fetch-miss\",\"next\",\"none\",\"none\"]},{\"case\":\"G8\",\"cover\":\"DG\",\"from\":[\"U\"],\"mode\":\"S\",\"open\":[\"fetch-miss\",\"next\",\"none\",\"none\"]},{\"case\":\"G8\",\"cover\":\"DG\",\"from\":[\"X\"],\"mode\":\"S\",\"open\":[\"fetch-miss\",\"next\",\"none\",\"none\"]}],\"modes\":3}\n";
+
+/// Runs and checks under that table.
+const ROWS: &[Row] = &[
+    Row {
+        name: "both ways",
+        words: &["run", "table", "s"],
+        table: ASYMMETRIC_TABLE,
+        script: r#"{"format":1,"opening":[[10,1],[20,2]],"steps":[[1,"fetch",10],[2,"scan",10,10],[3,"fetch",10],[4,"scan",20,20],[5,"fetch",20],[2,"fetch",10],[1,"commit"],[2,"fetch",10]]}"#,
+        status: 0,
+        out: "{\"index\":[[10,1],[20,2]],\"locks\":[[10,2,\"X\"],[20,4,\"U\"]],\"replies\":[[\"found\",1],[\"rows\",[[10,1]]],[\"blocked\",[2]],[\"rows\",[[20,2]]],[\"blocked\",[4]],[\"blocked\",[1]],[\"committed\"],[\"found\",1]],\"unfinished\":[2,4],\"verdict\":[\"serial\"]}\n",
+        err: "",
+    },
+    Row {
+        name: "s with u",
+        words: &["run", "table", "s"],
+        table: ASYMMETRIC_TABLE,
+        script: r#"{"format":1,"opening":[[10,1],[20,2]],"steps":[[1,"fetch",10],[2,"fetch",10],[1,"scan",10,10],[3,"fetch",10]]}"#,
+        status: 0,
+        out: "{\"index\":[[10,1],[20,2]],\"locks\":[[10,1,\"U\"],[10,2,\"S\"]],\"replies\":[[\"found\",1],[\"found\",1],[\"rows\",[[10,1]]],[\"blocked\",[1]]],\"unfinished\":[1,2],\"verdict\":[\"serial\"]}\n",
+        err: "",
+    },
+    Row {
+        name: "accepted",
+        words: &["check", "table"],
+        table: ASYMMETRIC_TABLE,
+        script: "",
+        status: 0,
+        out: "{\"accepted\":true,\"cases\":108,\"modes\":3}\n",
+        err: "",
+    },
+    Row {
+        name: "gives up",
+        words: &["check", "table"],
+        table: Table {
+            text: ASYMMETRIC,
+            changes: &[
+                Change::Put(r#"U = { S = "X""#, r#"U = { S = "S""#),
+                Change::Put(r#"X = { S = "X""#, r#"X = { S = "S""#),
+                Change::Put(
+                    r#"next = [{ mode = "X", span = "commit" }]"#,
+                    r#"next = [{ mode = "S", span = "commit" }]"#,
+                ),
+            ],
+        },
+        script: "",
+        status: 1,
+        out: GIVEN_UP,
+        err: "",
+    },
 ];
 
 #[test]
-fn gives_up(rt: HostRuntime) -> Result<(), Fail> {
-    let alloc = rt.alloc();
-    let u_lost = with(alloc, ASYMMETRIC, r#"U = { S = "X""#, r#"U = { S = "S""#)?;
-    let x_lost = with(
-        alloc,
-        u_lost.as_str(),
-        r#"X = { S = "X""#,
-        r#"X = { S = "S""#,
-    )?;
-    let table = with(
-        alloc,
-        x_lost.as_str(),
-        r#"next = [{ mode = "X", span = "commit" }]"#,
-        r#"next = [{ mode = "S", span = "commit" }]"#,
-    )?;
-    let failed = GIVEN_UP.join(alloc, ",")?;
-    let report = format!(in alloc;
-        "{{\"accepted\":false,\"cases\":108,\"failed\":[{failed}],\"modes\":3}}\n"
-    )?;
-    checks(&rt, table.as_str(), report.as_str(), 1)
+fn both_ways_of_reading(rt: HostRuntime) -> Result<(), Fail> {
+    each_leaves(&rt, ROWS)
 }

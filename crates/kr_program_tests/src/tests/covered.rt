@@ -39,8 +39,8 @@ pub fn serial_under_each<R: AllocGlobal + Abort>(rt: &R, script: &str) -> Result
     is_serial(rt, &KvlUpdate, &script)?;
     is_serial(rt, &Im, &script)?;
     is_serial(rt, &RangeKey, &script)?;
-    is_serial_checked(rt, KVL, &script)?;
-    is_serial_checked(rt, KVL_UPDATE, &script)?;
-    is_serial_checked(rt, IM, &script)?;
-    is_serial_checked(rt, RANGE_KEY, &script)
+    for table in [KVL, KVL_UPDATE, IM, RANGE_KEY] {
+        is_serial_checked(rt, table, &script)?;
+    }
+    Ok(())
 }

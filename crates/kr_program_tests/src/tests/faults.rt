@@ -1,38 +1,176 @@
-//! Faults of words, files and scripts, and the lines that tell them.
-use super::{Broken, OPENING, PHANTOM, Texts, owned, told};
+//! Faults of scripts and of output, and the lines that tell them.
+use super::{NO_TABLE, PHANTOM, Row, Texts, each_leaves, leaves, owned};
 use kr_program::execute;
-use kr_script::Io;
+use kr_script::{Failed, Io, Sink};
 use std::process::Abort;
 use std::sync::Wait;
 use std::test::Fail;
 use std::thread::Threads;
 
-/// Runs a script that has a fault, and compares what is told of it.
-fn faulty<R: std::rt::Files + AllocGlobal + Threads + Wait + Sync + Abort>(
+/// Scripts that have a fault.
+const FAULTS: &[Row] = &[
+    Row {
+        name: "no object",
+        words: &["run", "@kvl", "s"],
+        table: NO_TABLE,
+        script: "[]",
+        status: 2,
+        out: "",
+        err: "kr: s: fault 4 Field at \n",
+    },
+    Row {
+        name: "a key twice",
+        words: &["run", "@kvl", "s"],
+        table: NO_TABLE,
+        script: r#"{"format":1,"opening":[[5,1],[5,2]],"steps":[]}"#,
+        status: 2,
+        out: "",
+        err: "kr: s: fault 5 Opening at 1\n",
+    },
+    Row {
+        name: "a number of a transaction past all",
+        words: &["run", "@kvl", "s"],
+        table: NO_TABLE,
+        script: r#"{"format":1,"opening":[[10,1],[20,2],[30,3]],"steps":[[4294967296,"go"]]}"#,
+        status: 2,
+        out: "",
+        err: "kr: s: fault 6 Step at 0\n",
+    },
+    Row {
+        name: "a key below 0",
+        words: &["run", "@kvl", "s"],
+        table: NO_TABLE,
+        script: r#"{"format":1,"opening":[[10,1],[20,2],[30,3]],"steps":[[1,"fetch",-1]]}"#,
+        status: 2,
+        out: "",
+        err: "kr: s: fault 6 Step at 0\n",
+    },
+    Row {
+        name: "a fetch of no key",
+        words: &["run", "@kvl", "s"],
+        table: NO_TABLE,
+        script: r#"{"format":1,"opening":[[10,1],[20,2],[30,3]],"steps":[[1,"fetch"]]}"#,
+        status: 2,
+        out: "",
+        err: "kr: s: fault 6 Step at 0\n",
+    },
+    Row {
+        name: "an update in format 1",
+        words: &["run", "@kvl-update", "s"],
+        table: NO_TABLE,
+        script: r#"{"format":1,"opening":[],"steps":[[1,"go"],[1,"update",20,9]]}"#,
+        status: 2,
+        out: "",
+        err: "kr: s: fault 6 Step at 1\n",
+    },
+    Row {
+        name: "a change back in format 1",
+        words: &["run", "@kvl-update", "s"],
+        table: NO_TABLE,
+        script: r#"{"format":1,"opening":[],"steps":[[1,"go"],[1,"back"]]}"#,
+        status: 2,
+        out: "",
+        err: "kr: s: fault 6 Step at 1\n",
+    },
+    Row {
+        name: "an update to no value",
+        words: &["run", "@kvl-update", "s"],
+        table: NO_TABLE,
+        script: r#"{"format":2,"opening":[[10,1],[20,2],[30,3]],"steps":[[1,"update",20]]}"#,
+        status: 2,
+        out: "",
+        err: "kr: s: fault 6 Step at 0\n",
+    },
+    Row {
+        name: "an update to a value below 0",
+        words: &["run", "@kvl-update", "s"],
+        table: NO_TABLE,
+        script: r#"{"format":2,"opening":[[10,1],[20,2],[30,3]],"steps":[[1,"update",20,-1]]}"#,
+        status: 2,
+        out: "",
+        err: "kr: s: fault 6 Step at 0\n",
+    },
+    Row {
+        name: "an update to two values",
+        words: &["run", "@kvl-update", "s"],
+        table: NO_TABLE,
+        script: r#"{"format":2,"opening":[[10,1],[20,2],[30,3]],"steps":[[1,"update",20,9,9]]}"#,
+        status: 2,
+        out: "",
+        err: "kr: s: fault 6 Step at 0\n",
+    },
+    Row {
+        name: "a change back with a key",
+        words: &["run", "@kvl-update", "s"],
+        table: NO_TABLE,
+        script: r#"{"format":2,"opening":[[10,1],[20,2],[30,3]],"steps":[[1,"back",20]]}"#,
+        status: 2,
+        out: "",
+        err: "kr: s: fault 6 Step at 0\n",
+    },
+    Row {
+        name: "a change back by a number past all",
+        words: &["run", "@kvl-update", "s"],
+        table: NO_TABLE,
+        script: r#"{"format":2,"opening":[[10,1],[20,2],[30,3]],"steps":[[4294967296,"back"]]}"#,
+        status: 2,
+        out: "",
+        err: "kr: s: fault 6 Step at 0\n",
+    },
+    Row {
+        name: "a capital letter",
+        words: &["run", "@kvl-update", "s"],
+        table: NO_TABLE,
+        script: r#"{"format":2,"opening":[[10,1],[20,2],[30,3]],"steps":[[1,"Back"]]}"#,
+        status: 2,
+        out: "",
+        err: "kr: s: fault 6 Step at 0\n",
+    },
+    Row {
+        name: "format 3",
+        words: &["run", "@kvl-update", "s"],
+        table: NO_TABLE,
+        script: r#"{"format":3,"opening":[],"steps":[[1,"back"]]}"#,
+        status: 2,
+        out: "",
+        err: "kr: s: fault 3 Format\n",
+    },
+];
+
+#[test]
+fn faults_of_scripts(rt: HostRuntime) -> Result<(), Fail> {
+    each_leaves(&rt, FAULTS)
+}
+
+/// Runs a text that has a fault as a script, and compares what is told of it.
+fn faulty<'a, R: std::rt::Files + AllocGlobal + Threads + Wait + Sync + Abort>(
     rt: &R,
-    script: &str,
-    fault: &str,
+    script: &'a str,
+    line: &'a str,
 ) -> Result<(), Fail>
 where
     R::File: Send + Sync,
     R::Dir: Send + Sync,
 {
-    let line = format!(in rt.alloc(); "kr: s: fault {fault}\n")?;
-    told(
-        rt,
-        ["run", "@kvl", "s"].as_slice(),
+    let row = Row {
+        name: line,
+        words: &["run", "@kvl", "s"],
+        table: NO_TABLE,
         script,
-        "",
-        line.as_str(),
-        2,
-    )
+        status: 2,
+        out: "",
+        err: line,
+    };
+    leaves(rt, &row)
 }
+
+const NOT_JSON: &str = "kr: s: fault 2 NotJson\n";
 
 #[test]
 fn fronts_of_a_script(rt: HostRuntime) -> Result<(), Fail> {
     for len in 0..PHANTOM.len() {
         let front = PHANTOM.get(..len).ok_or("no front")?;
-        faulty(&rt, front, "2 NotJson")?;
+        faulty(&rt, front, NOT_JSON)?;
     }
     Ok(())
 }
@@ -45,32 +183,7 @@ fn deep_nesting(rt: HostRuntime) -> Result<(), Fail> {
             deep.push_str(bracket)?;
         }
     }
-    faulty(&rt, deep.as_str(), "2 NotJson")?;
-    faulty(&rt, "[]", "4 Field at ")
-}
-
-#[test]
-fn bad_steps(rt: HostRuntime) -> Result<(), Fail> {
-    for step in [
-        r#"[4294967296,"go"]"#,
-        r#"[1,"fetch",-1]"#,
-        r#"[1,"fetch"]"#,
-    ] {
-        let script = format!(in rt.alloc();
-            "{{\"format\":1,\"opening\":{OPENING},\"steps\":[{step}]}}"
-        )?;
-        faulty(&rt, script.as_str(), "6 Step at 0")?;
-    }
-    Ok(())
-}
-
-#[test]
-fn bad_openings(rt: HostRuntime) -> Result<(), Fail> {
-    faulty(
-        &rt,
-        r#"{"format":1,"opening":[[5,1],[5,2]],"steps":[]}"#,
-        "5 Opening at 1",
-    )
+    faulty(&rt, deep.as_str(), NOT_JSON)
 }
 
 #[test]
@@ -80,58 +193,23 @@ fn too_many_steps(rt: HostRuntime) -> Result<(), Fail> {
         script.push_str(r#",[1,"go"]"#)?;
     }
     script.push_str("]}")?;
-    faulty(&rt, script.as_str(), "7 TooMany at steps")
+    faulty(&rt, script.as_str(), "kr: s: fault 7 TooMany at steps\n")
 }
 
-#[test]
-fn words_that_are_not_read(rt: HostRuntime) -> Result<(), Fail> {
-    for (words, line) in [
-        (["run", "@kvl", "t"], "kr: t: cannot be read\n"),
-        (["run", "@kvl", "@kvl"], "kr: @kvl: cannot be read\n"),
-        (
-            ["run", "@kvl", "@kvl-update"],
-            "kr: @kvl-update: cannot be read\n",
-        ),
-        (["run", "kvl", "s"], "kr: kvl: cannot be read\n"),
-        (["run", "@kvl2", "s"], "kr: @kvl2: cannot be read\n"),
-        (
-            ["run", "kvl-update", "s"],
-            "kr: kvl-update: cannot be read\n",
-        ),
-        (
-            ["run", "@kvl_update", "s"],
-            "kr: @kvl_update: cannot be read\n",
-        ),
-        (
-            ["run", "@kvl-updates", "s"],
-            "kr: @kvl-updates: cannot be read\n",
-        ),
-        (["run", "@kvl", "a\nb"], "kr: a\\u{a}b: cannot be read\n"),
-        (
-            ["run", "\u{1b}[1m", "s"],
-            "kr: \\u{1b}[1m: cannot be read\n",
-        ),
-        (["run", "@kvl", "big"], "kr: out of memory\n"),
-    ] {
-        told(&rt, words.as_slice(), "", "", line, 2)?;
+/// Output that can't be written, of which more puts have failed than are counted.
+#[derive(Drop)]
+struct Broken;
+
+impl Sink for Broken {
+    ghost use Rattle.std.specs.Prelude.{None};
+
+    ghost taken = { λ _. None };
+
+    ghost failures = { λ _. 18446744073709551615 };
+
+    fn put(&mut self, _bytes: &[u8]) -> Result<usize, Failed> {
+        Err(Failed)
     }
-    Ok(())
-}
-
-#[test]
-fn words_of_no_form(rt: HostRuntime) -> Result<(), Fail> {
-    let line = "kr: words not understood\n";
-    told(&rt, [].as_slice(), "", "", line, 2)?;
-    told(&rt, ["run"].as_slice(), "", "", line, 2)?;
-    told(&rt, ["run", "@kvl"].as_slice(), "", "", line, 2)?;
-    told(&rt, ["run", "@kvl", "s", "s"].as_slice(), "", "", line, 2)?;
-    told(&rt, ["run", "@kvl", "--help"].as_slice(), "", "", line, 2)?;
-    told(&rt, ["--version"].as_slice(), "", "", line, 2)?;
-    told(&rt, ["run", "@kvl", "-"].as_slice(), "", "", line, 2)?;
-    told(&rt, ["help"].as_slice(), "", "", line, 2)?;
-    told(&rt, ["check"].as_slice(), "", "", line, 2)?;
-    told(&rt, ["check", "@kvl", "s"].as_slice(), "", "", line, 2)?;
-    told(&rt, ["jump", "@kvl", "s"].as_slice(), "", "", line, 2)
 }
 
 #[test]

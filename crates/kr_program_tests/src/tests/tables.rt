@@ -1,179 +1,424 @@
 //! Tables from files.
-use super::{OPENING, PHANTOM, Texts, told_over};
+use super::{Change, NO_TABLE, PHANTOM, PLAIN, PLAIN_TABLE, Row, Table, each_leaves, leaves};
 use kr_table::texts::{IM, KVL, KVL_UPDATE, RANGE_KEY};
-use std::alloc::{AllocError, Global};
-use std::process::Abort;
-use std::sync::Wait;
 use std::test::Fail;
-use std::thread::Threads;
 
-/// The lines of a table of one mode that asks for nothing.
-const PLAIN: [&str; 5] = [
-    "format = 1",
-    r#"modes = ["A"]"#,
-    "compatible = { A = [] }",
-    r#"convert = { A = { A = "A" } }"#,
-    "rules = {}",
+/// Faults of the table that asks for nothing with a part changed, told before the script is looked at.
+const FAULTS: &[Row] = &[
+    Row {
+        name: "an unknown field",
+        words: &["run", "table", "s"],
+        table: Table {
+            text: PLAIN,
+            changes: &[Change::Put("format = 1", "zeta = 1\nformat = 1")],
+        },
+        script: "{",
+        status: 2,
+        out: "",
+        err: "kr: table: fault 4 Field at zeta\n",
+    },
+    Row {
+        name: "an unknown field of two lines",
+        words: &["run", "table", "s"],
+        table: Table {
+            text: PLAIN,
+            changes: &[Change::Put("format = 1", "\"a\\nb\" = 1\nformat = 1")],
+        },
+        script: "{",
+        status: 2,
+        out: "",
+        err: "kr: table: fault 4 Field at a\\u{a}b\n",
+    },
+    Row {
+        name: "a format in quotes",
+        words: &["run", "table", "s"],
+        table: Table {
+            text: PLAIN,
+            changes: &[Change::Put("format = 1", r#"format = "1""#)],
+        },
+        script: "{",
+        status: 2,
+        out: "",
+        err: "kr: table: fault 4 Field at format\n",
+    },
+    Row {
+        name: "format -1",
+        words: &["run", "table", "s"],
+        table: Table {
+            text: PLAIN,
+            changes: &[Change::Put("format = 1", "format = -1")],
+        },
+        script: "{",
+        status: 2,
+        out: "",
+        err: "kr: table: fault 3 Format\n",
+    },
+    Row {
+        name: "format 3",
+        words: &["run", "table", "s"],
+        table: Table {
+            text: PLAIN,
+            changes: &[Change::Put("format = 1", "format = 3")],
+        },
+        script: "{",
+        status: 2,
+        out: "",
+        err: "kr: table: fault 3 Format\n",
+    },
+    Row {
+        name: "no modes",
+        words: &["run", "table", "s"],
+        table: Table {
+            text: PLAIN,
+            changes: &[Change::Put(r#"modes = ["A"]"#, "modes = []")],
+        },
+        script: "{",
+        status: 2,
+        out: "",
+        err: "kr: table: fault 5 ModeCount\n",
+    },
+    Row {
+        name: "a mode twice",
+        words: &["run", "table", "s"],
+        table: Table {
+            text: PLAIN,
+            changes: &[Change::Put(r#"modes = ["A"]"#, r#"modes = ["A", "A"]"#)],
+        },
+        script: "{",
+        status: 2,
+        out: "",
+        err: "kr: table: fault 6 ModeName at 1\n",
+    },
+    Row {
+        name: "compatible with no mode",
+        words: &["run", "table", "s"],
+        table: Table {
+            text: PLAIN,
+            changes: &[Change::Put("compatible = { A = [] }", r#"compatible = { A = ["B"] }"#)],
+        },
+        script: "{",
+        status: 2,
+        out: "",
+        err: "kr: table: fault 7 Compatible at compatible.A\n",
+    },
+    Row {
+        name: "nothing compatible",
+        words: &["run", "table", "s"],
+        table: Table {
+            text: PLAIN,
+            changes: &[Change::Put("compatible = { A = [] }", "compatible = {}")],
+        },
+        script: "{",
+        status: 2,
+        out: "",
+        err: "kr: table: fault 7 Compatible at compatible.A\n",
+    },
+    Row {
+        name: "nothing converted",
+        words: &["run", "table", "s"],
+        table: Table {
+            text: PLAIN,
+            changes: &[Change::Put(r#"convert = { A = { A = "A" } }"#, "convert = { A = {} }")],
+        },
+        script: "{",
+        status: 2,
+        out: "",
+        err: "kr: table: fault 8 Convert at convert.A.A\n",
+    },
+    Row {
+        name: "a next name of a scan that goes on",
+        words: &["run", "table", "s"],
+        table: Table {
+            text: PLAIN,
+            changes: &[Change::Put("rules = {}", "rules = { scan-key = { next = [] } }")],
+        },
+        script: "{",
+        status: 2,
+        out: "",
+        err: "kr: table: fault 9 Rule at rules.scan-key.next\n",
+    },
+    Row {
+        name: "an own mode of a fetch",
+        words: &["run", "table", "s"],
+        table: Table {
+            text: PLAIN,
+            changes: &[Change::Put(
+                "rules = {}",
+                r#"rules = { fetch-hit = { current = [{ own = ["A"], mode = "A", span = "commit" }] } }"#,
+            )],
+        },
+        script: "{",
+        status: 2,
+        out: "",
+        err: "kr: table: fault 10 OwnNotAllowed at rules.fetch-hit.current.0\n",
+    },
+    Row {
+        name: "a list that is not closed",
+        words: &["run", "table", "s"],
+        table: Table {
+            text: PLAIN,
+            changes: &[Change::Put("format = 1", "format = 1\nmodes = [\"IS\"")],
+        },
+        script: "{",
+        status: 2,
+        out: "",
+        err: "kr: table: fault 2 NotToml\n",
+    },
+    Row {
+        name: "no rules",
+        words: &["run", "table", "s"],
+        table: Table {
+            text: PLAIN,
+            changes: &[Change::Put("rules = {}", "")],
+        },
+        script: "{",
+        status: 2,
+        out: "",
+        err: "kr: table: fault 4 Field at rules\n",
+    },
+    Row {
+        name: "a rule of updates in format 1",
+        words: &["run", "table", "s"],
+        table: Table {
+            text: PLAIN,
+            changes: &[Change::Put("rules = {}", "rules = { update = { current = [] } }")],
+        },
+        script: "{",
+        status: 2,
+        out: "",
+        err: "kr: table: fault 9 Rule at rules.update\n",
+    },
 ];
 
-/// That table with the line at an index changed.
-fn changed(alloc: Global, at: usize, changed: &str) -> Result<String, AllocError> {
-    let mut text = String::new(alloc);
-    for (i, line) in PLAIN.iter().enumerate() {
-        text.push_str(if i == at { changed } else { *line })?;
-        text.push('\n')?;
-    }
-    Ok(text)
-}
-
-/// Whether the program says this of that table with the line at an index changed, before it looks at the script.
-fn tells<R: std::rt::Files + AllocGlobal + Threads + Wait + Sync + Abort>(
-    rt: &R,
-    at: usize,
-    line: &str,
-    fault: &str,
-) -> Result<(), Fail>
-where
-    R::File: Send + Sync,
-    R::Dir: Send + Sync,
-{
-    let alloc = rt.alloc();
-    let text = changed(alloc, at, line)?;
-    let said = format!(in alloc; "kr: table: {fault}\n")?;
-    let files = Texts {
-        table: text.as_str(),
-        script: "{",
-    };
-    let words = ["run", "table", "s"];
-    told_over(rt, words.as_slice(), &files, "", said.as_str(), 2)
-}
-
-#[test]
-fn faults_of_a_table_and_its_modes(rt: HostRuntime) -> Result<(), Fail> {
-    tells(&rt, 0, "zeta = 1\nformat = 1", "fault 4 Field at zeta")?;
-    tells(
-        &rt,
-        0,
-        "\"a\\nb\" = 1\nformat = 1",
-        "fault 4 Field at a\\u{a}b",
-    )?;
-    tells(&rt, 0, r#"format = "1""#, "fault 4 Field at format")?;
-    tells(&rt, 0, "format = -1", "fault 3 Format")?;
-    tells(&rt, 0, "format = 3", "fault 3 Format")?;
-    tells(&rt, 1, "modes = []", "fault 5 ModeCount")?;
-    tells(&rt, 1, r#"modes = ["A", "A"]"#, "fault 6 ModeName at 1")?;
-    Ok(())
-}
-
-#[test]
-fn faults_of_matrices_and_rules(rt: HostRuntime) -> Result<(), Fail> {
-    tells(
-        &rt,
-        2,
-        r#"compatible = { A = ["B"] }"#,
-        "fault 7 Compatible at compatible.A",
-    )?;
-    tells(
-        &rt,
-        2,
-        "compatible = {}",
-        "fault 7 Compatible at compatible.A",
-    )?;
-    tells(
-        &rt,
-        3,
-        "convert = { A = {} }",
-        "fault 8 Convert at convert.A.A",
-    )?;
-    tells(
-        &rt,
-        4,
-        "rules = { scan-key = { next = [] } }",
-        "fault 9 Rule at rules.scan-key.next",
-    )?;
-    tells(
-        &rt,
-        4,
-        r#"rules = { fetch-hit = { current = [{ own = ["A"], mode = "A", span = "commit" }] } }"#,
-        "fault 10 OwnNotAllowed at rules.fetch-hit.current.0",
-    )?;
-    tells(&rt, 0, "format = 1\nmodes = [\"IS\"", "fault 2 NotToml")?;
-    tells(&rt, 4, "", "fault 4 Field at rules")?;
-    tells(
-        &rt,
-        4,
-        "rules = { update = { current = [] } }",
-        "fault 9 Rule at rules.update",
-    )
-}
-
 /// The same of that table in format 2.
-fn tells_later<R: std::rt::Files + AllocGlobal + Threads + Wait + Sync + Abort>(
-    rt: &R,
-    rules: &str,
-    fault: &str,
-) -> Result<(), Fail>
-where
-    R::File: Send + Sync,
-    R::Dir: Send + Sync,
-{
-    let lines = format!(in rt.alloc();
-        "format = 2\nmodes = [\"A\"]\ncompatible = {{ A = [] }}\nconvert = {{ A = {{ A = \"A\" }} }}\n{rules}"
-    )?;
-    let said = format!(in rt.alloc(); "kr: table: {fault}\n")?;
-    says_of_table(rt, lines.as_str(), said.as_str())
-}
-
-#[test]
-fn faults_of_a_rule_for_updates(rt: HostRuntime) -> Result<(), Fail> {
-    tells_later(
-        &rt,
-        "rules = { update = { next = [] } }",
-        "fault 9 Rule at rules.update.next",
-    )?;
-    tells_later(
-        &rt,
-        r#"rules = { update = { current = [{ own = ["A"], mode = "A", span = "commit" }] } }"#,
-        "fault 10 OwnNotAllowed at rules.update.current.0",
-    )?;
-    tells_later(
-        &rt,
-        "rules = { upsert = {} }",
-        "fault 9 Rule at rules.upsert",
-    )
-}
-
-/// What the program says of a table, with a script that is one.
-fn says_of_table<R: std::rt::Files + AllocGlobal + Threads + Wait + Sync + Abort>(
-    rt: &R,
-    table: &str,
-    said: &str,
-) -> Result<(), Fail>
-where
-    R::File: Send + Sync,
-    R::Dir: Send + Sync,
-{
-    let files = Texts {
-        table,
+const FAULTS_OF_UPDATES: &[Row] = &[
+    Row {
+        name: "a next name of an update",
+        words: &["run", "table", "s"],
+        table: Table {
+            text: PLAIN,
+            changes: &[
+                Change::Put("format = 1", "format = 2"),
+                Change::Put("rules = {}\n", "rules = { update = { next = [] } }"),
+            ],
+        },
         script: PHANTOM,
-    };
-    let words = ["run", "table", "s"];
-    told_over(rt, words.as_slice(), &files, "", said, 2)
+        status: 2,
+        out: "",
+        err: "kr: table: fault 9 Rule at rules.update.next\n",
+    },
+    Row {
+        name: "an own mode of an update",
+        words: &["run", "table", "s"],
+        table: Table {
+            text: PLAIN,
+            changes: &[
+                Change::Put("format = 1", "format = 2"),
+                Change::Put(
+                    "rules = {}\n",
+                    r#"rules = { update = { current = [{ own = ["A"], mode = "A", span = "commit" }] } }"#,
+                ),
+            ],
+        },
+        script: PHANTOM,
+        status: 2,
+        out: "",
+        err: "kr: table: fault 10 OwnNotAllowed at rules.update.current.0\n",
+    },
+    Row {
+        name: "an unknown rule",
+        words: &["run", "table", "s"],
+        table: Table {
+            text: PLAIN,
+            changes: &[
+                Change::Put("format = 1", "format = 2"),
+                Change::Put("rules = {}\n", "rules = { upsert = {} }"),
+            ],
+        },
+        script: PHANTOM,
+        status: 2,
+        out: "",
+        err: "kr: table: fault 9 Rule at rules.upsert\n",
+    },
+];
+
+/// Tables that lack a part.
+const BROKEN: &[Row] = &[
+    Row {
+        name: "modes that are not closed",
+        words: &["run", "table", "s"],
+        table: Table {
+            text: "format = 1\nmodes = [\"IS\"",
+            changes: &[],
+        },
+        script: PHANTOM,
+        status: 2,
+        out: "",
+        err: "kr: table: fault 2 NotToml\n",
+    },
+    Row {
+        name: "format 1 alone",
+        words: &["run", "table", "s"],
+        table: Table {
+            text: "format = 1",
+            changes: &[],
+        },
+        script: PHANTOM,
+        status: 2,
+        out: "",
+        err: "kr: table: fault 4 Field at modes\n",
+    },
+    Row {
+        name: "format 2 alone",
+        words: &["run", "table", "s"],
+        table: Table {
+            text: "format = 2",
+            changes: &[],
+        },
+        script: PHANTOM,
+        status: 2,
+        out: "",
+        err: "kr: table: fault 4 Field at modes\n",
+    },
+    Row {
+        name: "an empty file",
+        words: &["run", "table", "s"],
+        table: NO_TABLE,
+        script: PHANTOM,
+        status: 2,
+        out: "",
+        err: "kr: table: fault 4 Field at format\n",
+    },
+    Row {
+        name: "a table that ends before its rules",
+        words: &["run", "table", "s"],
+        table: Table {
+            text: KVL,
+            changes: &[Change::Cut("[rules.fetch-hit]")],
+        },
+        script: PHANTOM,
+        status: 2,
+        out: "",
+        err: "kr: table: fault 4 Field at rules\n",
+    },
+];
+
+/// Reports of the phantom under tables in files and under bundled ones.
+const PHANTOMS: &[Row] = &[
+    Row {
+        name: "the file of kvl",
+        words: &["run", "table", "s"],
+        table: Table {
+            text: KVL,
+            changes: &[],
+        },
+        script: PHANTOM,
+        status: 0,
+        out: "{\"index\":[[10,1],[20,2],[30,3]],\"locks\":[[20,1,\"S\"]],\"replies\":[[\"none\"],[\"blocked\",[1]]],\"unfinished\":[1],\"verdict\":[\"serial\"]}\n",
+        err: "",
+    },
+    Row {
+        name: "the word @kvl",
+        words: &["run", "@kvl", "s"],
+        table: NO_TABLE,
+        script: PHANTOM,
+        status: 0,
+        out: "{\"index\":[[10,1],[20,2],[30,3]],\"locks\":[[20,1,\"S\"]],\"replies\":[[\"none\"],[\"blocked\",[1]]],\"unfinished\":[1],\"verdict\":[\"serial\"]}\n",
+        err: "",
+    },
+    Row {
+        name: "the file of kvl-update",
+        words: &["run", "table", "s"],
+        table: Table {
+            text: KVL_UPDATE,
+            changes: &[],
+        },
+        script: PHANTOM,
+        status: 0,
+        out: "{\"index\":[[10,1],[20,2],[30,3]],\"locks\":[[20,1,\"S\"]],\"replies\":[[\"none\"],[\"blocked\",[1]]],\"unfinished\":[1],\"verdict\":[\"serial\"]}\n",
+        err: "",
+    },
+    Row {
+        name: "the word @kvl-update",
+        words: &["run", "@kvl-update", "s"],
+        table: NO_TABLE,
+        script: PHANTOM,
+        status: 0,
+        out: "{\"index\":[[10,1],[20,2],[30,3]],\"locks\":[[20,1,\"S\"]],\"replies\":[[\"none\"],[\"blocked\",[1]]],\"unfinished\":[1],\"verdict\":[\"serial\"]}\n",
+        err: "",
+    },
+    Row {
+        name: "the file of im",
+        words: &["run", "table", "s"],
+        table: Table {
+            text: IM,
+            changes: &[],
+        },
+        script: PHANTOM,
+        status: 0,
+        out: "{\"index\":[[10,1],[20,2],[30,3]],\"locks\":[[20,1,\"S\"]],\"replies\":[[\"none\"],[\"blocked\",[1]]],\"unfinished\":[1],\"verdict\":[\"serial\"]}\n",
+        err: "",
+    },
+    Row {
+        name: "the word @im",
+        words: &["run", "@im", "s"],
+        table: NO_TABLE,
+        script: PHANTOM,
+        status: 0,
+        out: "{\"index\":[[10,1],[20,2],[30,3]],\"locks\":[[20,1,\"S\"]],\"replies\":[[\"none\"],[\"blocked\",[1]]],\"unfinished\":[1],\"verdict\":[\"serial\"]}\n",
+        err: "",
+    },
+    Row {
+        name: "the file of range-key",
+        words: &["run", "table", "s"],
+        table: Table {
+            text: RANGE_KEY,
+            changes: &[],
+        },
+        script: PHANTOM,
+        status: 0,
+        out: "{\"index\":[[10,1],[20,2],[30,3]],\"locks\":[[20,1,\"S-N\"]],\"replies\":[[\"none\"],[\"blocked\",[1]]],\"unfinished\":[1],\"verdict\":[\"serial\"]}\n",
+        err: "",
+    },
+    Row {
+        name: "the word @range-key",
+        words: &["run", "@range-key", "s"],
+        table: NO_TABLE,
+        script: PHANTOM,
+        status: 0,
+        out: "{\"index\":[[10,1],[20,2],[30,3]],\"locks\":[[20,1,\"S-N\"]],\"replies\":[[\"none\"],[\"blocked\",[1]]],\"unfinished\":[1],\"verdict\":[\"serial\"]}\n",
+        err: "",
+    },
+    Row {
+        name: "a table that asks for nothing",
+        words: &["run", "table", "s"],
+        table: PLAIN_TABLE,
+        script: PHANTOM,
+        status: 0,
+        out: "{\"index\":[[10,1],[17,5],[20,2],[30,3]],\"locks\":[],\"replies\":[[\"none\"],[\"done\"]],\"unfinished\":[1,2],\"verdict\":[\"serial\"]}\n",
+        err: "",
+    },
+    Row {
+        name: "no such script under it",
+        words: &["run", "table", "t"],
+        table: PLAIN_TABLE,
+        script: PHANTOM,
+        status: 2,
+        out: "",
+        err: "kr: t: cannot be read\n",
+    },
+];
+
+#[test]
+fn faults_of_tables(rt: HostRuntime) -> Result<(), Fail> {
+    each_leaves(&rt, FAULTS)?;
+    each_leaves(&rt, FAULTS_OF_UPDATES)?;
+    each_leaves(&rt, BROKEN)
 }
 
 #[test]
-fn broken_tables(rt: HostRuntime) -> Result<(), Fail> {
-    let rules = KVL.find("[rules.fetch-hit]").ok_or("no rules")?;
-    let front = KVL.get(..rules).ok_or("no front")?;
-    says_of_table(
-        &rt,
-        "format = 1\nmodes = [\"IS\"",
-        "kr: table: fault 2 NotToml\n",
-    )?;
-    says_of_table(&rt, "format = 1", "kr: table: fault 4 Field at modes\n")?;
-    says_of_table(&rt, "format = 2", "kr: table: fault 4 Field at modes\n")?;
-    says_of_table(&rt, "", "kr: table: fault 4 Field at format\n")?;
-    says_of_table(&rt, front, "kr: table: fault 4 Field at rules\n")
+fn tables_from_files(rt: HostRuntime) -> Result<(), Fail> {
+    each_leaves(&rt, PHANTOMS)
 }
 
 #[test]
@@ -182,62 +427,17 @@ fn a_long_table(rt: HostRuntime) -> Result<(), Fail> {
     for _ in 0..65_537 {
         text.push(' ')?;
     }
-    says_of_table(&rt, text.as_str(), "kr: table: fault 1 TooLong\n")
-}
-
-/// Compares the reports of the phantom under a table in a file and under a bundled one, with the mode that is held on 20.
-fn phantom_under<R: std::rt::Files + AllocGlobal + Threads + Wait + Sync + Abort>(
-    rt: &R,
-    table: &str,
-    word: &str,
-    mode: &str,
-) -> Result<(), Fail>
-where
-    R::File: Send + Sync,
-    R::Dir: Send + Sync,
-{
-    let alloc = rt.alloc();
-    let files = Texts {
-        table,
+    let row = Row {
+        name: "a long table",
+        words: &["run", "table", "s"],
+        table: Table {
+            text: text.as_str(),
+            changes: &[],
+        },
         script: PHANTOM,
+        status: 2,
+        out: "",
+        err: "kr: table: fault 1 TooLong\n",
     };
-    let report = format!(in alloc;
-        "{{\"index\":{OPENING},\"locks\":[[20,1,\"{mode}\"]],\"replies\":[[\"none\"],[\"blocked\",[1]]],\"unfinished\":[1],\"verdict\":[\"serial\"]}}\n"
-    )?;
-    let said = report.as_str();
-    told_over(rt, ["run", "table", "s"].as_slice(), &files, said, "", 0)?;
-    told_over(rt, ["run", word, "s"].as_slice(), &files, said, "", 0)
-}
-
-#[test]
-fn tables_from_files(rt: HostRuntime) -> Result<(), Fail> {
-    phantom_under(&rt, KVL, "@kvl", "S")?;
-    phantom_under(&rt, KVL_UPDATE, "@kvl-update", "S")?;
-    phantom_under(&rt, IM, "@im", "S")?;
-    phantom_under(&rt, RANGE_KEY, "@range-key", "S-N")
-}
-
-#[test]
-fn a_table_that_asks_for_nothing(rt: HostRuntime) -> Result<(), Fail> {
-    let table = changed(rt.alloc(), 0, "format = 1")?;
-    let files = Texts {
-        table: table.as_str(),
-        script: PHANTOM,
-    };
-    told_over(
-        &rt,
-        ["run", "table", "s"].as_slice(),
-        &files,
-        "{\"index\":[[10,1],[17,5],[20,2],[30,3]],\"locks\":[],\"replies\":[[\"none\"],[\"done\"]],\"unfinished\":[1,2],\"verdict\":[\"serial\"]}\n",
-        "",
-        0,
-    )?;
-    told_over(
-        &rt,
-        ["run", "table", "t"].as_slice(),
-        &files,
-        "",
-        "kr: t: cannot be read\n",
-        2,
-    )
+    leaves(&rt, &row)
 }

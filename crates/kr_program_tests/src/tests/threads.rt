@@ -1,6 +1,6 @@
 //! Runs of scripts by several threads.
-use super::checks::{DELETES_NEXT_INSTANT, deletes_next_instant};
-use super::{Texts, run_program, told, told_over};
+use super::checks::{DELETES_NEXT_INSTANT, DELETES_NEXT_INSTANT_TABLE};
+use super::{NO_TABLE, Row, Table, Texts, each_leaves, run_program};
 use kr_table::texts::{KVL, KVL_UPDATE};
 use std::alloc::{AllocError, Global};
 use std::process::Abort;
@@ -9,7 +9,7 @@ use std::test::Fail;
 use std::thread::Threads;
 
 /// One transaction, which inserts and commits.
-const ONE: &str =
+pub const ONE: &str =
     r#"{"format":1,"opening":[[10,1],[20,2],[30,3]],"steps":[[1,"insert",15,5],[1,"commit"]]}"#;
 
 const ONE_REPORT: &str =
@@ -37,50 +37,215 @@ const NO_UPDATE: &str =
 const NO_UPDATE_REPORT: &str =
     "{\"faults\":[[1,1,[\"refused\",7,\"NoUpdate\"]]],\"history\":[[[1,\"delete\",10],[\"deleted\",1]],[[1,\"insert\",10,7],[\"done\"]],[[1,\"back\"],[\"undone\",1]],[[1,\"abort\"],[\"aborted\"]]],\"index\":[[10,1]],\"unfinished\":[],\"verdict\":[\"serial\"]}\n";
 
-/// Runs a script by so many workers, and compares the report.
-fn threads<R: std::rt::Files + AllocGlobal + Threads + Wait + Sync + Abort>(
-    rt: &R,
-    table: &str,
-    workers: &str,
-    script: &str,
-    report: &str,
-) -> Result<(), Fail>
-where
-    R::File: Send + Sync,
-    R::Dir: Send + Sync,
-{
-    let words = ["threads", table, "s", "--workers", workers];
-    told(rt, words.as_slice(), script, report, "", 0)
+/// Runs whose history is the same whatever order the threads find.
+const HISTORIES: &[Row] = &[
+    Row {
+        name: "one transaction under kvl",
+        words: &["threads", "@kvl", "s", "--workers", "1"],
+        table: NO_TABLE,
+        script: ONE,
+        status: 0,
+        out: ONE_REPORT,
+        err: "",
+    },
+    Row {
+        name: "one transaction under kvl-update",
+        words: &["threads", "@kvl-update", "s", "--workers", "1"],
+        table: NO_TABLE,
+        script: ONE,
+        status: 0,
+        out: ONE_REPORT,
+        err: "",
+    },
+    Row {
+        name: "one transaction under im",
+        words: &["threads", "@im", "s", "--workers", "1"],
+        table: NO_TABLE,
+        script: ONE,
+        status: 0,
+        out: ONE_REPORT,
+        err: "",
+    },
+    Row {
+        name: "one transaction under range-key",
+        words: &["threads", "@range-key", "s", "--workers", "1"],
+        table: NO_TABLE,
+        script: ONE,
+        status: 0,
+        out: ONE_REPORT,
+        err: "",
+    },
+    Row {
+        name: "one transaction by 64 workers",
+        words: &["threads", "@kvl", "s", "--workers", "64"],
+        table: NO_TABLE,
+        script: ONE,
+        status: 0,
+        out: ONE_REPORT,
+        err: "",
+    },
+    Row {
+        name: "one transaction by as many as are told by no word",
+        words: &["threads", "@kvl", "s"],
+        table: NO_TABLE,
+        script: ONE,
+        status: 0,
+        out: ONE_REPORT,
+        err: "",
+    },
+    Row {
+        name: "steps left out",
+        words: &["threads", "@kvl", "s", "--workers", "1"],
+        table: NO_TABLE,
+        script: LEFT_OUT,
+        status: 0,
+        out: LEFT_OUT_REPORT,
+        err: "",
+    },
+    Row {
+        name: "updates and backs",
+        words: &["threads", "@kvl-update", "s", "--workers", "1"],
+        table: NO_TABLE,
+        script: BACK,
+        status: 0,
+        out: BACK_REPORT,
+        err: "",
+    },
+    Row {
+        name: "no update is offered by kvl, 1 worker",
+        words: &["threads", "@kvl", "s", "--workers", "1"],
+        table: NO_TABLE,
+        script: NO_UPDATE,
+        status: 0,
+        out: NO_UPDATE_REPORT,
+        err: "",
+    },
+    Row {
+        name: "no update is offered by kvl, 4 workers",
+        words: &["threads", "@kvl", "s", "--workers", "4"],
+        table: NO_TABLE,
+        script: NO_UPDATE,
+        status: 0,
+        out: NO_UPDATE_REPORT,
+        err: "",
+    },
+    Row {
+        name: "no update is offered by im, 1 worker",
+        words: &["threads", "@im", "s", "--workers", "1"],
+        table: NO_TABLE,
+        script: NO_UPDATE,
+        status: 0,
+        out: NO_UPDATE_REPORT,
+        err: "",
+    },
+    Row {
+        name: "no update is offered by im, 4 workers",
+        words: &["threads", "@im", "s", "--workers", "4"],
+        table: NO_TABLE,
+        script: NO_UPDATE,
+        status: 0,
+        out: NO_UPDATE_REPORT,
+        err: "",
+    },
+    Row {
+        name: "no update is offered by range-key, 1 worker",
+        words: &["threads", "@range-key", "s", "--workers", "1"],
+        table: NO_TABLE,
+        script: NO_UPDATE,
+        status: 0,
+        out: NO_UPDATE_REPORT,
+        err: "",
+    },
+    Row {
+        name: "no update is offered by range-key, 4 workers",
+        words: &["threads", "@range-key", "s", "--workers", "4"],
+        table: NO_TABLE,
+        script: NO_UPDATE,
+        status: 0,
+        out: NO_UPDATE_REPORT,
+        err: "",
+    },
+    Row {
+        name: "a table in a file",
+        words: &["threads", "table", "s", "--workers", "2"],
+        table: Table {
+            text: KVL,
+            changes: &[],
+        },
+        script: ONE,
+        status: 0,
+        out: ONE_REPORT,
+        err: "",
+    },
+    // The script isn't there, and isn't read.
+    Row {
+        name: "a refused table",
+        words: &["threads", "table", "missing"],
+        table: DELETES_NEXT_INSTANT_TABLE,
+        script: "",
+        status: 1,
+        out: DELETES_NEXT_INSTANT,
+        err: "",
+    },
+];
+
+/// Scripts and tables that are not read.
+const FAULTS: &[Row] = &[
+    Row {
+        name: "script t",
+        words: &["threads", "@kvl", "t"],
+        table: NO_TABLE,
+        script: "{",
+        status: 2,
+        out: "",
+        err: "kr: t: cannot be read\n",
+    },
+    Row {
+        name: "script @kvl",
+        words: &["threads", "@kvl", "@kvl"],
+        table: NO_TABLE,
+        script: "{",
+        status: 2,
+        out: "",
+        err: "kr: @kvl: cannot be read\n",
+    },
+    Row {
+        name: "script s",
+        words: &["threads", "@kvl", "s"],
+        table: NO_TABLE,
+        script: "{",
+        status: 2,
+        out: "",
+        err: "kr: s: fault 2 NotJson\n",
+    },
+    Row {
+        name: "script big",
+        words: &["threads", "@kvl", "big"],
+        table: NO_TABLE,
+        script: "{",
+        status: 2,
+        out: "",
+        err: "kr: out of memory\n",
+    },
+    Row {
+        name: "no such table",
+        words: &["threads", "@kvl2", "s"],
+        table: NO_TABLE,
+        script: ONE,
+        status: 2,
+        out: "",
+        err: "kr: @kvl2: cannot be read\n",
+    },
+];
+
+#[test]
+fn histories(rt: HostRuntime) -> Result<(), Fail> {
+    each_leaves(&rt, HISTORIES)
 }
 
 #[test]
-fn one_transaction(rt: HostRuntime) -> Result<(), Fail> {
-    for table in ["@kvl", "@kvl-update", "@im", "@range-key"] {
-        threads(&rt, table, "1", ONE, ONE_REPORT)?;
-    }
-    threads(&rt, "@kvl", "64", ONE, ONE_REPORT)?;
-    let words = ["threads", "@kvl", "s"];
-    told(&rt, words.as_slice(), ONE, ONE_REPORT, "", 0)
-}
-
-#[test]
-fn steps_left_out(rt: HostRuntime) -> Result<(), Fail> {
-    threads(&rt, "@kvl", "1", LEFT_OUT, LEFT_OUT_REPORT)
-}
-
-#[test]
-fn updates_and_backs(rt: HostRuntime) -> Result<(), Fail> {
-    threads(&rt, "@kvl-update", "1", BACK, BACK_REPORT)
-}
-
-#[test]
-fn no_update_is_offered(rt: HostRuntime) -> Result<(), Fail> {
-    for table in ["@kvl", "@im", "@range-key"] {
-        for workers in ["1", "4"] {
-            threads(&rt, table, workers, NO_UPDATE, NO_UPDATE_REPORT)?;
-        }
-    }
-    Ok(())
+fn scripts_that_are_not_read(rt: HostRuntime) -> Result<(), Fail> {
+    each_leaves(&rt, FAULTS)
 }
 
 /// Forty transactions that update two keys each and insert one; every fourth of them takes its changes back one at a time.
@@ -107,103 +272,39 @@ fn updates_of_forty(alloc: Global) -> Result<String, AllocError> {
     Ok(script)
 }
 
-/// Whatever order the threads find, the run is serial and nobody is left unfinished.
-#[test]
-fn updates_by_several_workers(rt: HostRuntime) -> Result<(), Fail> {
-    let script = updates_of_forty(rt.alloc())?;
-    let files = Texts {
-        table: KVL_UPDATE,
-        script: script.as_str(),
-    };
-    for workers in ["2", "4", "16"] {
-        let words = ["threads", "table", "s", "--workers", workers];
-        let ran = run_program(&rt, words.as_slice(), &files)?;
-        assert_eq!(rt; ran.status, 0);
-        assert!(rt; ran.err.is_empty());
-        let report = String::from_utf8(ran.out).map_err(|_| "no text")?;
-        let end = ",\"unfinished\":[],\"verdict\":[\"serial\"]}\n";
-        assert!(rt; report.as_str().ends_with(end), "{report}");
-    }
-    Ok(())
-}
-
-#[test]
-fn a_table_in_a_file(rt: HostRuntime) -> Result<(), Fail> {
-    let files = Texts {
-        table: KVL,
-        script: ONE,
-    };
-    let words = ["threads", "table", "s", "--workers", "2"];
-    told_over(&rt, words.as_slice(), &files, ONE_REPORT, "", 0)
-}
-
-/// The script isn't there, and isn't read.
-#[test]
-fn a_refused_table(rt: HostRuntime) -> Result<(), Fail> {
-    let table = deletes_next_instant(rt.alloc())?;
-    let files = Texts {
-        table: table.as_str(),
-        script: "",
-    };
-    let line = format!(in rt.alloc(); "{DELETES_NEXT_INSTANT}\n")?;
-    let words = ["threads", "table", "missing"];
-    told_over(&rt, words.as_slice(), &files, line.as_str(), "", 1)
-}
-
-#[test]
-fn numbers_of_workers_that_are_none(rt: HostRuntime) -> Result<(), Fail> {
-    for number in [
-        "0", "65", "04", "+4", "", " 4", "4 ", "4a", "a", "100", "-1", "1.0", "\u{664}",
-    ] {
-        let words = ["threads", "@kvl", "s", "--workers", number];
-        not_understood(&rt, words.as_slice())?;
-    }
-    Ok(())
-}
-
-#[test]
-fn words_of_no_form(rt: HostRuntime) -> Result<(), Fail> {
-    not_understood(&rt, ["threads"].as_slice())?;
-    not_understood(&rt, ["threads", "@kvl"].as_slice())?;
-    not_understood(&rt, ["threads", "@kvl", "s", "s"].as_slice())?;
-    not_understood(&rt, ["threads", "@kvl", "s", "--workers"].as_slice())?;
-    not_understood(&rt, ["threads", "@kvl", "s", "--workers=4"].as_slice())?;
-    not_understood(&rt, ["threads", "@kvl", "--workers", "4", "s"].as_slice())?;
-    not_understood(&rt, ["threads", "--workers", "4", "@kvl", "s"].as_slice())?;
-    not_understood(&rt, ["threads", "@kvl", "-", "--workers", "4"].as_slice())?;
-    not_understood(&rt, ["run", "@kvl", "s", "--workers", "4"].as_slice())?;
-    not_understood(&rt, ["judge", "@kvl", "s", "--workers", "4"].as_slice())
-}
-
-fn not_understood<R: std::rt::Files + AllocGlobal + Threads + Wait + Sync + Abort>(
+/// Runs a script of updates by so many workers: the run is serial and nobody is left unfinished.
+fn leaves_nobody<R: std::rt::Files + AllocGlobal + Threads + Wait + Sync + Abort>(
     rt: &R,
-    words: &[&str],
+    script: &str,
+    workers: &str,
 ) -> Result<(), Fail>
 where
     R::File: Send + Sync,
     R::Dir: Send + Sync,
 {
-    told(rt, words, ONE, "", "kr: words not understood\n", 2)
+    let files = Texts {
+        table: KVL_UPDATE,
+        script,
+    };
+    let words = ["threads", "table", "s", "--workers", workers];
+    let ran = run_program(rt, words.as_slice(), &files)?;
+    assert_eq!(rt; ran.status, 0, "{workers} workers");
+    assert!(rt; ran.err.is_empty(), "{workers} workers");
+    let report = String::from_utf8(ran.out).map_err(|_| "no text")?;
+    let end = ",\"unfinished\":[],\"verdict\":[\"serial\"]}\n";
+    assert!(rt;
+        report.as_str().ends_with(end),
+        "{workers} workers: {report}"
+    );
+    Ok(())
 }
 
+/// Whatever order the threads find.
 #[test]
-fn scripts_that_are_not_read(rt: HostRuntime) -> Result<(), Fail> {
-    for (script, line) in [
-        ("t", "kr: t: cannot be read\n"),
-        ("@kvl", "kr: @kvl: cannot be read\n"),
-        ("s", "kr: s: fault 2 NotJson\n"),
-        ("big", "kr: out of memory\n"),
-    ] {
-        let words = ["threads", "@kvl", script];
-        told(&rt, words.as_slice(), "{", "", line, 2)?;
+fn updates_by_several_workers(rt: HostRuntime) -> Result<(), Fail> {
+    let script = updates_of_forty(rt.alloc())?;
+    for workers in ["2", "4", "16"] {
+        leaves_nobody(&rt, script.as_str(), workers)?;
     }
-    let words = ["threads", "@kvl2", "s"];
-    told(
-        &rt,
-        words.as_slice(),
-        ONE,
-        "",
-        "kr: @kvl2: cannot be read\n",
-        2,
-    )
+    Ok(())
 }
