@@ -8,5 +8,6 @@ pub mod Histories
 pub mod Prefixes
 pub mod Showing
 pub mod Spoken
+pub mod ClosedEngines
 pub mod Copies
 pub mod Waiters

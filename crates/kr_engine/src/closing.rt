@@ -131,6 +131,37 @@ impl<P: Covered, K: EngineName> Core<P, K> {
         }
     }
 
+    /// The same of a core that is used no more, whose programs are handed on and not copied.
+    pub(crate) fn into_history(
+        self,
+        row: &PlaceRow,
+        shares: &[Share<K>],
+    ) -> Result<History, CloseFault>
+        requires { row.now ≡ K.places }
+        ensures entries { IfOk result (λ h. h.entries.items ≡ self.entries) }
+        ensures index { IfOk result (λ h. h.index ≡ self.state.map) }
+        ensures unfinished { IfOk result (λ h. h.unfinished ≡ map (λ a. a.0) self.state.active) }
+        ensures locks { IfOk result (λ h. h.locks.items ≡ self.state.locks) }
+        ensures programs { IfOk result (λ h. h.programs ≡ programs (events_with_replies self.entries)) }
+        ensures seats { IfOk result (λ h. h.seats.items ≡ self.seats) }
+        ensures closed { IfOk result (λ h. IsClosed K.table K.opening h shares.now) }
+        ensures place { list_all (fits self.seats self.entries) shares.now ≡ false → result ≡ Err fault.Place }
+        ensures only_place { result ≡ Err fault.Place → list_all (fits self.seats self.entries) shares.now ≡ false }
+    {
+        self.law();
+        if !self.fits_all(shares) {
+            return Err(CloseFault::Place);
+        }
+        let none = Programs::from_vec(Vec::new(self.alloc));
+        match self.history_with(row, none) {
+            Ok(mut history) => {
+                history.programs = self.into_programs();
+                Ok(history)
+            }
+            Err(_) => Err(CloseFault::Memory),
+        }
+    }
+
     /// A copy of all that is known of the history.
     fn history_from(&self, row: &PlaceRow) -> Result<History, AllocError>
         requires { row.now ≡ K.places }
@@ -141,11 +172,24 @@ impl<P: Covered, K: EngineName> Core<P, K> {
         ensures programs { IfOk result (λ h. h.programs ≡ programs (events_with_replies self.now.entries)) }
         ensures seats { IfOk result (λ h. h.seats.items ≡ self.now.seats) }
     {
+        let programs = self.machine.programs()?;
+        self.history_with(row, programs)
+    }
+
+    /// A copy of all that is known of the history, with these programs.
+    fn history_with(&self, row: &PlaceRow, programs: Programs) -> Result<History, AllocError>
+        requires { row.now ≡ K.places }
+        ensures entries { IfOk result (λ h. h.entries.items ≡ self.now.entries) }
+        ensures index { IfOk result (λ h. h.index ≡ self.now.state.map) }
+        ensures unfinished { IfOk result (λ h. h.unfinished ≡ map (λ a. a.0) self.now.state.active) }
+        ensures locks { IfOk result (λ h. h.locks.items ≡ self.now.state.locks) }
+        ensures programs { IfOk result (λ h. h.programs ≡ programs) }
+        ensures seats { IfOk result (λ h. h.seats.items ≡ self.now.seats) }
+    {
         let entries = copies(self.alloc, row, &self.history)?;
         let index = self.machine.index()?;
         let unfinished = self.machine.unfinished()?;
         let locks = self.machine.locks()?;
-        let programs = self.machine.programs()?;
         let seats = self.seats.as_slice().to_vec(self.alloc)?;
         Ok(History {
             entries,
@@ -155,6 +199,23 @@ impl<P: Covered, K: EngineName> Core<P, K> {
             programs,
             seats,
         })
+    }
+
+    /// The programs of the transactions that committed, in commit order.
+    fn into_programs(self) -> Programs
+        ensures { result ≡ programs (events_with_replies self.entries) }
+    {
+        let Core {
+            alloc: _,
+            machine,
+            history: _,
+            numbers: _,
+            seats: _,
+            kept: _,
+            waiting: _,
+            of: _,
+        } = self;
+        machine.into_programs()
     }
 
     /// Whether these shares fit. Where they do, each stands in the history.

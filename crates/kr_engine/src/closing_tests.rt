@@ -126,6 +126,8 @@ fn a_lost_seat_of<K: EngineName, R: Wait + Abort>(
     let shares = vec![in alloc; share]?;
     let history = engine.close(&shares).ok().ok_or("closed")?;
     assert!(rt; is_theirs(&history));
+    let history = engine.into_history(&shares).ok().ok_or("history")?;
+    assert!(rt; is_theirs(&history));
     Ok(())
 }
 

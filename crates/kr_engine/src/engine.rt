@@ -94,6 +94,24 @@ impl<P: Covered, K: EngineName> Engine<P, K> {
         core.close(&self.row, shares)
     }
 
+    /// The same of an engine that is used no more, whose programs are handed on and not copied.
+    ///
+    /// - `Place`, before anything else: a share doesn't fit the engine. Never where there are no shares.
+    /// - `Memory`: a growth was refused.
+    pub fn into_history(self, shares: &[Share<K>]) -> Result<History, CloseFault>
+        ensures closed { IfOk result (λ h. IsClosed K.table K.opening h shares.now) }
+        ensures place { result ≡ Err close_fault.Place → shares.now ≢ [] }
+    {
+        let Engine {
+            alloc: _,
+            row,
+            core,
+            queues: _,
+        } = self;
+        let core = core.into_inner();
+        core.into_history(&row, shares)
+    }
+
     /// The transactions whose calls are noted as waiting now, rising; or an error where a growth is refused. It waits for
     /// the lock alone.
     pub fn waiting<R: Wait>(&self, rt: &R) -> Result<Txns, AllocError>

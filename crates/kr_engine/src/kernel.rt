@@ -43,14 +43,14 @@ pub struct Core<P: Covered, K: EngineName> {
     /// What is known of the used places.
     pub(crate) history: Seen<K>,
     /// The numbers that were begun, in order.
-    numbers: Numbers,
+    pub(crate) numbers: Numbers,
     /// What is noted of each seat, by its number.
     pub(crate) seats: Vec<SeatNote>,
     /// How many places are kept for the ends of transactions.
-    kept: usize,
+    pub(crate) kept: usize,
     /// The operations that wait, at most one for each transaction.
     pub(crate) waiting: Vec<Event>,
-    of: PhantomData<K>,
+    pub(crate) of: PhantomData<K>,
 }
 
 impl<P: Covered, K: EngineName> Model for Core<P, K> {

@@ -4,8 +4,8 @@ use Rattle.std.specs.Prelude.{slice_get}
 use Rattle.kr_model.specs.declared.Op.{Op}
 use Rattle.kr_model.specs.Step.{is_end}
 use Rattle.kr_follows.specs.declared.faults.StepFault.{StepFault}
-use Rattle.kr_follows.specs.declared.following.Fate.{Fate}
-use Rattle.kr_follows.specs.declared.following.Fate.TheVariants.{Done, Missed, Stuck}
+use Rattle.kr_follows.specs.declared.wanted.Fate.{Fate}
+use Rattle.kr_follows.specs.declared.wanted.Fate.TheVariants.{Done, Missed, Stuck}
 use Rattle.kr_follows.specs.Follows.{is_missed, is_stuck, done_from, stays_active}
 use Rattle.kr_follows.specs.Fates.{fate_of}
 

@@ -1,5 +1,5 @@
 -- Operations by their transactions.
-use Rattle.std.specs.Prelude.{◌≡◌, ◌≢◌, ◌↔◌, ◌==◌, ◌<◌, ◌≤◌, All, AllPairs, Contains, length, ℕ, not, List, [], ◌∷◌, Option, Some, None, filter, map, take, drop, slice_index_or, if◌then◌else◌, option_map}
+use Rattle.std.specs.Prelude.{◌≡◌, ◌≢◌, ◌↔◌, ◌==◌, ◌<◌, ◌≤◌, ◌-◌, All, AllPairs, Contains, length, ℕ, not, List, [], ◌∷◌, Option, Some, None, filter, map, take, drop, slice_index_or, if◌then◌else◌, option_map}
 use Rattle.std.specs.BTreeMap.{BTreeMap, get}
 use Rattle.std.specs.Global.{Vec}
 use Rattle.std.specs.Ordering.{nat_cmp}
@@ -67,15 +67,22 @@ pub record IsRun (t start end : ℕ) (events : List Event) : Type 0 where
   pub within : end ≤ length events
   pub of_one : All (λ e. e.txn ≡ t) (between start end events)
 
+-- What is to do --
+
+-- The operations of a transaction in a map, or none.
+abbrev pub hand_in : BTreeMap ℕ (Vec Op) → ℕ → List Op
+hand_in hands t = hand_of t (hands_of hands)
+
+-- Each of the transactions has what it is to do in place of its operations, and each other one what it had.
+pub record AreWanted (faults : List StepFault) (txns : List ℕ) (before after : BTreeMap ℕ (Vec Op)) : Type 0 where
+  pub own : All (λ t. hand_in after t ≡ closed (done_from faults t 1 (hand_in before t))) txns
+  pub others : (t : ℕ) → (Contains txns t → ⊥) → hand_in after t ≡ hand_in before t
+
+-- Whose event stands before a place; that of nobody before the first.
+abbrev pub txn_before : List Event → ℕ → ℕ
+txn_before events k = txn_at events (k - 1)
+
 -- Tests --
-
--- The transaction did what it was to do.
-abbrev pub IsDone : Dealing → List StepFault → Dealing → ℕ → Type 0
-IsDone script faults done t = ops_in done t ≡ closed (done_from faults t 1 (ops_in script t))
-
--- The transaction has operations.
-abbrev pub IsKnown : Dealing → ℕ → Type 0
-IsKnown script t = 0 < length (ops_in script t)
 
 -- The fault's operation is the one at its number of its transaction's own.
 abbrev pub IsAsked : Dealing → StepFault → Type 0

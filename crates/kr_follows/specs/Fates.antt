@@ -2,8 +2,8 @@
 use Rattle.std.specs.Prelude.{◌≡◌, ◌≤◌, ℕ, true, false, List, length, if◌then◌else◌}
 use Rattle.std.specs.List.Sorted.{IsPartitionPoint}
 use Rattle.kr_follows.specs.declared.faults.StepFault.{StepFault}
-use Rattle.kr_follows.specs.declared.following.Fate.{Fate}
-use Rattle.kr_follows.specs.declared.following.Fate.TheVariants.{Done, Missed, Stuck}
+use Rattle.kr_follows.specs.declared.wanted.Fate.{Fate}
+use Rattle.kr_follows.specs.declared.wanted.Fate.TheVariants.{Done, Missed, Stuck}
 use Rattle.kr_follows.specs.Follows.{is_before, is_missed, is_stuck}
 
 -- What becomes of this step of this transaction: it meets a deadlock, is missed by another fault, or is done.

@@ -1,7 +1,7 @@
 //! Operations by their transactions.
 ghost use Rattle.std.specs.Prelude.{◌≡◌, ◌<◌, ℕ, List, ◌++◌, ◌∷◌, [], length, map, take, IfOk, IfSome, IfNone};
 ghost use Rattle.kr_follows.specs.Follows.{ops_of};
-ghost use Rattle.kr_follows.specs.Dealt.{ops_in, between, txn_at, AreDealt, AreHands, IsRun};
+ghost use Rattle.kr_follows.specs.Dealt.{ops_in, hand_in, between, txn_at, AreDealt, AreHands, IsRun};
 
 use kr_model::{Event, Op, Txn};
 use std::alloc::{AllocError, Global};
@@ -58,6 +58,14 @@ impl Dealt {
             Some(ops) => ops.as_slice(),
             None => &[],
         }
+    }
+
+    /// The transactions, and a map that has the operations of each.
+    pub(crate) fn into_parts(self) -> (Vec<Txn>, BTreeMap<Txn, Vec<Op>>)
+        ensures txns { result.0.items ≡ self.txns }
+        ensures hands { (t : ℕ) → hand_in result.1 t ≡ ops_in self t }
+    {
+        (self.txns, self.hands)
     }
 }
 

@@ -4,6 +4,8 @@
 mod dealt;
 mod faults;
 mod following;
+mod undoing;
+mod wanted;
 
 pub use dealt::Dealt;
 pub use faults::{Cause, StepFault};

@@ -68,11 +68,21 @@ fn faults(alloc: Global) -> Result<Vec<StepFault>, AllocError> {
     Ok(faults)
 }
 
+/// Whether events follow these steps with these faults.
+fn follow(
+    alloc: Global,
+    steps: &[Event],
+    faults: &[StepFault],
+    events: &[Event],
+) -> Result<bool, AllocError> {
+    let dealt = Dealt::new(alloc, steps)?;
+    follows(alloc, dealt, faults, events)
+}
+
 /// Whether these events follow the script with its faults.
 fn does_follow(alloc: Global, events: &[Event]) -> Result<bool, AllocError> {
     let faults = faults(alloc)?;
-    let dealt = Dealt::new(alloc, &script())?;
-    follows(alloc, &dealt, faults.as_slice(), events)
+    follow(alloc, &script(), faults.as_slice(), events)
 }
 
 /// Whether the history follows the script with these faults.
@@ -80,8 +90,7 @@ fn follows_with(alloc: Global, one: StepFault, other: StepFault) -> Result<bool,
     let mut faults = Vec::new(alloc);
     faults.push(one)?;
     faults.push(other)?;
-    let dealt = Dealt::new(alloc, &script())?;
-    follows(alloc, &dealt, faults.as_slice(), &history())
+    follow(alloc, &script(), faults.as_slice(), &history())
 }
 
 #[test]
@@ -109,9 +118,8 @@ fn each_transaction_may_go_at_another_pace(rt: HostRuntime) -> Result<(), AllocE
 
 #[test]
 fn nothing_follows_no_steps(rt: HostRuntime) -> Result<(), AllocError> {
-    let dealt = Dealt::new(rt.alloc(), &[])?;
-    assert!(rt; follows(rt.alloc(), &dealt, &[], &[])?);
-    assert!(rt; !follows(rt.alloc(), &dealt, &[], &[by(1, Op::Abort)])?);
+    assert!(rt; follow(rt.alloc(), &[], &[], &[])?);
+    assert!(rt; !follow(rt.alloc(), &[], &[], &[by(1, Op::Abort)])?);
     Ok(())
 }
 
@@ -165,10 +173,9 @@ fn an_operation_of_another_transaction_does_not_follow(rt: HostRuntime) -> Resul
 
 #[test]
 fn a_step_is_missed_only_with_a_fault(rt: HostRuntime) -> Result<(), AllocError> {
-    let dealt = Dealt::new(rt.alloc(), &script())?;
-    assert!(rt; !follows(rt.alloc(), &dealt, &[], &history())?);
+    assert!(rt; !follow(rt.alloc(), &script(), &[], &history())?);
     let fault = [refused(2, 1, Op::Go)];
-    assert!(rt; !follows(rt.alloc(), &dealt, &fault, &history())?);
+    assert!(rt; !follow(rt.alloc(), &script(), &fault, &history())?);
     Ok(())
 }
 
@@ -193,9 +200,8 @@ fn faults_rise(rt: HostRuntime) -> Result<(), AllocError> {
     assert!(rt; !follows_with(alloc, one, refused(2, 1, Op::Go))?);
     let steps = [by(1, Op::Go), by(1, Op::Commit)];
     let twice = [refused(1, 1, Op::Go), refused(1, 1, Op::Go)];
-    let dealt = Dealt::new(alloc, &steps)?;
-    assert!(rt; follows(alloc, &dealt, &twice[..1], &steps[1..])?);
-    assert!(rt; !follows(alloc, &dealt, &twice, &steps[1..])?);
+    assert!(rt; follow(alloc, &steps, &twice[..1], &steps[1..])?);
+    assert!(rt; !follow(alloc, &steps, &twice, &steps[1..])?);
     Ok(())
 }
 
@@ -216,9 +222,8 @@ fn a_transaction_that_rolls_back_is_aborted(rt: HostRuntime) -> Result<(), Alloc
     let steps = [by(1, Op::Update(20, 9)), by(1, Op::Back), by(1, Op::Commit)];
     let fault = [refused(1, 3, Op::Commit)];
     let events = [by(1, Op::Update(20, 9)), by(1, Op::Back), by(1, Op::Abort)];
-    let dealt = Dealt::new(rt.alloc(), &steps)?;
-    assert!(rt; follows(rt.alloc(), &dealt, &fault, &events)?);
-    assert!(rt; !follows(rt.alloc(), &dealt, &fault, &events[..2])?);
-    assert!(rt; !follows(rt.alloc(), &dealt, &[], &events)?);
+    assert!(rt; follow(rt.alloc(), &steps, &fault, &events)?);
+    assert!(rt; !follow(rt.alloc(), &steps, &fault, &events[..2])?);
+    assert!(rt; !follow(rt.alloc(), &steps, &[], &events)?);
     Ok(())
 }

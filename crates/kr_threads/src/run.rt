@@ -94,7 +94,7 @@ pub fn run_threads<P: Covered + Sync, G: Gate + Sync, R: Threads + Wait + Sync>(
     let worked = run_named::<&P, Brand, G, R>(
         rt, alloc, protocol, opening, row, &dealt, workers, gate,
     )?;
-    compared(alloc, opening, &dealt, worked)
+    compared(alloc, opening, dealt, worked)
 }
 
 /// The run over an engine that has this row.
@@ -121,7 +121,7 @@ fn run_named<
     ensures worked { IfOk result (λ w. IsWorked K.table K.opening w.history w.faults.items) }
     ensures is_map { IfOk result (λ w. IsMap w.history.index) }
 {
-    let mut engine = Engine::<P, K>::new(alloc, protocol, opening, row)?;
+    let engine = Engine::<P, K>::new(alloc, protocol, opening, row)?;
     let jobs = hired(rt, alloc, &engine, workers)?;
     let turns = Mutex::new(());
     let reports = thread::map_vec(
@@ -132,7 +132,7 @@ fn run_named<
         { work(rt, dealt, workers, gate, &turns, job) },
     )?;
     let (shares, faults) = gather(alloc, reports)?;
-    let history = engine.close(&shares)?;
+    let history = engine.into_history(&shares)?;
     finished(history, &shares, faults)
 }
 
@@ -221,12 +221,12 @@ fn finished<K: EngineName>(
 fn compared(
     alloc: Global,
     opening: &[(u64, u64)],
-    script: &Dealt,
+    script: Dealt,
     worked: Worked,
 ) -> Result<Threaded, RunFault>
     requires opening { IsMap opening.now }
     requires index { IsMap worked.history.index }
-    ensures { IfOk result (λ d. (p : Protocol) (steps : List Event) → IsWorked p opening.now worked.history worked.faults.items → AreDealt steps script.now → IsThreaded p opening.now steps d) }
+    ensures { IfOk result (λ d. (p : Protocol) (steps : List Event) → IsWorked p opening.now worked.history worked.faults.items → AreDealt steps script → IsThreaded p opening.now steps d) }
 {
     let Worked { history, faults } = worked;
     let (steps, replies) = steps_and_replies(alloc, &history.entries)?;

@@ -1,27 +1,30 @@
-use Rattle.std.proofs.Common.{ℕ, List, ◌∙◌, sym, subst}
-use Rattle.std.specs.Prelude.{Decides, All}
-use Rattle.kr_model.specs.declared.Event.{Event}
-use Rattle.kr_follows.specs.Follows.{AreRising, Follows}
-use Rattle.kr_follows.specs.Dealt.{AreDealt, IsDone, IsAsked, IsKnown}
-use Rattle.kr_follows.proofs.Whole.{if_ok, all_known, follows_by_last}
+use Rattle.std.proofs.Common.{◌≡◌, ℕ, List, [], ◌∙◌, sym, subst}
+use Rattle.std.specs.Prelude.{All}
+use Rattle.kr_follows.specs.Dealt.{hand_in}
+use Rattle.kr_follows.proofs.Whole.{all_left, none_left, following, put_once}
 use Rattle.kr_follows.proofs.following.follows.Goals as goal
 
-pub returns-then-not-are_known : goal.returns-then-not-are_known
-returns-then-not-are_known c = λ steps dealt.
-    let script = c.args.script.now in
-    let done = c.in_ok-done.done in (
+pub returns-then-not-undo : goal.returns-then-not-undo
+returns-then-not-undo c = λ steps dealt.
+    let before = c.into_parts-txns.result.1 in
+    let after = c.want_all.new.hands in
+    let put = put_once steps c.args.faults.now c.args.events.now c.args.script dealt before after c.as_slice.result.now (c.as_slice.ensures.value ∙ c.into_parts-txns.ensures.txns) c.in_ok-want_all.ensures in (
       λ is. absurd (cc),
-      λ h. sym c.if-not-are_known.true ∙ c.are_known.ensures.1 (subst (λ (ts : List ℕ). All (IsKnown script) ts) (sym c.txns.ensures) (all_known steps c.args.faults.now c.args.events.now script done dealt c.in_ok-done.ensures h)),
+      λ h. absurd (c.undo.ensures.not_all c.if-not-undo.true (all_left steps c.args.faults.now c.args.events.now c.args.script dealt before after c.into_parts-txns.ensures.hands put h)),
     )
 
 pub returns : goal.returns
-returns c =
+returns c = λ steps dealt.
     let faults = c.args.faults.now in
     let events = c.args.events.now in
-    let script = c.args.script.now in
-    let done = c.in_ok-done.done in
-    let rising : AreRising faults = c.are_rising.ensures.0 c.if-not-are_rising.false in
-    let asked : All (IsAsked script) faults = c.are_asked.ensures.0 c.if-not-are_asked.false in
-    let known : All (IsKnown script) done.txns = subst (λ (ts : List ℕ). All (IsKnown script) ts) c.txns.ensures (c.are_known.ensures.0 c.if-not-are_known.false) in
-    if_ok c.are_done.result (λ b. Decides b (All (IsDone script faults done) script.txns)) (λ b. (steps : List Event) → AreDealt steps script → Decides b (Follows steps faults events))
-    (λ b last steps dealt. follows_by_last steps faults events script done dealt c.in_ok-done.ensures rising asked known b last) c.are_done.ensures
+    let script = c.args.script in
+    let before = c.into_parts-txns.result.1 in
+    let after = c.want_all.new.hands in
+    let last = c.undo.new.hands in
+    let put = put_once steps faults events script dealt before after c.as_slice.result.now (c.as_slice.ensures.value ∙ c.into_parts-txns.ensures.txns) c.in_ok-want_all.ensures in
+    let undone = c.undo.ensures.all c.if-not-undo.false in
+    let same = c.as_slice-2.ensures.value ∙ c.into_parts-txns.ensures.txns in (
+      λ yes. following steps faults events script dealt before after c.into_parts-txns.ensures.hands put last undone (c.are_rising.ensures.0 c.if-not-are_rising.false) (c.are_asked.ensures.0 c.if-not-are_asked.false)
+          (subst (λ (ts : List ℕ). All (λ t. hand_in last t ≡ []) ts) same (c.are_empty.ensures.0 yes)),
+      λ h. c.are_empty.ensures.1 (subst (λ (ts : List ℕ). All (λ t. hand_in last t ≡ []) ts) (sym same) (none_left steps faults events script dealt before after c.into_parts-txns.ensures.hands put last undone h)),
+    )

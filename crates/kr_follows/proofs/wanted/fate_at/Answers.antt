@@ -2,10 +2,10 @@ use Rattle.std.proofs.Common.{◌≡◌, false, cond, sym, ◌∙◌, ap, subst,
 use Rattle.std.proofs.lemmas.List.{get_or_read}
 use Rattle.kr_follows.specs.declared.faults.Cause.{Cause}
 use Rattle.kr_follows.specs.declared.faults.StepFault.{StepFault}
-use Rattle.kr_follows.specs.declared.following.Fate.TheVariants.{Stuck, Missed}
+use Rattle.kr_follows.specs.declared.wanted.Fate.TheVariants.{Stuck, Missed}
 use Rattle.kr_follows.specs.Follows.{is_of, is_deadlock}
 use Rattle.kr_follows.proofs.FaultPlaces.{fate_done, fate_there}
-use Rattle.kr_follows.proofs.following.fate_at.Goals as goal
+use Rattle.kr_follows.proofs.wanted.fate_at.Goals as goal
 
 pub returns-then-place-faults : goal.returns-then-place-faults
 returns-then-place-faults c = fate_done c.args.faults.now c.args.txn c.args.step c.place_of-place.result c.requires c.place_of-place.ensures (λ within d. absurd (omega (arith, c.if-place-faults.true)))

@@ -2,7 +2,7 @@ use Rattle.std.proofs.Common.{rules}
 use Rattle.std.proofs.lemmas.List.Sorted.{IsPartitionPoint-from_clause}
 use Rattle.kr_follows.specs.Follows.{is_before}
 use Rattle.kr_follows.proofs.FaultPlaces.{parted}
-use Rattle.kr_follows.proofs.following.place_of.Goals as goal
+use Rattle.kr_follows.proofs.wanted.place_of.Goals as goal
 
 pub returns : goal.returns
 returns c = record {

@@ -2,10 +2,10 @@ use Rattle.std.proofs.Common.{List, ◌++◌, ◌∙◌, ap, sym}
 use Rattle.std.proofs.lemmas.List.{append-nil}
 use Rattle.kr_model.specs.declared.Op.{Op}
 use Rattle.kr_model.specs.declared.Op.TheVariants.{Abort}
-use Rattle.kr_follows.specs.declared.following.Fate.TheVariants.{Stuck}
+use Rattle.kr_follows.specs.declared.wanted.Fate.TheVariants.{Stuck}
 use Rattle.kr_follows.proofs.Operations.{done_next, done_more, missed_more}
-use Rattle.kr_follows.proofs.following.not_missed.Goals.{in-Done+in_ok-push-in-Done, in-Missed}
-use Rattle.kr_follows.proofs.following.not_missed.Goals as goal
+use Rattle.kr_follows.proofs.wanted.not_missed.Goals.{in-Done+in_ok-push-in-Done, in-Missed}
+use Rattle.kr_follows.proofs.wanted.not_missed.Goals as goal
 
 pub returns-in-Stuck : goal.returns-in-Stuck
 returns-in-Stuck c =

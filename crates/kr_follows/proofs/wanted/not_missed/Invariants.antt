@@ -1,6 +1,6 @@
 use Rattle.std.proofs.Common.{◌≡◌, ◌+◌, ◌++◌, drop}
 use Rattle.kr_follows.specs.Follows.{done_from}
-use Rattle.kr_follows.proofs.following.not_missed.Given as goal
+use Rattle.kr_follows.proofs.wanted.not_missed.Given as goal
 
 -- Those so far, and then what is done of the rest, are all that is done.
 abbrev pub invariant-loop-i : goal.invariant-loop-i
