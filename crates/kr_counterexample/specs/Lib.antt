@@ -1,0 +1,2 @@
+pub mod GoesWrong
+pub mod Rising

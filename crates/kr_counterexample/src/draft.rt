@@ -1,0 +1,101 @@
+//! Scripts up to where the intruder comes through.
+ghost use Rattle.std.specs.Prelude.{IfOk, IfSome};
+ghost use Rattle.kr_counterexample.specs.GoesWrong.{GoesWrong};
+
+use crate::counterexample::Counterexample;
+use crate::entrances::Entrance;
+use crate::judging::goes_wrong;
+use crate::last_steps::last_steps;
+use crate::numbers::Numbers;
+use crate::step::{Actor, Step};
+use kr_cases::Memory;
+use kr_model::Op;
+use kr_protocol::Protocol;
+use std::alloc::{AllocError, Global};
+
+/// A script up to where the intruder comes through.
+#[derive(Drop)]
+pub(crate) struct Draft {
+    /// The opening map.
+    pub opening: Vec<(u64, u64)>,
+    pub steps: Vec<Step>,
+    /// The place in `steps`, from 0, of the holder's step whose lock is too weak.
+    pub weak: usize,
+}
+
+impl Draft {
+    /// The holder takes one step more, whose lock is now the one that is too weak.
+    pub(crate) fn go_on(&mut self, op: Op) -> Result<(), AllocError> {
+        let weak = self.steps.len();
+        self.steps.push(Step::own(op))?;
+        self.weak = weak;
+        Ok(())
+    }
+
+    /// The script with more steps, put in before the step at this place.
+    pub(crate) fn woven(
+        &self,
+        alloc: Global,
+        more: &[Step],
+        place: usize,
+    ) -> Result<Draft, AllocError> {
+        let place = place.min(self.steps.len());
+        let mut steps = Vec::new(alloc);
+        steps.extend_from_slice(&self.steps[..place])?;
+        steps.extend_from_slice(more)?;
+        steps.extend_from_slice(&self.steps[place..])?;
+        let weak = if place <= self.weak {
+            self.weak.saturating_add(more.len())
+        } else {
+            self.weak
+        };
+        let opening = self.opening.to_vec(alloc)?;
+        Ok(Draft {
+            opening,
+            steps,
+            weak,
+        })
+    }
+
+    /// The script with an ending by this entrance, if it goes wrong. The only fault is that a growth was refused.
+    pub(crate) fn ended<P: Protocol>(
+        &self,
+        alloc: Global,
+        protocol: &P,
+        entrance: Entrance,
+    ) -> Result<Option<Counterexample>, Memory>
+        ensures { IfOk result (λ found. IfSome found (λ c. GoesWrong (P.table protocol.now) c.opening.items c.events.items)) }
+    {
+        let (row, side, ending) = entrance;
+        let mut numbers = Numbers::new(alloc);
+        let mut events = Vec::new(alloc);
+        for step in self.steps.iter() {
+            events.push(numbers.event(*step)?)?;
+        }
+        for (by, op) in last_steps(ending) {
+            events.push(numbers.event(Step { by: *by, op: *op })?)?;
+        }
+        let opening = self.opening.to_vec(alloc)?;
+        if !goes_wrong(alloc, protocol, &opening, &events)? {
+            return Ok(None);
+        }
+        let (weak, let_in) = (self.weak, self.steps.len());
+        let (Some(own), Some(through)) = (events.get(weak), events.get(let_in)) else {
+            return Ok(None);
+        };
+        let (holder, intruder) = (own.txn, through.txn);
+        let third = numbers.given(Actor::Third);
+        Ok(Some(Counterexample {
+            opening,
+            events,
+            row,
+            side,
+            ending,
+            weak,
+            let_in,
+            holder,
+            intruder,
+            third,
+        }))
+    }
+}

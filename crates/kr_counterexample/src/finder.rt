@@ -1,0 +1,117 @@
+//! What is tried for a failed case.
+ghost use Rattle.std.specs.Prelude.{IfOk, IfSome};
+ghost use Rattle.kr_counterexample.specs.GoesWrong.{GoesWrong};
+
+use crate::closure::Closure;
+use crate::counterexample::Counterexample;
+use crate::draft::Draft;
+use crate::entrances::{Entrance, entrances};
+use crate::own_steps::{OWN_STEPS, own_step};
+use crate::scripts::{opening_of, script_to};
+use crate::state::State;
+use crate::table::Table;
+use kr_cases::Memory;
+use kr_model::{FailedCase, Mode, Op};
+use kr_protocol::Protocol;
+use std::alloc::Global;
+
+/// A state of the closure, and a step of it that the case is about.
+#[derive(Clone, Copy)]
+pub(crate) struct Way {
+    /// The place of the state in the closure.
+    pub at: usize,
+    pub state: State,
+    pub op: Op,
+}
+
+/// A failed case of a table, and the states that the table's transactions can come to.
+#[derive(Drop)]
+pub(crate) struct Finder<'a, P: Protocol> {
+    pub alloc: Global,
+    pub table: Table<'a, P>,
+    pub closure: &'a Closure,
+    pub case: &'a FailedCase,
+}
+
+impl<P: Protocol> Finder<'_, P> {
+    /// The first ways to the case, so many at most.
+    pub(crate) fn ways(&self, most: usize) -> Result<Vec<Way>, Memory> {
+        let mut ways = Vec::new(self.alloc);
+        for at in 0..self.closure.reached.len() {
+            let state = self.closure.reached[at].state;
+            for number in 0..OWN_STEPS {
+                if ways.len() >= most {
+                    return Ok(ways);
+                }
+                if let Some(op) = own_step(&self.table, state, self.case, number) {
+                    ways.push(Way { at, state, op })?;
+                }
+            }
+        }
+        Ok(ways)
+    }
+
+    /// The script of a way, up to the step that the case is about.
+    pub(crate) fn draft(&self, way: Way) -> Result<Draft, Memory> {
+        let reached = &self.closure.reached;
+        let opening = match reached.get(way.at) {
+            Some(at) => opening_of(self.alloc, reached, at.world)?,
+            None => Vec::new(self.alloc),
+        };
+        let mut draft = Draft {
+            opening,
+            steps: script_to(self.alloc, reached, way.at)?,
+            weak: 0,
+        };
+        draft.go_on(way.op)?;
+        Ok(draft)
+    }
+
+    /// The entrances of the case's cover that an asker without modes comes through beside a mode, in the cover's order.
+    pub(crate) fn open_entrances(&self, mode: Mode) -> Result<Vec<Entrance>, Memory> {
+        let mut open = Vec::new(self.alloc);
+        for entrance in entrances(self.case.cover) {
+            let (row, side, _) = *entrance;
+            if self.table.offers(self.case.cover, row)
+                && self.table.is_open(row, side, 0, 0, mode)
+            {
+                open.push(*entrance)?;
+            }
+        }
+        Ok(open)
+    }
+
+    /// The draft with the ending of an entrance, if that goes wrong and there are runs left for the case.
+    pub(crate) fn ended(
+        &self,
+        draft: &Draft,
+        entrance: Entrance,
+        runs_left: &mut usize,
+    ) -> Result<Option<Counterexample>, Memory>
+        ensures { IfOk result (λ found. IfSome found (λ c. GoesWrong (P.table self.now.table.protocol.now) c.opening.items c.events.items)) }
+    {
+        if *runs_left == 0 {
+            return Ok(None);
+        }
+        *runs_left -= 1;
+        draft.ended(self.alloc, self.table.protocol, entrance)
+    }
+
+    /// The draft with the first of these endings that goes wrong.
+    pub(crate) fn first_ended(
+        &self,
+        draft: &Draft,
+        open: &[Entrance],
+        runs_left: &mut usize,
+    ) -> Result<Option<Counterexample>, Memory>
+        ensures { IfOk result (λ found. IfSome found (λ c. GoesWrong (P.table self.now.table.protocol.now) c.opening.items c.events.items)) }
+    {
+        for entrance in open {
+            let found = self.ended(draft, *entrance, runs_left)?;
+            if found.is_some() {
+                return Ok(found);
+            }
+        }
+        Ok(None)
+    }
+}

@@ -1,0 +1,30 @@
+//! A script that goes wrong under a lock table, made from a case of it that fails. Nothing is searched for among
+//! interleavings: a script is what one transaction does to come to the modes of the case, the step that the case is about,
+//! and an ending from a table. Each is run and judged before it is shown.
+#![tactic(auto)]
+
+mod closure;
+mod counterexample;
+mod deed;
+mod draft;
+mod ending;
+mod entrances;
+mod find;
+mod finder;
+mod judging;
+mod keys;
+mod last_steps;
+mod moves;
+mod numbers;
+mod own_steps;
+mod reached;
+mod readied;
+mod ready;
+mod scripts;
+mod state;
+mod step;
+mod table;
+
+pub use closure::Closure;
+pub use counterexample::Counterexample;
+pub use ending::Ending;

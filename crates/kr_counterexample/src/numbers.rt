@@ -1,0 +1,63 @@
+//! Numbers of a script's transactions, and its values.
+
+use crate::step::{Actor, Step};
+use kr_model::{Event, Op, Txn};
+use std::alloc::{AllocError, Global};
+
+/// The value before the first that a script's steps are given; those of its opening map are below.
+const VALUES_OF_OPENING: u64 = 4;
+
+/// Numbers of transactions, from 1, and values, from 5: each is given as it is first asked for.
+#[derive(Drop)]
+pub(crate) struct Numbers {
+    actors: Vec<Actor>,
+    value: u64,
+}
+
+impl Numbers {
+    /// None is given yet.
+    pub(crate) fn new(alloc: Global) -> Numbers {
+        Numbers {
+            actors: Vec::new(alloc),
+            value: VALUES_OF_OPENING,
+        }
+    }
+
+    /// The number of one that has a number.
+    pub(crate) fn given(&self, actor: Actor) -> Option<Txn> {
+        let mut number: Txn = 1;
+        for known in self.actors.iter() {
+            if *known == actor {
+                return Some(number);
+            }
+            number = number.saturating_add(1);
+        }
+        None
+    }
+
+    /// The number of one, which is new where it has none.
+    fn number(&mut self, actor: Actor) -> Result<Txn, AllocError> {
+        if let Some(number) = self.given(actor) {
+            return Ok(number);
+        }
+        self.actors.push(actor)?;
+        Ok(self.actors.len() as Txn)
+    }
+
+    /// A new value.
+    fn next_value(&mut self) -> u64 {
+        self.value = self.value.saturating_add(1);
+        self.value
+    }
+
+    /// The event of a step.
+    pub(crate) fn event(&mut self, step: Step) -> Result<Event, AllocError> {
+        let txn = self.number(step.by)?;
+        let op = match step.op {
+            Op::Insert(key, _) => Op::Insert(key, self.next_value()),
+            Op::Update(key, _) => Op::Update(key, self.next_value()),
+            other => other,
+        };
+        Ok(Event { txn, op })
+    }
+}

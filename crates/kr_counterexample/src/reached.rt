@@ -1,0 +1,38 @@
+//! States that were reached, and how.
+
+use crate::moves::Move;
+use crate::state::State;
+
+/// The opening map of a script: K, and Y or what stands for it one name up.
+#[derive(Clone, Copy, Debug, PartialEq, Eq)]
+pub(crate) struct World {
+    /// Whether P stands in the opening.
+    pub p: bool,
+    /// Whether A stands in the opening.
+    pub a: bool,
+    /// The state, by its place in the closure, whose script goes before, moved one name up.
+    pub above: Option<usize>,
+}
+
+/// The move that led to a state, from the state at this place in the closure.
+#[derive(Clone, Copy, Debug, PartialEq, Eq)]
+pub(crate) struct Last {
+    pub before: usize,
+    pub by: Move,
+}
+
+/// A state, the world that its script begins in, and its last move, if it has one.
+#[derive(Clone, Copy, Debug, PartialEq, Eq)]
+pub(crate) struct Reached {
+    pub state: State,
+    pub world: World,
+    pub last: Option<Last>,
+}
+
+impl Reached {
+    /// Whether its script leaves all keys as they stood, in an opening of which none is moved up.
+    pub(crate) fn keeps_keys(&self) -> bool {
+        let Reached { state, world, .. } = self;
+        world.above.is_none() && state.k && state.p == world.p && state.a == world.a
+    }
+}

@@ -1,0 +1,90 @@
+//! The scripts that lead to states, and the maps that they open with.
+
+use crate::keys::{A, K, P, Y, one_up};
+use crate::moves::Move;
+use crate::reached::{Reached, World};
+use crate::step::{Actor, Step};
+use kr_model::Op;
+use std::alloc::{AllocError, Global};
+
+/// The moves that lead from a world to the state at a place of the list, last first.
+fn chain(alloc: Global, reached: &[Reached], to: usize) -> Result<Vec<Move>, AllocError> {
+    let mut chain = Vec::new(alloc);
+    let mut at = to;
+    for _ in 0..reached.len() {
+        let Some(last) = reached.get(at).and_then(|reached| reached.last) else {
+            return Ok(chain);
+        };
+        chain.push(last.by)?;
+        at = last.before;
+    }
+    Ok(chain)
+}
+
+/// Puts the steps of the moves, which are given last first, behind those so far.
+fn play(chain: &[Move], steps: &mut Vec<Step>) -> Result<(), AllocError> {
+    for made in chain.iter().rev() {
+        match *made {
+            Move::Own(op) => steps.push(Step::own(op))?,
+            Move::PutAndTake(key) => {
+                steps.push(Step::own(Op::Insert(key, 0)))?;
+                steps.push(Step::own(Op::Delete(key)))?;
+            }
+            Move::Other(op) => {
+                let by = Actor::BesideHolder(steps.len());
+                steps.push(Step { by, op })?;
+                steps.push(Step { by, op: Op::Commit })?;
+            }
+        }
+    }
+    Ok(())
+}
+
+/// The script that leads to the state at a place of the list.
+pub(crate) fn script_to(
+    alloc: Global,
+    reached: &[Reached],
+    to: usize,
+) -> Result<Vec<Step>, AllocError> {
+    let mut steps = Vec::new(alloc);
+    if let Some(above) = reached.get(to).and_then(|reached| reached.world.above) {
+        play(&chain(alloc, reached, above)?, &mut steps)?;
+        for step in steps.iter_mut() {
+            *step = step.one_name_up();
+        }
+    }
+    play(&chain(alloc, reached, to)?, &mut steps)?;
+    Ok(steps)
+}
+
+/// The opening map of a world, keys rising: its values are 1, 2 and so on.
+pub(crate) fn opening_of(
+    alloc: Global,
+    reached: &[Reached],
+    world: World,
+) -> Result<Vec<(u64, u64)>, AllocError> {
+    let mut keys = [
+        (K, true),
+        (P, world.p),
+        (A, world.a),
+        (one_up(K), false),
+        (one_up(P), false),
+        (Y, true),
+        (one_up(Y), false),
+    ];
+    if let Some(before) = world.above.and_then(|above| reached.get(above)) {
+        keys[3].1 = !before.state.k;
+        keys[4].1 = before.world.p;
+        keys[5].1 = before.world.a;
+        keys[6].1 = true;
+    }
+    let mut opening = Vec::new(alloc);
+    let mut value: u64 = 1;
+    for (key, stands) in keys {
+        if stands {
+            opening.push((key, value))?;
+            value = value.saturating_add(1);
+        }
+    }
+    Ok(opening)
+}

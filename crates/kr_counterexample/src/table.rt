@@ -1,0 +1,73 @@
+//! What a lock table says of modes.
+ghost use Rattle.std.specs.Prelude.{◌≤◌};
+
+use kr_model::{Cover, Mode, Row, Side, Span};
+use kr_protocol::Protocol;
+
+/// A lock table, asked about any numbers: one past the table's modes is taken for none.
+#[derive(Drop)]
+pub(crate) struct Table<'a, P: Protocol> {
+    pub protocol: &'a P,
+}
+
+impl<P: Protocol> Table<'_, P> {
+    /// The mode, or none where it is past the table's modes.
+    fn known(&self, mode: Mode) -> Mode
+        ensures { result ≤ (P.table self.now.protocol.now).count }
+    {
+        if mode <= self.protocol.count() {
+            mode
+        } else {
+            0
+        }
+    }
+
+    /// What a row asks for.
+    pub(crate) fn ask(&self, row: Row, side: Side, own_next: Mode) -> Option<(Mode, Span)> {
+        self.protocol.ask(row, side, self.known(own_next))
+    }
+
+    /// Whether a request may stand beside a lock.
+    fn stands_beside(&self, requested: Mode, held: Mode) -> bool {
+        self.protocol.ok(self.known(requested), self.known(held))
+    }
+
+    /// The mode of one who holds a mode and asks for another.
+    fn convert(&self, held: Mode, requested: Mode) -> Mode {
+        self.protocol
+            .convert(self.known(held), self.known(requested))
+    }
+
+    /// The mode on a name of one who held `own`, after what a row asks for there was granted.
+    pub(crate) fn after(&self, own: Mode, row: Row, side: Side, own_next: Mode) -> Mode {
+        match self.ask(row, side, own_next) {
+            Some((mode, Span::Commit)) => self.convert(own, mode),
+            _ => own,
+        }
+    }
+
+    /// Whether one without modes may be granted what a row asks for on A and on Y beside these modes.
+    pub(crate) fn lets_in(&self, row: Row, on_a: Mode, on_y: Mode) -> bool {
+        self.is_open(row, Side::Current, 0, 0, on_a) && self.is_open(row, Side::Next, 0, 0, on_y)
+    }
+
+    /// Whether a lock in mode `held` lets a place through.
+    pub(crate) fn is_open(
+        &self,
+        row: Row,
+        side: Side,
+        own: Mode,
+        own_next: Mode,
+        held: Mode,
+    ) -> bool {
+        match self.ask(row, side, own_next) {
+            Some((mode, _)) => self.stands_beside(self.convert(own, mode), held),
+            None => true,
+        }
+    }
+
+    /// Whether a cover has to refuse what a row asks for: an update only where updates are offered.
+    pub(crate) fn offers(&self, cover: Cover, row: Row) -> bool {
+        self.protocol.updates() || cover != Cover::UpdatedKey && row != Row::Update
+    }
+}
