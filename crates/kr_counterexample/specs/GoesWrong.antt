@@ -1,6 +1,6 @@
 -- What it is for a script to go wrong under a lock table: the table grants each of its steps, and yet the transactions that
 -- commit have answers that they don't have when they are run whole, one after another in the order of their commits.
-use Rattle.std.specs.Prelude.{◌≡◌, ℕ, true, List, Option, Some, None, IsTrue, All, slice_get}
+use Rattle.std.specs.Prelude.{ℕ, List, Option, IsTrue, All, slice_get, option_map}
 use Rattle.kr_model.specs.declared.Event.{Event}
 use Rattle.kr_model.specs.Protocol.{Protocol}
 use Rattle.kr_model.specs.Map.{Map, IsMap}
@@ -17,11 +17,6 @@ pub record GoesWrong (p : Protocol) (opening : Map) (events : List Event) : Type
   -- the programs that committed don't have the answers that they have when run whole, one after another in commit order
   pub not_serial : AreSerial opening (programs (run p (start opening) events).history) → ⊥
 
--- The step at this place, from 0, is one of the script's, and the transaction takes it.
-abbrev pub IsStepOf : ℕ → List Event → ℕ → Type 0
-IsStepOf t events place = takes t (slice_get events place)
-
--- Whether there is a step, and the transaction takes it.
-abbrev pub takes : ℕ → Option Event → Type 0
-takes t None = ⊥
-takes t (Some e) = e.txn ≡ t
+-- Who takes the step at this place, from 0, where the script has one.
+abbrev pub txn_at : List Event → ℕ → Option ℕ
+txn_at events place = option_map (λ e. e.txn) (slice_get events place)

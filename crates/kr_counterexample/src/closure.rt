@@ -1,4 +1,6 @@
 //! The states that one transaction can come to.
+ghost use Rattle.std.specs.Prelude.{◌≤◌, vec_len};
+ghost use Rattle.kr_counterexample.specs.declared.closure.TheConstants.{MOST_STATES};
 
 use crate::moves::{Moved, moves};
 use crate::own_steps::{OWN_STEPS, own_step};
@@ -26,6 +28,7 @@ const OPENINGS: [(bool, bool); 4] = [(false, true), (false, false), (true, true)
 pub struct Closure {
     pub(crate) reached: Vec<Reached>,
     pub(crate) ready: Vec<Ready>,
+    ghost few: { vec_len reached ≤ MOST_STATES },
 }
 
 impl Closure {
@@ -64,6 +67,7 @@ struct Growing {
     reached: Vec<Reached>,
     /// Whether a state was reached, by its number.
     seen: Vec<bool>,
+    ghost few: { vec_len reached ≤ MOST_STATES },
 }
 
 impl Growing {

@@ -1,5 +1,6 @@
 //! Scripts that go wrong.
-ghost use Rattle.kr_counterexample.specs.GoesWrong.{IsStepOf};
+ghost use Rattle.std.specs.Prelude.{◌≡◌, Some};
+ghost use Rattle.kr_counterexample.specs.GoesWrong.{txn_at};
 
 use crate::ending::Ending;
 use kr_model::{Event, Row, Side, Txn};
@@ -26,6 +27,6 @@ pub struct Counterexample {
     pub intruder: Txn,
     /// Who else takes part in the ending.
     pub third: Option<Txn>,
-    ghost weak_is_holders: { IsStepOf holder events.items weak },
-    ghost let_in_is_intruders: { IsStepOf intruder events.items let_in },
+    ghost weak_is_holders: { txn_at events.items weak ≡ Some holder },
+    ghost let_in_is_intruders: { txn_at events.items let_in ≡ Some intruder },
 }

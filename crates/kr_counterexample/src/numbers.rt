@@ -10,7 +10,8 @@ const VALUES_OF_OPENING: u64 = 4;
 /// Numbers of transactions, from 1, and values, from 5: each is given as it is first asked for.
 #[derive(Drop)]
 pub(crate) struct Numbers {
-    actors: Vec<Actor>,
+    given: Vec<(Actor, Txn)>,
+    last: Txn,
     value: u64,
 }
 
@@ -18,19 +19,18 @@ impl Numbers {
     /// None is given yet.
     pub(crate) fn new(alloc: Global) -> Numbers {
         Numbers {
-            actors: Vec::new(alloc),
+            given: Vec::new(alloc),
+            last: 0,
             value: VALUES_OF_OPENING,
         }
     }
 
     /// The number of one that has a number.
     pub(crate) fn given(&self, actor: Actor) -> Option<Txn> {
-        let mut number: Txn = 1;
-        for known in self.actors.iter() {
+        for (known, number) in self.given.iter() {
             if *known == actor {
-                return Some(number);
+                return Some(*number);
             }
-            number = number.saturating_add(1);
         }
         None
     }
@@ -40,8 +40,10 @@ impl Numbers {
         if let Some(number) = self.given(actor) {
             return Ok(number);
         }
-        self.actors.push(actor)?;
-        Ok(self.actors.len() as Txn)
+        let number = self.last.saturating_add(1);
+        self.given.push((actor, number))?;
+        self.last = number;
+        Ok(number)
     }
 
     /// A new value.
