@@ -1,1 +1,7 @@
-mod shown;
+//! Scripts that failed cases give, compared with those that an independent program gave for the same tables.
+mod ample;
+mod bundled;
+mod none_known;
+mod tables;
+mod telling;
+mod updating;
