@@ -83,7 +83,10 @@ const TWO_MODES: &[Shown] = &[
         name: "X held and S asked make S",
         table: Table {
             text: IM,
-            changes: &[("X = { S = \"X\", X = \"X\" }", "X = { S = \"S\", X = \"X\" }")],
+            changes: &[(
+                "X = { S = \"X\", X = \"X\" }",
+                "X = { S = \"S\", X = \"X\" }",
+            )],
         },
         prefer: None,
         script: r#"{"format":1,"opening":[[10,1],[30,2]],"steps":[[1,"insert",20,5],[1,"fetch",20],[2,"fetch",20],[1,"abort"],[2,"commit"]]}"#,

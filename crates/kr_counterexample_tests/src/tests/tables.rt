@@ -26,11 +26,9 @@ pub struct Shown {
     pub script: &'static str,
 }
 
-/// A table of one mode that asks for no lock at all.
-pub const ASKS_NOTHING: Table = Table {
-    text: "format = 1\nmodes = [\"X\"]\ncompatible = { X = [] }\nconvert = { X = { X = \"X\" } }\nrules = {}\n",
-    changes: &[],
-};
+/// The text of a table of one mode that asks for no lock at all.
+pub const ASKS_NOTHING: &str =
+    "format = 1\nmodes = [\"X\"]\ncompatible = { X = [] }\nconvert = { X = { X = \"X\" } }\nrules = {}\n";
 
 /// The table of these changes.
 pub fn table_of(alloc: Global, table: Table) -> Result<kr_table::Table, Fail> {

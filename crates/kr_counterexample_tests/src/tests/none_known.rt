@@ -1,0 +1,106 @@
+//! How many failed cases of a table are reached, and how many have a script.
+
+use super::tables::{ASKS_NOTHING, Table, failed, table_of};
+use kr_counterexample::Closure;
+use kr_table::texts::{KVL, KVL_UPDATE};
+use std::test::Fail;
+
+/// A refused table, and the numbers of its cases: those that fail, those of them to which some state of the closure comes,
+/// and those with a script.
+#[derive(Clone, Copy)]
+struct Counts {
+    name: &'static str,
+    table: Table,
+    failed: usize,
+    reached: usize,
+    shown: usize,
+}
+
+const COUNTS: &[Counts] = &[
+    Counts {
+        name: "SIX held and IX asked make IS, and nobody comes to SIX",
+        table: Table {
+            text: KVL,
+            changes: &[(
+                "SIX = { IS = \"SIX\", IX = \"SIX\",",
+                "SIX = { IS = \"SIX\", IX = \"IS\",",
+            )],
+        },
+        failed: 19,
+        reached: 12,
+        shown: 0,
+    },
+    Counts {
+        name: "S held and IX asked make IS, which lets in an intruder that is ready",
+        table: Table {
+            text: KVL,
+            changes: &[(
+                "S = { IS = \"S\", IX = \"SIX\",",
+                "S = { IS = \"S\", IX = \"IS\",",
+            )],
+        },
+        failed: 18,
+        reached: 12,
+        shown: 6,
+    },
+    Counts {
+        name: "a delete asks for no lock on its key",
+        table: Table {
+            text: KVL,
+            changes: &[("current = [{ mode = \"X\", span = \"instant\" }]\n", "")],
+        },
+        failed: 72,
+        reached: 43,
+        shown: 33,
+    },
+    Counts {
+        name: "an update keeps no lock on its key",
+        table: Table {
+            text: KVL_UPDATE,
+            changes: &[(
+                "[rules.update]\ncurrent = [{ mode = \"X\", span = \"commit\" }]",
+                "[rules.update]\ncurrent = [{ mode = \"X\", span = \"instant\" }]",
+            )],
+        },
+        failed: 3,
+        reached: 2,
+        shown: 2,
+    },
+    Counts {
+        name: "no lock is asked for",
+        table: Table {
+            text: ASKS_NOTHING,
+            changes: &[],
+        },
+        failed: 16,
+        reached: 7,
+        shown: 7,
+    },
+];
+
+#[test]
+fn counted(rt: HostRuntime) -> Result<(), Fail> {
+    let alloc = rt.alloc();
+    for row in COUNTS {
+        let name = row.name;
+        let table = table_of(alloc, row.table)?;
+        let closure = Closure::of(alloc, &table)?;
+        let cases = failed(alloc, &table)?;
+        let mut reached: usize = 0;
+        let mut shown: usize = 0;
+        for case in cases.iter() {
+            if closure.is_reached(&table, case) {
+                reached = reached.saturating_add(1);
+            }
+            if closure.find(alloc, &table, case, None)?.is_some() {
+                shown = shown.saturating_add(1);
+            }
+        }
+        assert_eq!(rt;
+            (cases.len(), reached, shown),
+            (row.failed, row.reached, row.shown),
+            "{name}"
+        );
+    }
+    Ok(())
+}
