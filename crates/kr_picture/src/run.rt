@@ -1,0 +1,88 @@
+//! A run as a page tells it, and where its steps are found.
+
+use kr_model::{Event, Op, Program, Reply, Txn};
+use kr_serial::Verdict;
+use std::alloc::AllocError;
+
+/// How many steps are drawn.
+pub const STEPS_DRAWN: usize = 200;
+
+/// A run with what is known of it.
+#[derive(Clone, Copy)]
+pub struct Run<'a> {
+    /// The name of the table, as text of a page.
+    pub table: &'a str,
+    pub opening: &'a [(u64, u64)],
+    pub steps: &'a [Event],
+    /// The reply to each step.
+    pub replies: &'a [Reply],
+    /// What each transaction that committed did, in commit order.
+    pub programs: &'a [Program],
+    pub unfinished: &'a [Txn],
+    pub verdict: &'a Verdict,
+    /// How many steps come before those that are drawn.
+    pub skipped: usize,
+}
+
+/// The numbers of the steps at which an operation was asked and answered, and at which its transaction committed; 0 where
+/// there is none.
+#[derive(Clone, Copy, Debug, PartialEq, Eq)]
+pub struct Steps {
+    pub asked: u64,
+    pub answered: u64,
+    pub committed: u64,
+}
+
+/// Whether a granted operation counts as one of its transaction's program.
+fn counts(op: Op) -> bool {
+    match op {
+        Op::Fetch(_) | Op::Scan(_, _) | Op::Insert(_, _) | Op::Delete(_) | Op::Update(_, _) => true,
+        Op::Go | Op::Commit | Op::Abort | Op::Back => false,
+    }
+}
+
+/// Whether a step was done.
+fn is_granted(reply: &Reply) -> bool {
+    !matches!(reply, Reply::Blocked(_) | Reply::Refused(_))
+}
+
+impl Run<'_> {
+    /// The steps of an operation, counted from 1, in the program of a transaction.
+    pub fn steps_of(&self, txn: Txn, operation: u64) -> Steps {
+        let mut found = Steps {
+            asked: 0,
+            answered: 0,
+            committed: 0,
+        };
+        let mut count: u64 = 0;
+        let mut number: u64 = 0;
+        for (step, reply) in self.steps.iter().zip(self.replies.iter()) {
+            number = number.saturating_add(1);
+            if step.txn == txn && is_granted(reply) {
+                if counts(step.op) {
+                    count = count.saturating_add(1);
+                    if count == operation {
+                        found.asked = number;
+                    }
+                }
+                if count == operation && (counts(step.op) || step.op == Op::Go) {
+                    found.answered = number;
+                }
+                if step.op == Op::Commit {
+                    found.committed = number;
+                }
+            }
+        }
+        found
+    }
+
+    /// Writes the name of a step, with a link to its band if it is drawn.
+    pub fn write_step(&self, out: &mut String, number: u64) -> Result<(), AllocError> {
+        if number > self.skipped as u64 {
+            write!(out, "<a href=\"#s{number}\">step ")?;
+            write!(out, "{number}</a>")
+        } else {
+            write!(out, "step {number}, which isn't drawn")
+        }
+    }
+}

@@ -1,0 +1,4 @@
+//! Pages of runs, and escaped texts.
+mod escapes;
+mod limits;
+mod runs;
