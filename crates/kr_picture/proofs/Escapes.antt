@@ -1,5 +1,5 @@
 -- What a text of a page reads as where more is written behind it.
-use Rattle.std.specs.Prelude.{ℕ, List, [], ◌∷◌, ◌++◌, Bool, true, false, ◌==◌, Option, Some, None, option_map, if◌then◌else◌, Result, Ok, Err, OnOk, is_ok, codes, refl, ◌≡◌, ◌≢◌}
+use Rattle.std.specs.Prelude.{ℕ, List, [], ◌∷◌, ◌++◌, Bool, true, false, ◌==◌, Option, Some, None, option_map, if◌then◌else◌, Result, Ok, Err, OnOk, is_ok, refl, ◌≡◌, ◌≢◌}
 use Rattle.std.proofs.Common.{sym, ap, subst, arith, ◌∙◌}
 use Rattle.std.proofs.lemmas.List.{append-nil}
 use Rattle.std.proofs.Math.Utf8.{encode}

@@ -22,7 +22,8 @@ const NARROWEST: u64 = 110;
 
 const CHARACTER: u64 = 9;
 
-/// Writes the body of a page: what its run is, and its steps, done once more on a machine that has done none.
+/// Writes the body of a page behind the first words of its verdict: what its run is, and its steps, done once more on a
+/// machine that has done none.
 pub fn write_body<P: Protocol, I: Ordered, L: Holdings>(
     alloc: Global,
     protocol: &P,

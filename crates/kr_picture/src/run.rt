@@ -10,8 +10,6 @@ pub const STEPS_DRAWN: usize = 200;
 /// A run with what is known of it.
 #[derive(Clone, Copy)]
 pub struct Run<'a> {
-    /// The name of the table, as text of a page.
-    pub table: &'a str,
     pub opening: &'a [(u64, u64)],
     pub steps: &'a [Event],
     /// The reply to each step.

@@ -1,4 +1,4 @@
-//! The top of a page: the table, the opening map, and the verdict.
+//! The top of a page: what the verdict says behind its first words, the opening map, and what isn't drawn.
 
 use crate::columns::{Columns, NAMES_DRAWN};
 use crate::run::{Run, STEPS_DRAWN};
@@ -7,10 +7,8 @@ use kr_model::{Op, Reply, Txn};
 use kr_serial::Verdict;
 use std::alloc::AllocError;
 
-/// Writes the top of a page.
+/// Writes the top of a page behind the first words of its verdict.
 pub fn write_summary(run: &Run<'_>, columns: &Columns, out: &mut String) -> Result<(), AllocError> {
-    let table = run.table;
-    write!(out, "<h1>A run under <code>{table}</code></h1>\n")?;
     write_verdict(run, out)?;
     out.push_str("<p>Opening map: ")?;
     write_pairs(out, run.opening)?;
@@ -19,22 +17,19 @@ pub fn write_summary(run: &Run<'_>, columns: &Columns, out: &mut String) -> Resu
     write_limits(run, columns, out)
 }
 
-/// Writes the verdict in a sentence.
+/// Writes what the verdict says behind its first words.
 fn write_verdict(run: &Run<'_>, out: &mut String) -> Result<(), AllocError> {
     match run.verdict {
-        Verdict::Serial => {
-            out.push_str("<p class=\"verdict yes\"><b>✓ Serial.</b> ")?;
-            match run.programs.len() {
-                0 => out.push_str("No transaction committed.</p>\n"),
-                1 => out.push_str(
-                    "The transaction that committed was answered as it is when it runs alone.</p>\n",
-                ),
-                count => write!(
-                    out,
-                    "The {count} transactions that committed were answered as they are one after another, in commit order.</p>\n"
-                ),
-            }
-        }
+        Verdict::Serial => match run.programs.len() {
+            0 => out.push_str("No transaction committed.</p>\n"),
+            1 => out.push_str(
+                "The transaction that committed was answered as it is when it runs alone.</p>\n",
+            ),
+            count => write!(
+                out,
+                "The {count} transactions that committed were answered as they are one after another, in commit order.</p>\n"
+            ),
+        },
         Verdict::NotSerial {
             txn,
             operation,
@@ -60,10 +55,7 @@ fn write_difference(
     out: &mut String,
 ) -> Result<(), AllocError> {
     let steps = run.steps_of(txn, operation);
-    write!(
-        out,
-        "<p class=\"verdict no\"><b>✗ Not serial.</b> Operation {operation} of transaction {txn}, "
-    )?;
+    write!(out, "Operation {operation} of transaction {txn}, ")?;
     if let Some(op) = operation_of(run, steps.asked) {
         write_op(out, op)?;
     }

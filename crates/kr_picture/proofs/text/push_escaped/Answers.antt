@@ -1,6 +1,6 @@
-use Rattle.std.specs.Prelude.{codes, string_bytes, refl, ℕ, List, Option}
+use Rattle.std.specs.Prelude.{codes, string_bytes, refl, ℕ, List}
 use Rattle.std.specs.Str.{chars}
-use Rattle.std.proofs.Common.{◌≡◌, sym, ap, Some, ◌∷◌, [], arith}
+use Rattle.std.proofs.Common.{◌≡◌, Some, ◌∷◌, [], arith}
 use Rattle.std.proofs.Math.Utf8.{encode}
 use Rattle.std.proofs.lemmas.Str.{IsUtf8-string_bytes}
 use Rattle.kr_picture.specs.Escape.{unescaped}

@@ -1,7 +1,22 @@
-//! The look of a page.
+//! What stands around the telling of a run: the head of a page with its look, the table's name, the first words of the
+//! verdict, and the end.
+ghost use Rattle.std.specs.Prelude.{◌≡◌, IfOk, string_bytes};
+ghost use Rattle.kr_picture.specs.Page.{page_of};
 
-/// The style of a page: six colours that stand apart for readers who see fewer, in a light and a dark form.
-pub const STYLE: &str = "<style>
+use std::alloc::{AllocError, Global};
+
+/// Up to the table's name in the title.
+pub const HEAD: &str = "<!DOCTYPE html>
+<html lang=\"en\">
+<head>
+<meta charset=\"utf-8\">
+<meta name=\"viewport\" content=\"width=device-width, initial-scale=1\">
+<title>A run under ";
+
+/// From there to the table's name in the heading, with the look of the page: six colours that stand apart for readers who
+/// see fewer, in a light and a dark form.
+pub const STYLE: &str = "</title>
+<style>
 :root{--ink:#1a1a1a;--paper:#fff;--soft:#5a5a5a;--rule:#c9c9c9;--band:#f6f6f4;--bad:#a8320a;--good:#00634a;
 --c0:#bcdcf2;--c1:#f7d9a0;--c2:#b5e3d2;--c3:#f3cfe0;--c4:#f5ee9e;--c5:#d9d2ee}
 @media (prefers-color-scheme:dark){:root{--ink:#ececec;--paper:#16181b;--soft:#a9adb3;--rule:#474c53;--band:#1f2227;--bad:#ff9d76;--good:#62d6ae;
@@ -33,4 +48,39 @@ rect.refused{fill:var(--paper);stroke:var(--bad);stroke-width:2;stroke-dasharray
 table{border-collapse:collapse}th,td{border:1px solid var(--rule);padding:4px 10px;text-align:left;vertical-align:top}
 .differs{color:var(--bad);font-weight:700}
 </style>
-";
+</head>
+<body>
+<h1>A run under <code>";
+
+/// From there to the verdict.
+pub const BEHIND_NAME: &str = "</code></h1>\n";
+
+/// How the verdict on a run that is serial begins.
+pub const SERIAL: &str = "<p class=\"verdict yes\"><b>✓ Serial.</b> ";
+
+/// How the verdict on a run that isn't serial begins.
+pub const NOT_SERIAL: &str = "<p class=\"verdict no\"><b>✗ Not serial.</b> ";
+
+/// The end of a page.
+pub const END: &str = "</body>\n</html>\n";
+
+/// The page under this name, which has been escaped, with what is told behind the first words of the verdict.
+pub fn framed(
+    alloc: Global,
+    name: &str,
+    is_serial: bool,
+    telling: &str,
+) -> Result<String, AllocError>
+    ensures { IfOk result (λ page. string_bytes page ≡ page_of name.now is_serial telling.now) }
+{
+    let mut page = String::new(alloc);
+    page.push_str(HEAD)?;
+    page.push_str(name)?;
+    page.push_str(STYLE)?;
+    page.push_str(name)?;
+    page.push_str(BEHIND_NAME)?;
+    page.push_str(if is_serial { SERIAL } else { NOT_SERIAL })?;
+    page.push_str(telling)?;
+    page.push_str(END)?;
+    Ok(page)
+}
