@@ -20,10 +20,8 @@ fn script_of(alloc: Global, keys: u64, steps: u64) -> Result<Script, Fail> {
         write!(text, "{separator}[1,\"fetch\",0]")?;
     }
     text.push_str("]}")?;
-    match read_script(alloc, text.as_bytes()) {
-        Ok(script) => Ok(script),
-        Err(_) => Err(Fail),
-    }
+    let script = read_script(alloc, text.as_bytes()).ok();
+    Ok(script.ok_or("no script")?)
 }
 
 #[test]

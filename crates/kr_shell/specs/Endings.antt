@@ -1,0 +1,24 @@
+-- How a program ends, and the line that tells it.
+use Rattle.std.specs.Prelude.{ℕ, Bool, true, false, List, [], ◌∷◌, ◌++◌, codes, string_bytes}
+use Rattle.kr_shell.specs.declared.endings.Ending.{Ending}
+use Rattle.kr_shell.specs.declared.endings.Ending.TheVariants.{NotUnderstood, Memory, Place, Output, Told}
+
+-- Whether a program ends for output that can't be written.
+abbrev pub is_output : Ending → Bool
+is_output NotUnderstood = false
+is_output Memory = false
+is_output Place = false
+is_output Output = true
+is_output (Told line) = false
+
+-- What is told behind the program's name.
+abbrev pub line_of : Ending → List ℕ
+line_of NotUnderstood = codes "words not understood"
+line_of Memory = codes "out of memory"
+line_of Place = codes "place refused"
+line_of Output = codes "output: cannot be written"
+line_of (Told line) = string_bytes line
+
+-- The line of a program of this name that ends so, with its line feed.
+abbrev pub ending_line : List ℕ → Ending → List ℕ
+ending_line name e = name ++ (codes ": " ++ (line_of e ++ 10 ∷ []))

@@ -1,0 +1,4 @@
+pub mod Endings
+pub mod Tables
+pub mod Lawful
+pub mod Words

@@ -1,0 +1,31 @@
+//! The words that a program is called with.
+ghost use Rattle.std.specs.Prelude.{◌≡◌, ◌↔◌, false, IfErr, IsTrue};
+ghost use Rattle.kr_shell.specs.Endings.{is_output};
+ghost use Rattle.kr_shell.specs.Words.{IsPlain};
+
+use crate::endings::Ending;
+use std::env;
+use std::io::ErrorKind;
+use std::rt::Env;
+
+/// The words that the program was called with, its own name left out, or how it ends: words that aren't UTF-8 aren't
+/// understood.
+pub fn words_given<R: Env + AllocGlobal>(rt: &R) -> Result<Vec<String>, Ending>
+    ensures { IfErr result (λ e. is_output e ≡ false) }
+{
+    let mut given = match env::args(rt) {
+        Ok(given) => given,
+        Err(e) if e.kind() == ErrorKind::OutOfMemory => return Err(Ending::Memory),
+        Err(_) => return Err(Ending::NotUnderstood),
+    };
+    let _name = given.next();
+    Ok(given.collect::<Vec<String>>(rt.alloc())?)
+}
+
+/// Whether a word can name a table or a file: it doesn't begin with a hyphen.
+pub fn is_plain(word: &str) -> bool
+    ensures { IsTrue result ↔ IsPlain word.now }
+{
+    let bytes = word.as_bytes();
+    bytes.is_empty() || bytes[0] != b'-'
+}
