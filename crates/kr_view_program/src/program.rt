@@ -1,0 +1,88 @@
+//! The program over its words, files and streams.
+ghost use Rattle.std.specs.Prelude.{◌≡◌, ◌⊎◌, ◌↔◌, ◌≤◌, ℕ, List, true, false, IfOk, IfErr, IsTrue};
+ghost use Rattle.std.specs.Io.KnownBytes.{Appends};
+ghost use Rattle.kr_model.specs.Protocol.{Protocol, IsLawful};
+ghost use Rattle.kr_model.specs.Covers.{IsCovered};
+ghost use Rattle.kr_script.specs.Puts.{HasCause, AppendsFront};
+ghost use Rattle.kr_script.specs.Script.{Script};
+ghost use Rattle.kr_shell.specs.Endings.{is_output, ending_line};
+ghost use Rattle.kr_shell.specs.declared.endings.Ending.{Ending};
+ghost use Rattle.kr_picture.specs.Page.{IsPage};
+ghost use Rattle.kr_view_program.specs.Program.{IsSerialScript, Shows};
+
+use crate::words::read_words;
+use kr_picture::picture;
+use kr_protocol::Protocol;
+use kr_script::{Script, Sink, put_all};
+use kr_shell::{Ending, Files, finish, script_at, table_at};
+use std::alloc::Global;
+
+/// The program's name.
+pub const NAME: &str = "kr_view";
+
+/// Does nothing: a protocol is lawful.
+fn are_laws_kept<P: Protocol>(protocol: &P)
+    ensures { IsLawful (P.table protocol.now) }
+{
+    let _ = protocol;
+}
+
+/// Writes the page of a script's run under a protocol, whose table this word names, and answers whether the run is serial;
+/// under a covered protocol it is. Where a growth was refused, nothing is written; where printing fails, a beginning of the
+/// page was.
+pub fn write_page<P: Protocol, W: Sink>(
+    alloc: Global,
+    protocol: &P,
+    table: &str,
+    script: &Script,
+    out: &mut W,
+) -> Result<bool, Ending>
+    ensures page { IfOk result (λ serial. (page : List ℕ) × (IsPage table.now serial page × Appends (W.taken out.old) (W.taken out.new) page)) }
+    ensures serial { IfOk result (λ serial. IsTrue serial ↔ IsSerialScript (P.table protocol.now) script.now) }
+    ensures covered { IsCovered (P.table protocol.now) → IfOk result (λ serial. IsTrue serial) }
+    ensures nothing { IfErr result (λ e. IsTrue (is_output e) ⊎ (out.new ≡ out.old)) }
+    ensures cause { IfErr result (λ e. IsTrue (is_output e) → HasCause (W.failures out.old) (W.failures out.new)) }
+{
+    let (page, is_serial) = picture(alloc, protocol, table, script)?;
+    put_all(out, page.as_bytes())?;
+    Ok(is_serial)
+}
+
+/// Does what the words ask, and answers whether the run is serial.
+fn view<R: std::rt::Files + AllocGlobal, F: Files, W: Sink>(
+    rt: &R,
+    words: &[String],
+    files: &F,
+    out: &mut W,
+) -> Result<bool, Ending>
+    ensures shows { IfOk result (λ serial. (p : Protocol) × (IsLawful p × ((table : List ℕ) × Shows p table (W.taken out.old) (W.taken out.new) serial))) }
+    ensures nothing { IfErr result (λ e. IsTrue (is_output e) ⊎ (out.new ≡ out.old)) }
+    ensures cause { IfErr result (λ e. IsTrue (is_output e) → HasCause (W.failures out.old) (W.failures out.new)) }
+{
+    let asked = read_words(words)?;
+    let table = table_at(rt, asked.table, files)?;
+    are_laws_kept(&table);
+    let script = script_at(rt, asked.script, files)?;
+    write_page(rt.alloc(), &table, asked.table, &script, out)
+}
+
+/// Runs the program on words without its own name, and answers its status: 0 where the run is serial, 1 where it isn't, and 2
+/// where it told a fault on `err`. At 0 and 1 the whole page of a script's run under a lawful table is written on `out`, and
+/// nothing on `err`; at a fault of words, files, tables, scripts or memory nothing is written on `out`.
+pub fn execute<R: std::rt::Files + AllocGlobal, F: Files, W: Sink, E: Sink>(
+    rt: &R,
+    words: &[String],
+    files: &F,
+    out: &mut W,
+    err: &mut E,
+) -> u8
+    ensures within { result ≤ 2 }
+    ensures serial { result ≡ 0 → (p : Protocol) × (IsLawful p × ((table : List ℕ) × Shows p table (W.taken out.old) (W.taken out.new) true)) }
+    ensures not_serial { result ≡ 1 → (p : Protocol) × (IsLawful p × ((table : List ℕ) × Shows p table (W.taken out.old) (W.taken out.new) false)) }
+    ensures fault { result ≡ 2 → HasCause (W.failures out.old) (W.failures out.new) ⊎ (out.new ≡ out.old) }
+    ensures told { result ≡ 2 → (e : Ending) × AppendsFront (E.taken err.old) (E.taken err.new) (ending_line NAME.now e) }
+    ensures silent { (err.new ≡ err.old) ⊎ (result ≡ 2) }
+{
+    let done = view(rt, words, files, out);
+    finish(NAME, &done, err)
+}
