@@ -1,0 +1,16 @@
+//! Shows the run of a script under a lock table as a page of HTML.
+#![tactic(auto)]
+
+use kr_script::Io;
+use kr_shell::{Disk, finish, words_given};
+use kr_view_program::{NAME, execute};
+use std::process::ExitCode;
+
+fn main(rt: HostRuntime) -> ExitCode {
+    let mut out = Io::new(rt.stdout());
+    let mut err = Io::new(rt.stderr());
+    ExitCode::from(match words_given(&rt) {
+        Ok(words) => execute(&rt, words.as_slice(), &Disk, &mut out, &mut err),
+        Err(ending) => finish(NAME, &Err(ending), &mut err),
+    })
+}
