@@ -1,0 +1,106 @@
+//! Faults, and the lines that tell them.
+use super::{ASKS_NOTHING, Full, PHANTOM, Shelf, owned, tells};
+use kr_script::Io;
+use kr_view_program::execute;
+use std::test::Fail;
+
+/// A table and a script that are good.
+const SHELF: Shelf = Shelf {
+    table: ASKS_NOTHING,
+    script: PHANTOM,
+};
+
+/// Words, with the line behind the program's name.
+const WORDS: &[(&[&str], &str)] = &[
+    (&[], "words not understood"),
+    (&["@kvl"], "words not understood"),
+    (&["-", "s"], "words not understood"),
+    (&["--help"], "words not understood"),
+    (&["@kvl", "-s"], "words not understood"),
+    (&["@kvl", "s", "s"], "words not understood"),
+    (&["none", "s"], "none: cannot be read"),
+    (&["kvl", "s"], "kvl: cannot be read"),
+    (&["@kvl2", "s"], "@kvl2: cannot be read"),
+    (&["@", "s"], "@: cannot be read"),
+    (&["a\nb", "s"], "a\\u{a}b: cannot be read"),
+    (&["\u{1b}[1m", "s"], "\\u{1b}[1m: cannot be read"),
+    (&["big", "s"], "out of memory"),
+    (&["@kvl", "t"], "t: cannot be read"),
+    (&["@kvl", "@kvl"], "@kvl: cannot be read"),
+    (&["@kvl", "big"], "out of memory"),
+];
+
+/// Texts that are no table, with the line.
+const TABLES: &[(&str, &str)] = &[
+    ("", "table: fault 4 Field at format"),
+    ("format = 1", "table: fault 4 Field at modes"),
+    ("format = 3", "table: fault 3 Format"),
+    ("[", "table: fault 2 NotToml"),
+];
+
+/// Texts that are no script, with the line.
+const SCRIPTS: &[(&str, &str)] = &[
+    ("", "s: fault 2 NotJson"),
+    ("[]", "s: fault 4 Field at "),
+    (
+        r#"{"format":1,"opening":[[5,1],[5,2]],"steps":[]}"#,
+        "s: fault 5 Opening at 1",
+    ),
+    (
+        r#"{"format":1,"opening":[],"steps":[[1,"gone"]]}"#,
+        "s: fault 6 Step at 0",
+    ),
+];
+
+#[test]
+fn faults_of_words_and_files_are_told(rt: HostRuntime) -> Result<(), Fail> {
+    for (words, line) in WORDS {
+        assert!(rt; tells(&rt, *words, &SHELF, *line)?, "{line}");
+    }
+    Ok(())
+}
+
+#[test]
+fn faults_of_tables_are_told(rt: HostRuntime) -> Result<(), Fail> {
+    for (table, line) in TABLES {
+        let shelf = Shelf {
+            table: *table,
+            script: PHANTOM,
+        };
+        assert!(rt;
+            tells(&rt, ["table", "s"].as_slice(), &shelf, *line)?,
+            "{line}"
+        );
+    }
+    Ok(())
+}
+
+#[test]
+fn faults_of_scripts_are_told(rt: HostRuntime) -> Result<(), Fail> {
+    for (script, line) in SCRIPTS {
+        let shelf = Shelf {
+            table: ASKS_NOTHING,
+            script: *script,
+        };
+        assert!(rt;
+            tells(&rt, ["@kvl", "s"].as_slice(), &shelf, *line)?,
+            "{line}"
+        );
+    }
+    Ok(())
+}
+
+#[test]
+fn output_that_fails(rt: HostRuntime) -> Result<(), Fail> {
+    let words = owned(rt.alloc(), ["@kvl", "s"].as_slice())?;
+    let mut err = Io::new(Vec::new(rt.alloc()));
+    let status = execute(&rt, words.as_slice(), &SHELF, &mut Full, &mut err);
+    assert_eq!(rt; status, 2);
+    assert_eq!(rt;
+        err.writer().as_slice(),
+        b"kr_view: output: cannot be written\n".as_slice()
+    );
+    let told_nowhere = execute(&rt, words.as_slice(), &SHELF, &mut Full, &mut Full);
+    assert_eq!(rt; told_nowhere, 2);
+    Ok(())
+}
