@@ -4,10 +4,6 @@
 mod gate;
 mod history;
 mod run;
-#[cfg(test)]
-mod soak_tests;
-#[cfg(test)]
-mod tests;
 mod turn;
 mod work;
 

@@ -4,26 +4,19 @@ ghost use Rattle.std.specs.Prelude.{◌≡◌};
 ghost use Rattle.kr_model.specs.Map.{IsMap};
 ghost use Rattle.kr_model.specs.KvlUpdate.{kvl_update};
 
+use super::next;
 use kr_engine::{
     Engine, EngineFault, EngineName, Entry, History, Op, PlaceRow, Reply, Seat, Share, Txn,
 };
 use kr_model::{Event, Refusal};
 use kr_protocol::KvlUpdate;
-use kr_serial::{judge, run};
+use kr_serial::{Ran, judge, run};
 use std::alloc::{AllocError, Global};
 use std::marker::Brand;
-use std::process::Abort;
 use std::sync::Wait;
 use std::test::Fail;
 use std::thread;
 use std::thread::Threads;
-
-/// The number after this one, in a row that looks random.
-fn next(number: u64) -> u64 {
-    number
-        .wrapping_mul(6_364_136_223_846_793_005)
-        .wrapping_add(1_442_695_040_888_963_407)
-}
 
 /// An operation on one of sixteen keys.
 fn operation_of(number: u64) -> Op {
@@ -164,21 +157,31 @@ fn have_replies(entries: &[Entry], replies: &[Reply]) -> bool {
 
 /// Whether a history is the run of its events from the opening, with the same replies, index, locks and programs, and a
 /// serial one.
-fn is_replayed(alloc: Global, opening: &[(u64, u64)], history: &History) -> Result<bool, Fail>
-    requires { IsMap opening.now }
-{
+fn is_replayed(alloc: Global, history: &History) -> Result<bool, Fail> {
     let entries = history.entries.as_slice();
     let events = events_of(alloc, entries)?;
-    let ran = run(alloc, &KvlUpdate, opening, events.as_slice())
-        .ok()
-        .ok_or("run")?;
+    let ran = run(
+        alloc,
+        &KvlUpdate,
+        &[(3, 1), (7, 2), (11, 3)],
+        events.as_slice(),
+    )
+    .ok()
+    .ok_or("run")?;
     let verdict = judge(alloc, &ran).ok().ok_or("judge")?;
+    Ok(
+        verdict.is_serial()
+            && is_left(alloc, &ran, history)?
+            && have_replies(entries, ran.replies.as_slice()),
+    )
+}
+
+/// Whether a history has the index, the locks and the programs of a run, and neither has an unfinished transaction.
+fn is_left(alloc: Global, ran: &Ran, history: &History) -> Result<bool, Fail> {
     let programs = format!(in alloc; "{:?}", ran.programs)?;
     let committed = format!(in alloc; "{:?}", history.programs)?;
     Ok(
-        verdict.is_serial()
-            && have_replies(entries, ran.replies.as_slice())
-            && ran.index.as_slice() == history.index.as_slice()
+        ran.index.as_slice() == history.index.as_slice()
             && ran.locks.as_slice() == history.locks.as_slice()
             && programs == committed
             && ran.unfinished.as_slice().is_empty()
@@ -188,38 +191,56 @@ fn is_replayed(alloc: Global, opening: &[(u64, u64)], history: &History) -> Resu
 
 /// Whether a key was updated, and a change taken back before the last of its transaction.
 fn has_both(entries: &[Entry]) -> bool {
-    let updated = entries
-        .iter()
-        .any(|entry| matches!(entry.reply, Reply::Updated(_)));
-    let undone = entries.iter().any(|entry| matches!(entry.reply, Reply::Undone(left) if left > 0));
+    let mut updated = false;
+    let mut undone = false;
+    for entry in entries {
+        match entry.reply {
+            Reply::Updated(_) => updated = true,
+            Reply::Undone(left) if left > 0 => undone = true,
+            _ => {}
+        }
+    }
     updated && undone
 }
 
-/// Whether all of this is so of an engine in which eight threads have done their transactions.
-fn soaks<K: EngineName + Send + Sync, R: Threads + Wait + Sync>(
+/// The closed history of an engine in which eight threads have done their transactions, or nothing where one wasn't ended.
+fn soaked<K: EngineName + Send + Sync, R: Threads + Wait + Sync>(
     rt: &R,
     alloc: Global,
     opening: &[(u64, u64)],
     row: PlaceRow,
-) -> Result<bool, Fail>
+) -> Result<Option<History>, AllocError>
     requires row { row ≡ K.places }
     requires opening { opening.now ≡ K.opening }
     requires table { kvl_update ≡ K.table }
     requires is_map { IsMap opening.now }
 {
     let mut engine = Engine::<KvlUpdate, K>::new(alloc, KvlUpdate, opening, row)?;
-    let jobs = jobs_of(rt, alloc, &engine)?;
+    match worked(rt, alloc, &engine)? {
+        Some(shares) => Ok(engine.close(&shares).ok()),
+        None => Ok(None),
+    }
+}
+
+/// The shares of the eight, if each did its transactions.
+fn worked<K: EngineName + Send + Sync, R: Threads + Wait + Sync>(
+    rt: &R,
+    alloc: Global,
+    engine: &Engine<KvlUpdate, K>,
+) -> Result<Option<Vec<Share<K>>>, AllocError> {
+    let jobs = jobs_of(rt, alloc, engine)?;
     let shares = thread::map_vec(rt, jobs, &|job| work(rt, job))?;
-    let Some(shares) = all_of(alloc, shares)? else {
-        return Ok(false);
-    };
-    let history = engine.close(&shares).ok().ok_or("closed")?;
-    Ok(has_both(&history.entries) && is_replayed(alloc, opening, &history)?)
+    all_of(alloc, shares)
 }
 
 #[test]
 fn eight_threads(rt: HostRuntime) -> Result<(), Fail> {
-    let row = PlaceRow::new(rt.alloc(), 100_000).ok().ok_or("row")?;
-    assert!(rt; soaks::<Brand, _>(&rt, rt.alloc(), &[(3, 1), (7, 2), (11, 3)], row)?);
+    let alloc = rt.alloc();
+    let row = PlaceRow::new(alloc, 100_000).ok().ok_or("row")?;
+    let history = soaked::<Brand, _>(&rt, alloc, &[(3, 1), (7, 2), (11, 3)], row)?.ok_or(
+        "history",
+    )?;
+    assert!(rt; has_both(&history.entries));
+    assert!(rt; is_replayed(alloc, &history)?);
     Ok(())
 }
