@@ -3,24 +3,14 @@
 #![tactic(auto)]
 
 mod closing;
-#[cfg(test)]
-mod closing_tests;
 mod engine;
-#[cfg(test)]
-mod engine_tests;
 mod faults;
 mod kernel;
 mod numbers;
 mod queues;
 mod seat;
-#[cfg(test)]
-mod tests;
-#[cfg(test)]
-mod undoing_tests;
 mod waits;
 mod wakes;
-#[cfg(test)]
-mod waking_tests;
 mod writes;
 
 pub use closing::{CloseFault, History, Share};

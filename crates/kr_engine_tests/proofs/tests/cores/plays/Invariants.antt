@@ -1,5 +1,5 @@
 use Rattle.kr_model.specs.Kvl.{kvl}
-use Rattle.kr_engine.proofs.tests.plays.Given as goal
+use Rattle.kr_engine_tests.proofs.tests.cores.plays.Given as goal
 
 -- this core's row, its opening and its table
 abbrev pub ghosts-has_answers : goal.ghosts-has_answers

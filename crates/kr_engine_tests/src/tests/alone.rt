@@ -1,0 +1,335 @@
+//! Stories of one thread: rows of calls of an engine's seats. Memory is ample.
+
+use super::Short;
+use super::gates::Gate;
+use super::stories::{Ask, Lent, Line, Opening, Story, THREE_PAIRS, Then, View};
+use super::telling::is_so;
+use kr_engine::{Name, Op};
+use kr_protocol::{Kvl, KvlUpdate};
+use std::test::Fail;
+
+/// A seat that began nothing, numbers that are open or taken.
+const TWO_SEATS: Story = Story {
+    name: "two seats",
+    opening: Opening::Empty,
+    places: 10,
+    seats: 2,
+    lines: &[
+        Line::By(0, Ask::Call(Op::Fetch(10)), Short::NotBegun),
+        Line::By(0, Ask::Try(Op::Fetch(10)), Short::NotBegun),
+        Line::By(0, Ask::Begin(1), Short::Ok),
+        Line::By(0, Ask::Call(Op::Fetch(10)), Short::Nothing(0)),
+        Line::By(0, Ask::Begin(2), Short::Open),
+        Line::By(1, Ask::Begin(1), Short::Taken),
+        Line::By(0, Ask::Call(Op::Commit), Short::Committed(1)),
+        Line::By(0, Ask::Begin(1), Short::Taken),
+    ],
+    then: Then::Closes,
+};
+
+/// A row of two places: the end uses the kept one, and nothing else does.
+const TWO_PLACES: Story = Story {
+    name: "two places",
+    opening: Opening::Empty,
+    places: 2,
+    seats: 1,
+    lines: &[
+        Line::By(0, Ask::Begin(1), Short::Ok),
+        Line::By(0, Ask::Call(Op::Fetch(10)), Short::Nothing(0)),
+        Line::By(0, Ask::Call(Op::Fetch(10)), Short::RowFull),
+        Line::By(0, Ask::Call(Op::Commit), Short::Committed(1)),
+        Line::By(0, Ask::Begin(2), Short::RowFull),
+    ],
+    then: Then::Closes,
+};
+
+/// A number that its seat leaves behind unended keeps its place.
+const THREE_PLACES: Story = Story {
+    name: "three places",
+    opening: Opening::Empty,
+    places: 3,
+    seats: 1,
+    lines: &[
+        Line::By(0, Ask::Begin(1), Short::Ok),
+        Line::By(0, Ask::Begin(2), Short::Ok),
+        Line::By(0, Ask::Call(Op::Fetch(10)), Short::Nothing(0)),
+        Line::By(0, Ask::Call(Op::Fetch(10)), Short::RowFull),
+        Line::By(0, Ask::Call(Op::Commit), Short::Committed(1)),
+        Line::By(0, Ask::Begin(3), Short::RowFull),
+    ],
+    then: Then::Closes,
+};
+
+/// An insert is blocked by a fetch of the gap, and a fetch by the insert until its commit.
+const THREE_SEATS: Story = Story {
+    name: "three seats",
+    opening: Opening::Empty,
+    places: 10,
+    seats: 3,
+    lines: &[
+        Line::By(0, Ask::Begin(1), Short::Ok),
+        Line::By(1, Ask::Begin(2), Short::Ok),
+        Line::By(2, Ask::Begin(3), Short::Ok),
+        Line::By(0, Ask::Call(Op::Fetch(15)), Short::Nothing(0)),
+        Line::By(1, Ask::Try(Op::Insert(17, 5)), Short::Blocked(1)),
+        Line::By(0, Ask::Call(Op::Commit), Short::Committed(1)),
+        Line::By(1, Ask::Call(Op::Insert(17, 5)), Short::Done(2)),
+        Line::By(2, Ask::Try(Op::Fetch(17)), Short::Blocked(2)),
+        Line::By(1, Ask::Call(Op::Commit), Short::Committed(3)),
+        Line::By(2, Ask::Call(Op::Fetch(17)), Short::Found(4, 5)),
+    ],
+    then: Then::Watched,
+};
+
+/// 65 seats: a 65th active transaction is refused until one has ended.
+const MANY_SEATS: Story = Story {
+    name: "many seats",
+    opening: Opening::OnePair,
+    places: 130,
+    seats: 65,
+    lines: &[
+        Line::EachBegins(65),
+        Line::EachFinds(64),
+        Line::By(64, Ask::Call(Op::Fetch(10)), Short::Full),
+        Line::By(0, Ask::Call(Op::Commit), Short::Committed(64)),
+        Line::By(64, Ask::Call(Op::Fetch(10)), Short::Found(65, 1)),
+        Line::By(64, Ask::Call(Op::Fetch(10)), Short::RowFull),
+    ],
+    then: Then::Closes,
+};
+
+/// One seat does 100,000 steps.
+const MANY_STEPS: Story = Story {
+    name: "many steps",
+    opening: Opening::Empty,
+    places: 100_001,
+    seats: 1,
+    lines: &[
+        Line::By(0, Ask::Begin(1), Short::Ok),
+        Line::Fetches(100_000),
+    ],
+    then: Then::Closes,
+};
+
+/// The share of a seat that has done nothing fits an engine without entries.
+const A_SHARE_OF_NOTHING: Story = Story {
+    name: "a share of nothing",
+    opening: Opening::Empty,
+    places: 10,
+    seats: 1,
+    lines: &[],
+    then: Then::Lends(Lent {
+        seat: 0,
+        count: 0,
+        last: None,
+    }),
+};
+
+/// It fits too where another seat has done something.
+const A_SHARE_BESIDE_ANOTHER: Story = Story {
+    name: "a share beside another",
+    opening: Opening::Empty,
+    places: 10,
+    seats: 2,
+    lines: &[
+        Line::By(0, Ask::Begin(1), Short::Ok),
+        Line::By(0, Ask::Call(Op::Fetch(10)), Short::Nothing(0)),
+    ],
+    then: Then::Lends(Lent {
+        seat: 1,
+        count: 0,
+        last: None,
+    }),
+};
+
+/// A seat is lost with its transaction active: its entry and its locks stay, and the closed engine names it.
+const A_LOST_SEAT: Story = Story {
+    name: "a lost seat",
+    opening: Opening::ThreePairs,
+    places: 10,
+    seats: 1,
+    lines: &[
+        Line::By(0, Ask::Begin(1), Short::Ok),
+        Line::By(0, Ask::Call(Op::Insert(15, 5)), Short::Done(0)),
+        Line::Lost,
+        Line::By(0, Ask::Begin(2), Short::Ok),
+        Line::By(0, Ask::Try(Op::Fetch(15)), Short::Blocked(1)),
+        Line::By(0, Ask::Call(Op::Fetch(10)), Short::Found(1, 1)),
+        Line::By(0, Ask::Call(Op::Commit), Short::Committed(2)),
+    ],
+    then: Then::LendsAndShows(
+        Lent {
+            seat: 1,
+            count: 2,
+            last: Some(2),
+        },
+        View {
+            entries: 3,
+            entry: (0, Op::Insert(15, 5)),
+            index: &[(10, 1), (15, 5), (20, 2), (30, 3)],
+            locks: &[((Name::Key(15), 1), 2)],
+            unfinished: &[1],
+            programs: 1,
+            program: Some((2, Op::Fetch(10), 1)),
+            first: (1, false),
+            second: (2, true),
+        },
+    ),
+};
+
+/// A change taken back needs a place that isn't kept, as every step does that ends no transaction. An abort takes back all
+/// that is left.
+const A_BACK_IN_A_FULL_ROW: Story = Story {
+    name: "a back in a full row",
+    opening: Opening::ThreePairs,
+    places: 3,
+    seats: 2,
+    lines: &[
+        Line::By(0, Ask::Begin(1), Short::Ok),
+        Line::By(0, Ask::Call(Op::Insert(15, 5)), Short::Done(0)),
+        Line::By(0, Ask::Call(Op::Insert(25, 6)), Short::Done(1)),
+        Line::By(0, Ask::Call(Op::Back), Short::RowFull),
+        Line::By(0, Ask::Call(Op::Abort), Short::Aborted(2)),
+    ],
+    then: Then::Shows(View {
+        entries: 3,
+        entry: (2, Op::Abort),
+        index: THREE_PAIRS,
+        locks: &[],
+        unfinished: &[],
+        programs: 0,
+        program: None,
+        first: (3, false),
+        second: (0, false),
+    }),
+};
+
+/// A delete and an insert of one key are taken back, the newest first. Each has its entry; the locks stay to the end, and
+/// nothing else is allowed before it.
+const TWO_CHANGES_BACK: Story = Story {
+    name: "two changes back",
+    opening: Opening::ThreePairs,
+    places: 10,
+    seats: 2,
+    lines: &[
+        Line::By(0, Ask::Begin(1), Short::Ok),
+        Line::By(1, Ask::Begin(2), Short::Ok),
+        Line::By(0, Ask::Call(Op::Delete(20)), Short::Deleted(0, 2)),
+        Line::By(0, Ask::Call(Op::Insert(20, 9)), Short::Done(1)),
+        Line::By(0, Ask::Call(Op::Back), Short::Undone(2, 1)),
+        Line::By(1, Ask::Try(Op::Fetch(20)), Short::Blocked(1)),
+        Line::By(0, Ask::Call(Op::Fetch(10)), Short::RollingBack),
+        Line::By(0, Ask::Call(Op::Commit), Short::RollingBack),
+        Line::By(0, Ask::Call(Op::Back), Short::Undone(3, 0)),
+        Line::By(1, Ask::Try(Op::Fetch(20)), Short::Blocked(1)),
+        Line::By(0, Ask::Call(Op::Back), Short::NothingLeft),
+        Line::By(0, Ask::Call(Op::Abort), Short::Aborted(4)),
+        Line::By(1, Ask::Call(Op::Fetch(20)), Short::Found(5, 2)),
+    ],
+    then: Then::Shows(View {
+        entries: 6,
+        entry: (3, Op::Back),
+        index: THREE_PAIRS,
+        locks: &[((Name::Key(20), 2), 3)],
+        unfinished: &[2],
+        programs: 0,
+        program: None,
+        first: (5, false),
+        second: (1, false),
+    }),
+};
+
+/// A key is updated twice, and both are taken back while another waits for it. An update that commits stays.
+const TWO_UPDATES_BACK: Story = Story {
+    name: "two updates back",
+    opening: Opening::ThreePairs,
+    places: 12,
+    seats: 2,
+    lines: &[
+        Line::By(0, Ask::Begin(1), Short::Ok),
+        Line::By(1, Ask::Begin(2), Short::Ok),
+        Line::By(0, Ask::Call(Op::Update(20, 9)), Short::Updated(0, 2)),
+        Line::By(0, Ask::Call(Op::Update(20, 8)), Short::Updated(1, 9)),
+        Line::By(0, Ask::Call(Op::Update(25, 1)), Short::Absent(2)),
+        Line::By(1, Ask::Try(Op::Fetch(20)), Short::Blocked(1)),
+        Line::By(0, Ask::Call(Op::Back), Short::Undone(3, 1)),
+        Line::By(1, Ask::Try(Op::Update(20, 7)), Short::Blocked(1)),
+        Line::By(0, Ask::Call(Op::Back), Short::Undone(4, 0)),
+        Line::By(0, Ask::Call(Op::Update(20, 7)), Short::RollingBack),
+        Line::By(0, Ask::Call(Op::Abort), Short::Aborted(5)),
+        Line::By(1, Ask::Call(Op::Update(20, 7)), Short::Updated(6, 2)),
+        Line::By(1, Ask::Call(Op::Back), Short::Undone(7, 0)),
+        Line::By(1, Ask::Call(Op::Abort), Short::Aborted(8)),
+        Line::By(1, Ask::Begin(3), Short::Ok),
+        Line::By(1, Ask::Call(Op::Update(20, 6)), Short::Updated(9, 2)),
+        Line::By(1, Ask::Call(Op::Commit), Short::Committed(10)),
+    ],
+    then: Then::Shows(View {
+        entries: 11,
+        entry: (4, Op::Back),
+        index: &[(10, 1), (20, 6), (30, 3)],
+        locks: &[],
+        unfinished: &[],
+        programs: 1,
+        program: None,
+        first: (6, false),
+        second: (5, false),
+    }),
+};
+
+/// Where the protocol offers no updates they are refused, and a transaction without changes has nothing to take back.
+const NO_UPDATES: Story = Story {
+    name: "no updates",
+    opening: Opening::ThreePairs,
+    places: 10,
+    seats: 2,
+    lines: &[
+        Line::By(0, Ask::Begin(1), Short::Ok),
+        Line::By(0, Ask::Call(Op::Update(20, 9)), Short::NoUpdate),
+        Line::By(0, Ask::Call(Op::Back), Short::NothingLeft),
+        Line::By(0, Ask::Call(Op::Fetch(20)), Short::Found(0, 2)),
+        Line::By(0, Ask::Call(Op::Back), Short::NothingLeft),
+        Line::By(0, Ask::Call(Op::Commit), Short::Committed(1)),
+    ],
+    then: Then::Shows(View {
+        entries: 2,
+        entry: (1, Op::Commit),
+        index: THREE_PAIRS,
+        locks: &[],
+        unfinished: &[],
+        programs: 1,
+        program: None,
+        first: (2, false),
+        second: (0, false),
+    }),
+};
+
+#[test]
+fn calls_of_one_thread(rt: HostRuntime) -> Result<(), Fail> {
+    let gate = Gate::new();
+    for story in [
+        TWO_SEATS,
+        TWO_PLACES,
+        THREE_PLACES,
+        THREE_SEATS,
+        MANY_SEATS,
+        MANY_STEPS,
+        A_SHARE_OF_NOTHING,
+        A_SHARE_BESIDE_ANOTHER,
+        A_LOST_SEAT,
+        A_BACK_IN_A_FULL_ROW,
+        TWO_CHANGES_BACK,
+        NO_UPDATES,
+    ] {
+        let name = story.name;
+        assert!(rt; is_so(&rt, rt.alloc(), Kvl, &gate, &story)?, "{name}");
+    }
+    Ok(())
+}
+
+#[test]
+fn updates_taken_back(rt: HostRuntime) -> Result<(), Fail> {
+    let gate = Gate::new();
+    assert!(rt; is_so(&rt, rt.alloc(), KvlUpdate, &gate, &TWO_UPDATES_BACK)?);
+    Ok(())
+}
