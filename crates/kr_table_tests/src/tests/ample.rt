@@ -1,9 +1,10 @@
 //! Tables with ample memory, none of which answers want of memory: each number of modes read, written and read back, with
-//! matrices that aren't symmetric; and each bundled table cut before each of its parts.
-use super::{are_alike, told};
-use kr_protocol::{Protocol, Row, Side, Span};
-use kr_table::texts::{IM, KVL, KVL_UPDATE, RANGE_KEY};
-use kr_table::{Table, read, write};
+//! matrices that aren't symmetric.
+
+use super::bundled::is_read_back;
+use super::faults::tells;
+use kr_protocol::{Mode, Protocol, Row, Side, Span};
+use kr_table::{Table, read};
 use std::alloc::{AllocError, Global};
 use std::process::Abort;
 use std::test::Fail;
@@ -64,72 +65,64 @@ fn document(alloc: Global, format: u8, count: u8) -> Result<String, AllocError> 
     Ok(text)
 }
 
-/// Compares what a table of so many modes answers.
-fn answers(rt: &impl Abort, table: &Table, count: u8) {
+/// Compares what a table of so many modes answers of two of them.
+fn answers_of(rt: &impl Abort, table: &Table, count: Mode, one: Mode, other: Mode) {
+    assert_eq!(rt; table.count(), count);
+    if one > table.count() || other > table.count() {
+        return;
+    }
+    let stands = table.ok(one, other);
+    let to = table.convert(one, other);
+    assert_eq!(rt; stands, one <= other, "{count} {one} {other}");
+    assert_eq!(rt; to, converted(count, one, other), "{count} {one} {other}");
+}
+
+/// Compares what a table of so many modes in a format asks for.
+fn asks(rt: &impl Abort, table: &Table, format: u8, count: Mode, own: Mode) {
+    if own > table.count() {
+        return;
+    }
+    let insert = table.ask(Row::Insert, Side::Next, own);
+    assert_eq!(rt; insert, Some((own, Span::Instant)), "{count} {own}");
+    let update = table.ask(Row::Update, Side::Current, 0);
+    assert_eq!(rt;
+        update,
+        (format == 2).then_some((count, Span::Commit)),
+        "{count}"
+    );
+    assert_eq!(rt; table.updates(), format == 2, "{count}");
+}
+
+/// Compares what a table of so many modes in a format answers.
+fn answers(rt: &impl Abort, table: &Table, format: u8, count: Mode) {
     assert_eq!(rt; table.count(), count);
     for one in 1..=count {
         for other in 1..=count {
-            assert_eq!(rt; table.ok(one, other), one <= other, "{count} {one} {other}");
-            let to = converted(count, one, other);
-            assert_eq!(rt; table.convert(one, other), to, "{count} {one} {other}");
+            answers_of(rt, table, count, one, other);
         }
-        assert_eq!(rt;
-            table.ask(Row::Insert, Side::Next, one),
-            Some((one, Span::Instant))
-        );
+        asks(rt, table, format, count, one);
     }
+}
+
+/// Reads a table of so many modes in a format, compares what it answers, and writes it and reads it back.
+fn has_modes(rt: &impl Abort, alloc: Global, format: u8, count: Mode) -> Result<(), Fail> {
+    let text = document(alloc, format, count)?;
+    let table = read(alloc, text.as_bytes())?;
+    answers(rt, &table, format, count);
+    is_read_back(rt, alloc, text.as_str())
+}
+
+/// Compares each number of modes in a format, and what is told of one too many.
+fn has_each_number(rt: &impl Abort, alloc: Global, format: u8) -> Result<(), Fail> {
+    for count in 1..=15 {
+        has_modes(rt, alloc, format, count)?;
+    }
+    let many = document(alloc, format, 16)?;
+    Ok(tells(rt, alloc, many.as_str(), "fault 5 ModeCount")?)
 }
 
 #[test]
 fn each_number_of_modes(rt: HostRuntime) -> Result<(), Fail> {
-    let alloc = rt.alloc();
-    for format in 1..=2_u8 {
-        for count in 1..=15 {
-            let table = read(alloc, document(alloc, format, count)?.as_bytes())?;
-            answers(&rt, &table, count);
-            let update = (format == 2).then_some((count, Span::Commit));
-            assert_eq!(rt; table.updates(), format == 2, "{count}");
-            assert_eq!(rt; table.ask(Row::Update, Side::Current, 0), update, "{count}");
-            let written = write(alloc, &table)?;
-            let again = read(alloc, written.as_bytes())?;
-            assert!(rt; are_alike(&table, &again), "{format} {count}");
-        }
-        let many = document(alloc, format, 16)?;
-        assert_eq!(rt; told(alloc, many.as_bytes())?.as_str(), "fault 5 ModeCount");
-    }
-    Ok(())
-}
-
-/// What is told of a table that is cut before a part.
-const CUTS: [(&str, &str); 6] = [
-    ("format", "fault 4 Field at format"),
-    ("modes", "fault 4 Field at modes"),
-    ("[compatible]", "fault 4 Field at compatible"),
-    ("[convert]", "fault 4 Field at convert"),
-    ("[rules.fetch-hit]", "fault 4 Field at rules"),
-    ("[rules.delete]", "none"),
-];
-
-#[test]
-fn bundled_tables_cut(rt: HostRuntime) -> Result<(), Fail> {
-    for text in [KVL, KVL_UPDATE, IM, RANGE_KEY] {
-        for (part, fault) in CUTS {
-            let (front, _) = text.split_once(part).ok_or("no part")?;
-            assert_eq!(rt;
-                told(rt.alloc(), front.as_bytes())?.as_str(),
-                fault,
-                "{part}"
-            );
-        }
-    }
-    Ok(())
-}
-
-#[test]
-fn updates_are_offered_without_their_row(rt: HostRuntime) -> Result<(), Fail> {
-    let (front, _) = KVL_UPDATE.split_once("[rules.update]").ok_or("no row")?;
-    let table = read(rt.alloc(), front.as_bytes())?;
-    assert!(rt; table.updates());
-    assert_eq!(rt; table.ask(Row::Update, Side::Current, 0), None);
-    Ok(())
+    has_each_number(&rt, rt.alloc(), 1)?;
+    has_each_number(&rt, rt.alloc(), 2)
 }
