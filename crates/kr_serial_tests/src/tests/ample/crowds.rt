@@ -1,11 +1,10 @@
 //! Runs of 64 active transactions with ample memory, none of which answers want of memory.
-use super::ample::{event, ran_by};
+use super::super::ways::{LOCKED, Way, ran_by};
+use super::inputs::event;
 use kr_index::Memory;
 use kr_model::{Event, Op, Refusal};
 use kr_serial::{Ran, Reply, Txn, judge};
 use std::alloc::Global;
-use std::process::Abort;
-use std::test::Fail;
 
 /// The number of one who comes when 64 are active, of which the greatest number is `last`.
 fn late(last: Txn) -> Txn {
@@ -63,16 +62,18 @@ fn was_crowd(ran: &Ran, last: Txn) -> bool {
 }
 
 /// Whether such a run in one of the ways does, and is serial.
-fn is_crowded(alloc: Global, way: u32, last: Txn) -> Result<bool, Memory> {
-    let ran = ran_by(alloc, way, &crowd(last))?;
-    Ok(was_crowd(&ran, last) & judge(alloc, &ran)?.is_serial())
+fn is_crowded(alloc: Global, way: Way, last: Txn) -> Result<bool, Memory> {
+    let ran = ran_by(alloc, way, &[], &crowd(last))?;
+    let verdict = judge(alloc, &ran)?;
+    Ok(was_crowd(&ran, last) & verdict.is_serial())
 }
 
 #[test]
-fn crowds_of_64(rt: HostRuntime) -> Result<(), Fail> {
+fn crowds_of_64(rt: HostRuntime) -> Result<(), Memory> {
     for last in [63, 64, 1000, u32::MAX - 1, u32::MAX] {
-        for way in 0..6 {
-            assert!(rt; is_crowded(rt.alloc(), way, last)?, "{way} {last}");
+        for way in LOCKED {
+            let crowded = is_crowded(rt.alloc(), way, last)?;
+            assert!(rt; crowded, "{way:?} {last}");
         }
     }
     Ok(())

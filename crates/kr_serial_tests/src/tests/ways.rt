@@ -1,0 +1,99 @@
+//! The ways in which events are run.
+ghost use Rattle.kr_model.specs.Map.{IsMap};
+
+use super::plain::Plain;
+use kr_index::Memory;
+use kr_model::Event;
+use kr_protocol::{Covered, Im, Kvl, KvlUpdate, RangeKey};
+use kr_serial::{Ran, run, run_any};
+use std::alloc::Global;
+
+/// The call that runs events, and the protocol that keeps transactions apart.
+#[derive(Clone, Copy, Debug)]
+pub enum Way {
+    /// By `run`, which takes covered protocols alone.
+    Run(Locking),
+    /// By `run_any`.
+    RunAny(Locking),
+    /// By `run_any`, and nothing keeps transactions apart.
+    WithoutLocks,
+}
+
+/// A bundled protocol, each of which is covered.
+#[derive(Clone, Copy, Debug)]
+pub enum Locking {
+    KeyValue,
+    KeyValueWithUpdates,
+    IndexSpecific,
+    RangeKey,
+}
+
+/// Both calls under key-value locking.
+pub const KEY_VALUE: &[Way] = &[Way::Run(Locking::KeyValue), Way::RunAny(Locking::KeyValue)];
+
+/// Both calls under key-value locking with updates.
+pub const KEY_VALUE_WITH_UPDATES: &[Way] = &[
+    Way::Run(Locking::KeyValueWithUpdates),
+    Way::RunAny(Locking::KeyValueWithUpdates),
+];
+
+/// Both calls under each protocol that has no updates.
+pub const LOCKED: [Way; 6] = [
+    Way::Run(Locking::KeyValue),
+    Way::Run(Locking::IndexSpecific),
+    Way::Run(Locking::RangeKey),
+    Way::RunAny(Locking::KeyValue),
+    Way::RunAny(Locking::IndexSpecific),
+    Way::RunAny(Locking::RangeKey),
+];
+
+/// Runs events by one of the two calls.
+fn ran_under<P: Covered>(
+    alloc: Global,
+    protocol: &P,
+    by_run: bool,
+    opening: &[(u64, u64)],
+    events: &[Event],
+) -> Result<Ran, Memory>
+    requires { IsMap opening.now }
+{
+    if by_run {
+        run(alloc, protocol, opening, events)
+    } else {
+        run_any(alloc, protocol, opening, events)
+    }
+}
+
+/// Runs events under a bundled protocol.
+fn ran_with(
+    alloc: Global,
+    locking: Locking,
+    by_run: bool,
+    opening: &[(u64, u64)],
+    events: &[Event],
+) -> Result<Ran, Memory>
+    requires { IsMap opening.now }
+{
+    match locking {
+        Locking::KeyValue => ran_under(alloc, &Kvl, by_run, opening, events),
+        Locking::KeyValueWithUpdates => ran_under(alloc, &KvlUpdate, by_run, opening, events),
+        Locking::IndexSpecific => ran_under(alloc, &Im, by_run, opening, events),
+        Locking::RangeKey => ran_under(alloc, &RangeKey, by_run, opening, events),
+    }
+}
+
+/// Runs events in one of the ways.
+pub fn ran_by(
+    alloc: Global,
+    way: Way,
+    opening: &[(u64, u64)],
+    events: &[Event],
+) -> Result<Ran, Memory>
+    requires { IsMap opening.now }
+{
+    match way {
+        Way::Run(locking) => ran_with(alloc, locking, true, opening, events),
+        Way::RunAny(locking) => ran_with(alloc, locking, false, opening, events),
+        Way::WithoutLocks => run_any(alloc, &Plain, opening, events),
+    }
+}
