@@ -1,0 +1,3 @@
+pub mod Lawful
+pub mod Sharing
+pub mod Rows

@@ -1,0 +1,22 @@
+-- Failed cases that are shared out to causes.
+use Rattle.std.specs.Prelude.{ℕ, ◌<◌, List, All, length, map}
+use Rattle.std.specs.List.{flat_map}
+use Rattle.std.specs.List.Sorted.{IsPermutation}
+use Rattle.kr_model.specs.declared.FailedCase.{FailedCase}
+use Rattle.kr_causes.specs.declared.cause.Cause.{Cause}
+use Rattle.kr_causes.specs.declared.cause.Suspect.{Suspect}
+
+-- The cases of all causes, one cause after another.
+abbrev pub all_cases : List Cause → List FailedCase
+all_cases causes = flat_map (λ c. c.cases.items) causes
+
+-- The causes share out the failed cases: each of them is in exactly one cause, as often as it was given.
+pub record ShareOut (causes : List Cause) (failed : List FailedCase) : Type 0 where
+  -- the cases of all causes are the failed ones, in another order
+  pub all : IsPermutation failed (all_cases causes)
+  -- no cause is empty
+  pub some : All (λ c. 0 < length c.cases.items) causes
+
+-- The cases of those that have no cause yet.
+abbrev pub cases_of : List Suspect → List FailedCase
+cases_of suspects = map (λ s. s.case) suspects

@@ -1,0 +1,41 @@
+//! What may be to blame for a failed case.
+use kr_model::{Mode, Row, Side, Span};
+
+/// What is to blame for failed cases.
+#[derive(Clone, Copy, Debug, PartialEq, Eq)]
+pub enum Blame {
+    /// What the row asks for at this side. No lock refuses it: the row asks for nothing there, or its request stands
+    /// beside every mode.
+    Place {
+        row: Row,
+        side: Side,
+    },
+    /// The request by which the lock was taken, or that nothing is asked for there.
+    Request {
+        row: Row,
+        side: Side,
+        asked: Option<(Mode, Span)>,
+    },
+    /// What the held mode and the requested mode convert to.
+    Conversion {
+        held: Mode,
+        requested: Mode,
+    },
+    /// That the requested mode stands beside the held one.
+    Pair {
+        requested: Mode,
+        held: Mode,
+    },
+}
+
+impl Blame {
+    /// Its place among what is blamed first where as many cases speak for another.
+    pub(crate) fn rank(&self) -> u8 {
+        match self {
+            Blame::Place { .. } => 0,
+            Blame::Conversion { .. } => 1,
+            Blame::Request { .. } => 2,
+            Blame::Pair { .. } => 3,
+        }
+    }
+}

@@ -1,0 +1,43 @@
+//! Changes of a single entry of a lock table.
+ghost use Rattle.std.specs.Prelude.{◌≡◌};
+ghost use Rattle.kr_causes.specs.Changes.{mode_of};
+
+use kr_model::{Mode, Row, Side, Span};
+
+/// A change of one entry of a lock table.
+#[derive(Clone, Copy, Debug, PartialEq, Eq)]
+pub enum Change {
+    /// The row asks for this mode and span at the side. With `own_next` only where the asker's own mode on the next name
+    /// is one of these: bit `o` is set for the own mode `o`.
+    Ask {
+        row: Row,
+        side: Side,
+        own_next: Option<u16>,
+        mode: Mode,
+        span: Span,
+    },
+    /// The held and the requested mode make this mode.
+    Convert {
+        held: Mode,
+        requested: Mode,
+        mode: Mode,
+    },
+    /// The requested mode doesn't stand beside the held one.
+    Apart {
+        requested: Mode,
+        held: Mode,
+    },
+}
+
+impl Change {
+    /// The mode that the changed entry has, or `None` where it has none.
+    pub fn mode(&self) -> Option<Mode>
+        ensures { result ≡ mode_of self.now }
+    {
+        match *self {
+            Change::Ask { mode, .. } => Some(mode),
+            Change::Convert { mode, .. } => Some(mode),
+            Change::Apart { .. } => None,
+        }
+    }
+}

@@ -1,0 +1,17 @@
+//! What is to blame for the failed cases of a protocol, and which changes of a single entry mend it.
+#![tactic(auto)]
+
+mod blame;
+mod cause;
+mod change;
+mod changed;
+mod mend;
+mod reasons;
+
+pub use blame::Blame;
+pub use cause::{Cause, causes};
+pub use change::Change;
+pub use changed::Changed;
+pub use kr_cases::Memory;
+pub use kr_model::{FailedCase, Mode, Row, Side, Span};
+pub use mend::{Mend, mends};

@@ -1,0 +1,221 @@
+//! Changes that mend the cases of a cause.
+ghost use Rattle.std.specs.Prelude.{◌≡◌, ◌≤◌, ◌↔◌, IsTrue, IfOk, IfSome, All, false, true, map};
+ghost use Rattle.std.specs.List.{Any};
+ghost use Rattle.kr_model.specs.Covers.{failed_cases, IsCovered};
+ghost use Rattle.kr_causes.specs.Mends.{IsSameCase, AreMended, IsMend, Tells};
+
+use crate::blame::Blame;
+use crate::cause::Cause;
+use crate::change::Change;
+use crate::changed::Changed;
+use crate::reasons::{asked, own_next};
+use kr_cases::{Memory, Rejected, check};
+use kr_model::{FailedCase, Mode, Row, Side, Span};
+use kr_protocol::Protocol;
+use std::alloc::{AllocError, Global};
+
+/// Changes that mend the cases of a cause, each by itself. They differ in their mode alone.
+#[derive(Debug, Drop)]
+pub struct Mend {
+    /// Whether with each of them the table is accepted. Else the cases hold with each, and no case fails that held.
+    pub is_accepted: bool,
+    /// The changes, at most 15, or none where none was found.
+    pub changes: Vec<Change>,
+}
+
+/// What the checker says of a change.
+enum Verdict {
+    /// With the change the table is accepted.
+    Accepted,
+    /// With the change the cases hold, and no case fails that held.
+    Mended,
+    /// Neither.
+    Neither,
+}
+
+/// Whether two failures are of one case.
+fn is_same_case(case: &FailedCase, other: &FailedCase) -> bool
+    ensures { IsTrue result ↔ IsSameCase case.now other.now }
+{
+    case.case == other.case && case.cover == other.cover && case.from == other.from
+}
+
+/// Whether a failure is of one of the cases.
+fn is_among(case: &FailedCase, cases: &[FailedCase]) -> bool
+    ensures { IsTrue result ↔ Any (IsSameCase case.now) cases.now }
+{
+    for other in cases {
+        if is_same_case(case, other) {
+            return true;
+        }
+    }
+    false
+}
+
+/// Whether none of the cases is among those that fail after a change, and each of these had failed before.
+fn are_mended(cases: &[FailedCase], failed: &[FailedCase], after: &[FailedCase]) -> bool
+    ensures { result ≡ true → AreMended cases.now failed.now after.now }
+{
+    for case in after {
+        if is_among(case, cases) || !is_among(case, failed) {
+            return false;
+        }
+    }
+    true
+}
+
+/// Asks the checker about a change.
+fn ask_checker<P: Protocol>(
+    alloc: Global,
+    protocol: &P,
+    failed: &[FailedCase],
+    cases: &[FailedCase],
+    change: Change,
+) -> Result<Verdict, Memory>
+    ensures { IfOk result (Tells (P.table protocol.now) cases.now failed.now change) }
+{
+    let Some(changed) = Changed::new(protocol, change) else {
+        return Ok(Verdict::Neither);
+    };
+    match check(alloc, changed) {
+        Ok(_) => Ok(Verdict::Accepted),
+        Err(Rejected { protocol: _, cause }) => match cause {
+            kr_cases::Cause::Failed(after) => {
+                if are_mended(cases, failed, &after) {
+                    Ok(Verdict::Mended)
+                } else {
+                    Ok(Verdict::Neither)
+                }
+            }
+            kr_cases::Cause::Memory => Err(AllocError),
+        },
+    }
+}
+
+/// The own modes on the next name with which the locks of the cases were taken, each as a bit; or `None` where these are
+/// all, or where the row doesn't go by them.
+fn own_modes<P: Protocol>(protocol: &P, row: Row, cases: &[FailedCase]) -> Option<u16> {
+    if !matches!(row, Row::Insert | Row::Delete) {
+        return None;
+    }
+    let mut modes: u16 = 0;
+    for case in cases {
+        let own = own_next(case);
+        if own <= protocol.count() {
+            modes |= 1 << own;
+        }
+    }
+    for own in 0..protocol.count() + 1 {
+        if modes >> own & 1 == 0 {
+            return Some(modes);
+        }
+    }
+    None
+}
+
+/// How long a lock is to be held where none was asked for so far.
+fn usual_span(row: Row, side: Side) -> Span {
+    match (row, side) {
+        (Row::Insert, Side::Next) | (Row::Delete, Side::Current) => Span::Instant,
+        _ => Span::Commit,
+    }
+}
+
+/// The change of what is to blame by which its entry has a mode.
+fn change_to<P: Protocol>(protocol: &P, cause: &Cause, mode: Mode) -> Change {
+    match cause.blame {
+        Blame::Place { row, side } => {
+            let span = match asked(protocol, row, side, 0) {
+                Some((_, span)) => span,
+                None => usual_span(row, side),
+            };
+            Change::Ask {
+                row,
+                side,
+                own_next: None,
+                mode,
+                span,
+            }
+        }
+        Blame::Request { row, side, .. } => Change::Ask {
+            row,
+            side,
+            own_next: own_modes(protocol, row, &cause.cases),
+            mode,
+            span: Span::Commit,
+        },
+        Blame::Conversion { held, requested } => Change::Convert {
+            held,
+            requested,
+            mode,
+        },
+        Blame::Pair { requested, held } => Change::Apart { requested, held },
+    }
+}
+
+/// The modes that the entry of what is to blame could have instead, in the order of trial: first a mode that is asked for
+/// and not kept. For a pair one stands for all, since its change has no mode.
+fn trials<P: Protocol>(alloc: Global, protocol: &P, blame: Blame) -> Result<Vec<Mode>, Memory> {
+    let mut modes = Vec::new(alloc);
+    let (first, left_out) = match blame {
+        Blame::Request {
+            asked: Some((mode, Span::Instant)),
+            ..
+        } => (Some(mode), Some(mode)),
+        Blame::Request {
+            asked: Some((mode, Span::Commit)),
+            ..
+        } => (None, Some(mode)),
+        Blame::Pair { requested, .. } => {
+            modes.push(requested)?;
+            return Ok(modes);
+        }
+        Blame::Conversion { held, requested }
+            if held <= protocol.count() && requested <= protocol.count() => {
+            (None, Some(protocol.convert(held, requested)))
+        }
+        _ => (None, None),
+    };
+    if let Some(mode) = first {
+        modes.push(mode)?;
+    }
+    for mode in 1..protocol.count() + 1 {
+        if left_out != Some(mode) {
+            modes.push(mode)?;
+        }
+    }
+    Ok(modes)
+}
+
+/// The changes of what is to blame that mend the cause's cases, by the checker's word on each: those with which it accepts
+/// the table; or, if there is none, those with which the cause's cases hold and no case fails that isn't in `failed`.
+pub fn mends<P: Protocol>(
+    alloc: Global,
+    protocol: &P,
+    failed: &[FailedCase],
+    cause: &Cause,
+) -> Result<Mend, Memory>
+    ensures { IfOk result (λ m. All (IsMend (P.table protocol.now) cause.now.cases.items failed.now m.is_accepted) m.changes.items) }
+{
+    let mut accepted = Vec::new(alloc);
+    let mut mended = Vec::new(alloc);
+    for mode in &trials(alloc, protocol, cause.blame)? {
+        let change = change_to(protocol, cause, *mode);
+        match ask_checker(alloc, protocol, failed, &cause.cases, change)? {
+            Verdict::Accepted => accepted.push(change)?,
+            Verdict::Mended => mended.push(change)?,
+            Verdict::Neither => {}
+        }
+    }
+    if accepted.is_empty() {
+        Ok(Mend {
+            is_accepted: false,
+            changes: mended,
+        })
+    } else {
+        Ok(Mend {
+            is_accepted: true,
+            changes: accepted,
+        })
+    }
+}

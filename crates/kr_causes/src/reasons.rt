@@ -1,0 +1,248 @@
+//! What may be to blame for one failed case.
+ghost use Rattle.std.specs.Prelude.{◌≤◌};
+
+use crate::blame::Blame;
+use kr_model::{Cover, FailedCase, Mode, Origin, Place, Row, Rule, Side, Span};
+use kr_protocol::Protocol;
+
+/// What may be to blame for a failed case.
+#[derive(Clone, Copy, Debug, PartialEq, Eq)]
+pub(crate) struct Reasons {
+    pub(crate) first: Blame,
+    pub(crate) others: [Option<Blame>; 3],
+}
+
+impl Reasons {
+    /// Whether something is one of the reasons.
+    pub(crate) fn name(&self, blame: Blame) -> bool {
+        self.first == blame || self.others.contains(&Some(blame))
+    }
+
+    /// A reason with no other.
+    fn only(first: Blame) -> Reasons {
+        Reasons {
+            first,
+            others: [None; 3],
+        }
+    }
+}
+
+/// The places that locks have to refuse, in the order in which they are blamed.
+const PLACES: [(Row, Side); 8] = [
+    (Row::FetchHit, Side::Current),
+    (Row::FetchMiss, Side::Next),
+    (Row::ScanKey, Side::Current),
+    (Row::ScanStop, Side::Next),
+    (Row::Insert, Side::Next),
+    (Row::Delete, Side::Current),
+    (Row::Delete, Side::Next),
+    (Row::Update, Side::Current),
+];
+
+/// Whether a lock that has the cover has to refuse what the row asks for at the side.
+fn must_refuse<P: Protocol>(protocol: &P, cover: Cover, row: Row, side: Side) -> bool {
+    match (row, side) {
+        (Row::FetchHit, Side::Current) => {
+            matches!(cover, Cover::InsertedKey | Cover::UpdatedKey)
+        }
+        (Row::FetchMiss | Row::ScanStop, Side::Next) => {
+            matches!(cover, Cover::InsertedKey | Cover::DeletedGap)
+        }
+        (Row::ScanKey, Side::Current) => {
+            matches!(
+                cover,
+                Cover::InsertedKey | Cover::DeletedGap | Cover::UpdatedKey
+            )
+        }
+        (Row::Insert, Side::Next) => matches!(cover, Cover::ReadGap | Cover::DeletedGap),
+        (Row::Delete, Side::Current) => true,
+        (Row::Delete, Side::Next) => matches!(cover, Cover::InsertedKey | Cover::DeletedGap),
+        (Row::Update, Side::Current) => {
+            protocol.updates()
+                && matches!(
+                    cover,
+                    Cover::ReadKey | Cover::InsertedKey | Cover::UpdatedKey
+                )
+        }
+        _ => false,
+    }
+}
+
+/// What a row asks for at a side, and nothing where `own_next` is no mode.
+pub(crate) fn asked<P: Protocol>(
+    protocol: &P,
+    row: Row,
+    side: Side,
+    own_next: Mode,
+) -> Option<(Mode, Span)> {
+    if own_next > protocol.count() {
+        return None;
+    }
+    protocol.ask(row, side, own_next)
+}
+
+/// Whether a request may stand beside a lock, both of them modes or none.
+fn stands_beside<P: Protocol>(protocol: &P, requested: Mode, held: Mode) -> bool {
+    if requested > protocol.count() || held > protocol.count() {
+        return true;
+    }
+    protocol.ok(requested, held)
+}
+
+/// The mode of one who holds a mode and asks for another, both of them modes or none.
+fn converted<P: Protocol>(protocol: &P, held: Mode, requested: Mode) -> Mode {
+    if held > protocol.count() || requested > protocol.count() {
+        return requested;
+    }
+    protocol.convert(held, requested)
+}
+
+/// Whether no lock refuses what the row asks for at the side, where the asker holds nothing.
+fn is_void<P: Protocol>(protocol: &P, row: Row, side: Side) -> bool {
+    match protocol.ask(row, side, 0) {
+        None => true,
+        Some((requested, _)) => {
+            for held in 1..protocol.count() + 1 {
+                if !protocol.ok(requested, held) {
+                    return false;
+                }
+            }
+            true
+        }
+    }
+}
+
+/// The first place that no lock refuses, of those that the cover has to refuse.
+fn void_place<P: Protocol>(protocol: &P, cover: Cover) -> Option<Blame> {
+    for (row, side) in PLACES {
+        if must_refuse(protocol, cover, row, side) && is_void(protocol, row, side) {
+            return Some(Blame::Place { row, side });
+        }
+    }
+    None
+}
+
+/// Whether a lock in a mode refuses what a row asks for at a side, whatever the asker holds.
+fn refuses<P: Protocol>(protocol: &P, held: Mode, row: Row, side: Side) -> bool {
+    for own_next in 0..protocol.count() + 1 {
+        let Some((requested, _)) = protocol.ask(row, side, own_next) else {
+            return false;
+        };
+        for own in 0..protocol.count() + 1 {
+            let can_hold = side == Side::Current || own == own_next;
+            if can_hold && stands_beside(protocol, converted(protocol, own, requested), held) {
+                return false;
+            }
+        }
+    }
+    true
+}
+
+/// Whether a lock in a mode leaves no place open of those that the cover has to refuse.
+fn serves<P: Protocol>(protocol: &P, cover: Cover, held: Mode) -> bool {
+    for (row, side) in PLACES {
+        if must_refuse(protocol, cover, row, side) && !refuses(protocol, held, row, side) {
+            return false;
+        }
+    }
+    true
+}
+
+/// Where the lock was taken on which a case relies, of a case that isn't of a conversion.
+fn taken_at(rule: Rule) -> Option<(Row, Side)> {
+    match rule {
+        Rule::Conversion => None,
+        Rule::FetchHit => Some((Row::FetchHit, Side::Current)),
+        Rule::FetchMiss => Some((Row::FetchMiss, Side::Next)),
+        Rule::ScanKey => Some((Row::ScanKey, Side::Current)),
+        Rule::ScanStop => Some((Row::ScanStop, Side::Next)),
+        Rule::Insert | Rule::Split => Some((Row::Insert, Side::Current)),
+        Rule::Delete => Some((Row::Delete, Side::Next)),
+        Rule::Update => Some((Row::Update, Side::Current)),
+    }
+}
+
+/// The own mode on the next name with which the lock of a case was taken, and none where the row doesn't go by it.
+pub(crate) fn own_next(case: &FailedCase) -> Mode {
+    match (case.case, case.from) {
+        (Rule::Insert | Rule::Split, Origin::Two(next, _)) => next,
+        (Rule::Delete, Origin::One(next)) => next,
+        _ => 0,
+    }
+}
+
+/// The mode that the holder had on the name of a case before its step.
+fn own_there(case: &FailedCase) -> Mode {
+    match case.from {
+        Origin::One(own) => own,
+        Origin::Two(_, own) => own,
+    }
+}
+
+/// The conversion by which the lock of a case was taken, where the mode that was asked for serves the cover by itself.
+fn weakened<P: Protocol>(
+    protocol: &P,
+    case: &FailedCase,
+    asked: Option<(Mode, Span)>,
+) -> Option<Blame> {
+    let held = own_there(case);
+    match asked {
+        Some((requested, Span::Commit)) if held != 0 && serves(protocol, case.cover, requested) => {
+            Some(Blame::Conversion { held, requested })
+        }
+        _ => None,
+    }
+}
+
+/// The conversion by which an asker comes through at the open place, and the pair of modes that stands together there.
+fn let_in<P: Protocol>(protocol: &P, mode: Mode, hole: Place) -> [Option<Blame>; 2] {
+    let Some((requested, _)) = asked(protocol, hole.row, hole.side, hole.own_next) else {
+        return [None, None];
+    };
+    if mode == 0 {
+        return [None, None];
+    }
+    let conversion = if hole.own != 0 && !stands_beside(protocol, requested, mode) {
+        Some(Blame::Conversion {
+            held: hole.own,
+            requested,
+        })
+    } else {
+        None
+    };
+    let pair = Blame::Pair {
+        requested: converted(protocol, hole.own, requested),
+        held: mode,
+    };
+    [conversion, Some(pair)]
+}
+
+/// What may be to blame for a failed case, in the order in which it is blamed.
+pub(crate) fn reasons_for<P: Protocol>(protocol: &P, case: &FailedCase) -> Reasons {
+    if let Some(place) = void_place(protocol, case.cover) {
+        return Reasons::only(place);
+    }
+    let [conversion, pair] = let_in(protocol, case.mode, case.hole);
+    match (taken_at(case.case), case.from) {
+        (Some((row, side)), _) => {
+            let asked = asked(protocol, row, side, own_next(case));
+            let first = if is_void(protocol, row, side) {
+                Blame::Place { row, side }
+            } else {
+                Blame::Request { row, side, asked }
+            };
+            Reasons {
+                first,
+                others: [weakened(protocol, case, asked), conversion, pair],
+            }
+        }
+        (None, Origin::Two(held, requested)) => Reasons {
+            first: Blame::Conversion { held, requested },
+            others: [None, conversion, pair],
+        },
+        (None, Origin::One(held)) => Reasons {
+            first: Blame::Conversion { held, requested: 0 },
+            others: [None, conversion, pair],
+        },
+    }
+}
