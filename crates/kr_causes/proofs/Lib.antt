@@ -1,3 +1,4 @@
 pub mod Lawful
 pub mod Sharing
 pub mod Rows
+pub mod Given

@@ -1,5 +1,5 @@
 //! Failed cases, put together by what is to blame.
-ghost use Rattle.std.specs.Prelude.{◌≡◌, ℕ, ◌<◌, ◌++◌, IfOk, All, length};
+ghost use Rattle.std.specs.Prelude.{◌≡◌, ℕ, ◌<◌, ◌++◌, IfOk, IsTrue, All, length};
 ghost use Rattle.std.specs.List.Sorted.{IsPermutation};
 ghost use Rattle.kr_causes.specs.Causes.{ShareOut, cases_of};
 
@@ -127,6 +127,13 @@ struct Parted {
     left: Vec<Suspect>,
 }
 
+/// Whether a suspect is explained by what is blamed: it is the one that spoke for it first, or names it.
+fn is_explained(suspect: Suspect, number: usize, leader: Tally) -> bool
+    ensures { number ≡ leader.first → IsTrue result }
+{
+    number == leader.first || suspect.reasons.name(leader.blame)
+}
+
 /// Parts the suspects by what is blamed: the first of them that names it, and all others that do.
 fn part(alloc: Global, suspects: &[Suspect], leader: Tally) -> Result<Parted, Memory>
     requires { leader.first < length suspects.now }
@@ -137,7 +144,7 @@ fn part(alloc: Global, suspects: &[Suspect], leader: Tally) -> Result<Parted, Me
     let mut left = Vec::new(alloc);
     for number in 0..suspects.len() {
         let suspect = suspects[number];
-        if number == leader.first || suspect.reasons.name(leader.blame) {
+        if is_explained(suspect, number, leader) {
             explained.push(suspect.case)?;
         } else {
             left.push(suspect)?;

@@ -44,24 +44,28 @@ fn is_same_case(case: &FailedCase, other: &FailedCase) -> bool
 fn is_among(case: &FailedCase, cases: &[FailedCase]) -> bool
     ensures { IsTrue result ↔ Any (IsSameCase case.now) cases.now }
 {
-    for other in cases {
-        if is_same_case(case, other) {
-            return true;
-        }
-    }
-    false
+    cases.iter().any(|other| is_same_case(case, other))
+}
+
+/// Whether none of the failures is of one of the cases.
+fn none_is_among(failed: &[FailedCase], cases: &[FailedCase]) -> bool
+    ensures { result ≡ true → All (λ f. Any (IsSameCase f) cases.now → ⊥) failed.now }
+{
+    failed.iter().all(|case| !is_among(case, cases))
+}
+
+/// Whether each of the failures is of one of the cases.
+fn each_is_among(failed: &[FailedCase], cases: &[FailedCase]) -> bool
+    ensures { result ≡ true → All (λ f. Any (IsSameCase f) cases.now) failed.now }
+{
+    failed.iter().all(|case| is_among(case, cases))
 }
 
 /// Whether none of the cases is among those that fail after a change, and each of these had failed before.
 fn are_mended(cases: &[FailedCase], failed: &[FailedCase], after: &[FailedCase]) -> bool
     ensures { result ≡ true → AreMended cases.now failed.now after.now }
 {
-    for case in after {
-        if is_among(case, cases) || !is_among(case, failed) {
-            return false;
-        }
-    }
-    true
+    none_is_among(after, cases) && each_is_among(after, failed)
 }
 
 /// Asks the checker about a change.
