@@ -15,18 +15,33 @@ pub record IsSameCase (f g : FailedCase) : Type 0 where
   pub cover : f.cover ≡ g.cover
   pub from : f.from ≡ g.from
 
+-- A failure is of one of the cases.
+pub record IsAmong (f : FailedCase) (cases : List FailedCase) : Type 0 where
+  pub some : Any (IsSameCase f) cases
+
 -- Of the cases that fail after a change, none is among those that it has to mend, and each had failed before.
 pub record AreMended (cases failed after : List FailedCase) : Type 0 where
-  pub mended : All (λ f. Any (IsSameCase f) cases → ⊥) after
-  pub no_other : All (λ f. Any (IsSameCase f) failed) after
+  pub mended : All (λ f. IsAmong f cases → ⊥) after
+  pub no_other : All (λ f. IsAmong f failed) after
 
--- With the change the table is accepted; or, where it isn't, the cases hold, and no case fails that held.
+-- The change is one of p's, and with it the table is accepted.
+pub record Accepts (p : Protocol) (c : Change) : Type 0 where
+  pub change : is_change p c ≡ true
+  pub covered : IsCovered (changed p c)
+
+-- The change is one of p's, and with it the table isn't accepted, but the cases hold, and no case fails that held.
+pub record Mends (p : Protocol) (cases failed : List FailedCase) (c : Change) : Type 0 where
+  pub change : is_change p c ≡ true
+  pub refused : failed_cases (changed p c) ≢ []
+  pub mended : AreMended cases failed (failed_cases (changed p c))
+
+-- A change that mends: where it is said that the table is then accepted, it is; else the cases hold.
 abbrev pub IsMend : Protocol → List FailedCase → List FailedCase → Bool → Change → Type 0
-IsMend p cases failed true c = (is_change p c ≡ true) × IsCovered (changed p c)
-IsMend p cases failed false c = (is_change p c ≡ true) × (failed_cases (changed p c) ≢ []) × AreMended cases failed (failed_cases (changed p c))
+IsMend p cases failed true c = Accepts p c
+IsMend p cases failed false c = Mends p cases failed c
 
 -- What the checker's word says of a change.
 abbrev pub Tells : Protocol → List FailedCase → List FailedCase → Change → Verdict → Type 0
-Tells p cases failed c Accepted = IsMend p cases failed true c
-Tells p cases failed c Mended = IsMend p cases failed false c
+Tells p cases failed c Accepted = Accepts p c
+Tells p cases failed c Mended = Mends p cases failed c
 Tells p cases failed c Neither = Unit {0}

@@ -2,7 +2,7 @@
 ghost use Rattle.std.specs.Prelude.{◌≡◌, ◌≤◌, ◌↔◌, IsTrue, IfOk, IfSome, All, false, true, map};
 ghost use Rattle.std.specs.List.{Any};
 ghost use Rattle.kr_model.specs.Covers.{failed_cases, IsCovered};
-ghost use Rattle.kr_causes.specs.Mends.{IsSameCase, AreMended, IsMend, Tells};
+ghost use Rattle.kr_causes.specs.Mends.{IsSameCase, IsAmong, AreMended, IsMend, Tells};
 
 use crate::blame::Blame;
 use crate::cause::Cause;
@@ -40,25 +40,37 @@ fn is_same_case(case: &FailedCase, other: &FailedCase) -> bool
     case.case == other.case && case.cover == other.cover && case.from == other.from
 }
 
-/// Whether a failure is of one of the cases.
-fn is_among(case: &FailedCase, cases: &[FailedCase]) -> bool
+/// Whether some of the cases is that of a failure.
+fn has_same(cases: &[FailedCase], case: &FailedCase) -> bool
     ensures { IsTrue result ↔ Any (IsSameCase case.now) cases.now }
 {
     cases.iter().any(|other| is_same_case(case, other))
 }
 
+/// Whether a failure is of one of the cases.
+fn is_among(case: &FailedCase, cases: &[FailedCase]) -> bool
+    ensures { IsTrue result ↔ IsAmong case.now cases.now }
+{
+    has_same(cases, case)
+}
+
 /// Whether none of the failures is of one of the cases.
 fn none_is_among(failed: &[FailedCase], cases: &[FailedCase]) -> bool
-    ensures { result ≡ true → All (λ f. Any (IsSameCase f) cases.now → ⊥) failed.now }
+    ensures { result ≡ true → All (λ f. IsAmong f cases.now → ⊥) failed.now }
 {
     failed.iter().all(|case| !is_among(case, cases))
 }
 
 /// Whether each of the failures is of one of the cases.
 fn each_is_among(failed: &[FailedCase], cases: &[FailedCase]) -> bool
-    ensures { result ≡ true → All (λ f. Any (IsSameCase f) cases.now) failed.now }
+    ensures { result ≡ true → All (λ f. IsAmong f cases.now) failed.now }
 {
-    failed.iter().all(|case| is_among(case, cases))
+    for case in failed {
+        if !is_among(case, cases) {
+            return false;
+        }
+    }
+    true
 }
 
 /// Whether none of the cases is among those that fail after a change, and each of these had failed before.

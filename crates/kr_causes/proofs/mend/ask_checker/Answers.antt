@@ -12,10 +12,11 @@ pub returns-in-Ok : goal.returns-in-Ok
 returns-in-Ok g c =
     let table = g.P.Protocol.table in
     let made = c.in-Some.changed in
-    let same = ap table c.in-Some.ensures.base in (
-      sym c.in-Some.ensures.exactly,
-      at_given IsCovered (table c.args.protocol.now) (table made.base.now) c.args.change made.change same c.in-Some.ensures.change (c.in-Ok.ensures.exactly.0 refl),
-    )
+    let same = ap table c.in-Some.ensures.base in
+    record {
+      change = sym c.in-Some.ensures.exactly;
+      covered = at_given IsCovered (table c.args.protocol.now) (table made.base.now) c.args.change made.change same c.in-Some.ensures.change (c.in-Ok.ensures.exactly.0 refl);
+    }
 
 -- the cases that fail are those of the table that was given, changed
 pub returns-then-are_mended : goal.returns-then-are_mended
@@ -27,8 +28,9 @@ returns-then-are_mended g c =
     let same = ap table c.in-Some.ensures.base in
     let told = subst (Tells (changed q made.change)) c.in-Failed.is c.in-Err.ensures.cause in
     let after = c.deref.ensures.value ∙ told in
-    let mended = subst (AreMended c.args.cases.now c.args.failed.now) after (c.are_mended.ensures c.if-are_mended.true) in (
-      sym c.in-Some.ensures.exactly,
-      (λ h. let refused : false ≡ true = c.in-Err.ensures.exactly.1 (at_given IsCovered q p made.change c.args.change (sym same) (sym c.in-Some.ensures.change) h) in cc),
-      at_given (λ (r : Protocol). AreMended c.args.cases.now c.args.failed.now (failed_cases r)) p q c.args.change made.change same c.in-Some.ensures.change mended,
-    )
+    let mended = subst (AreMended c.args.cases.now c.args.failed.now) after (c.are_mended.ensures c.if-are_mended.true) in
+    record {
+      change = sym c.in-Some.ensures.exactly;
+      refused = λ h. let refused : false ≡ true = c.in-Err.ensures.exactly.1 (at_given IsCovered q p made.change c.args.change (sym same) (sym c.in-Some.ensures.change) h) in cc;
+      mended = at_given (λ (r : Protocol). AreMended c.args.cases.now c.args.failed.now (failed_cases r)) p q c.args.change made.change same c.in-Some.ensures.change mended;
+    }

@@ -1,11 +1,29 @@
-use Rattle.std.proofs.Common.{◌≡◌}
+use Rattle.std.proofs.Common.{◌≡◌, ◌∙◌, ◌++◌, ◌∷◌, [], ap, sym, subst, List, All}
+use Rattle.std.proofs.lemmas.List.Elements.{All-push}
+use Rattle.kr_model.specs.declared.FailedCase.{FailedCase}
+use Rattle.kr_causes.specs.Mends.{Accepts, Mends, Tells}
 use Rattle.kr_causes.proofs.mend.mends.Goals as goal
 use Rattle.kr_causes.proofs.mend.mends.Goals.{in-Accepted+in_ok-push-in-Accepted, in-Mended+in_ok-push-in-Mended, in-Neither}
 
 -- what the checker said of one change more
 pub loop-mode-preserved : goal.loop-mode-preserved
-loop-mode-preserved g c = elim c.match-branch-3.branch [
-  | in-Accepted+in_ok-push-in-Accepted w ↦ let a = w.in-Accepted in let b = w.in_ok-push-in-Accepted.ensures in let d = w.accepted-is in let e = w.mended-is in let f = c.in_ok-ask_checker.ensures in ?
-  | in-Mended+in_ok-push-in-Mended w ↦ ?
-  | in-Neither w ↦ ?
-]
+loop-mode-preserved g c =
+    let p = g.P.Protocol.table c.args.protocol.now in
+    let cases = c.args.cause.now.cases.items in
+    let failed = c.args.failed.now in
+    let change = c.change_to-change.result in
+    let told = subst (λ (xs : List FailedCase). Tells p xs failed change c.in_ok-ask_checker.field-0) c.deref.ensures.value c.in_ok-ask_checker.ensures in
+    elim c.match-branch-3.branch [
+      | in-Accepted+in_ok-push-in-Accepted w ↦ record {
+        accepted = subst (All (Accepts p)) (sym (ap (λ v. v.items) w.accepted-is ∙ w.in_ok-push-in-Accepted.ensures.items)) (All-push (Accepts p) c.loop-mode.accepted.items change c.loop-mode.invariant.accepted (subst (Tells p cases failed change) w.in-Accepted.is told));
+        mended = subst (All (Mends p cases failed)) (sym (ap (λ v. v.items) w.mended-is)) c.loop-mode.invariant.mended;
+      }
+      | in-Mended+in_ok-push-in-Mended w ↦ record {
+        accepted = subst (All (Accepts p)) (sym (ap (λ v. v.items) w.accepted-is)) c.loop-mode.invariant.accepted;
+        mended = subst (All (Mends p cases failed)) (sym (ap (λ v. v.items) w.mended-is ∙ w.in_ok-push-in-Mended.ensures.items)) (All-push (Mends p cases failed) c.loop-mode.mended.items change c.loop-mode.invariant.mended (subst (Tells p cases failed change) w.in-Mended.is told));
+      }
+      | in-Neither w ↦ record {
+        accepted = subst (All (Accepts p)) (sym (ap (λ v. v.items) w.accepted-is)) c.loop-mode.invariant.accepted;
+        mended = subst (All (Mends p cases failed)) (sym (ap (λ v. v.items) w.mended-is)) c.loop-mode.invariant.mended;
+      }
+    ]
