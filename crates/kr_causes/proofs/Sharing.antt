@@ -4,7 +4,7 @@ use Rattle.std.specs.List.{flat_map}
 use Rattle.std.specs.List.Sorted.{IsPermutation}
 use Rattle.std.proofs.Common.{sym, ap, subst, ◌∙◌, arith, append_assoc, length-append}
 use Rattle.std.proofs.lemmas.Bool.Decides.{nat_tests}
-use Rattle.std.proofs.lemmas.List.{append-nil, map-append, take_more}
+use Rattle.std.proofs.lemmas.List.{append-nil, length-map, map-append, take_more}
 use Rattle.std.proofs.lemmas.Grind.{flat_map-append, common_steps}
 use Rattle.std.proofs.lemmas.List.Sorted.{IsPermutation-trans, IsPermutation-append_left, IsPermutation-append_right, IsPermutation-to_front, length_permutation}
 use Rattle.kr_model.specs.declared.FailedCase.{FailedCase}
@@ -78,3 +78,17 @@ leader_before first number explained low isnt if_first = earlier first number lo
   where
     never : (b : Bool) → b ≡ false → b ≡ true → ⊥
     never b p q = cc
+
+-- fewer suspects are left
+pub fewer_left : (left now : List Suspect) (taken : List FailedCase) (kept : List Suspect) → now ≡ left → IsPermutation (cases_of now) (taken ++ cases_of kept) → 0 < length taken → length kept < length left
+fewer_left left now taken kept is part some =
+    let less : length (cases_of kept) < length (cases_of now) = fewer (cases_of now) taken (cases_of kept) part some in
+    let before : length (cases_of now) ≡ length now = length-map now (λ s. s.case) in
+    let after : length (cases_of kept) ≡ length kept = length-map kept (λ s. s.case) in
+    omega (arith, less, before, after, ap length is)
+
+-- one cause more, with the cases that it explains
+pub shared_next : (failed : List FailedCase) (causes causes2 : List Cause) (c : Cause) (left now kept : List Suspect) → now ≡ left → IsPermutation failed (all_cases causes ++ cases_of left) → IsPermutation (cases_of now) (c.cases.items ++ cases_of kept) → causes2 ≡ causes ++ c ∷ [] → IsPermutation failed (all_cases causes2 ++ cases_of kept)
+shared_next failed causes causes2 c left now kept is all part more =
+    subst (λ (xs : List FailedCase). IsPermutation failed (xs ++ cases_of kept)) (sym (ap all_cases more ∙ all_cases-more causes c))
+    (parted failed (all_cases causes) (cases_of left) c.cases.items (cases_of kept) all (subst (λ (ss : List Suspect). IsPermutation (cases_of ss) (c.cases.items ++ cases_of kept)) is part))
