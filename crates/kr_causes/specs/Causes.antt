@@ -1,5 +1,5 @@
 -- Failed cases that are shared out to causes.
-use Rattle.std.specs.Prelude.{ℕ, ◌<◌, List, All, length, map}
+use Rattle.std.specs.Prelude.{◌<◌, List, All, length, map}
 use Rattle.std.specs.List.{flat_map}
 use Rattle.std.specs.List.Sorted.{IsPermutation}
 use Rattle.kr_model.specs.declared.FailedCase.{FailedCase}

@@ -1,5 +1,5 @@
 -- Changes that mend failed cases.
-use Rattle.std.specs.Prelude.{◌≡◌, ◌≢◌, ℕ, [], List, Bool, true, false, All}
+use Rattle.std.specs.Prelude.{◌≡◌, ◌≢◌, [], List, Bool, true, false, All}
 use Rattle.std.specs.List.{Any}
 use Rattle.kr_model.specs.declared.FailedCase.{FailedCase}
 use Rattle.kr_model.specs.Protocol.{Protocol}

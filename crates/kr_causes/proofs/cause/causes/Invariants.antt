@@ -1,4 +1,4 @@
-use Rattle.std.specs.Prelude.{ℕ, ◌<◌, ◌++◌, length, All}
+use Rattle.std.specs.Prelude.{◌<◌, ◌++◌, length, All}
 use Rattle.std.specs.List.Sorted.{IsPermutation}
 use Rattle.kr_causes.specs.Causes.{all_cases, cases_of}
 use Rattle.kr_causes.proofs.cause.causes.Given as goal

@@ -1,4 +1,4 @@
-use Rattle.std.proofs.Common.{◌<◌, sym, subst, ap, All, ℕ, length, arith}
+use Rattle.std.proofs.Common.{◌<◌, sym, subst, ap, All, length, arith}
 use Rattle.std.proofs.lemmas.List.Elements.{All-set}
 use Rattle.kr_causes.specs.declared.cause.Tally.{Tally}
 use Rattle.kr_causes.proofs.cause.count.Goals as goal

@@ -1,4 +1,4 @@
-use Rattle.std.proofs.Common.{◌≡◌, ◌∙◌, ap, sym, subst, length, ◌<◌, List}
+use Rattle.std.proofs.Common.{◌∙◌, ap, sym, subst, length, ◌<◌, List}
 use Rattle.kr_model.specs.declared.FailedCase.{FailedCase}
 use Rattle.kr_causes.proofs.Sharing.{taken_next, kept_next, some_more, leader_before}
 use Rattle.kr_causes.proofs.cause.part.Goals as goal

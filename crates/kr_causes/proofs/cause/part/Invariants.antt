@@ -1,4 +1,4 @@
-use Rattle.std.specs.Prelude.{ℕ, ◌<◌, ◌++◌, length, take}
+use Rattle.std.specs.Prelude.{◌<◌, ◌++◌, length, take}
 use Rattle.std.specs.List.Sorted.{IsPermutation}
 use Rattle.kr_causes.specs.Causes.{cases_of}
 use Rattle.kr_causes.proofs.cause.part.Given as goal

@@ -1,4 +1,4 @@
-use Rattle.std.proofs.Common.{◌≡◌, subst, sym, take, All}
+use Rattle.std.proofs.Common.{subst, sym, take, All}
 use Rattle.std.proofs.lemmas.List.{take_all, take_more}
 use Rattle.std.proofs.lemmas.List.Elements.{All-push}
 use Rattle.kr_model.specs.declared.FailedCase.{FailedCase}

@@ -1,4 +1,4 @@
-use Rattle.std.proofs.Common.{◌≡◌, ◌∙◌, ◌++◌, ◌∷◌, [], ap, sym, subst, List, All}
+use Rattle.std.proofs.Common.{◌∙◌, ap, sym, subst, List, All}
 use Rattle.std.proofs.lemmas.List.Elements.{All-push}
 use Rattle.kr_model.specs.declared.FailedCase.{FailedCase}
 use Rattle.kr_causes.specs.Mends.{Accepts, Mends, Tells}

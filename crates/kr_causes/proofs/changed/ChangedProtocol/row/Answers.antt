@@ -1,4 +1,4 @@
-use Rattle.std.proofs.Common.{◌≡◌, ◌∙◌, ◌*◌, ◌%◌, ◌^◌, ◌≤◌, ◌<◌, sym, subst, true, arith, IsTrue, ℕ}
+use Rattle.std.proofs.Common.{◌≡◌, ◌*◌, ◌%◌, ◌^◌, ◌≤◌, ◌<◌, sym, subst, true, arith, ℕ}
 use Rattle.std.specs.Int.RustNames.{bit_or}
 use Rattle.kr_model.proofs.Tested.{and_second}
 use Rattle.kr_protocol.specs.Rows.{IsRow}
