@@ -46,6 +46,19 @@ fn both(rt: &impl Abort, alloc: Global) -> Result<Vec<Script>, Fail> {
     Ok(scripts)
 }
 
+/// Compares the line of a verdict.
+fn tells(rt: &impl Abort, alloc: Global, verdict: &Verdict, expected: &str) -> Result<(), Fail> {
+    let told = line(alloc, verdict)?;
+    assert_eq!(rt; told.as_str(), expected);
+    Ok(())
+}
+
+/// What is told of the two scripts.
+const VERDICTS: [&str; 2] = [
+    r#"{"script":"s","verdict":["serial"]}"#,
+    r#"{"script":"s","verdict":["not-serial",1,1,["none"],["found",7]]}"#,
+];
+
 #[test]
 fn verdicts_on_two_scripts(rt: HostRuntime) -> Result<(), Fail> {
     let alloc = rt.alloc();
@@ -53,12 +66,6 @@ fn verdicts_on_two_scripts(rt: HostRuntime) -> Result<(), Fail> {
     let scripts = both(&rt, alloc)?;
     let verdicts = verdicts(&rt, &table, scripts.as_slice())?;
     assert_eq!(rt; verdicts.len(), 2);
-    let first = line(alloc, &verdicts[0])?;
-    assert_eq!(rt; first.as_str(), r#"{"script":"s","verdict":["serial"]}"#);
-    let second = line(alloc, &verdicts[1])?;
-    assert_eq!(rt;
-        second.as_str(),
-        r#"{"script":"s","verdict":["not-serial",1,1,["none"],["found",7]]}"#
-    );
-    Ok(())
+    tells(&rt, alloc, &verdicts[0], VERDICTS[0])?;
+    tells(&rt, alloc, &verdicts[1], VERDICTS[1])
 }

@@ -72,32 +72,34 @@ fn report<P: Protocol>(alloc: Global, protocol: &P, script: &Script) -> Result<S
     }
 }
 
+/// Compares the report of the run of a script.
+fn reports<P: Protocol>(
+    rt: &impl Abort,
+    alloc: Global,
+    protocol: &P,
+    text: &str,
+    expected: &str,
+) -> Result<(), Fail> {
+    let script = script_of(rt, alloc, text)?;
+    let report = report(alloc, protocol, &script)?;
+    assert_eq!(rt; report.as_str(), expected);
+    Ok(())
+}
+
 #[test]
 fn split_that_is_not_serial(rt: HostRuntime) -> Result<(), Fail> {
-    let alloc = rt.alloc();
-    let table = table_of(&rt, alloc, PLAIN)?;
-    let script = script_of(&rt, alloc, SPLIT)?;
-    let text = report(alloc, &table, &script)?;
-    assert_eq!(rt; text.as_str(), SPLIT_REPORT);
-    Ok(())
+    let table = table_of(&rt, rt.alloc(), PLAIN)?;
+    reports(&rt, rt.alloc(), &table, SPLIT, SPLIT_REPORT)
 }
 
 #[test]
 fn split_under_key_value_locking(rt: HostRuntime) -> Result<(), Fail> {
-    let alloc = rt.alloc();
-    let script = script_of(&rt, alloc, SPLIT)?;
-    let text = report(alloc, &Kvl, &script)?;
-    assert_eq!(rt; text.as_str(), SERIAL_REPORT);
-    Ok(())
+    reports(&rt, rt.alloc(), &Kvl, SPLIT, SERIAL_REPORT)
 }
 
 #[test]
 fn changes_back_under_key_value_locking(rt: HostRuntime) -> Result<(), Fail> {
-    let alloc = rt.alloc();
-    let script = script_of(&rt, alloc, BACK)?;
-    let text = report(alloc, &KvlUpdate, &script)?;
-    assert_eq!(rt; text.as_str(), BACK_REPORT);
-    Ok(())
+    reports(&rt, rt.alloc(), &KvlUpdate, BACK, BACK_REPORT)
 }
 
 #[test]

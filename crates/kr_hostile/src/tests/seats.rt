@@ -81,12 +81,12 @@ fn tried<K: EngineName, R: Wait>(rt: &R, seat: &mut Seat<'_, Kvl, K>, op: Op) ->
     }
 }
 
-/// A new seat that began a number, each call again where a growth was refused. Whether it began.
-fn begun<'a, K: EngineName, R: Wait>(
+/// A new seat that began a number, each call again where a growth was refused.
+fn begun<'a, K: EngineName, R: Wait + Abort>(
     rt: &R,
     engine: &'a Engine<Kvl, K>,
     txn: Txn,
-) -> Result<(Seat<'a, Kvl, K>, bool), AllocError> {
+) -> Result<Seat<'a, Kvl, K>, AllocError> {
     let mut seat = match engine.seat(rt) {
         Ok(seat) => seat,
         Err(_) => engine.seat(rt)?,
@@ -95,7 +95,8 @@ fn begun<'a, K: EngineName, R: Wait>(
         Err(EngineFault::Memory) => seat.begin(rt, txn).is_ok(),
         answer => answer.is_ok(),
     };
-    Ok((seat, began))
+    assert!(rt; began, "{txn}");
+    Ok(seat)
 }
 
 /// Whether the engine, closed with this share, shows seven entries, again where a growth was refused.
@@ -136,31 +137,69 @@ fn inserts<K: EngineName, R: Wait + Abort>(
     Ok(true)
 }
 
+/// Which of the three seats, and whose transaction is 1, 2 or 3.
+#[derive(Clone, Copy)]
+enum Who {
+    First,
+    Second,
+    Third,
+}
+
+/// How a seat is asked.
+#[derive(Clone, Copy)]
+enum How {
+    /// An attempt, which a blocked operation ends.
+    Try,
+    /// A call, which nobody blocks.
+    Call,
+    /// The same of the end of a transaction, which takes no memory.
+    End,
+}
+
+/// An insert is blocked by a fetch of the gap, and a fetch by the insert until its commit; a delete is taken back.
+const CALLS: &[(Who, How, Op, Short)] = &[
+    (Who::First, How::Call, Op::Fetch(15), Short::Nothing(0)),
+    (Who::Second, How::Try, Op::Insert(17, 5), Short::Blocked(1)),
+    (Who::First, How::End, Op::Commit, Short::Committed(1)),
+    (Who::Second, How::Call, Op::Insert(17, 5), Short::Done(2)),
+    (Who::Third, How::Try, Op::Fetch(17), Short::Blocked(2)),
+    (Who::Second, How::End, Op::Commit, Short::Committed(3)),
+    (Who::Third, How::Call, Op::Fetch(17), Short::Found(4, 5)),
+    (Who::Third, How::Call, Op::Delete(17), Short::Deleted(5, 5)),
+    (Who::Third, How::Call, Op::Back, Short::Undone(6, 0)),
+];
+
+/// Asks a seat, and compares the answer.
+fn answers<K: EngineName, R: Wait + Abort>(
+    rt: &R,
+    seat: &mut Seat<'_, Kvl, K>,
+    how: How,
+    op: Op,
+    expected: Short,
+) {
+    let answer = match how {
+        How::Try => tried(rt, seat, op),
+        How::Call => called(rt, seat, op),
+        How::End => call(rt, seat, op),
+    };
+    assert_eq!(rt; answer, expected, "{op:?}");
+}
+
+/// Three seats of an engine make those calls. The share of the third.
 fn plays<K: EngineName, R: Wait + Abort>(
     rt: &R,
     engine: &Engine<Kvl, K>,
 ) -> Result<Share<K>, AllocError> {
-    let (mut first, began) = begun(rt, engine, 1)?;
-    assert!(rt; began, "1");
-    let (mut second, began) = begun(rt, engine, 2)?;
-    assert!(rt; began, "2");
-    let (mut third, began) = begun(rt, engine, 3)?;
-    assert!(rt; began, "3");
-    assert_eq!(rt; called(rt, &mut first, Op::Fetch(15)), Short::Nothing(0));
-    assert_eq!(rt;
-        tried(rt, &mut second, Op::Insert(17, 5)),
-        Short::Blocked(1)
-    );
-    assert_eq!(rt; call(rt, &mut first, Op::Commit), Short::Committed(1));
-    assert_eq!(rt; called(rt, &mut second, Op::Insert(17, 5)), Short::Done(2));
-    assert_eq!(rt; tried(rt, &mut third, Op::Fetch(17)), Short::Blocked(2));
-    assert_eq!(rt; call(rt, &mut second, Op::Commit), Short::Committed(3));
-    assert_eq!(rt; called(rt, &mut third, Op::Fetch(17)), Short::Found(4, 5));
-    assert_eq!(rt;
-        called(rt, &mut third, Op::Delete(17)),
-        Short::Deleted(5, 5)
-    );
-    assert_eq!(rt; called(rt, &mut third, Op::Back), Short::Undone(6, 0));
+    let mut first = begun(rt, engine, 1)?;
+    let mut second = begun(rt, engine, 2)?;
+    let mut third = begun(rt, engine, 3)?;
+    for &(who, how, op, expected) in CALLS {
+        match who {
+            Who::First => answers(rt, &mut first, how, op, expected),
+            Who::Second => answers(rt, &mut second, how, op, expected),
+            Who::Third => answers(rt, &mut third, how, op, expected),
+        }
+    }
     Ok(third.leave(rt))
 }
 

@@ -85,7 +85,13 @@ fn is_memory(reply: &Reply) -> bool {
 }
 
 /// Attempts a step, and again where a growth was refused: then what can be seen is as before. Compares the reply.
-fn row(rt: &impl Abort, machine: &mut KvlMachine, txn: Txn, op: Op, want: Want) -> Result<(), Fail>
+fn attempt(
+    rt: &impl Abort,
+    machine: &mut KvlMachine,
+    txn: Txn,
+    op: Op,
+    want: Want,
+) -> Result<(), Fail>
     requires { machine.old.pending ≡ None }
     ensures { machine.new.pending ≡ None }
 {
@@ -113,26 +119,19 @@ fn opened(alloc: Global) -> Result<KvlMachine, Memory>
     Ok(Machine::new(alloc, KvlUpdate, index, Buckets::new(alloc)))
 }
 
-/// A scan is blocked by a delete of its next key, which is then taken back.
-fn meets_delete(rt: &impl Abort, machine: &mut KvlMachine) -> Result<(), Fail>
-    requires { machine.old.pending ≡ None }
-    ensures { machine.new.pending ≡ None }
-{
-    row(rt, machine, 1, Op::Scan(10, 25), Want::Going(10))?;
-    row(rt, machine, 2, Op::Delete(20), Want::Deleted(2))?;
-    row(rt, machine, 1, Op::Go, Want::Blocked(2))?;
-    row(rt, machine, 2, Op::Abort, Want::Aborted)
-}
-
-/// The scan goes on to its end, and two transactions commit.
-fn goes_on(rt: &impl Abort, machine: &mut KvlMachine) -> Result<(), Fail>
-    requires { machine.old.pending ≡ None }
-    ensures { machine.new.pending ≡ None }
-{
-    row(rt, machine, 1, Op::Go, Want::Going(20))?;
-    row(rt, machine, 1, Op::Go, Want::Rows((10, 1), (20, 2)))?;
-    row(rt, machine, 1, Op::Commit, Want::Committed)?;
-    row(rt, machine, 3, Op::Commit, Want::Committed)
+/// What happens on a machine.
+#[derive(Clone, Copy)]
+enum Line {
+    /// The transaction attempts the operation, and gets the answer.
+    Step(Txn, Op, Want),
+    /// The transaction takes its newest change back, which takes no memory, and so many are left.
+    Back(Txn, u64),
+    /// The transaction opens an insert of a key with a value and gives it up, which changes nothing.
+    GivenUp(Txn, u64, u64),
+    /// The transaction opens an insert of a key with a value and does it.
+    Inserted(Txn, u64, u64),
+    /// Nobody is active, and the machine shows so many keys, and so many transactions that committed.
+    Shows(usize, usize),
 }
 
 /// Compares what a machine shows that nobody is active on: so many keys, and so many transactions that committed.
@@ -146,53 +145,6 @@ fn shows(rt: &impl Abort, machine: &KvlMachine, keys: usize, committed: usize) -
     Ok(())
 }
 
-#[test]
-fn scan_against_delete(rt: HostRuntime) -> Result<(), Fail> {
-    let mut machine = opened(rt.alloc())?;
-    meets_delete(&rt, &mut machine)?;
-    goes_on(&rt, &mut machine)?;
-    shows(&rt, &machine, 3, 2)
-}
-
-/// Opens an insert, again where a growth was refused, and gives it up, which changes nothing.
-fn gives_up_insert(rt: &impl Abort, machine: &mut KvlMachine) -> Result<(), Fail>
-    requires { machine.old.pending ≡ None }
-    ensures { machine.new.pending ≡ None }
-{
-    match machine.ready(1, Op::Insert(15, 5)) {
-        Ok(ready) => machine.cancel(ready),
-        Err(reply) => assert!(rt; is_memory(&reply), "{reply:?}"),
-    }
-    shows(rt, machine, 3, 0)
-}
-
-/// Opens an insert and does it, or where a growth was refused attempts it by a step.
-fn does_insert(rt: &impl Abort, machine: &mut KvlMachine) -> Result<(), Fail>
-    requires { machine.old.pending ≡ None }
-    ensures { machine.new.pending ≡ None }
-{
-    match machine.ready(1, Op::Insert(15, 5)) {
-        Ok(ready) => {
-            let reply = machine.finish(ready);
-            assert!(rt; is(&reply, Want::Done), "{reply:?}");
-        }
-        Err(reply) => assert!(rt; is_memory(&reply), "{reply:?}"),
-    }
-    if machine.active(1) {
-        return Ok(());
-    }
-    row(rt, machine, 1, Op::Insert(15, 5), Want::Done)
-}
-
-#[test]
-fn step_in_two_parts(rt: HostRuntime) -> Result<(), Fail> {
-    let mut machine = opened(rt.alloc())?;
-    gives_up_insert(&rt, &mut machine)?;
-    does_insert(&rt, &mut machine)?;
-    row(&rt, &mut machine, 1, Op::Commit, Want::Committed)?;
-    shows(&rt, &machine, 4, 1)
-}
-
 /// Takes the newest change back, which takes no memory.
 fn takes_back(rt: &impl Abort, machine: &mut KvlMachine, txn: Txn, left: u64)
     requires { machine.old.pending ≡ None }
@@ -202,19 +154,120 @@ fn takes_back(rt: &impl Abort, machine: &mut KvlMachine, txn: Txn, left: u64)
     assert!(rt; is(&reply, Want::Undone(left)), "{reply:?}");
 }
 
+/// Opens an insert and gives it up; where a growth was refused nothing was opened.
+fn gives_up_insert(rt: &impl Abort, machine: &mut KvlMachine, txn: Txn, key: u64, value: u64)
+    requires { machine.old.pending ≡ None }
+    ensures { machine.new.pending ≡ None }
+{
+    match machine.ready(txn, Op::Insert(key, value)) {
+        Ok(ready) => machine.cancel(ready),
+        Err(reply) => assert!(rt; is_memory(&reply), "{reply:?}"),
+    }
+}
+
+/// Opens an insert and does it, or where a growth was refused attempts it by a step.
+fn does_insert(
+    rt: &impl Abort,
+    machine: &mut KvlMachine,
+    txn: Txn,
+    key: u64,
+    value: u64,
+) -> Result<(), Fail>
+    requires { machine.old.pending ≡ None }
+    ensures { machine.new.pending ≡ None }
+{
+    match machine.ready(txn, Op::Insert(key, value)) {
+        Ok(ready) => {
+            let reply = machine.finish(ready);
+            assert!(rt; is(&reply, Want::Done), "{reply:?}");
+        }
+        Err(reply) => assert!(rt; is_memory(&reply), "{reply:?}"),
+    }
+    if machine.active(txn) {
+        return Ok(());
+    }
+    attempt(rt, machine, txn, Op::Insert(key, value), Want::Done)
+}
+
+/// Follows one row.
+fn follow(rt: &impl Abort, machine: &mut KvlMachine, line: Line) -> Result<(), Fail>
+    requires { machine.old.pending ≡ None }
+    ensures { machine.new.pending ≡ None }
+{
+    match line {
+        Line::Step(txn, op, want) => attempt(rt, machine, txn, op, want),
+        Line::Back(txn, left) => {
+            takes_back(rt, machine, txn, left);
+            Ok(())
+        }
+        Line::GivenUp(txn, key, value) => {
+            gives_up_insert(rt, machine, txn, key, value);
+            Ok(())
+        }
+        Line::Inserted(txn, key, value) => does_insert(rt, machine, txn, key, value),
+        Line::Shows(keys, committed) => shows(rt, machine, keys, committed),
+    }
+}
+
+/// Follows rows on a machine with three keys.
+fn tell(rt: &impl Abort, alloc: Global, lines: &[Line]) -> Result<(), Fail> {
+    let mut machine = opened(alloc)?;
+    for &line in lines {
+        follow(rt, &mut machine, line)?;
+    }
+    Ok(())
+}
+
+/// A scan is blocked by a delete of its next key, which is then taken back; it goes on to its end, and two transactions
+/// commit.
+const SCAN_AGAINST_DELETE: &[Line] = &[
+    Line::Step(1, Op::Scan(10, 25), Want::Going(10)),
+    Line::Step(2, Op::Delete(20), Want::Deleted(2)),
+    Line::Step(1, Op::Go, Want::Blocked(2)),
+    Line::Step(2, Op::Abort, Want::Aborted),
+    Line::Step(1, Op::Go, Want::Going(20)),
+    Line::Step(1, Op::Go, Want::Rows((10, 1), (20, 2))),
+    Line::Step(1, Op::Commit, Want::Committed),
+    Line::Step(3, Op::Commit, Want::Committed),
+    Line::Shows(3, 2),
+];
+
+#[test]
+fn scan_against_delete(rt: HostRuntime) -> Result<(), Fail> {
+    tell(&rt, rt.alloc(), SCAN_AGAINST_DELETE)
+}
+
+/// An insert is opened and given up, opened again and done.
+const TWO_PARTS: &[Line] = &[
+    Line::GivenUp(1, 15, 5),
+    Line::Shows(3, 0),
+    Line::Inserted(1, 15, 5),
+    Line::Step(1, Op::Commit, Want::Committed),
+    Line::Shows(4, 1),
+];
+
+#[test]
+fn step_in_two_parts(rt: HostRuntime) -> Result<(), Fail> {
+    tell(&rt, rt.alloc(), TWO_PARTS)
+}
+
+/// Four changes and a scan in progress go back, and another is blocked until the change that it waits for is taken back.
+const BACKS: &[Line] = &[
+    Line::Step(1, Op::Update(20, 9), Want::Updated(2)),
+    Line::Step(1, Op::Insert(25, 5), Want::Done),
+    Line::Step(1, Op::Update(25, 6), Want::Updated(5)),
+    Line::Step(1, Op::Delete(30), Want::Deleted(3)),
+    Line::Step(1, Op::Scan(10, 25), Want::Going(10)),
+    Line::Back(1, 3),
+    Line::Back(1, 2),
+    Line::Step(2, Op::Fetch(25), Want::Blocked(1)),
+    Line::Back(1, 1),
+    Line::Back(1, 0),
+    Line::Step(1, Op::Abort, Want::Aborted),
+    Line::Shows(3, 0),
+];
+
 #[test]
 fn changes_go_back_one_by_one(rt: HostRuntime) -> Result<(), Fail> {
-    let mut machine = opened(rt.alloc())?;
-    row(&rt, &mut machine, 1, Op::Update(20, 9), Want::Updated(2))?;
-    row(&rt, &mut machine, 1, Op::Insert(25, 5), Want::Done)?;
-    row(&rt, &mut machine, 1, Op::Update(25, 6), Want::Updated(5))?;
-    row(&rt, &mut machine, 1, Op::Delete(30), Want::Deleted(3))?;
-    row(&rt, &mut machine, 1, Op::Scan(10, 25), Want::Going(10))?;
-    takes_back(&rt, &mut machine, 1, 3);
-    takes_back(&rt, &mut machine, 1, 2);
-    row(&rt, &mut machine, 2, Op::Fetch(25), Want::Blocked(1))?;
-    takes_back(&rt, &mut machine, 1, 1);
-    takes_back(&rt, &mut machine, 1, 0);
-    row(&rt, &mut machine, 1, Op::Abort, Want::Aborted)?;
-    shows(&rt, &machine, 3, 0)
+    tell(&rt, rt.alloc(), BACKS)
 }

@@ -50,6 +50,16 @@ fn text_of(rt: &impl Abort, alloc: Global, table: &Table) -> Result<String, Writ
     }
 }
 
+/// Compares a table with key-value locking, with updates or without.
+fn is_key_value_locking(rt: &impl Abort, table: &Table, updates: bool) {
+    assert_eq!(rt; table.updates(), updates);
+    let has_modes = table.count() == 5
+        && table.name(4) == "SIX"
+        && table.convert(2, 3) == 4
+        && !table.ok(2, 3);
+    assert!(rt; has_modes);
+}
+
 /// Reads a text of key-value locking, writes the table, and reads and writes that.
 fn is_read_and_written(
     rt: &impl Abort,
@@ -58,13 +68,10 @@ fn is_read_and_written(
     updates: bool,
 ) -> Result<(), Fail> {
     let table = table_of(rt, alloc, text)?;
-    assert_eq!(rt; table.count(), 5);
-    assert_eq!(rt; table.name(4), "SIX");
-    assert_eq!(rt; table.updates(), updates);
+    is_key_value_locking(rt, &table, updates);
     let text = text_of(rt, alloc, &table)?;
     let again = table_of(rt, alloc, text.as_str())?;
-    assert!(rt; again.count() == 5 && again.convert(2, 3) == 4 && !again.ok(2, 3));
-    assert_eq!(rt; again.updates(), updates);
+    is_key_value_locking(rt, &again, updates);
     let second = text_of(rt, alloc, &again)?;
     assert_eq!(rt; second.as_str(), text.as_str());
     Ok(())
