@@ -32,144 +32,166 @@ struct Told {
     modes: [Mode; 2],
 }
 
-/// Tests what is told of a protocol with one entry changed.
-fn test<P: Protocol>(
+/// A change by which a protocol is refused for one cause, and what is told of it.
+#[derive(Clone, Copy)]
+struct Refused {
+    name: &'static str,
+    change: Change,
+    told: Told,
+}
+
+/// Tests what is told of a protocol with the change of each row.
+fn each_is_told<P: Protocol>(
     rt: &impl Abort,
     alloc: Global,
     base: &P,
-    change: Change,
-    told: Told,
+    rows: &[Refused],
 ) -> Result<(), Fail> {
-    let Some(table) = Changed::new(base, change) else {
-        panic!(rt; "no change of the table");
-    };
-    let failed = failed(rt, alloc, &table);
-    assert_eq!(rt; failed.len(), told.cases);
-    let causes = causes(alloc, &table, &failed)?;
-    assert_eq!(rt; causes.len(), 1);
-    let cause = &causes[0];
-    assert_eq!(rt; cause.blame, told.blame);
-    assert_eq!(rt; cause.cases.as_slice(), failed.as_slice());
-    let mend = mends(alloc, &table, &failed, cause)?;
-    assert!(rt; mend.is_accepted);
-    assert_eq!(rt; mend.changes.len(), told.changes);
-    let mut modes = [0; 2];
-    for (place, change) in modes.iter_mut().zip(&mend.changes) {
-        *place = change.mode().unwrap_or(0);
+    for row in rows {
+        let (name, told) = (row.name, row.told);
+        let Some(table) = Changed::new(base, row.change) else {
+            panic!(rt; "no change of the table: {name}");
+        };
+        let failed = failed(rt, alloc, &table);
+        assert_eq!(rt; failed.len(), told.cases, "{name}");
+        let causes = causes(alloc, &table, &failed)?;
+        assert_eq!(rt; causes.len(), 1, "{name}");
+        let cause = &causes[0];
+        assert_eq!(rt; cause.blame, told.blame, "{name}");
+        assert_eq!(rt; cause.cases.as_slice(), failed.as_slice(), "{name}");
+        let mend = mends(alloc, &table, &failed, cause)?;
+        assert!(rt; mend.is_accepted, "{name}");
+        assert_eq!(rt; mend.changes.len(), told.changes, "{name}");
+        let mut modes = [0; 2];
+        for (place, change) in modes.iter_mut().zip(&mend.changes) {
+            *place = change.mode().unwrap_or(0);
+        }
+        assert_eq!(rt; modes, told.modes, "{name}");
     }
-    assert_eq!(rt; modes, told.modes);
     Ok(())
 }
 
-/// A change of what a row asks for, for all own modes.
-fn asks(row: Row, side: Side, mode: Mode, span: Span) -> Change {
-    Change::Ask {
-        row,
-        side,
-        own_next: None,
-        mode,
-        span,
-    }
-}
-
-/// One cause that names a request.
-fn request(row: Row, side: Side, mode: Mode, span: Span) -> Blame {
-    Blame::Request {
-        row,
-        side,
-        asked: Some((mode, span)),
-    }
-}
-
-#[test]
-fn insert_too_weak(rt: HostRuntime) -> Result<(), Fail> {
-    let (insert, key) = (Row::Insert, Side::Current);
-    let told = Told {
-        cases: 15,
-        blame: request(insert, key, 2, Span::Commit),
-        changes: 2,
-        modes: [4, 5],
-    };
-    test(
-        &rt,
-        rt.alloc(),
-        &Kvl,
-        asks(insert, key, 2, Span::Commit),
-        told,
-    )?;
-    let own_next = Some(0b0000_0001_1100_0111);
-    let change = Change::Ask {
-        row: insert,
-        side: key,
-        own_next,
-        mode: 2,
-        span: Span::Commit,
-    };
-    let told = Told {
-        cases: 36,
-        blame: request(insert, key, 2, Span::Commit),
-        changes: 2,
-        modes: [8, 11],
-    };
-    test(&rt, rt.alloc(), &RangeKey, change, told)
-}
-
-#[test]
-fn delete_not_kept(rt: HostRuntime) -> Result<(), Fail> {
-    let (delete, next) = (Row::Delete, Side::Next);
-    let told = Told {
-        cases: 4,
-        blame: request(delete, next, 5, Span::Instant),
-        changes: 2,
-        modes: [5, 4],
-    };
-    test(
-        &rt,
-        rt.alloc(),
-        &Kvl,
-        asks(delete, next, 5, Span::Instant),
-        told,
-    )
-}
-
-#[test]
-fn update_too_weak(rt: HostRuntime) -> Result<(), Fail> {
-    let (update, key) = (Row::Update, Side::Current);
-    let told = Told {
-        cases: 12,
-        blame: Blame::Pair {
-            requested: 2,
-            held: 2,
+/// Changes of the table with intents.
+const KVL_ROWS: &[Refused] = &[
+    Refused {
+        name: "an insert asks for too weak a lock on its key",
+        change: Change::Ask {
+            row: Row::Insert,
+            side: Side::Current,
+            own_next: None,
+            mode: 2,
+            span: Span::Commit,
         },
-        changes: 1,
-        modes: [0, 0],
-    };
-    test(
-        &rt,
-        rt.alloc(),
-        &KvlUpdate,
-        asks(update, key, 2, Span::Commit),
-        told,
-    )
-}
-
-#[test]
-fn conversion_loses(rt: HostRuntime) -> Result<(), Fail> {
-    let change = Change::Convert {
-        held: 3,
-        requested: 2,
-        mode: 1,
-    };
-    let told = Told {
-        cases: 18,
-        blame: Blame::Conversion {
+        told: Told {
+            cases: 15,
+            blame: Blame::Request {
+                row: Row::Insert,
+                side: Side::Current,
+                asked: Some((2, Span::Commit)),
+            },
+            changes: 2,
+            modes: [4, 5],
+        },
+    },
+    Refused {
+        name: "a delete keeps no lock on the next key",
+        change: Change::Ask {
+            row: Row::Delete,
+            side: Side::Next,
+            own_next: None,
+            mode: 5,
+            span: Span::Instant,
+        },
+        told: Told {
+            cases: 4,
+            blame: Blame::Request {
+                row: Row::Delete,
+                side: Side::Next,
+                asked: Some((5, Span::Instant)),
+            },
+            changes: 2,
+            modes: [5, 4],
+        },
+    },
+    Refused {
+        name: "a conversion loses what was held",
+        change: Change::Convert {
             held: 3,
             requested: 2,
+            mode: 1,
         },
-        changes: 2,
-        modes: [4, 5],
-    };
-    test(&rt, rt.alloc(), &Kvl, change, told)
+        told: Told {
+            cases: 18,
+            blame: Blame::Conversion {
+                held: 3,
+                requested: 2,
+            },
+            changes: 2,
+            modes: [4, 5],
+        },
+    },
+];
+
+/// A change of the table with intents and updates.
+const KVL_UPDATE_ROWS: &[Refused] = &[
+    Refused {
+        name: "an update asks for too weak a lock",
+        change: Change::Ask {
+            row: Row::Update,
+            side: Side::Current,
+            own_next: None,
+            mode: 2,
+            span: Span::Commit,
+        },
+        told: Told {
+            cases: 12,
+            blame: Blame::Pair {
+                requested: 2,
+                held: 2,
+            },
+            changes: 1,
+            modes: [0, 0],
+        },
+    },
+];
+
+/// A change of the table with ranges.
+const RANGE_KEY_ROWS: &[Refused] = &[
+    Refused {
+        name: "an insert asks for too weak a lock on its key, by some own modes",
+        change: Change::Ask {
+            row: Row::Insert,
+            side: Side::Current,
+            own_next: Some(0b0000_0001_1100_0111),
+            mode: 2,
+            span: Span::Commit,
+        },
+        told: Told {
+            cases: 36,
+            blame: Blame::Request {
+                row: Row::Insert,
+                side: Side::Current,
+                asked: Some((2, Span::Commit)),
+            },
+            changes: 2,
+            modes: [8, 11],
+        },
+    },
+];
+
+#[test]
+fn kvl_rows(rt: HostRuntime) -> Result<(), Fail> {
+    each_is_told(&rt, rt.alloc(), &Kvl, KVL_ROWS)
+}
+
+#[test]
+fn kvl_update_rows(rt: HostRuntime) -> Result<(), Fail> {
+    each_is_told(&rt, rt.alloc(), &KvlUpdate, KVL_UPDATE_ROWS)
+}
+
+#[test]
+fn range_key_rows(rt: HostRuntime) -> Result<(), Fail> {
+    each_is_told(&rt, rt.alloc(), &RangeKey, RANGE_KEY_ROWS)
 }
 
 /// A table of one mode that asks for nothing.
@@ -202,6 +224,17 @@ fn asks_nothing(rt: HostRuntime) -> Result<(), Fail> {
         assert!(rt; mend.changes.is_empty() && !mend.is_accepted);
     }
     Ok(())
+}
+
+/// A change of what a row asks for, for all own modes.
+fn asks(row: Row, side: Side, mode: Mode, span: Span) -> Change {
+    Change::Ask {
+        row,
+        side,
+        own_next: None,
+        mode,
+        span,
+    }
 }
 
 #[test]
