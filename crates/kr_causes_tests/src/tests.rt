@@ -133,51 +133,47 @@ const KVL_ROWS: &[Refused] = &[
 ];
 
 /// A change of the table with intents and updates.
-const KVL_UPDATE_ROWS: &[Refused] = &[
-    Refused {
-        name: "an update asks for too weak a lock",
-        change: Change::Ask {
-            row: Row::Update,
-            side: Side::Current,
-            own_next: None,
-            mode: 2,
-            span: Span::Commit,
-        },
-        told: Told {
-            cases: 12,
-            blame: Blame::Pair {
-                requested: 2,
-                held: 2,
-            },
-            changes: 1,
-            modes: [0, 0],
-        },
+const KVL_UPDATE_ROWS: &[Refused] = &[Refused {
+    name: "an update asks for too weak a lock",
+    change: Change::Ask {
+        row: Row::Update,
+        side: Side::Current,
+        own_next: None,
+        mode: 2,
+        span: Span::Commit,
     },
-];
+    told: Told {
+        cases: 12,
+        blame: Blame::Pair {
+            requested: 2,
+            held: 2,
+        },
+        changes: 1,
+        modes: [0, 0],
+    },
+}];
 
 /// A change of the table with ranges.
-const RANGE_KEY_ROWS: &[Refused] = &[
-    Refused {
-        name: "an insert asks for too weak a lock on its key, by some own modes",
-        change: Change::Ask {
+const RANGE_KEY_ROWS: &[Refused] = &[Refused {
+    name: "an insert asks for too weak a lock on its key, by some own modes",
+    change: Change::Ask {
+        row: Row::Insert,
+        side: Side::Current,
+        own_next: Some(0b0000_0001_1100_0111),
+        mode: 2,
+        span: Span::Commit,
+    },
+    told: Told {
+        cases: 36,
+        blame: Blame::Request {
             row: Row::Insert,
             side: Side::Current,
-            own_next: Some(0b0000_0001_1100_0111),
-            mode: 2,
-            span: Span::Commit,
+            asked: Some((2, Span::Commit)),
         },
-        told: Told {
-            cases: 36,
-            blame: Blame::Request {
-                row: Row::Insert,
-                side: Side::Current,
-                asked: Some((2, Span::Commit)),
-            },
-            changes: 2,
-            modes: [8, 11],
-        },
+        changes: 2,
+        modes: [8, 11],
     },
-];
+}];
 
 #[test]
 fn kvl_rows(rt: HostRuntime) -> Result<(), Fail> {
