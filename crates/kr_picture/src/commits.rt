@@ -43,7 +43,11 @@ pub fn write_commits(run: &Run<'_>, out: &mut String) -> Result<(), AllocError> 
         }
         differs = differs || is_first;
     }
-    out.push_str("</table></div>\n")
+    out.push_str("</table></div>\n")?;
+    if differs {
+        out.push_str("<p class=\"note\">Behind the first difference nothing is compared.</p>\n")?;
+    }
+    Ok(())
 }
 
 /// Whether the verdict names a program.
@@ -125,8 +129,6 @@ fn write_answer(
             write_reply(out, serial)?;
             out.push_str("</td></tr>\n")
         }
-        Beside::NotCompared => {
-            out.push_str("</td><td>not compared: behind the first difference</td></tr>\n")
-        }
+        Beside::NotCompared => { out.push_str("</td><td>not compared</td></tr>\n") }
     }
 }
