@@ -132,7 +132,7 @@ fn scene_of<P: Protocol, I: Ordered, L: Holdings>(
 /// What the drawings of steps show by their forms.
 const KEY: &str =
     "<p class=\"note\">A bar is a lock, with its holder and mode, on its key and the gap below it. \
-A dashed bar was asked for and refused, by the locks with a thick edge. \
+A dashed bar (?) was asked for and refused, by the locks with a thick edge (!). \
 A triangle is at the key that the step names. A ring is a key that came, a cross one that went.</p>\n";
 
 /// Writes a band for each step that is drawn.

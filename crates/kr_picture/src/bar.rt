@@ -28,9 +28,24 @@ pub struct Bar {
     /// How many columns the bar reaches over: a lock protects its key and the gap from the next present key below. 0 on an
     /// absent key, where it protects the place of the key alone.
     pub reach: usize,
-    /// The holder, the mode, and whether the lock refuses what was asked for.
-    pub words: String,
+    /// The name of the mode.
+    pub mode: String,
     pub kind: BarKind,
+}
+
+impl Bar {
+    /// The holder and the mode, and with a word or a sign whether it refuses or was asked for.
+    pub fn words(&self, alloc: Global, is_short: bool) -> Result<String, Memory> {
+        let txn = self.row.txn;
+        let mode = self.mode.as_str();
+        match (self.kind, is_short) {
+            (BarKind::Held, _) => format!(in alloc; "{txn} {mode}"),
+            (BarKind::Refusing, false) => format!(in alloc; "{txn} {mode} blocks"),
+            (BarKind::Refusing, true) => format!(in alloc; "{txn} {mode}!"),
+            (BarKind::Asked, false) => format!(in alloc; "{txn} asks {mode}"),
+            (BarKind::Asked, true) => format!(in alloc; "{txn} {mode}?"),
+        }
+    }
 }
 
 /// What a bar is.
@@ -110,17 +125,16 @@ pub fn push_held<P: Protocol>(
     for ((name, txn), mode) in locks {
         if let Some(column) = columns.of(*name) {
             let reach = reach_of(keys, column);
-            let (kind, mark) = if refuses(asked, *name, *txn) {
-                (BarKind::Refusing, " blocks")
+            let kind = if refuses(asked, *name, *txn) {
+                BarKind::Refusing
             } else {
-                (BarKind::Held, "")
+                BarKind::Held
             };
-            let mode = mode_name(protocol, *mode);
             bars.push(Bar {
                 row: row_of(*txn, false, reach),
                 column,
                 reach,
-                words: format!(in alloc; "{txn} {mode}{mark}")?,
+                mode: String::from_str(alloc, mode_name(protocol, *mode))?,
                 kind,
             })?;
         }
@@ -152,13 +166,12 @@ pub fn push_asked<P: Protocol>(
         let is_refused = !request.refusers.is_empty();
         if let (true, Some(column)) = (is_refused, columns.of(request.name)) {
             let reach = reach_of(keys, column);
-            let mode = mode_name(protocol, request.mode);
             let is_second = has_bar(bars.as_slice(), txn, column);
             bars.push(Bar {
                 row: row_of(txn, is_second, reach),
                 column,
                 reach,
-                words: format!(in alloc; "{txn} asks {mode}")?,
+                mode: String::from_str(alloc, mode_name(protocol, request.mode))?,
                 kind: BarKind::Asked,
             })?;
         }

@@ -2,7 +2,7 @@
 
 use crate::bar::{Bar, BarKind, Row, colour_of};
 use crate::columns::Columns;
-use crate::layout::Layout;
+use crate::layout::{Layout, bar_width};
 use crate::scene::{KeyState, Scene};
 use crate::svg;
 use crate::svg::at;
@@ -109,13 +109,15 @@ fn write_bar(layout: &Layout, bar: &Bar, y: u64, out: &mut String) -> Result<(),
         BarKind::Asked => "asked",
     };
     let class = format!(in *out.allocator(); "{kind} c{colour}")?;
-    let stretch = layout.stretch(bar);
-    let wide = stretch.to.saturating_sub(stretch.from);
-    let corner = at(stretch.from, y);
-    svg::rect(out, class.as_str(), corner, wide, ROW_HIGH - 4)?;
-    let x = stretch.from.saturating_add(INDENT);
-    let place = at(x, y.saturating_add(BASELINE));
-    svg::text(out, "bar", place, bar.words.as_str())
+    let (from, to) = layout.ends(bar);
+    let wide = to.saturating_sub(from);
+    svg::rect(out, class.as_str(), at(from, y), wide, ROW_HIGH - 4)?;
+    let place = at(from.saturating_add(INDENT), y.saturating_add(BASELINE));
+    let mut words = bar.words(*out.allocator(), false)?;
+    if bar_width(words.len() as u64) > wide {
+        words = bar.words(*out.allocator(), true)?;
+    }
+    svg::text(out, "bar", place, words.as_str())
 }
 
 /// Writes the line of names, with a tick for each present key, and marks where a key came, went or changed.

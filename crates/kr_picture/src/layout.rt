@@ -3,7 +3,7 @@
 use crate::bar::Bar;
 use crate::columns::Columns;
 use crate::scene::{KeyState, Scene};
-use kr_model::{Event, Txn};
+use kr_model::Txn;
 
 /// The least width of a column.
 const NARROWEST: u64 = 60;
@@ -13,13 +13,6 @@ const FREE: u64 = 8;
 
 /// How far a bar reaches beside the tick of its key.
 const BESIDE: u64 = 14;
-
-/// From where to where a bar is.
-#[derive(Clone, Copy, Debug, PartialEq, Eq)]
-pub struct Stretch {
-    pub from: u64,
-    pub to: u64,
-}
 
 /// How wide the columns of a page are, and the room at their left, where the transactions of the rows stand.
 #[derive(Clone, Copy, Debug, PartialEq, Eq)]
@@ -63,14 +56,24 @@ fn key_width(key: KeyState) -> u64 {
     text_width(value.max(key.note().len() as u64))
 }
 
-/// How wide a bar is that its words fit in.
-fn bar_width(bar: &Bar) -> u64 {
-    text_width(bar.words.len() as u64).saturating_add(2 * FREE)
+/// How wide a bar is in which so many characters fit.
+pub fn bar_width(characters: u64) -> u64 {
+    text_width(characters).saturating_add(2 * FREE)
+}
+
+/// How wide a bar is in which its words fit in their short form.
+fn least_width(bar: &Bar) -> u64 {
+    let number = digits(u64::from(bar.row.txn));
+    bar_width(
+        number
+            .saturating_add(bar.mode.len() as u64)
+            .saturating_add(2),
+    )
 }
 
 /// How wide the columns have to be that the words of a bar fit in it.
 fn width_for_bar(bar: &Bar) -> u64 {
-    let wide = bar_width(bar).saturating_add(2);
+    let wide = least_width(bar).saturating_add(2);
     match bar.reach as u64 {
         0 | 1 => wide,
         reach => wide / reach + 1,
@@ -121,21 +124,15 @@ impl Layout {
         self.end().saturating_add(BESIDE + 2)
     }
 
-    /// From where to where a bar is.
-    pub fn stretch(&self, bar: &Bar) -> Stretch {
+    /// Where a bar begins, and where it ends.
+    pub fn ends(&self, bar: &Bar) -> (u64, u64) {
         let tick = self.tick(bar.column);
         if bar.reach == 0 {
-            let half = bar_width(bar) / 2;
-            return Stretch {
-                from: tick.saturating_sub(half),
-                to: tick.saturating_add(half),
-            };
+            let half = least_width(bar) / 2;
+            return (tick.saturating_sub(half), tick.saturating_add(half));
         }
         let to = tick.saturating_add(BESIDE);
         let long = (bar.reach as u64).saturating_mul(self.width);
-        Stretch {
-            from: to.saturating_sub(long).saturating_add(2),
-            to,
-        }
+        (to.saturating_sub(long).saturating_add(2), to)
     }
 }
