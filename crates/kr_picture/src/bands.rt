@@ -2,12 +2,13 @@
 ghost use Rattle.std.specs.Prelude.{◌≡◌, None};
 
 use crate::asked::Scans;
-use crate::band::{Scene, write_band};
-use crate::columns::{Columns, key_of};
+use crate::band::write_band;
+use crate::columns::{Columns, keys_that_may_return};
 use crate::commits::write_commits;
 use crate::lanes::write_lanes;
-use crate::locks::mode_name;
+use crate::layout::Layout;
 use crate::run::Run;
+use crate::scene::{Scene, Standing};
 use crate::summary::write_summary;
 use kr_index::Ordered;
 use kr_locks::{Holdings, Memory};
@@ -16,11 +17,6 @@ use kr_model::{Event, Refusal, Reply};
 use kr_protocol::Protocol;
 use kr_serial::replay;
 use std::alloc::{AllocError, Global};
-
-/// The least width of a column, and the width of a character.
-const NARROWEST: u64 = 110;
-
-const CHARACTER: u64 = 9;
 
 /// Writes the body of a page behind the first words of its verdict: what its run is, and its steps, done once more on a
 /// machine that has done none.
@@ -42,77 +38,53 @@ pub fn write_body<P: Protocol, I: Ordered, L: Holdings>(
     }
     let pairs = machine.index()?;
     let locks = machine.locks()?;
-    let width = width_of(protocol, drawn, pairs.as_slice());
-    let columns = Columns::new(alloc, pairs.as_slice(), locks.as_slice(), drawn, width)?;
-    write_summary(run, &columns, out)?;
-    out.push_str("<h2>Steps</h2>\n")?;
-    write_bands(alloc, protocol, machine, run, &columns, &mut scans, out)?;
-    write_lanes(alloc, run, out)?;
+    let back = keys_that_may_return(alloc, earlier, run.replies)?;
+    let columns = Columns::new(
+        alloc,
+        pairs.as_slice(),
+        locks.as_slice(),
+        drawn,
+        back.as_slice(),
+    )?;
+    let scenes = scenes_of(alloc, protocol, machine, run, &columns, &mut scans)?;
+    let layout = Layout::of(&columns, scenes.as_slice());
+    write_summary(run, columns.hidden, out)?;
+    write_bands(
+        alloc,
+        protocol,
+        run,
+        &columns,
+        &layout,
+        scenes.as_slice(),
+        out,
+    )?;
+    write_lanes(alloc, run, layout.left, out)?;
     write_commits(run, out)
 }
 
-/// How many characters a number has.
-fn digits(number: u64) -> u64 {
-    let mut count: u64 = 1;
-    let mut rest = number;
-    for _ in 0..20 {
-        if rest < 10 {
-            return count;
-        }
-        rest /= 10;
-        count = count.saturating_add(1);
-    }
-    count
-}
-
-/// The width of a column in which the words of any lock and any key fit.
-fn width_of<P: Protocol>(protocol: &P, drawn: &[Event], pairs: &[(u64, u64)]) -> u64 {
-    let mut number = 0;
-    for (key, value) in pairs {
-        number = number.max(*key).max(*value);
-    }
-    let mut txn = 0;
-    for step in drawn {
-        txn = txn.max(step.txn);
-        number = number.max(key_of(step.op).unwrap_or(0));
-    }
-    let mut mode = 0;
-    for at in 0..protocol.count() {
-        mode = mode.max(mode_name(protocol, at.saturating_add(1)).len() as u64);
-    }
-    let words = digits(u64::from(txn))
-        .saturating_add(mode)
-        .saturating_add(8);
-    let values = digits(number).saturating_add(6);
-    NARROWEST.max(words.max(values).saturating_mul(CHARACTER))
-}
-
-/// Writes a band for each step that is drawn, and does it on the machine.
-fn write_bands<P: Protocol, I: Ordered, L: Holdings>(
+/// Does the steps that are drawn on the machine, and answers the scene of each.
+fn scenes_of<P: Protocol, I: Ordered, L: Holdings>(
     alloc: Global,
     protocol: &P,
     machine: &mut Machine<&P, I, L>,
     run: &Run<'_>,
     columns: &Columns,
     scans: &mut Scans,
-    out: &mut String,
-) -> Result<(), Memory>
+) -> Result<Vec<Scene>, Memory>
     requires { machine.old.pending ≡ None }
-    ensures { machine.new.pending ≡ None }
 {
     let drawn = run.steps.get(run.skipped..).unwrap_or(&[]);
     let mut number = run.skipped as u64;
+    let mut scenes = Vec::new(alloc);
     for event in drawn {
         number = number.saturating_add(1);
-        write_one(
-            alloc, protocol, machine, number, *event, columns, scans, out,
-        )?;
+        scenes.push(scene_of(alloc, protocol, machine, number, *event, columns, scans)?)?;
     }
-    Ok(())
+    Ok(scenes)
 }
 
-/// Does a step on the machine, and writes its band.
-fn write_one<P: Protocol, I: Ordered, L: Holdings>(
+/// Does a step on the machine, and answers its scene.
+fn scene_of<P: Protocol, I: Ordered, L: Holdings>(
     alloc: Global,
     protocol: &P,
     machine: &mut Machine<&P, I, L>,
@@ -120,8 +92,7 @@ fn write_one<P: Protocol, I: Ordered, L: Holdings>(
     event: Event,
     columns: &Columns,
     scans: &mut Scans,
-    out: &mut String,
-) -> Result<(), Memory>
+) -> Result<Scene, Memory>
     requires { machine.old.pending ≡ None }
     ensures { machine.new.pending ≡ None }
 {
@@ -143,16 +114,45 @@ fn write_one<P: Protocol, I: Ordered, L: Holdings>(
         _ => Vec::new(alloc),
     };
     scans.note(event, &reply)?;
-    let before = columns.values(alloc, before.as_slice())?;
-    let after = columns.values(alloc, after.as_slice())?;
-    let scene = Scene {
-        number,
-        event,
-        reply: &reply,
+    let standing = Standing {
         before: before.as_slice(),
         after: after.as_slice(),
         locks: locks.as_slice(),
-        asked: asked.as_slice(),
     };
-    write_band(alloc, protocol, columns, &scene, out)
+    Scene::new(
+        alloc,
+        protocol,
+        columns,
+        (number, event, reply),
+        standing,
+        asked,
+    )
+}
+
+/// What the drawings of steps show by their forms.
+const KEY: &str =
+    "<p class=\"note\">A bar is a lock, with its holder and mode, on its key and the gap below it. \
+A dashed bar (?) was asked for and refused, by the locks with a thick edge (!). \
+A triangle is at the key that the step names. A ring is a key that came, a cross one that went.</p>\n";
+
+/// Writes a band for each step that is drawn.
+fn write_bands<P: Protocol>(
+    alloc: Global,
+    protocol: &P,
+    run: &Run<'_>,
+    columns: &Columns,
+    layout: &Layout,
+    scenes: &[Scene],
+    out: &mut String,
+) -> Result<(), Memory> {
+    out.push_str("<h2>Steps</h2>\n")?;
+    if scenes.is_empty() {
+        return out.push_str("<p>There are none.</p>\n");
+    }
+    out.push_str(KEY)?;
+    let difference = run.difference();
+    for scene in scenes {
+        write_band(alloc, protocol, columns, layout, difference, scene, out)?;
+    }
+    Ok(())
 }

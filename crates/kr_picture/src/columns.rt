@@ -1,25 +1,19 @@
 //! The names that a page draws, each in a column of its own.
-ghost use Rattle.std.specs.Prelude.{◌≡◌};
 
 use kr_locks::Memory;
-use kr_model::{Event, Mode, Name, Op, Txn};
+use kr_model::{Event, Mode, Name, Op, Reply, Txn};
 use std::alloc::Global;
 use std::collections::BTreeSet;
 
 /// How many names are drawn, the end among them.
 pub const NAMES_DRAWN: usize = 60;
 
-/// How far the drawing of names is from the left edge: there stand the numbers of transactions.
-pub const LEFT: u64 = 100;
-
-/// The keys that have a column, rising, and the width of a column. The last column is that of the end.
+/// The keys that have a column, rising. The last column is that of the end.
 #[derive(Debug, Drop)]
 pub struct Columns {
     pub keys: Vec<u64>,
     /// How many keys are there that have no column.
     pub hidden: usize,
-    /// The width of a column, in pixels.
-    pub width: u64,
 }
 
 /// The key that an operation names.
@@ -30,15 +24,44 @@ pub fn key_of(op: Op) -> Option<u64> {
     }
 }
 
+/// The keys that transactions have deleted by these steps and may yet bring back: those of transactions that haven't ended.
+pub fn keys_that_may_return(
+    alloc: Global,
+    steps: &[Event],
+    replies: &[Reply],
+) -> Result<Vec<u64>, Memory> {
+    let mut deleted = BTreeSet::new(alloc);
+    let mut active = BTreeSet::new(alloc);
+    for (step, reply) in steps.iter().zip(replies.iter()) {
+        match (step.op, reply) {
+            (_, Reply::Committed | Reply::Aborted) => {
+                active.remove(&step.txn);
+            }
+            (Op::Delete(key), Reply::Deleted(_)) => {
+                active.insert(step.txn)?;
+                deleted.insert((step.txn, key))?;
+            }
+            _ => {}
+        }
+    }
+    let mut keys = Vec::new(alloc);
+    for (txn, key) in &deleted {
+        if active.contains(txn) {
+            keys.push(*key)?;
+        }
+    }
+    Ok(keys)
+}
+
 impl Columns {
-    /// The columns of these pairs, of the names that are locked and of the keys that these steps name; of many keys the
-    /// last ones.
+    /// The columns of these pairs, of the names that are locked, of the keys that these steps name, and of those that may
+    /// return; of many keys the last ones.
     pub fn new(
         alloc: Global,
         pairs: &[(u64, u64)],
         locks: &[((Name, Txn), Mode)],
         steps: &[Event],
-        width: u64,
+        back: &[u64],
     ) -> Result<Columns, Memory> {
         let mut names = BTreeSet::new(alloc);
         for (key, _) in pairs {
@@ -54,16 +77,15 @@ impl Columns {
                 names.insert(key)?;
             }
         }
+        for key in back {
+            names.insert(*key)?;
+        }
         let hidden = names.len().saturating_sub(NAMES_DRAWN - 1);
         let mut keys = Vec::new(alloc);
         for key in names.iter().skip(hidden) {
             keys.push(*key)?;
         }
-        Ok(Columns {
-            keys,
-            hidden,
-            width,
-        })
+        Ok(Columns { keys, hidden })
     }
 
     /// The column of a name, if it has one.
@@ -72,30 +94,5 @@ impl Columns {
             Name::Key(key) => self.keys.as_slice().binary_search(&key).ok(),
             Name::End => Some(self.keys.len()),
         }
-    }
-
-    /// Where the tick of a column stands.
-    pub fn tick(&self, column: usize) -> u64 {
-        (column as u64)
-            .saturating_add(1)
-            .saturating_mul(self.width)
-            .saturating_add(LEFT - 20)
-    }
-
-    /// The width of a drawing.
-    pub fn across(&self) -> u64 {
-        self.tick(self.keys.len()).saturating_add(30)
-    }
-
-    /// The value at each key that has a column, and none where the key is absent.
-    pub fn values(&self, alloc: Global, pairs: &[(u64, u64)]) -> Result<Vec<Option<u64>>, Memory> {
-        let mut values = Vec::new(alloc);
-        for key in &self.keys {
-            match pairs.binary_search_by_key(key, |pair| pair.0) {
-                Ok(at) => values.push(Some(pairs[at].1))?,
-                Err(_) => values.push(None)?,
-            }
-        }
-        Ok(values)
     }
 }

@@ -1,23 +1,49 @@
 //! The transactions as lanes over time.
 
-use crate::columns::LEFT;
-use crate::locks::colour_of;
+use crate::bar::colour_of;
+use crate::layout::{digits, text_width};
 use crate::run::Run;
 use crate::svg;
-use crate::svg::Point;
+use crate::svg::{Point, at};
 use crate::words::{kind_of, letter_of};
 use kr_locks::Memory;
 use kr_model::{Event, Reply, Txn};
 use std::alloc::{AllocError, Global};
 use std::collections::BTreeSet;
 
-/// How far two steps are from each other, and two lanes.
-const APART: u64 = 30;
+/// How far two lanes are from each other, and where the first is.
+const LANE_HIGH: u64 = 30;
 
-const LANE_HIGH: u64 = 34;
+const LANES_TOP: u64 = 38;
 
-/// Where the first lane is.
-const LANES_TOP: u64 = 44;
+/// Half of the mark of a step.
+const HALF: u64 = 11;
+
+/// Where the marks of the steps stand.
+#[derive(Clone, Copy)]
+struct Lanes {
+    left: u64,
+    /// How far two steps are from each other.
+    apart: u64,
+}
+
+impl Lanes {
+    /// Lanes in which the numbers of steps up to this one fit.
+    fn new(left: u64, last: u64) -> Lanes {
+        Lanes {
+            left,
+            apart: text_width(digits(last).saturating_add(1)).max(2 * HALF + 6),
+        }
+    }
+
+    /// Where the marks of a column stand.
+    fn across(self, column: usize) -> u64 {
+        (column as u64)
+            .saturating_mul(self.apart)
+            .saturating_add(self.left)
+            .saturating_add(self.apart / 2)
+    }
+}
 
 /// The transactions of some steps, rising.
 fn txns_of(alloc: Global, steps: &[Event]) -> Result<Vec<Txn>, Memory> {
@@ -32,13 +58,6 @@ fn txns_of(alloc: Global, steps: &[Event]) -> Result<Vec<Txn>, Memory> {
     Ok(list)
 }
 
-/// Where the marks of a column stand.
-fn across(column: usize) -> u64 {
-    (column as u64)
-        .saturating_mul(APART)
-        .saturating_add(LEFT + 16)
-}
-
 /// Where a lane is.
 fn down(lane: usize) -> u64 {
     (lane as u64)
@@ -46,24 +65,33 @@ fn down(lane: usize) -> u64 {
         .saturating_add(LANES_TOP)
 }
 
-/// Writes the lanes of the steps that are drawn.
-pub fn write_lanes(alloc: Global, run: &Run<'_>, out: &mut String) -> Result<(), Memory> {
+/// Writes the lanes of the steps that are drawn, with so much room at the left for the numbers of transactions.
+pub fn write_lanes(
+    alloc: Global,
+    run: &Run<'_>,
+    left: u64,
+    out: &mut String,
+) -> Result<(), Memory> {
     let steps = run.steps.get(run.skipped..).unwrap_or(&[]);
     let replies = run.replies.get(run.skipped..).unwrap_or(&[]);
+    if steps.is_empty() {
+        return Ok(());
+    }
     let txns = txns_of(alloc, steps)?;
+    let lanes = Lanes::new(left, run.steps.len() as u64);
     out.push_str("<h2>Transactions over time</h2>\n")?;
-    let high = down(txns.len());
-    let wide = across(steps.len()).saturating_add(10);
+    let high = down(txns.len()).saturating_sub(LANE_HIGH / 2);
+    let wide = lanes.across(steps.len());
     svg::open(out, wide, high, "the steps of each transaction")?;
     for (lane, txn) in txns.iter().enumerate() {
-        write_lane(out, steps, lane, *txn)?;
+        write_lane(out, lanes, steps, lane, *txn)?;
     }
     let mut number = run.skipped as u64;
     for (column, (step, reply)) in steps.iter().zip(replies.iter()).enumerate() {
         number = number.saturating_add(1);
-        let x = across(column);
+        let x = lanes.across(column);
         if let Ok(lane) = txns.as_slice().binary_search(&step.txn) {
-            write_mark(out, number, Point { x, y: down(lane) }, *step, reply)?;
+            write_mark(out, number, at(x, down(lane)), *step, reply)?;
         }
     }
     svg::close(out)?;
@@ -76,7 +104,13 @@ const KEY: &str =
 A box is a step that was done, a dashed box one that was blocked, a dotted one that was refused. A circle ends its transaction.</p>\n";
 
 /// Writes the line of a lane, from its first step to its last.
-fn write_lane(out: &mut String, steps: &[Event], lane: usize, txn: Txn) -> Result<(), AllocError> {
+fn write_lane(
+    out: &mut String,
+    lanes: Lanes,
+    steps: &[Event],
+    lane: usize,
+    txn: Txn,
+) -> Result<(), AllocError> {
     let mut first = None;
     let mut last = 0;
     for (column, step) in steps.iter().enumerate() {
@@ -88,17 +122,9 @@ fn write_lane(out: &mut String, steps: &[Event], lane: usize, txn: Txn) -> Resul
         }
     }
     let y = down(lane);
-    let from = across(first.unwrap_or(last));
-    svg::line(
-        out,
-        "lane",
-        Point { x: from, y },
-        Point { x: across(last), y },
-    )?;
-    let label = Point {
-        x: LEFT - 10,
-        y: y.saturating_add(5),
-    };
+    let from = lanes.across(first.unwrap_or(last));
+    svg::line(out, "lane", at(from, y), at(lanes.across(last), y))?;
+    let label = at(0, y.saturating_add(5));
     let words = format!(in *out.allocator(); "T{txn}")?;
     svg::text(out, "label", label, words.as_str())
 }
@@ -107,35 +133,25 @@ fn write_lane(out: &mut String, steps: &[Event], lane: usize, txn: Txn) -> Resul
 fn write_mark(
     out: &mut String,
     number: u64,
-    at: Point,
+    place: Point,
     step: Event,
     reply: &Reply,
 ) -> Result<(), AllocError> {
-    let Point { x, y } = at;
+    let Point { x, y } = place;
     let kind = kind_of(reply);
     let colour = colour_of(step.txn);
     write!(out, "<a href=\"#s{number}\">")?;
-    svg::text(
-        out,
-        "when",
-        Point { x, y: 16 },
-        format!(in *out.allocator(); "{number}")?.as_str(),
-    )?;
+    let words = format!(in *out.allocator(); "{number}")?;
+    svg::text(out, "when", at(x, 15), words.as_str())?;
     let class = format!(in *out.allocator(); "mark {kind} c{colour}")?;
     match reply {
-        Reply::Committed | Reply::Aborted => svg::circle(out, class.as_str(), at, 12)?,
+        Reply::Committed | Reply::Aborted => svg::circle(out, class.as_str(), place, HALF + 1)?,
         _ => {
-            let corner = Point {
-                x: x.saturating_sub(11),
-                y: y.saturating_sub(11),
-            };
-            svg::rect(out, class.as_str(), corner, 22, 22)?;
+            let corner = at(x.saturating_sub(HALF), y.saturating_sub(HALF));
+            svg::rect(out, class.as_str(), corner, 2 * HALF, 2 * HALF)?;
         }
     }
-    let middle = Point {
-        x,
-        y: y.saturating_add(5),
-    };
+    let middle = at(x, y.saturating_add(5));
     svg::text(out, "letter", middle, letter_of(step.op))?;
     out.push_str("</a>\n")
 }

@@ -4,13 +4,16 @@
 mod asked;
 mod band;
 mod bands;
+mod bar;
 mod columns;
 mod commits;
+mod drawing;
 mod frame;
 mod lanes;
-mod locks;
+mod layout;
 mod page;
 mod run;
+mod scene;
 mod summary;
 mod svg;
 mod text;

@@ -22,10 +22,16 @@ pub struct Run<'a> {
     pub skipped: usize,
 }
 
-/// The numbers of the steps at which an operation was asked and answered, and at which its transaction committed; 0 where
-/// there is none.
-#[derive(Clone, Copy, Debug, PartialEq, Eq)]
-pub struct Steps {
+/// The first operation whose answer isn't that of a serial run.
+#[derive(Clone, Copy)]
+pub struct Difference<'a> {
+    pub txn: Txn,
+    /// Its number in the program of its transaction, from 1.
+    pub operation: u64,
+    pub given: &'a Reply,
+    pub serial: &'a Reply,
+    /// The numbers of the steps at which it was asked and answered, and at which its transaction committed; 0 where there
+    /// is none.
     pub asked: u64,
     pub answered: u64,
     pub committed: u64,
@@ -45,13 +51,31 @@ fn is_granted(reply: &Reply) -> bool {
 }
 
 impl Run<'_> {
-    /// The steps of an operation, counted from 1, in the program of a transaction.
-    pub fn steps_of(&self, txn: Txn, operation: u64) -> Steps {
-        let mut found = Steps {
-            asked: 0,
-            answered: 0,
-            committed: 0,
-        };
+    /// The first operation whose answer isn't that of a serial run, if there is one.
+    pub fn difference(&self) -> Option<Difference<'_>> {
+        match self.verdict {
+            Verdict::Serial => None,
+            Verdict::NotSerial {
+                txn,
+                operation,
+                given,
+                serial,
+            } => Some(self.located(Difference {
+                txn: *txn,
+                operation: *operation,
+                given,
+                serial,
+                asked: 0,
+                answered: 0,
+                committed: 0,
+            })),
+        }
+    }
+
+    /// A difference with the numbers of its steps.
+    fn located<'a>(&self, difference: Difference<'a>) -> Difference<'a> {
+        let Difference { txn, operation, .. } = difference;
+        let mut found = difference;
         let mut count: u64 = 0;
         let mut number: u64 = 0;
         for (step, reply) in self.steps.iter().zip(self.replies.iter()) {

@@ -1,5 +1,6 @@
 //! A writer of SVG. Lengths are pixels.
 
+use crate::escape;
 use std::alloc::AllocError;
 
 /// A place in a drawing.
@@ -9,11 +10,16 @@ pub struct Point {
     pub y: u64,
 }
 
+/// The place at these lengths from the left and from the top.
+pub fn at(x: u64, y: u64) -> Point {
+    Point { x, y }
+}
+
 /// Opens a drawing of this size, with what it shows in words for those who don't see it.
 pub fn open(out: &mut String, wide: u64, high: u64, label: &str) -> Result<(), AllocError> {
     write!(
         out,
-        "<div class=\"wide\"><svg width=\"{wide}\" height=\"{high}\" role=\"img\" aria-label=\"{label}\">\n"
+        "<div class=\"wide\"><svg viewBox=\"0 0 {wide} {high}\" style=\"--w:{wide}px\" role=\"img\" aria-label=\"{label}\">\n"
     )
 }
 
@@ -22,9 +28,10 @@ pub fn close(out: &mut String) -> Result<(), AllocError> {
     out.push_str("</svg></div>\n")
 }
 
-/// A text of a class. It is written as it is given, so it has been escaped.
+/// A text of a class, with these words.
 pub fn text(out: &mut String, class: &str, at: Point, words: &str) -> Result<(), AllocError> {
     let Point { x, y } = at;
+    let words = escape(*out.allocator(), words)?;
     write!(
         out,
         "<text class=\"{class}\" x=\"{x}\" y=\"{y}\">{words}</text>\n"

@@ -62,7 +62,7 @@ pub fn write_pairs(out: &mut String, pairs: &[(u64, u64)]) -> Result<(), AllocEr
 }
 
 /// Writes the numbers of transactions, as `1, 2`.
-fn write_numbers(out: &mut String, numbers: &[u32]) -> Result<(), AllocError> {
+pub fn write_numbers(out: &mut String, numbers: &[u32]) -> Result<(), AllocError> {
     let mut separator = "";
     for number in numbers {
         write!(out, "{separator}{number}")?;

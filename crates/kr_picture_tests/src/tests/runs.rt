@@ -12,6 +12,10 @@ const PLAIN: &str =
 const MARKED: &str =
     "format = 1\nmodes = [\"<A>\"]\ncompatible = { \"<A>\" = [] }\nconvert = { \"<A>\" = { \"<A>\" = \"<A>\" } }\n[rules.fetch-hit]\ncurrent = [{ mode = \"<A>\", span = \"commit\" }]\n";
 
+/// The table whose fetch takes S and whose delete takes X, on the key alone.
+const SHARED: &str =
+    "format = 1\nmodes = [\"S\", \"X\"]\ncompatible = { S = [\"S\"], X = [] }\nconvert = { S = { S = \"S\", X = \"X\" }, X = { S = \"X\", X = \"X\" } }\n[rules.fetch-hit]\ncurrent = [{ mode = \"S\", span = \"commit\" }]\n[rules.delete]\ncurrent = [{ mode = \"X\", span = \"commit\" }]\n";
+
 /// A run with what its page tells.
 struct Row<'a> {
     name: &'a str,
@@ -52,14 +56,16 @@ const ROWS: &[Row] = &[
     Row {
         name: "a delete that no lock holds back",
         table: PLAIN,
-        script: r#"{"format":1,"opening":[[10,1]],"steps":[[1,"fetch",10],[2,"delete",10],[2,"commit"],[1,"commit"]]}"#,
+        script: r#"{"format":1,"opening":[[10,1]],"steps":[[1,"fetch",10],[2,"delete",10],[1,"fetch",10],[2,"commit"],[1,"commit"]]}"#,
         is_serial: false,
         words: &[
             "✗ Not serial.",
-            "Operation 1 of transaction 1, fetch 10 (<a href=\"#s1\">step 1</a>), was answered <b>found 1</b>",
-            "the answer is <b>none there</b>. Transaction 1 committed at <a href=\"#s4\">step 4</a>.",
+            "Operation 1 of transaction 1, fetch 10 (<a href=\"#s1\">step 1</a>), was answered <b>found 1</b>. After",
+            "the answer is <b>none there</b>. Transaction 1 committed at <a href=\"#s5\">step 5</a>.",
+            "<p class=\"differs\">✗ In a serial run: none there</p>",
             "deleted, was 1",
-            "gone",
+            ">gone<",
+            ">not compared<",
         ],
         absent: &["✓ Serial.", "blocked by"],
     },
@@ -71,8 +77,8 @@ const ROWS: &[Row] = &[
         words: &[
             "blocked by 1",
             "Asked for &lt;A&gt; on 10 to commit: refused by transaction 1.",
-            ">1 &lt;A&gt; blocks<",
-            ">2 asks &lt;A&gt;<",
+            ">1 &lt;A&gt;!<",
+            ">2 &lt;A&gt;?<",
             "Unfinished at the end: T1.",
         ],
         absent: &["<A>"],
@@ -84,13 +90,45 @@ const ROWS: &[Row] = &[
         is_serial: true,
         words: &[
             "updated, was 1",
-            "changed =7",
-            "came =1",
+            ">=7<",
+            ">changed<",
+            ">came<",
+            ">gone<",
             "taken back, 1 left",
             "taken back, 0 left",
             "aborted",
         ],
         absent: &["committed at"],
+    },
+    Row {
+        name: "a scan that a delete overtakes",
+        table: PLAIN,
+        script: r#"{"format":1,"opening":[[10,1],[20,2]],"steps":[[1,"scan",10,20],[2,"delete",10],[2,"commit"],[1,"go"],[1,"commit"]]}"#,
+        is_serial: false,
+        words: &[
+            "scan 10 to 20 (<a href=\"#s1\">step 1</a>), was answered <b>rows: 10=1, 20=2</b> (<a href=\"#s4\">step 4</a>). After",
+            "✗ In a serial run: rows: 20=2</p>",
+        ],
+        absent: &["not compared<"],
+    },
+    Row {
+        name: "a lock that is asked for on a key that is locked, and one on a key that went",
+        table: SHARED,
+        script: r#"{"format":1,"opening":[[10,1],[20,2]],"steps":[[1,"fetch",20],[2,"fetch",20],[3,"fetch",20],[1,"delete",20],[1,"delete",10],[2,"delete",20]]}"#,
+        is_serial: true,
+        words: &[
+            "Asked for X on 20 to commit: refused by transactions 2, 3.",
+            "<text class=\"label\" x=\"0\" y=\"91\">T1</text>",
+            "<text class=\"bar\" x=\"94\" y=\"91\">1 S</text>",
+            "<text class=\"bar\" x=\"94\" y=\"117\">1 X?</text>",
+            "<text class=\"label\" x=\"0\" y=\"143\">T2</text>",
+            ">2 S!<",
+            ">3 S!<",
+            ">1 S blocks<",
+            ">2 asks X<",
+            ">1 X<",
+        ],
+        absent: &["y=\"117\">T1<"],
     },
     Row {
         name: "a scan, and steps that are refused",

@@ -1,0 +1,180 @@
+//! The bars of a step: the locks that are held after it, and those that it asked for and was refused.
+
+use crate::asked::Asked;
+use crate::columns::Columns;
+use crate::scene::KeyState;
+use kr_locks::Memory;
+use kr_model::{Mode, Name, Txn};
+use kr_protocol::Protocol;
+use std::alloc::Global;
+
+/// How many classes of colours there are.
+const COLOURS: u32 = 6;
+
+/// The row of a bar: those of a transaction stand below each other, so that no bar covers another.
+#[derive(Clone, Copy, Debug, PartialEq, Eq, PartialOrd, Ord)]
+pub struct Row {
+    pub txn: Txn,
+    /// 0 for bars on present names, and 2 for a request of what its transaction holds already in another mode; 1 more for
+    /// bars on absent keys.
+    pub layer: u8,
+}
+
+/// A lock, or a request that was refused, on the name of a column.
+#[derive(Debug, Drop)]
+pub struct Bar {
+    pub row: Row,
+    pub column: usize,
+    /// How many columns the bar reaches over: a lock protects its key and the gap from the next present key below. 0 on an
+    /// absent key, where it protects the place of the key alone.
+    pub reach: usize,
+    /// The name of the mode.
+    pub mode: String,
+    pub kind: BarKind,
+}
+
+impl Bar {
+    /// The holder and the mode, and with a word or a sign whether it refuses or was asked for.
+    pub fn words(&self, alloc: Global, is_short: bool) -> Result<String, Memory> {
+        let txn = self.row.txn;
+        let mode = self.mode.as_str();
+        match (self.kind, is_short) {
+            (BarKind::Held, _) => format!(in alloc; "{txn} {mode}"),
+            (BarKind::Refusing, false) => format!(in alloc; "{txn} {mode} blocks"),
+            (BarKind::Refusing, true) => format!(in alloc; "{txn} {mode}!"),
+            (BarKind::Asked, false) => format!(in alloc; "{txn} asks {mode}"),
+            (BarKind::Asked, true) => format!(in alloc; "{txn} {mode}?"),
+        }
+    }
+}
+
+/// What a bar is.
+#[derive(Clone, Copy, Debug, PartialEq, Eq)]
+pub enum BarKind {
+    /// A lock.
+    Held,
+    /// A lock that refuses what was asked for.
+    Refusing,
+    /// A request that was refused.
+    Asked,
+}
+
+/// The name of a mode; a number beyond the modes has none.
+pub fn mode_name<P: Protocol>(protocol: &P, mode: Mode) -> &str {
+    if mode <= protocol.count() {
+        protocol.name(mode)
+    } else {
+        ""
+    }
+}
+
+/// The class of a transaction's colour.
+pub fn colour_of(txn: Txn) -> u32 {
+    txn % COLOURS
+}
+
+/// How many columns a lock on the name of a column reaches over.
+fn reach_of(keys: &[KeyState], column: usize) -> usize {
+    if let Some(key) = keys.get(column) {
+        if key.value().is_none() {
+            return 0;
+        }
+    }
+    let mut reach: usize = 1;
+    for key in keys.get(..column).unwrap_or(&[]) {
+        reach = if key.value().is_some() {
+            1
+        } else {
+            reach.saturating_add(1)
+        };
+    }
+    reach
+}
+
+/// The row of a transaction's bar that reaches so far, and stands below another of its bars on the same name or not.
+fn row_of(txn: Txn, is_second: bool, reach: usize) -> Row {
+    let layer = match (is_second, reach) {
+        (false, 0) => 1,
+        (false, _) => 0,
+        (true, 0) => 3,
+        (true, _) => 2,
+    };
+    Row { txn, layer }
+}
+
+/// Whether a lock refuses what was asked for.
+fn refuses(asked: &[Asked], name: Name, txn: Txn) -> bool {
+    for request in asked {
+        if request.name == name && request.refusers.as_slice().contains(&txn) {
+            return true;
+        }
+    }
+    false
+}
+
+/// Adds a bar for each lock on a name that has a column.
+pub fn push_held<P: Protocol>(
+    alloc: Global,
+    protocol: &P,
+    columns: &Columns,
+    keys: &[KeyState],
+    locks: &[((Name, Txn), Mode)],
+    asked: &[Asked],
+    bars: &mut Vec<Bar>,
+) -> Result<(), Memory> {
+    for ((name, txn), mode) in locks {
+        if let Some(column) = columns.of(*name) {
+            let reach = reach_of(keys, column);
+            let kind = if refuses(asked, *name, *txn) {
+                BarKind::Refusing
+            } else {
+                BarKind::Held
+            };
+            bars.push(Bar {
+                row: row_of(*txn, false, reach),
+                column,
+                reach,
+                mode: String::from_str(alloc, mode_name(protocol, *mode))?,
+                kind,
+            })?;
+        }
+    }
+    Ok(())
+}
+
+/// Whether a transaction has a bar on the name of a column.
+fn has_bar(bars: &[Bar], txn: Txn, column: usize) -> bool {
+    for bar in bars {
+        if bar.row.txn == txn && bar.column == column {
+            return true;
+        }
+    }
+    false
+}
+
+/// Adds a bar for each lock that a transaction asked for and was refused. What nobody refuses is told in words alone.
+pub fn push_asked<P: Protocol>(
+    alloc: Global,
+    protocol: &P,
+    columns: &Columns,
+    keys: &[KeyState],
+    txn: Txn,
+    asked: &[Asked],
+    bars: &mut Vec<Bar>,
+) -> Result<(), Memory> {
+    for request in asked {
+        let is_refused = !request.refusers.is_empty();
+        if let (true, Some(column)) = (is_refused, columns.of(request.name)) {
+            let reach = reach_of(keys, column);
+            let is_second = has_bar(bars.as_slice(), txn, column);
+            bars.push(Bar {
+                row: row_of(txn, is_second, reach),
+                column,
+                reach,
+                mode: String::from_str(alloc, mode_name(protocol, request.mode))?,
+                kind: BarKind::Asked,
+            })?;
+        }
+    }
+    Ok(())
+}
