@@ -33,7 +33,7 @@ impl Files for Shelf<'_> {
     }
 }
 
-/// A table of one mode, in which the row that is asked for first stands alone.
+/// A table of one mode, in which no row asks for anything.
 const TABLE: &str =
     "format = 1\nmodes = [\"A\"]\ncompatible = { A = [] }\nconvert = { A = { A = \"A\" } }\nrules = {}\n";
 

@@ -38,7 +38,6 @@ fn nothing_is_had(rt: HostRuntime) -> Result<(), Fail> {
     Ok(())
 }
 
-/// Endings of which nothing is told of a word, with the line.
 #[test]
 fn other_endings(rt: HostRuntime) -> Result<(), Fail> {
     let alloc = rt.alloc();
@@ -76,7 +75,7 @@ const TABLES: &[(&str, &str)] = &[
     ),
     (
         "format = 1\nmodes = [\"A\"]\ncompatible = { A = [] }\nconvert = {}\nrules = {}",
-        "fault 8 Convert at convert.A",
+        "fault 8 Convert at convert.A.A",
     ),
     (
         "format = 1\nmodes = [\"A\"]\ncompatible = { A = [] }\nconvert = { A = { A = \"A\" } }\nrules = { x = {} }",
@@ -159,13 +158,17 @@ fn no_scripts(rt: HostRuntime) -> Result<(), Fail> {
 }
 
 #[test]
-fn long_texts(rt: HostRuntime) -> Result<(), Fail> {
+fn faults_of_long_texts(rt: HostRuntime) -> Result<(), Fail> {
     let alloc = rt.alloc();
-    let zeros = ",0".repeat(alloc, 100_000)?;
-    let many = format!(in alloc; "{{\"format\":1,\"opening\":[0{zeros}],\"steps\":[]}}")?;
-    tells_of_script(&rt, many.as_str(), "fault 7 TooMany at opening")?;
-    let long = " ".repeat(alloc, 16_777_217)?;
-    tells_of_script(&rt, long.as_str(), "fault 1 TooLong")?;
+    let too_long = at_fault(alloc, "w", ScriptFault::TooLong);
+    tells(&rt, alloc, too_long, "w: fault 1 TooLong")?;
+    let too_many = ScriptFault::TooMany(String::from_str(alloc, "steps")?);
+    tells(
+        &rt,
+        alloc,
+        at_fault(alloc, "w", too_many),
+        "w: fault 7 TooMany at steps",
+    )?;
     let long = " ".repeat(alloc, 65_537)?;
     let ending = table_at(&rt, "file", &Shelf(long.as_bytes()))
         .err()
