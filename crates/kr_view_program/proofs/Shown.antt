@@ -26,7 +26,7 @@ page_fault may_give words (Err e) (inr output) = let P : Ending → Type 0 = λ 
 
 -- words of no form
 pub no_form : (may_give : List ℕ → Option (List ℕ) → Type 0) (words : List (List ℕ)) (e : Ending) → e ≡ NotUnderstood → ((table script : List ℕ) → AreWords words table script → ⊥) → Explains may_give words e
-no_form may_give words e is no = let P : Ending → Type 0 = λ x. Explains may_give words x in subst P (sym is) no
+no_form may_give words e is isnt = let P : Ending → Type 0 = λ x. Explains may_give words x in subst P (sym is) isnt
 
 -- the word of a table that names none
 pub no_table : (may_give : List ℕ → Option (List ℕ) → Type 0) (words : List (List ℕ)) (table script : List ℕ) (e : Ending) → AreWords words table script → MemoryOrTold e (TellsNoTable may_give table) → Explains may_give words e
