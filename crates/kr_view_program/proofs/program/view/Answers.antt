@@ -1,30 +1,22 @@
 use Rattle.std.specs.Prelude.{map, string_bytes}
 use Rattle.std.proofs.Common.{rules}
 use Rattle.kr_shell.specs.Tables.{table_of}
-use Rattle.kr_view_program.specs.Program.{Explains}
 use Rattle.kr_view_program.proofs.Shown.{shown, page_fault, no_form, no_table, no_script}
 use Rattle.kr_view_program.proofs.program.view.Goals as goal
 
 pub returns-in_err-asked-clause-err : goal.returns-in_err-asked-clause-err
 returns-in_err-asked-clause-err g c =
-    let may_give = g.F.Files.may_give c.args.files.now in
-    let words = map string_bytes c.args.words.now in
-    let h : Explains may_give words c.in_err-asked.e = no_form may_give words _ c.in_err-asked.ensures.err c.in_err-asked.ensures.form in
-    let k = c.from_residual.ensures in
-    ?
+    let explained = no_form (g.F.Files.may_give c.args.files.now) (map string_bytes c.args.words.now) _ c.in_err-asked.ensures.err c.in_err-asked.ensures.form in
+    search rules
 
 pub returns-in_err-table-clause-err : goal.returns-in_err-table-clause-err
 returns-in_err-table-clause-err g c =
-    let may_give = g.F.Files.may_give c.args.files.now in
-    let words = map string_bytes c.args.words.now in
-    let k = no_table may_give words _ c.in_ok-asked.asked.script.now _ c.in_ok-asked.ensures.words c.in_err-table.ensures.fault in
+    let explained = no_table (g.F.Files.may_give c.args.files.now) (map string_bytes c.args.words.now) _ c.in_ok-asked.asked.script.now _ c.in_ok-asked.ensures.words c.in_err-table.ensures.fault in
     search rules
 
 pub returns-in_err-script-clause-err : goal.returns-in_err-script-clause-err
 returns-in_err-script-clause-err g c =
-    let may_give = g.F.Files.may_give c.args.files.now in
-    let words = map string_bytes c.args.words.now in
-    let k = no_script may_give words c.in_ok-table.table _ _ _ c.in_ok-asked.ensures.words c.in_ok-table.ensures.table c.in_err-script.ensures.fault in
+    let explained = no_script (g.F.Files.may_give c.args.files.now) (map string_bytes c.args.words.now) c.in_ok-table.table _ _ _ c.in_ok-asked.ensures.words c.in_ok-table.ensures.table c.in_err-script.ensures.fault in
     search rules
 
 pub returns-clause-shows : goal.returns-clause-shows
