@@ -1,4 +1,7 @@
-//! The step of the holder that a case is about.
+//! The steps of the holder that a case is about.
+ghost use Rattle.std.specs.Prelude.{◌≡◌, ◌≤◌, is_some};
+ghost use Rattle.std.specs.List.{list_any};
+ghost use Rattle.kr_counterexample.specs.About.{asks, can_step, has_cover, is_about, is_asked_for};
 
 use crate::deed::Deed;
 use crate::keys::{A, B, C, K, P};
@@ -7,97 +10,120 @@ use crate::table::Table;
 use kr_model::{Cover, FailedCase, Mode, Op, Origin, Row, Rule, Side, Span};
 use kr_protocol::Protocol;
 
-/// The numbers of the steps that one state may have for a case are below this.
-pub(crate) const OWN_STEPS: u8 = 8;
+/// Steps that are tried in this order, where there are any.
+pub(crate) type OwnSteps = [Option<Op>; 8];
 
-/// The step of this number, from 0, by which the holder, in this state, makes the request that the case is about. Some
-/// numbers may have none where greater ones have one.
-pub(crate) fn own_step<T: Protocol>(
+/// The steps by which the holder, in this state, makes the request that the case is about.
+pub(crate) fn own_steps<T: Protocol>(
     table: &Table<'_, T>,
     state: State,
     case: &FailedCase,
-    number: u8,
-) -> Option<Op> {
-    match case.from {
-        Origin::Two(held, asked) if case.case == Rule::Conversion => {
-            if is_due(state, case.cover, held) {
-                converting(table, state, asked, number)
-            } else {
-                None
-            }
-        }
-        _ if number > 0 => None,
-        Origin::Two(on_y, on_a) => {
-            let is_there = !state.a && state.on_y == on_y && state.on_a == on_a;
-            if is_there && (case.case == Rule::Insert || has_cover_below(state, case.cover)) {
-                Some(Op::Insert(A, 0))
-            } else {
-                None
-            }
-        }
-        Origin::One(own) => single(state, case.case, own),
+) -> OwnSteps
+    ensures { list_any is_some result ≡ is_about (T.table table.now.protocol.now) case.now state }
+{
+    match (case.case, case.from) {
+        (Rule::Conversion, Origin::Two(held, asked))
+            if state.a
+                && state.on_a == held
+                && held <= table.protocol.count()
+                && has_cover(case.cover, state) => converting(table, state, asked),
+        (Rule::Insert, Origin::Two(on_y, on_a)) => only(
+            !state.a && state.on_y == on_y && state.on_a == on_a,
+            Op::Insert(A, 0),
+        ),
+        (Rule::Split, Origin::Two(on_y, on_a)) => only(
+            !state.a && state.on_y == on_y && state.on_a == on_a && has_cover(case.cover, state),
+            Op::Insert(A, 0),
+        ),
+        (rule, Origin::One(own)) => only(
+            state.a && state.on_a == own && can_step(rule, state),
+            step_of(rule),
+        ),
+        _ => [None; 8],
     }
 }
 
-/// Whether the holder has changed or read the gap below the name above P, so that it has the cover.
-fn has_cover_below(state: State, cover: Cover) -> bool {
-    let due = match state.did_p {
-        Deed::Deleted => true,
-        Deed::Nothing => false,
-        _ => cover == Cover::ReadGap,
-    };
-    due && !state.p
+/// Whether the state has a step that the case is about.
+pub(crate) fn is_about<T: Protocol>(table: &Table<'_, T>, state: State, case: &FailedCase) -> bool
+    ensures { result ≡ is_about (T.table table.now.protocol.now) case.now state }
+{
+    own_steps(table, state, case)
+        .iter()
+        .any(|step| step.is_some())
 }
 
-/// Whether the holder has the cover by this mode on A.
-fn is_due(state: State, cover: Cover, held: Mode) -> bool {
-    let has = match cover {
+/// The step alone, if it can be taken.
+fn only(can: bool, op: Op) -> OwnSteps
+    ensures { list_any is_some result ≡ can }
+{
+    let step = can.then_some(op);
+    [step, None, None, None, None, None, None, None]
+}
+
+/// Whether the holder did that which its lock has to protect.
+fn has_cover(cover: Cover, state: State) -> bool
+    ensures { result ≡ has_cover cover state }
+{
+    match cover {
         Cover::ReadKey => state.did_a != Deed::Nothing,
+        Cover::ReadGap => !state.p && state.did_p != Deed::Nothing,
         Cover::InsertedKey => state.did_a == Deed::Inserted,
+        Cover::DeletedGap => !state.p && state.did_p == Deed::Deleted,
         Cover::UpdatedKey => state.did_a == Deed::Updated,
-        Cover::ReadGap | Cover::DeletedGap => has_cover_below(state, cover),
-    };
-    has && state.a && state.on_a == held
+    }
 }
 
-/// The step of this number, if it can be taken and asks for the mode on A until commit.
-fn converting<T: Protocol>(
-    table: &Table<'_, T>,
-    state: State,
-    asked: Mode,
-    number: u8,
-) -> Option<Op> {
+/// The steps that can be taken and ask for the mode on A until commit.
+fn converting<T: Protocol>(table: &Table<'_, T>, state: State, asked: Mode) -> OwnSteps
+    requires { state.on_a ≤ (T.table table.now.protocol.now).count }
+    ensures { list_any is_some result ≡ is_asked_for (T.table table.now.protocol.now) asked state }
+{
     let point = if state.p { C } else { P };
-    let below = !state.p && !state.b;
-    let (is_there, row, side, op) = match number {
-        0 => (true, Row::FetchHit, Side::Current, Op::Fetch(A)),
-        1 => (true, Row::FetchMiss, Side::Next, Op::Fetch(point)),
-        2 => (true, Row::ScanKey, Side::Current, Op::Scan(A, A)),
-        3 => (true, Row::ScanStop, Side::Next, Op::Scan(point, point)),
-        4 => (below, Row::Insert, Side::Next, Op::Insert(B, 0)),
-        5 => (below && state.k, Row::Delete, Side::Next, Op::Delete(K)),
-        6 => (state.p, Row::Delete, Side::Next, Op::Delete(P)),
-        _ => (true, Row::Update, Side::Current, Op::Update(A, 0)),
-    };
-    if is_there && table.ask(row, side, state.on_a) == Some((asked, Span::Commit)) {
-        Some(op)
-    } else {
-        None
+    let takes = asks(table, asked, state, Row::Delete, Side::Next);
+    let puts = asks(table, asked, state, Row::Insert, Side::Next);
+    [
+        asks(table, asked, state, Row::FetchHit, Side::Current).then_some(Op::Fetch(A)),
+        asks(table, asked, state, Row::FetchMiss, Side::Next).then_some(Op::Fetch(point)),
+        asks(table, asked, state, Row::ScanKey, Side::Current).then_some(Op::Scan(A, A)),
+        asks(table, asked, state, Row::ScanStop, Side::Next).then_some(Op::Scan(point, point)),
+        (puts && !state.p && !state.b).then_some(Op::Insert(B, 0)),
+        (takes && !state.p && !state.b && state.k).then_some(Op::Delete(K)),
+        (takes && state.p).then_some(Op::Delete(P)),
+        asks(table, asked, state, Row::Update, Side::Current).then_some(Op::Update(A, 0)),
+    ]
+}
+
+/// Whether a row asks on A for the mode until commit.
+fn asks<T: Protocol>(table: &Table<'_, T>, mode: Mode, state: State, row: Row, side: Side) -> bool
+    requires { state.on_a ≤ (T.table table.now.protocol.now).count }
+    ensures { result ≡ asks (T.table table.now.protocol.now) mode state row side }
+{
+    match table.ask(row, side, state.on_a) {
+        Some((asked, Span::Commit)) => asked == mode,
+        _ => false,
     }
 }
 
-/// The step of a case at one own mode on A.
-fn single(state: State, rule: Rule, own: Mode) -> Option<Op> {
-    if !state.a || state.on_a != own {
-        return None;
-    }
+/// Whether the step of a rule can be taken where A stands.
+fn can_step(rule: Rule, state: State) -> bool
+    ensures { result ≡ can_step rule state }
+{
     match rule {
-        Rule::FetchHit => Some(Op::Fetch(A)),
-        Rule::Update => Some(Op::Update(A, 0)),
-        Rule::Delete if state.p && state.did_p != Deed::Inserted => Some(Op::Delete(P)),
-        Rule::FetchMiss if !state.p => Some(Op::Fetch(P)),
-        Rule::ScanKey if !state.p => Some(Op::Scan(P, A)),
-        Rule::ScanStop if !state.p => Some(Op::Scan(P, P)),
-        _ => None,
+        Rule::FetchHit | Rule::Update => true,
+        Rule::FetchMiss | Rule::ScanKey | Rule::ScanStop => !state.p,
+        Rule::Delete => state.p && state.did_p != Deed::Inserted,
+        Rule::Conversion | Rule::Insert | Rule::Split => false,
+    }
+}
+
+/// The step of a rule where A stands, for those that have one.
+fn step_of(rule: Rule) -> Op {
+    match rule {
+        Rule::FetchMiss => Op::Fetch(P),
+        Rule::ScanKey => Op::Scan(P, A),
+        Rule::ScanStop => Op::Scan(P, P),
+        Rule::Delete => Op::Delete(P),
+        Rule::Update => Op::Update(A, 0),
+        _ => Op::Fetch(A),
     }
 }
