@@ -52,16 +52,24 @@ is_for_commit mode _ = false
 abbrev pub asks : Protocol → ℕ → State → Row → Side → Bool
 asks p mode s r side = is_for_commit mode (p.ask r side s.on_a)
 
--- Whether some step that can be taken asks on A for this mode until commit: any read, an update of A, an insert below, where neither P nor B stands there, or a delete below.
+-- Whether B can be put in right below A.
+abbrev pub can_put : State → Bool
+can_put s = not s.p && not s.b
+
+-- Whether P, or else K, can be deleted right below A.
+abbrev pub can_take : State → Bool
+can_take s = s.p || (not s.b && s.k)
+
+-- Whether some step that can be taken asks on A for this mode until commit.
 abbrev pub is_asked_for : Protocol → ℕ → State → Bool
 is_asked_for p mode s =
     asks p mode s row.FetchHit Current
-    || asks p mode s row.FetchMiss Next
-    || asks p mode s row.ScanKey Current
-    || asks p mode s row.ScanStop Next
-    || (asks p mode s row.Insert Next && not s.p && not s.b)
-    || (asks p mode s row.Delete Next && (s.p || not s.b && s.k))
-    || asks p mode s row.Update Current
+    || (asks p mode s row.FetchMiss Next
+    || (asks p mode s row.ScanKey Current
+    || (asks p mode s row.ScanStop Next
+    || ((asks p mode s row.Insert Next && can_put s)
+    || ((asks p mode s row.Delete Next && can_take s)
+    || asks p mode s row.Update Current)))))
 
 -- Whether the step of a rule can be taken where A stands.
 abbrev pub can_step : Rule → State → Bool
@@ -73,11 +81,15 @@ can_step rule.Delete s = s.p && not (is_inserted s.did_p)
 can_step rule.Update s = true
 can_step _ s = false
 
+-- Whether A is gone, and the holder has these modes on Y and on A.
+abbrev pub is_below : ℕ → ℕ → State → Bool
+is_below on_y on_a s = not s.a && (s.on_y == on_y) && (s.on_a == on_a)
+
 -- Whether a case of this rule, cover and modes is about the state.
 abbrev pub is_at : Protocol → Rule → Cover → Origin → State → Bool
 is_at p rule.Conversion c (Two held asked) s = s.a && (s.on_a == held) && nat_le held p.count && has_cover c s && is_asked_for p asked s
-is_at p rule.Insert c (Two on_y on_a) s = not s.a && (s.on_y == on_y) && (s.on_a == on_a)
-is_at p rule.Split c (Two on_y on_a) s = not s.a && (s.on_y == on_y) && (s.on_a == on_a) && has_cover c s
+is_at p rule.Insert c (Two on_y on_a) s = is_below on_y on_a s
+is_at p rule.Split c (Two on_y on_a) s = is_below on_y on_a s && has_cover c s
 is_at p r c (One own) s = s.a && (s.on_a == own) && can_step r s
 is_at p _ c _ s = false
 

@@ -33,4 +33,4 @@ pub record Leads (p : Protocol) (opening : Map) (events : List Event) (s : State
 
 -- Some script leads to the state.
 abbrev pub IsReached : Protocol → State → Type 0
-IsReached p s = (opening : Map) × ((events : List Event) × Leads p opening events s)
+IsReached p s = ∥ ((opening : Map) × ((events : List Event) × Leads p opening events s)) ∥₁

@@ -1,7 +1,9 @@
 //! The steps of the holder that a case is about.
-ghost use Rattle.std.specs.Prelude.{◌≡◌, ◌≤◌, is_some};
+ghost use Rattle.std.specs.Prelude.{◌≡◌, ◌≤◌, ◌&&◌, is_some};
 ghost use Rattle.std.specs.List.{list_any};
-ghost use Rattle.kr_counterexample.specs.About.{asks, can_step, has_cover, is_about, is_asked_for};
+ghost use Rattle.kr_model.specs.declared.Origin.TheVariants.{Two};
+ghost use Rattle.kr_model.specs.declared.Rule.TheVariants as rule_is;
+ghost use Rattle.kr_counterexample.specs.About.{asks, can_put, can_step, can_take, has_cover, is_about, is_asked_for, is_at, is_below};
 
 use crate::deed::Deed;
 use crate::keys::{A, B, C, K, P};
@@ -11,7 +13,7 @@ use kr_model::{Cover, FailedCase, Mode, Op, Origin, Row, Rule, Side, Span};
 use kr_protocol::Protocol;
 
 /// Steps that are tried in this order, where there are any.
-pub(crate) type OwnSteps = [Option<Op>; 8];
+pub(crate) type OwnSteps = [Option<Op>; 7];
 
 /// The steps by which the holder, in this state, makes the request that the case is about.
 pub(crate) fn own_steps<T: Protocol>(
@@ -21,26 +23,28 @@ pub(crate) fn own_steps<T: Protocol>(
 ) -> OwnSteps
     ensures { list_any is_some result ≡ is_about (T.table table.now.protocol.now) case.now state }
 {
-    match (case.case, case.from) {
-        (Rule::Conversion, Origin::Two(held, asked))
-            if state.a
-                && state.on_a == held
-                && held <= table.protocol.count()
-                && has_cover(case.cover, state) => converting(table, state, asked),
-        (Rule::Insert, Origin::Two(on_y, on_a)) => only(
-            !state.a && state.on_y == on_y && state.on_a == on_a,
-            Op::Insert(A, 0),
+    match case.from {
+        Origin::One(own) => only(
+            state.a && state.on_a == own && can_step(case.case, state),
+            step_of(case.case),
         ),
-        (Rule::Split, Origin::Two(on_y, on_a)) => only(
-            !state.a && state.on_y == on_y && state.on_a == on_a && has_cover(case.cover, state),
-            Op::Insert(A, 0),
-        ),
-        (rule, Origin::One(own)) => only(
-            state.a && state.on_a == own && can_step(rule, state),
-            step_of(rule),
-        ),
-        _ => [None; 8],
+        Origin::Two(first, second) => match case.case {
+            Rule::Conversion => converting(table, state, case.cover, first, second),
+            Rule::Insert => only(is_below(state, first, second), Op::Insert(A, 0)),
+            Rule::Split => only(
+                is_below(state, first, second) && has_cover(case.cover, state),
+                Op::Insert(A, 0),
+            ),
+            _ => [None; 7],
+        },
     }
+}
+
+/// Whether A is gone, and the holder has these modes on Y and on A.
+fn is_below(state: State, on_y: Mode, on_a: Mode) -> bool
+    ensures { result ≡ is_below on_y on_a state }
+{
+    !state.a && state.on_y == on_y && state.on_a == on_a
 }
 
 /// Whether the state has a step that the case is about.
@@ -56,8 +60,7 @@ pub(crate) fn is_about<T: Protocol>(table: &Table<'_, T>, state: State, case: &F
 fn only(can: bool, op: Op) -> OwnSteps
     ensures { list_any is_some result ≡ can }
 {
-    let step = can.then_some(op);
-    [step, None, None, None, None, None, None, None]
+    [step_if(can, true, op), None, None, None, None, None, None]
 }
 
 /// Whether the holder did that which its lock has to protect.
@@ -73,24 +76,71 @@ fn has_cover(cover: Cover, state: State) -> bool
     }
 }
 
+/// The steps that convert a mode on A which has the cover.
+fn converting<T: Protocol>(
+    table: &Table<'_, T>,
+    state: State,
+    cover: Cover,
+    held: Mode,
+    asked: Mode,
+) -> OwnSteps
+    ensures { list_any is_some result ≡ is_at (T.table table.now.protocol.now) rule_is.Conversion cover (Two held asked) state }
+{
+    if state.a && state.on_a == held && held <= table.protocol.count() && has_cover(cover, state) {
+        asking(table, state, asked)
+    } else {
+        [None; 7]
+    }
+}
+
 /// The steps that can be taken and ask for the mode on A until commit.
-fn converting<T: Protocol>(table: &Table<'_, T>, state: State, asked: Mode) -> OwnSteps
+fn asking<T: Protocol>(table: &Table<'_, T>, state: State, asked: Mode) -> OwnSteps
     requires { state.on_a ≤ (T.table table.now.protocol.now).count }
     ensures { list_any is_some result ≡ is_asked_for (T.table table.now.protocol.now) asked state }
 {
-    let point = if state.p { C } else { P };
-    let takes = asks(table, asked, state, Row::Delete, Side::Next);
+    let hits = asks(table, asked, state, Row::FetchHit, Side::Current);
+    let misses = asks(table, asked, state, Row::FetchMiss, Side::Next);
+    let scans = asks(table, asked, state, Row::ScanKey, Side::Current);
+    let stops = asks(table, asked, state, Row::ScanStop, Side::Next);
     let puts = asks(table, asked, state, Row::Insert, Side::Next);
+    let takes = asks(table, asked, state, Row::Delete, Side::Next);
+    let updates = asks(table, asked, state, Row::Update, Side::Current);
+    let (point, taken) = points_below(state);
     [
-        asks(table, asked, state, Row::FetchHit, Side::Current).then_some(Op::Fetch(A)),
-        asks(table, asked, state, Row::FetchMiss, Side::Next).then_some(Op::Fetch(point)),
-        asks(table, asked, state, Row::ScanKey, Side::Current).then_some(Op::Scan(A, A)),
-        asks(table, asked, state, Row::ScanStop, Side::Next).then_some(Op::Scan(point, point)),
-        (puts && !state.p && !state.b).then_some(Op::Insert(B, 0)),
-        (takes && !state.p && !state.b && state.k).then_some(Op::Delete(K)),
-        (takes && state.p).then_some(Op::Delete(P)),
-        asks(table, asked, state, Row::Update, Side::Current).then_some(Op::Update(A, 0)),
+        step_if(hits, true, Op::Fetch(A)),
+        step_if(misses, true, Op::Fetch(point)),
+        step_if(scans, true, Op::Scan(A, A)),
+        step_if(stops, true, Op::Scan(point, point)),
+        step_if(puts, can_put(state), Op::Insert(B, 0)),
+        step_if(takes, can_take(state), Op::Delete(taken)),
+        step_if(updates, true, Op::Update(A, 0)),
     ]
+}
+
+/// A point below A that doesn't stand, and the key that can be deleted there.
+fn points_below(state: State) -> (u64, u64) {
+    if state.p { (C, P) } else { (P, K) }
+}
+
+/// Whether B can be put in right below A.
+fn can_put(state: State) -> bool
+    ensures { result ≡ can_put state }
+{
+    !state.p && !state.b
+}
+
+/// Whether P, or else K, can be deleted right below A.
+fn can_take(state: State) -> bool
+    ensures { result ≡ can_take state }
+{
+    state.p || !state.b && state.k
+}
+
+/// The step, if it asks for the mode and can be taken.
+fn step_if(asks: bool, can: bool, op: Op) -> Option<Op>
+    ensures { is_some result ≡ (asks && can) }
+{
+    if asks && can { Some(op) } else { None }
 }
 
 /// Whether a row asks on A for the mode until commit.
