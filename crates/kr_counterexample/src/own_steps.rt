@@ -51,9 +51,14 @@ fn is_below(state: State, on_y: Mode, on_a: Mode) -> bool
 pub(crate) fn is_about<T: Protocol>(table: &Table<'_, T>, state: State, case: &FailedCase) -> bool
     ensures { result ≡ is_about (T.table table.now.protocol.now) case.now state }
 {
-    own_steps(table, state, case)
-        .iter()
-        .any(|step| step.is_some())
+    has_any(&own_steps(table, state, case))
+}
+
+/// Whether there is a step among them.
+fn has_any(steps: &[Option<Op>]) -> bool
+    ensures { result ≡ list_any is_some steps.now }
+{
+    steps.iter().any(|step| step.is_some())
 }
 
 /// The step alone, if it can be taken.
