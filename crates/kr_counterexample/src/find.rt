@@ -88,7 +88,7 @@ impl<P: Protocol> Finder<'_, P> {
     {
         let mut found = Vec::new(self.alloc);
         for way in ways {
-            if let Some(state) = moved_by(&self.table, way.state, way.op, &mut found)? {
+            if let Some(state) = moved_by(&self.table, way.end.state, way.op, &mut found)? {
                 moves(&self.table, state, &mut found)?;
                 let shown = self.gone_on(*way, state, &found, runs_left)?;
                 if shown.is_some() {

@@ -14,6 +14,7 @@ mod finder;
 mod judging;
 mod keys;
 mod last_steps;
+mod leading;
 mod moves;
 mod numbers;
 mod own_steps;
