@@ -1,6 +1,6 @@
 -- What is explained of a lock table: whether it is accepted; and where it isn't, what is to blame, with runs that go wrong and
 -- changes that mend.
-use Rattle.std.specs.Prelude.{◌≡◌, ◌↔◌, ℕ, suc, zero, List, All, map, length, Bool, true, false, Option, None, IfSome, slice_get, option_and_then}
+use Rattle.std.specs.Prelude.{◌≡◌, ◌≤◌, ◌↔◌, ℕ, ◌-◌, ◌==◌, List, All, map, length, Bool, true, false, Option, None, IfSome, slice_get, option_and_then, if◌then◌else◌}
 use Rattle.kr_model.specs.declared.FailedCase.{FailedCase}
 use Rattle.kr_model.specs.Protocol.{Protocol}
 use Rattle.kr_model.specs.Covers.{IsCovered, failed_cases, cases}
@@ -23,11 +23,14 @@ pub record IsTold (p : Protocol) (failed : List FailedCase) (e : Explained) : Ty
   -- the run that is told, if there is one, goes wrong
   pub wrong : IfSome e.run (GoesWrongWith p)
   -- each change that is named mends the cause's cases
-  pub mended : All (IsMend p e.cause.cases.items failed e.mend.is_accepted) e.mend.changes.items
+  pub mended : IfSome e.mend (λ m. All (IsMend p e.cause.cases.items failed m.is_accepted) m.changes.items)
+  -- it has so many cases at least as were tried, and so many were tried at least as gave a run
+  pub tried : e.tried ≤ length e.cause.cases.items
+  pub runs : e.runs ≤ e.tried
 
 -- The causes that are told.
-abbrev pub causes_of : Refused → List Cause
-causes_of r = map (λ e. e.cause) r.causes.items
+abbrev pub causes_of : List Explained → List Cause
+causes_of told = map (λ e. e.cause) told
 
 -- What is told of a table that is refused, where these cases of it fail.
 pub record IsRefusal (p : Protocol) (failed : List FailedCase) (r : Refused) : Type 0 where
@@ -35,7 +38,7 @@ pub record IsRefusal (p : Protocol) (failed : List FailedCase) (r : Refused) : T
   pub cases : r.cases ≡ length (cases p)
   pub failed : r.failed ≡ length failed
   -- each failed case is in exactly one of the causes
-  pub shared : ShareOut (causes_of r) failed
+  pub shared : ShareOut (causes_of r.causes.items) failed
   pub told : All (IsTold p failed) r.causes.items
 
 -- Whether a table is told to be accepted.
@@ -55,6 +58,5 @@ pub record IsExplained (p : Protocol) (e : Explanation) : Type 0 where
 
 -- The run of the cause of a number, from 1, if there is such a cause and it has one.
 abbrev pub run_at : ℕ → Explanation → Option Run
-run_at zero e = None
-run_at (suc n) (told.Accepted cases) = None
-run_at (suc n) (told.Refused r) = option_and_then (λ e. e.run) (slice_get r.causes.items n)
+run_at n (told.Accepted cases) = None
+run_at n (told.Refused r) = if n == 0 then None else option_and_then (λ e. e.run) (slice_get r.causes.items (n - 1))

@@ -1,18 +1,18 @@
 -- How an explanation is written: its text, and the lines of its runs.
-use Rattle.std.specs.Prelude.{◌≡◌, ℕ, List, ◌++◌, [], ◌∷◌, Option, Some, None, codes, string_bytes}
+use Rattle.std.specs.Prelude.{◌≡◌, ℕ, List, ◌++◌, [], ◌∷◌, Option, Some, None, codes, decimal, string_bytes}
 use Rattle.kr_explanation.specs.declared.run.Run.{Run}
 use Rattle.kr_explanation.specs.declared.explanation.Explanation.{Explanation}
 use Rattle.kr_explanation.specs.declared.explanation.Explanation.TheVariants as told
 use Rattle.kr_explanation.specs.Lines.{IsLineOf}
 
--- The word that a text begins with.
-abbrev pub verdict_word : Explanation → List ℕ
-verdict_word (told.Accepted cases) = codes "accepted"
-verdict_word (told.Refused r) = codes "refused"
+-- The words that a text begins with: the verdict, and how many cases hold or fail.
+abbrev pub verdict_words : Explanation → List ℕ
+verdict_words (told.Accepted n) = codes "accepted: all " ++ decimal n ++ codes " cases hold."
+verdict_words (told.Refused r) = codes "refused: " ++ decimal r.failed ++ codes " of " ++ decimal r.cases ++ codes " cases fail, by "
 
--- A text of an explanation: it begins with the verdict and a colon, and ends with a line feed.
+-- A text of an explanation: it begins with the verdict, and ends with a line feed.
 abbrev pub IsText : Explanation → List ℕ → Type 0
-IsText e text = (telling : List ℕ) × (text ≡ verdict_word e ++ codes ": " ++ telling ++ 10 ∷ [])
+IsText e text = (telling : List ℕ) × (text ≡ verdict_words e ++ telling ++ 10 ∷ [])
 
 -- The line of the script of a run, exactly where there is a run.
 abbrev pub IsScriptOf : Option Run → Option String → Type 0

@@ -44,12 +44,13 @@ pub struct Explained {
     /// The shortest of the runs that the cause's cases gave; for a void place the shortest through that place, if there is
     /// one.
     pub run: Option<Run>,
-    /// How many of its cases gave one.
+    /// How many of the cases that were tried gave one.
     pub runs: usize,
-    /// How many of its cases were tried.
+    /// How many of its cases were tried, from the first on: all of them, unless the effort didn't last.
     pub tried: usize,
-    /// Whether one transaction comes to the modes of some case of it, by the steps that were tried.
+    /// Where no run is known, whether one transaction comes to the modes of a case that was tried.
     pub is_reached: bool,
-    /// Changes that mend it, if there are any.
-    pub mend: Mend,
+    /// The changes that mend it, of those that were tried; or `None` where none was tried, since so many causes come before
+    /// it.
+    pub mend: Option<Mend>,
 }

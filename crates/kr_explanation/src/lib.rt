@@ -4,6 +4,7 @@
 
 mod answers;
 mod body;
+mod effort;
 mod explaining;
 mod explanation;
 mod lists;
@@ -16,6 +17,7 @@ mod spoken;
 mod steps;
 mod text;
 mod title;
+mod told_run;
 mod verdict;
 mod words;
 mod wrap;

@@ -31,76 +31,52 @@ pub fn orders(alloc: Global, ran: &Ran) -> Result<OtherOrders, Memory> {
         count = count.saturating_mul(factor);
     }
     for number in 0..count {
-        let ordered = ordered(alloc, programs, number, count)?;
-        if gives(alloc, ran, ordered)? {
-            return Ok(OtherOrders::Gives(txns_of(alloc, programs, number, count)?));
+        let order = order(alloc, programs, number, count)?;
+        if gives(alloc, ran, &order)? {
+            let mut txns = Vec::new(alloc);
+            for program in order.iter() {
+                txns.push(program.txn)?;
+            }
+            return Ok(OtherOrders::Gives(txns));
         }
     }
     Ok(OtherOrders::NoneGives)
 }
 
-/// The places of the programs in the order of this number, of `count` orders: orders rise as words do.
-fn places(
+/// The programs in the order of this number, of `count` orders: orders rise as words do.
+fn order<'a>(
     alloc: Global,
-    length: usize,
+    programs: &'a [Program],
     number: usize,
     count: usize,
-) -> Result<Vec<usize>, Memory> {
+) -> Result<Vec<&'a Program>, Memory> {
     let mut left = Vec::new(alloc);
-    for place in 0..length {
-        left.push(place)?;
+    for program in programs {
+        left.push(program)?;
     }
-    let mut places = Vec::new(alloc);
+    let mut order = Vec::new(alloc);
     let mut orders = count;
-    for _ in 0..length {
+    for _ in 0..programs.len() {
         orders = orders.checked_div(left.len()).unwrap_or(1);
         let turn = number.checked_div(orders).unwrap_or(0);
         let at = turn.checked_rem(left.len()).unwrap_or(0);
         if at < left.len() {
-            places.push(left.remove(at))?;
+            order.push(left.remove(at))?;
         }
     }
-    Ok(places)
-}
-
-/// Copies of the programs, in the order of this number.
-fn ordered(
-    alloc: Global,
-    programs: &[Program],
-    number: usize,
-    count: usize,
-) -> Result<Programs, Memory> {
-    let mut list = Vec::new(alloc);
-    for place in places(alloc, programs.len(), number, count)?.iter() {
-        if let Some(program) = programs.get(*place) {
-            list.push(program.try_copy(alloc)?)?;
-        }
-    }
-    Ok(Programs::from_vec(list))
-}
-
-/// The transactions of the programs, in the order of this number.
-fn txns_of(
-    alloc: Global,
-    programs: &[Program],
-    number: usize,
-    count: usize,
-) -> Result<Vec<Txn>, Memory> {
-    let mut txns = Vec::new(alloc);
-    for place in places(alloc, programs.len(), number, count)?.iter() {
-        if let Some(program) = programs.get(*place) {
-            txns.push(program.txn)?;
-        }
-    }
-    Ok(txns)
+    Ok(order)
 }
 
 /// Whether the programs, one after another, give the answers of the run.
-fn gives(alloc: Global, ran: &Ran, programs: Programs) -> Result<bool, Memory> {
+fn gives(alloc: Global, ran: &Ran, order: &[&Program]) -> Result<bool, Memory> {
+    let mut programs = Vec::new(alloc);
+    for program in order {
+        programs.push(program.try_copy(alloc)?)?;
+    }
     let ordered = Ran {
         opening: Index::copy_of(alloc, ran.opening.as_slice())?,
         replies: Replies::from_vec(Vec::new(alloc)),
-        programs,
+        programs: Programs::from_vec(programs),
         index: Index::from_pairs(Pairs::from_vec(Vec::new(alloc))),
         locks: Triples::from_vec(Vec::new(alloc)),
         unfinished: Txns::from_vec(Vec::new(alloc)),

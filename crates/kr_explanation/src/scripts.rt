@@ -22,10 +22,13 @@ impl Explanation {
         let Explanation::Refused(refused) = self else {
             return Ok(None);
         };
-        let Some(at) = number.checked_sub(1) else {
+        if number == 0 {
+            return Ok(None);
+        }
+        let Some(explained) = refused.causes.get(number - 1) else {
             return Ok(None);
         };
-        match refused.causes.get(at).and_then(|explained| explained.run.as_ref()) {
+        match &explained.run {
             Some(run) => Ok(Some(String::from_str(alloc, run.line.as_str())?)),
             None => Ok(None),
         }
