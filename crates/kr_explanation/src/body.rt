@@ -4,8 +4,8 @@ use crate::answers::{asked, converted, name_of};
 use crate::lists::{listed, modes_listed, put_once};
 use crate::title::beside;
 use crate::words::{comer_words, cover_words, row_word, rule_step, side_words};
-use kr_causes::{Blame, Cause};
 use kr_cases::Memory;
+use kr_causes::{Blame, Cause};
 use kr_model::{Cover, FailedCase, Mode, Origin, Row, Rule, Side};
 use kr_protocol::Protocol;
 use std::alloc::Global;
@@ -39,13 +39,17 @@ pub fn body<P: Protocol>(
         Blame::Conversion { .. } => {
             let covers = protected(alloc, cases, "and")?;
             let steps = steps_of(alloc, cases)?;
-            out.push(format!(in alloc; "Locks are tested and kept in the converted mode. This concerns {covers}, after {steps}.")?)?;
+            out.push(format!(in alloc;
+                "Locks are tested and kept in the converted mode. This concerns {covers}, after {steps}."
+            )?)?;
         }
         Blame::Pair { held, .. } => {
             let held = name_of(protocol, held);
             let covers = protected(alloc, cases, "and")?;
             let steps = steps_of(alloc, cases)?;
-            out.push(format!(in alloc; "{held} is the lock after {steps}, and has to protect {covers}.")?)?;
+            out.push(format!(in alloc;
+                "{held} is the lock after {steps}, and has to protect {covers}."
+            )?)?;
         }
     }
     out.push(let_in_sentence(alloc, protocol, case)?)?;
@@ -110,7 +114,9 @@ fn void_sentences<P: Protocol>(
     if !others.is_empty() {
         let comer = comer_words(row, side);
         let covers = protected(alloc, &others, "or")?;
-        out.push(format!(in alloc; "So no lock at all keeps out {comer}. Under none is {covers} safe.")?)?;
+        out.push(format!(in alloc;
+            "So no lock at all keeps out {comer}. Under none is {covers} safe."
+        )?)?;
     }
     if others.len() < cases.len() {
         out.push(String::from_str(alloc, "And what it reads is not protected.")?)?;
@@ -172,11 +178,7 @@ fn let_in_sentence<P: Protocol>(
 }
 
 /// Why a mode doesn't serve a cover: its first open place.
-fn let_in<P: Protocol>(
-    alloc: Global,
-    protocol: &P,
-    case: &FailedCase,
-) -> Result<String, Memory> {
+fn let_in<P: Protocol>(alloc: Global, protocol: &P, case: &FailedCase) -> Result<String, Memory> {
     let place = case.hole;
     let comer = comer_words(place.row, place.side);
     let side = side_words(place.side);

@@ -1,7 +1,7 @@
 //! Explaining a table.
 ghost use Rattle.std.specs.Prelude.{IfOk, ◌≡◌, All};
 ghost use Rattle.kr_causes.specs.Causes.{ShareOut};
-ghost use Rattle.kr_explanation.specs.Explained.{IsExplained, IsTold, causes_of};
+ghost use Rattle.kr_explanation.specs.Explained.{IsExplained, IsRefusal, IsTold, causes_of};
 
 use crate::effort::{Effort, MOST_MENDED};
 use crate::explanation::{Explained, Explanation, Refused};
@@ -19,17 +19,32 @@ use std::alloc::{AllocError, Global};
 pub fn explain<P: Protocol>(alloc: Global, protocol: &P) -> Result<Explanation, Memory>
     ensures { IfOk result (IsExplained (P.table protocol.now)) }
 {
-    let cases = cases(protocol.count(), protocol.updates());
     match check(alloc, protocol) {
-        Ok(_) => Ok(Explanation::Accepted { cases }),
+        Ok(_) => Ok(Explanation::Accepted {
+            cases: cases(protocol.count(), protocol.updates()),
+        }),
         Err(rejected) => match rejected.cause {
             Refusal::Failed(failed) => {
-                let causes = explained(alloc, protocol, &failed)?;
-                Ok(Explanation::Refused(Refused { cases, failed: failed.len(), causes }))
+                Ok(Explanation::Refused(refusal(alloc, protocol, &failed)?))
             }
             Refusal::Memory => Err(AllocError),
         },
     }
+}
+
+/// Why a table is refused of which these cases fail.
+fn refusal<P: Protocol>(
+    alloc: Global,
+    protocol: &P,
+    failed: &[FailedCase],
+) -> Result<Refused, Memory>
+    ensures { IfOk result (IsRefusal (P.table protocol.now) failed.now) }
+{
+    Ok(Refused {
+        cases: cases(protocol.count(), protocol.updates()),
+        failed: failed.len(),
+        causes: explained(alloc, protocol, failed)?,
+    })
 }
 
 /// What is to blame for the failed cases of a table, each with what is known of it.

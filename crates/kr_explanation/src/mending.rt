@@ -3,8 +3,8 @@
 use crate::answers::name_of;
 use crate::lists::modes_listed;
 use crate::words::{row_word, side_words, span_word};
-use kr_causes::{Change, Mend};
 use kr_cases::Memory;
+use kr_causes::{Change, Mend};
 use kr_model::{Mode, Row, Side, Span};
 use kr_protocol::Protocol;
 use std::alloc::Global;
@@ -23,22 +23,28 @@ pub fn mend_sentence<P: Protocol>(
     let modes = modes_of(alloc, mend.changes.as_slice())?;
     let modes = modes_listed(alloc, protocol, &modes)?;
     match mend.changes.as_slice().first() {
-        Some(Change::Ask {
-            row,
-            side,
-            own_next,
-            span,
-            ..
-        }) => {
+        Some(
+            Change::Ask {
+                row,
+                side,
+                own_next,
+                span,
+                ..
+            },
+        ) => {
             let owns = owns_words(alloc, protocol, *own_next)?;
             let row = row_word(*row);
             let side = side_words(*side);
             let span = span_word(*span);
             format!(in alloc; "let `{row}` ask {modes} ({span}) on {side}{owns}: {tail}")
         }
-        Some(Change::Convert {
-            held, requested, ..
-        }) => {
+        Some(
+            Change::Convert {
+                held,
+                requested,
+                ..
+            },
+        ) => {
             let held = name_of(protocol, *held);
             let requested = name_of(protocol, *requested);
             format!(in alloc; "let {held} held and {requested} asked make {modes}: {tail}")

@@ -62,9 +62,11 @@ fn is_line_of(
     ensures { IfOk result (λ is. IsTrue is → IsLineOf opening.now events.now line.now) }
 {
     match read_script(alloc, line.as_bytes()) {
-        Ok(script) => Ok(script.opening() == opening
-            && script.steps() == events
-            && has_no_line_feed(line.as_bytes())),
+        Ok(script) => Ok(
+            script.opening() == opening
+                && script.steps() == events
+                && has_no_line_feed(line.as_bytes()),
+        ),
         Err(ScriptFault::Memory) => Err(AllocError),
         Err(_) => Ok(false),
     }
@@ -79,7 +81,10 @@ fn has_no_line_feed(bytes: &[u8]) -> bool
 
 /// A script as a line of JSON: of format 2 where it has an update, and else of format 1.
 fn written(alloc: Global, opening: &[(u64, u64)], events: &[Event]) -> Result<String, Memory> {
-    let format = if events.iter().any(|event| matches!(event.op, Op::Update(_, _))) {
+    let format = if events
+        .iter()
+        .any(|event| matches!(event.op, Op::Update(_, _)))
+    {
         2
     } else {
         1

@@ -72,10 +72,14 @@ fn seen_by_reader(
             format!(in alloc; "T{t} reads {A}, and again; in between T{u} updates it.")
         }
         Ending::ReadGapFilled => {
-            format!(in alloc; "T{t} reads that {P} is not there, and again; in between T{u} inserts it.")
+            format!(in alloc;
+                "T{t} reads that {P} is not there, and again; in between T{u} inserts it."
+            )
         }
         _ => {
-            format!(in alloc; "The lock of T{t} on the gap that it read is on {A}. T{u} deletes {A}: the gap now ends at {y}, where T{t} has no such lock, and T{u} inserts {P}.")
+            format!(in alloc;
+                "The lock of T{t} on the gap that it read is on {A}. T{u} deletes {A}: the gap now ends at {y}, where T{t} has no such lock, and T{u} inserts {P}."
+            )
         }
     }
 }
@@ -96,20 +100,24 @@ fn seen_of_inserted(
             format!(in alloc; "T{u} scans {A}, which T{t} has inserted and takes back.")
         }
         Ending::InsertMissedBelow | Ending::InsertStoppedBelow => {
-            format!(in alloc; "T{u} finds nothing at {C}; its lock on that gap is on {A}, which T{t} has inserted and takes back. Nothing is locked where T{v} then inserts {C}.")
+            format!(in alloc;
+                "T{u} finds nothing at {C}; its lock on that gap is on {A}, which T{t} has inserted and takes back. Nothing is locked where T{v} then inserts {C}."
+            )
         }
         Ending::InsertDeletedBelow => {
-            format!(in alloc; "T{u} deletes {K}; its lock on that gap is on {A}, which T{t} has inserted and takes back. Nothing is locked where T{v} then misses {K}, which T{u} brings back.")
+            format!(in alloc;
+                "T{u} deletes {K}; its lock on that gap is on {A}, which T{t} has inserted and takes back. Nothing is locked where T{v} then misses {K}, which T{u} brings back."
+            )
         }
         Ending::InsertDeletedPoint => {
-            format!(in alloc; "T{u} deletes {P}; its lock on that gap is on {A}, which T{t} has inserted and takes back. Nothing is locked where T{v} then misses {P}, which T{u} brings back.")
+            format!(in alloc;
+                "T{u} deletes {P}; its lock on that gap is on {A}, which T{t} has inserted and takes back. Nothing is locked where T{v} then misses {P}, which T{u} brings back."
+            )
         }
         Ending::InsertUpdated => {
             format!(in alloc; "T{u} updates {A}, which T{t} has inserted and takes back.")
         }
-        _ => {
-            format!(in alloc; "T{u} deletes {A}, which T{t} has inserted and takes back.")
-        }
+        _ => { format!(in alloc; "T{u} deletes {A}, which T{t} has inserted and takes back.") }
     }
 }
 
@@ -136,13 +144,19 @@ fn seen_of_deleted(
             format!(in alloc; "T{u} inserts {P}, which T{t} has deleted and brings back.")
         }
         Ending::DeleteSplit => {
-            format!(in alloc; "T{u} inserts {C} into the gap in which T{t} has deleted {P}: its lower part now ends at {C}, where T{t} has no lock. T{v} misses {P}, which T{t} brings back.")
+            format!(in alloc;
+                "T{u} inserts {C} into the gap in which T{t} has deleted {P}: its lower part now ends at {C}, where T{t} has no lock. T{v} misses {P}, which T{t} brings back."
+            )
         }
         Ending::DeleteGrown => {
-            format!(in alloc; "The lock of T{t} on the gap in which it deleted {P} is on {A}. T{u} deletes {A}: the gap now ends at {y}. T{v} misses {P}, which T{t} brings back.")
+            format!(in alloc;
+                "The lock of T{t} on the gap in which it deleted {P} is on {A}. T{u} deletes {A}: the gap now ends at {y}. T{v} misses {P}, which T{t} brings back."
+            )
         }
         _ => {
-            format!(in alloc; "T{u} deletes {K}, the key before {P}, which T{t} has deleted; its lock on that gap is on {A}. T{t} brings {P} back: the gap below it has no lock. T{v} misses {K}, which T{u} brings back.")
+            format!(in alloc;
+                "T{u} deletes {K}, the key before {P}, which T{t} has deleted; its lock on that gap is on {A}. T{t} brings {P} back: the gap below it has no lock. T{v} misses {K}, which T{u} brings back."
+            )
         }
     }
 }
@@ -151,16 +165,24 @@ fn seen_of_deleted(
 fn seen_of_updated(alloc: Global, ending: Ending, t: Txn, u: Txn) -> Result<String, Memory> {
     match ending {
         Ending::UpdateFetched => {
-            format!(in alloc; "T{u} reads {A} with the value that T{t} has given it and takes back.")
+            format!(in alloc;
+                "T{u} reads {A} with the value that T{t} has given it and takes back."
+            )
         }
         Ending::UpdateScanned => {
-            format!(in alloc; "T{u} scans {A} with the value that T{t} has given it and takes back.")
+            format!(in alloc;
+                "T{u} scans {A} with the value that T{t} has given it and takes back."
+            )
         }
         Ending::UpdateDeleted => {
-            format!(in alloc; "T{u} deletes {A} with the value that T{t} has given it and takes back.")
+            format!(in alloc;
+                "T{u} deletes {A} with the value that T{t} has given it and takes back."
+            )
         }
         _ => {
-            format!(in alloc; "T{u} updates {A} and is told the value that T{t} has given it and takes back.")
+            format!(in alloc;
+                "T{u} updates {A} and is told the value that T{t} has given it and takes back."
+            )
         }
     }
 }

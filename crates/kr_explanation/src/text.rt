@@ -5,8 +5,8 @@ ghost use Rattle.kr_explanation.specs.Told.{IsText, verdict_words};
 use crate::body::body;
 use crate::effort::MOST_MENDED;
 use crate::explanation::{Explained, Explanation, Refused};
-use crate::run::Run;
 use crate::mending::mend_sentence;
+use crate::run::Run;
 use crate::seen::seen;
 use crate::spoken::{origin_text, pairs_text};
 use crate::steps::write_steps;
@@ -79,8 +79,15 @@ fn refusal_text<P: Protocol>(
     for (at, explained) in refused.causes.iter().enumerate() {
         write_cause(alloc, protocol, &mut out, at, explained)?;
     }
-    if refused.causes.iter().any(|explained| explained.run.is_some()) {
-        write!(out, "\nThe script of run N, for `kr run {word} SCRIPT`: kr_explain {word} --script N\n")?;
+    if refused
+        .causes
+        .iter()
+        .any(|explained| explained.run.is_some())
+    {
+        write!(
+            out,
+            "\nThe script of run N, for `kr run {word} SCRIPT`: kr_explain {word} --script N\n"
+        )?;
     }
     let _last = out.pop();
     Ok(out)
@@ -100,7 +107,10 @@ fn write_cause<P: Protocol>(
         None => cause.cases.as_slice().first().copied(),
     };
     write_line(out, "")?;
-    write_line(out, title(alloc, protocol, at.saturating_add(1), cause)?.as_str())?;
+    write_line(
+        out,
+        title(alloc, protocol, at.saturating_add(1), cause)?.as_str(),
+    )?;
     if let Some(case) = case {
         for sentence in body(alloc, protocol, cause, &case)?.iter() {
             write_paragraph(out, sentence.as_str(), INDENT, 0)?;
@@ -122,7 +132,9 @@ fn write_mend<P: Protocol>(
 ) -> Result<(), Memory> {
     let Some(mend) = &explained.mend else {
         write_line(out, "")?;
-        let text = format!(in alloc; "No change was tried: changes are tried for the first {MOST_MENDED} causes.")?;
+        let text = format!(in alloc;
+            "No change was tried: changes are tried for the first {MOST_MENDED} causes."
+        )?;
         return write_paragraph(out, text.as_str(), INDENT, 0);
     };
     if mend.changes.is_empty() {
@@ -157,7 +169,10 @@ fn write_run<P: Protocol>(
 ) -> Result<(), Memory> {
     let case = case_text(alloc, protocol, &run.case)?;
     let opening = pairs_text(alloc, run.script.opening.as_slice())?;
-    write!(out, "\n   A run that goes wrong by {case}, on {opening}:\n\n")?;
+    write!(
+        out,
+        "\n   A run that goes wrong by {case}, on {opening}:\n\n"
+    )?;
     write_steps(alloc, protocol, out, run)?;
     write_line(out, "")?;
     write_paragraph(out, seen(alloc, run)?.as_str(), INDENT, 0)?;
@@ -176,7 +191,9 @@ fn share_sentence(alloc: Global, explained: &Explained) -> Result<Option<String>
     let have = if runs == 1 { "has" } else { "have" };
     if tried < cases {
         let rest = cases - tried;
-        let text = format!(in alloc; "{runs} of the first {tried} cases {have} such a run; the other {rest} were not tried.")?;
+        let text = format!(in alloc;
+            "{runs} of the first {tried} cases {have} such a run; the other {rest} were not tried."
+        )?;
         Ok(Some(text))
     } else if runs < cases {
         let text = format!(in alloc; "{runs} of the {cases} cases {have} such a run.")?;
@@ -206,7 +223,9 @@ fn write_no_run<P: Protocol>(
         String::new(alloc)
     };
     let case = case_text(alloc, protocol, case)?;
-    let text = format!(in alloc; "No run that goes wrong is known for it: {why} (The first case is {case}.){left_out} That does not say that there is none.")?;
+    let text = format!(in alloc;
+        "No run that goes wrong is known for it: {why} (The first case is {case}.){left_out} That does not say that there is none."
+    )?;
     write_line(out, "")?;
     write_paragraph(out, text.as_str(), INDENT, 0)
 }

@@ -2,8 +2,8 @@
 
 use crate::answers::{asked, converted, name_of};
 use crate::words::{row_word, rule_code, side_words};
-use kr_causes::{Blame, Cause};
 use kr_cases::Memory;
+use kr_causes::{Blame, Cause};
 use kr_model::{FailedCase, Mode, Row, Rule, Side, Span};
 use kr_protocol::Protocol;
 use std::alloc::Global;

@@ -63,11 +63,7 @@ pub fn told_run<P: Protocol>(
 }
 
 /// Whether a script is told rather than the run so far.
-fn is_told_before(
-    script: &Counterexample,
-    run: &Option<Run>,
-    prefer: Option<(Row, Side)>,
-) -> bool {
+fn is_told_before(script: &Counterexample, run: &Option<Run>, prefer: Option<(Row, Side)>) -> bool {
     let Some(run) = run else {
         return true;
     };

@@ -1,7 +1,7 @@
 //! The verdict on a run, in words.
 
-use crate::run::Run;
 use crate::orders::{OtherOrders, orders};
+use crate::run::Run;
 use crate::spoken::{answer_text, op_text, txns_text};
 use kr_cases::Memory;
 use kr_model::{Op, Program, Txn};
@@ -56,10 +56,14 @@ pub fn verdict_sentences<P: Protocol>(
         let serial = answer_text(alloc, &serial)?;
         let order = committed(alloc, ran.programs.as_slice())?;
         if order.len() == 1 {
-            out.push(format!(in alloc; "Not serial: T{txn} alone commits, and its operation {operation}, {op}, was answered {given}. Run alone it is answered {serial}.")?)?;
+            out.push(format!(in alloc;
+                "Not serial: T{txn} alone commits, and its operation {operation}, {op}, was answered {given}. Run alone it is answered {serial}."
+            )?)?;
         } else {
             let order = txns_text(alloc, &order)?;
-            out.push(format!(in alloc; "Not serial: operation {operation} of T{txn}, {op}, was answered {given}. Run one after another in the order of the commits ({order}) it is answered {serial}.")?)?;
+            out.push(format!(in alloc;
+                "Not serial: operation {operation} of T{txn}, {op}, was answered {given}. Run one after another in the order of the commits ({order}) it is answered {serial}."
+            )?)?;
             out.push(orders_sentence(alloc, &ran)?)?;
         }
     }
@@ -71,7 +75,9 @@ fn orders_sentence(alloc: Global, ran: &Ran) -> Result<String, Memory> {
     match orders(alloc, ran)? {
         OtherOrders::Gives(order) => {
             let order = txns_text(alloc, &order)?;
-            format!(in alloc; "The order {order} would give the answers of this run; what is proved of accepted tables is the order of the commits.")
+            format!(in alloc;
+                "The order {order} would give the answers of this run; what is proved of accepted tables is the order of the commits."
+            )
         }
         OtherOrders::NoneGives => String::from_str(
             alloc,

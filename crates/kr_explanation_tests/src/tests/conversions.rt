@@ -9,10 +9,7 @@ const CONVERSIONS: &[Told] = &[
         name: "X held and S asked make S",
         table: Table {
             text: IM,
-            changes: &[(
-                "X = { S = \"X\",",
-                "X = { S = \"S\",",
-            )],
+            changes: &[("X = { S = \"X\",", "X = { S = \"S\",")],
         },
         word: "conversion.toml",
         text: r#"refused: 2 of 61 cases fail, by one cause

@@ -88,10 +88,7 @@ The script of run N, for `kr run delete-of-five-modes.toml SCRIPT`: kr_explain d
         name: "a delete asks for no lock on its key",
         table: Table {
             text: KVL,
-            changes: &[(
-                "current = [{ mode = \"X\", span = \"instant\" }]\n",
-                "",
-            )],
+            changes: &[("current = [{ mode = \"X\", span = \"instant\" }]\n", "")],
         },
         word: "no-lock.toml",
         text: r#"refused: 72 of 244 cases fail, by one cause

@@ -68,11 +68,14 @@ const SEVERAL: &[Told] = &[
 
 The script of run N, for `kr run two-causes.toml SCRIPT`: kr_explain two-causes.toml --script N
 "#,
-        scripts: &[Some(
-            r#"{"format":1,"opening":[[10,1],[30,2]],"steps":[[1,"insert",20,5],[2,"fetch",17],[1,"abort"],[3,"insert",17,6],[3,"commit"],[2,"fetch",17],[2,"commit"]]}"#,
-        ), Some(
-            r#"{"format":1,"opening":[[10,1],[20,2],[30,3]],"steps":[[1,"fetch",15],[2,"insert",15,5],[2,"commit"],[1,"fetch",15],[1,"commit"]]}"#,
-        )],
+        scripts: &[
+            Some(
+                r#"{"format":1,"opening":[[10,1],[30,2]],"steps":[[1,"insert",20,5],[2,"fetch",17],[1,"abort"],[3,"insert",17,6],[3,"commit"],[2,"fetch",17],[2,"commit"]]}"#,
+            ),
+            Some(
+                r#"{"format":1,"opening":[[10,1],[20,2],[30,3]],"steps":[[1,"fetch",15],[2,"insert",15,5],[2,"commit"],[1,"fetch",15],[1,"commit"]]}"#,
+            ),
+        ],
     },
     Told {
         name: "no lock is asked for",
@@ -152,15 +155,20 @@ The script of run N, for `kr run two-causes.toml SCRIPT`: kr_explain two-causes.
 
 The script of run N, for `kr run nothing.toml SCRIPT`: kr_explain nothing.toml --script N
 "#,
-        scripts: &[Some(
-            r#"{"format":1,"opening":[[10,1],[20,2],[30,3]],"steps":[[1,"fetch",20],[2,"delete",20],[2,"commit"],[1,"fetch",20],[1,"commit"]]}"#,
-        ), Some(
-            r#"{"format":1,"opening":[[10,1],[20,2],[30,3]],"steps":[[1,"fetch",15],[2,"insert",15,5],[2,"commit"],[1,"fetch",15],[1,"commit"]]}"#,
-        ), Some(
-            r#"{"format":1,"opening":[[10,1],[30,2]],"steps":[[1,"insert",20,5],[2,"fetch",20],[1,"abort"],[2,"commit"]]}"#,
-        ), Some(
-            r#"{"format":1,"opening":[[10,1],[15,2],[20,3],[30,4]],"steps":[[1,"delete",15],[2,"fetch",15],[1,"abort"],[2,"commit"]]}"#,
-        )],
+        scripts: &[
+            Some(
+                r#"{"format":1,"opening":[[10,1],[20,2],[30,3]],"steps":[[1,"fetch",20],[2,"delete",20],[2,"commit"],[1,"fetch",20],[1,"commit"]]}"#,
+            ),
+            Some(
+                r#"{"format":1,"opening":[[10,1],[20,2],[30,3]],"steps":[[1,"fetch",15],[2,"insert",15,5],[2,"commit"],[1,"fetch",15],[1,"commit"]]}"#,
+            ),
+            Some(
+                r#"{"format":1,"opening":[[10,1],[30,2]],"steps":[[1,"insert",20,5],[2,"fetch",20],[1,"abort"],[2,"commit"]]}"#,
+            ),
+            Some(
+                r#"{"format":1,"opening":[[10,1],[15,2],[20,3],[30,4]],"steps":[[1,"delete",15],[2,"fetch",15],[1,"abort"],[2,"commit"]]}"#,
+            ),
+        ],
     },
 ];
 

@@ -47,13 +47,13 @@ The script of run N, for `kr run update-of-five-modes.toml SCRIPT`: kr_explain u
         name: "the same with two modes",
         table: Table {
             text: IM,
-            changes: &[(
-                "format = 1",
-                "format = 2",
-            ), (
-                "current = [{ mode = \"X\", span = \"instant\" }]\n",
-                "current = [{ mode = \"X\", span = \"instant\" }]\n\n[rules.update]\ncurrent = [{ mode = \"X\", span = \"instant\" }]\n",
-            )],
+            changes: &[
+                ("format = 1", "format = 2"),
+                (
+                    "current = [{ mode = \"X\", span = \"instant\" }]\n",
+                    "current = [{ mode = \"X\", span = \"instant\" }]\n\n[rules.update]\ncurrent = [{ mode = \"X\", span = \"instant\" }]\n",
+                ),
+            ],
         },
         word: "update.toml",
         text: r#"refused: 2 of 68 cases fail, by one cause
