@@ -1,3 +1,2 @@
 pub mod Numbers
-pub mod Endings
-pub mod Written
+pub mod Ended

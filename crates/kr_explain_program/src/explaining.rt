@@ -2,7 +2,8 @@
 ghost use Rattle.std.specs.Prelude.{◌≡◌, ◌⊎◌, IfOk, IfErr, IsTrue};
 ghost use Rattle.kr_script.specs.Puts.{HasCause};
 ghost use Rattle.kr_shell.specs.Endings.{is_output};
-ghost use Rattle.kr_explain_program.specs.Program.{Explains, WritesScript};
+ghost use Rattle.kr_explain_program.specs.Program.{Explains, WritesScript, EndsReport};
+ghost use Rattle.kr_explain_program.specs.declared.words.Wanted.TheVariants as wanted;
 
 use kr_explanation::explain;
 use kr_protocol::Protocol;
@@ -19,6 +20,7 @@ pub fn write_explanation<P: Protocol, W: Sink>(
     out: &mut W,
 ) -> Result<bool, Ending>
     ensures explains { IfOk result (Explains (P.table protocol.now) (W.taken out.old) (W.taken out.new)) }
+    ensures err { IfErr result (EndsReport (P.table protocol.now) table.now wanted.Explanation) }
     ensures nothing { IfErr result (λ e. IsTrue (is_output e) ⊎ (out.new ≡ out.old)) }
     ensures cause { IfErr result (λ e. IsTrue (is_output e) → HasCause (W.failures out.old) (W.failures out.new)) }
 {
@@ -29,8 +31,8 @@ pub fn write_explanation<P: Protocol, W: Sink>(
 }
 
 /// Writes the script of the cause of this number, from 1, of a protocol, whose table this word names, and a line feed. Where
-/// there is no such cause, or no run of it is known, that is how the program ends, and nothing is written; nor is it where a
-/// growth was refused.
+/// there is no such cause, or no run of it is known, the ending tells that, and nothing is written; nor is it where a growth
+/// was refused.
 pub fn write_script<P: Protocol, W: Sink>(
     alloc: Global,
     protocol: &P,
@@ -39,6 +41,7 @@ pub fn write_script<P: Protocol, W: Sink>(
     out: &mut W,
 ) -> Result<(), Ending>
     ensures script { IfOk result (λ _. WritesScript (P.table protocol.now) number (W.taken out.old) (W.taken out.new)) }
+    ensures err { IfErr result (EndsReport (P.table protocol.now) table.now (wanted.Script number)) }
     ensures nothing { IfErr result (λ e. IsTrue (is_output e) ⊎ (out.new ≡ out.old)) }
     ensures cause { IfErr result (λ e. IsTrue (is_output e) → HasCause (W.failures out.old) (W.failures out.new)) }
 {

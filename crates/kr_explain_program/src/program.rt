@@ -4,7 +4,7 @@ ghost use Rattle.kr_model.specs.Protocol.{IsLawful};
 ghost use Rattle.kr_script.specs.Puts.{HasCause, AppendsFront};
 ghost use Rattle.kr_shell.specs.Endings.{is_output, ending_line};
 ghost use Rattle.kr_shell.specs.declared.endings.Ending.{Ending};
-ghost use Rattle.kr_explain_program.specs.Program.{Answers, Reports};
+ghost use Rattle.kr_explain_program.specs.Program.{Answers, Ends, EndsReport, Reports};
 
 use crate::explaining::{write_explanation, write_script};
 use crate::words::{Wanted, read_words};
@@ -33,6 +33,7 @@ fn report<P: Protocol, W: Sink>(
     out: &mut W,
 ) -> Result<bool, Ending>
     ensures reports { IfOk result (Reports (P.table protocol.now) wanted (W.taken out.old) (W.taken out.new)) }
+    ensures err { IfErr result (EndsReport (P.table protocol.now) table.now wanted) }
     ensures nothing { IfErr result (λ e. IsTrue (is_output e) ⊎ (out.new ≡ out.old)) }
     ensures cause { IfErr result (λ e. IsTrue (is_output e) → HasCause (W.failures out.old) (W.failures out.new)) }
 {
@@ -52,7 +53,8 @@ fn explained<R: std::rt::Files + AllocGlobal, F: Files, W: Sink>(
     files: &F,
     out: &mut W,
 ) -> Result<bool, Ending>
-    ensures answers { IfOk result (Answers (map string_bytes words.now) (W.taken out.old) (W.taken out.new)) }
+    ensures answers { IfOk result (Answers (F.may_give files.now) (map string_bytes words.now) (W.taken out.old) (W.taken out.new)) }
+    ensures err { IfErr result (Ends (F.may_give files.now) (map string_bytes words.now)) }
     ensures nothing { IfErr result (λ e. IsTrue (is_output e) ⊎ (out.new ≡ out.old)) }
     ensures cause { IfErr result (λ e. IsTrue (is_output e) → HasCause (W.failures out.old) (W.failures out.new)) }
 {
@@ -63,9 +65,9 @@ fn explained<R: std::rt::Files + AllocGlobal, F: Files, W: Sink>(
 }
 
 /// Runs the program on words without its own name, and answers its status: 0 where it accepted a table, 1 where it refused one
-/// or wrote a script that goes wrong under it, and 2 where it told a fault on `err`. At 0 and 1 all that the words ask for is
-/// written on `out`, of a lawful table, and nothing on `err`; at a fault of words, files, tables or memory, and where there is no
-/// such script, nothing is written on `out`.
+/// or wrote a script that goes wrong under it, and 2 where it told a fault on `err`. At 0 and 1 what the words ask for is
+/// written on `out`, of the table that the first word names, and nothing on `err`; at a fault of words, files, tables or
+/// memory, and where there is no such script, nothing is written on `out`.
 pub fn execute<R: std::rt::Files + AllocGlobal, F: Files, W: Sink, E: Sink>(
     rt: &R,
     words: &[String],
@@ -74,10 +76,11 @@ pub fn execute<R: std::rt::Files + AllocGlobal, F: Files, W: Sink, E: Sink>(
     err: &mut E,
 ) -> u8
     ensures within { result ≤ 2 }
-    ensures accepts { result ≡ 0 → Answers (map string_bytes words.now) (W.taken out.old) (W.taken out.new) true }
-    ensures refuses { result ≡ 1 → Answers (map string_bytes words.now) (W.taken out.old) (W.taken out.new) false }
+    ensures accepts { result ≡ 0 → Answers (F.may_give files.now) (map string_bytes words.now) (W.taken out.old) (W.taken out.new) true }
+    ensures refuses { result ≡ 1 → Answers (F.may_give files.now) (map string_bytes words.now) (W.taken out.old) (W.taken out.new) false }
     ensures fault { result ≡ 2 → HasCause (W.failures out.old) (W.failures out.new) ⊎ (out.new ≡ out.old) }
-    ensures told { result ≡ 2 → (e : Ending) × AppendsFront (E.taken err.old) (E.taken err.new) (ending_line NAME.now e) }
+    ensures told { result ≡ 2 → (e : Ending) × (Ends (F.may_give files.now) (map string_bytes words.now) e
+        × AppendsFront (E.taken err.old) (E.taken err.new) (ending_line NAME.now e)) }
     ensures silent { (err.new ≡ err.old) ⊎ (result ≡ 2) }
 {
     let done = explained(rt, words, files, out);
