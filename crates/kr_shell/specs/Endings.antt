@@ -11,6 +11,14 @@ is_output Place = false
 is_output Output = true
 is_output (Told line) = false
 
+-- The program ends for want of memory, or with a line that is told of a word, of which this holds.
+abbrev pub MemoryOrTold : Ending → (List ℕ → Type 0) → Type 0
+MemoryOrTold NotUnderstood P = ⊥
+MemoryOrTold Memory P = Unit {0}
+MemoryOrTold Place P = ⊥
+MemoryOrTold Output P = ⊥
+MemoryOrTold (Told line) P = P (string_bytes line)
+
 -- What is told behind the program's name.
 abbrev pub line_of : Ending → List ℕ
 line_of NotUnderstood = codes "words not understood"

@@ -1,9 +1,11 @@
 //! How a program ends.
-ghost use Rattle.std.specs.Prelude.{◌≡◌, ◌≤◌, ◌↔◌, true, false, Ok, IfOk, OnOk, IfErr};
+ghost use Rattle.std.specs.Prelude.{◌≡◌, ◌≤◌, ◌↔◌, true, false, Ok, OnOk, IfErr};
 ghost use Rattle.kr_script.specs.Puts.{AppendsFront};
-ghost use Rattle.kr_shell.specs.Endings.{is_output, line_of, ending_line};
+ghost use Rattle.kr_shell.specs.Endings.{MemoryOrTold, is_output, line_of, ending_line};
+ghost use Rattle.kr_shell.specs.Lines.{told_line};
 ghost use Rattle.kr_shell.specs.declared.endings.Ending.TheVariants as ending;
 
+use crate::lines::told_line;
 use kr_script::{PrintFault, Sink, print, put_all};
 use std::alloc::{AllocError, Global};
 
@@ -39,27 +41,14 @@ impl Ending {
     /// What is told of a word. A control character, of the word or of a name in a file, stands as its number, as `\u{a}`, so
     /// that it neither breaks the line nor reaches the terminal. Where a growth is refused, that is how the program ends.
     pub fn told(alloc: Global, word: &str, what: &str) -> Ending
-        ensures { is_output result ≡ false }
+        ensures line { MemoryOrTold result (λ line. line ≡ told_line word.now what.now) }
+        ensures other { is_output result ≡ false }
     {
         match told_line(alloc, word, what) {
             Ok(line) => Ending::Told(line),
             Err(_) => Ending::Memory,
         }
     }
-}
-
-fn told_line(alloc: Global, word: &str, what: &str) -> Result<String, AllocError> {
-    let text = format!(in alloc; "{word}: {what}")?;
-    let mut line = String::new(alloc);
-    for c in text.as_str().chars() {
-        if c.is_control() {
-            let number = c as u32;
-            line.push_str(format!(in alloc; "\\u{{{number:x}}}")?.as_str())?;
-        } else {
-            line.push(c)?;
-        }
-    }
-    Ok(line)
 }
 
 impl From<AllocError> for Ending {

@@ -1,8 +1,16 @@
 //! Files that are read whole.
-ghost use Rattle.std.specs.Prelude.{◌≡◌, false, IfErr};
-ghost use Rattle.kr_shell.specs.Endings.{is_output};
+ghost use Rattle.std.specs.Prelude.{◌≡◌, ℕ, List, Option, Some, None, false, IfOk, IfErr};
+ghost use Rattle.kr_script.specs.declared.faults.ScriptFault.TheVariants as script_fault;
+ghost use Rattle.kr_shell.specs.declared.endings.Ending.TheVariants as ending;
+ghost use Rattle.kr_shell.specs.declared.files.FileFault.TheVariants as file_fault;
+ghost use Rattle.kr_shell.specs.Endings.{MemoryOrTold, is_output};
+ghost use Rattle.kr_shell.specs.Files.{MayBeHad};
+ghost use Rattle.kr_shell.specs.Lines.{told_line, unreadable_line, script_fault_text};
+ghost use Rattle.kr_shell.specs.Named.{NamesScript, TellsNoScript, TellsUnreadable};
 
 use crate::endings::Ending;
+use crate::faults::script_fault_text;
+use crate::words::is_no_file;
 use kr_script::{Script, ScriptFault, read_script};
 use std::alloc::Global;
 use std::fs;
@@ -19,18 +27,25 @@ pub enum FileFault {
 
 /// Where words name files.
 pub trait Files {
-    /// The bytes of the file that the word names.
+    /// Whether these bytes may be given for a word, or none.
+    ghost may_give: { Self → List ℕ → Option (List ℕ) → Type 0 };
+
+    /// The bytes of the file that the word names. They may be others at each call.
     fn whole<R: std::rt::Files + AllocGlobal>(
         &self,
         rt: &R,
         word: &str,
-    ) -> Result<Vec<u8>, FileFault>;
+    ) -> Result<Vec<u8>, FileFault>
+        ensures found { IfOk result (λ bytes. may_give self.now word.now (Some bytes.items)) }
+        ensures none { IfErr result (λ e. (e ≡ file_fault.Unreadable) → may_give self.now word.now None) };
 }
 
-/// The files of the machine: a word is a path.
+/// The files of the machine: a word is a path. No clause can say what the machine gives for it.
 pub struct Disk;
 
 impl Files for Disk {
+    ghost may_give = { λ _ _ _. Unit {0} };
+
     fn whole<R: std::rt::Files + AllocGlobal>(
         &self,
         rt: &R,
@@ -49,8 +64,11 @@ pub fn read_file<R: std::rt::Files + AllocGlobal, F: Files>(
     rt: &R,
     word: &str,
     files: &F,
-) -> Result<Vec<u8>, FileFault> {
-    if word.starts_with('@') {
+) -> Result<Vec<u8>, FileFault>
+    ensures bytes { IfOk result (λ bytes. MayBeHad (F.may_give files.now) word.now (Some bytes.items)) }
+    ensures none { IfErr result (λ e. (e ≡ file_fault.Unreadable) → MayBeHad (F.may_give files.now) word.now None) }
+{
+    if is_no_file(word) {
         return Err(FileFault::Unreadable);
     }
     files.whole(rt, word)
@@ -62,7 +80,9 @@ pub fn whole<R: std::rt::Files + AllocGlobal, F: Files>(
     word: &str,
     files: &F,
 ) -> Result<Vec<u8>, Ending>
-    ensures { IfErr result (λ e. is_output e ≡ false) }
+    ensures bytes { IfOk result (λ bytes. MayBeHad (F.may_give files.now) word.now (Some bytes.items)) }
+    ensures fault { IfErr result (λ e. MemoryOrTold e (TellsUnreadable (F.may_give files.now) word.now)) }
+    ensures other { IfErr result (λ e. is_output e ≡ false) }
 {
     match read_file(rt, word, files) {
         Ok(bytes) => Ok(bytes),
@@ -73,31 +93,37 @@ pub fn whole<R: std::rt::Files + AllocGlobal, F: Files>(
 
 /// How a program ends at a word that names no file that can be read.
 pub fn unreadable(alloc: Global, word: &str) -> Ending
-    ensures { is_output result ≡ false }
+    ensures line { MemoryOrTold result (λ line. line ≡ unreadable_line word.now) }
+    ensures other { is_output result ≡ false }
 {
     Ending::told(alloc, word, "cannot be read")
 }
 
 /// How a program ends at a fault of the script that a word names.
 pub fn at_fault(alloc: Global, word: &str, fault: ScriptFault) -> Ending
-    ensures { is_output result ≡ false }
+    ensures line { MemoryOrTold result (λ line. line ≡ told_line word.now (script_fault_text fault)) }
+    ensures memory { fault ≡ script_fault.Memory → result ≡ ending.Memory }
+    ensures other { is_output result ≡ false }
 {
     match fault {
         ScriptFault::Memory => Ending::Memory,
-        _ => match format!(in alloc; "{fault}") {
+        fault => match script_fault_text(alloc, &fault) {
             Ok(what) => Ending::told(alloc, word, what.as_str()),
             Err(_) => Ending::Memory,
         },
     }
 }
 
-/// The script in the file that a word names, or how the program ends.
+/// The script in the file that a word names, or how the program ends: its file can't be read, or its bytes are no script, and
+/// the first of their faults is told.
 pub fn script_at<R: std::rt::Files + AllocGlobal, F: Files>(
     rt: &R,
     word: &str,
     files: &F,
 ) -> Result<Script, Ending>
-    ensures { IfErr result (λ e. is_output e ≡ false) }
+    ensures script { IfOk result (NamesScript (F.may_give files.now) word.now) }
+    ensures fault { IfErr result (λ e. MemoryOrTold e (TellsNoScript (F.may_give files.now) word.now)) }
+    ensures other { IfErr result (λ e. is_output e ≡ false) }
 {
     let bytes = whole(rt, word, files)?;
     match read_script(rt.alloc(), bytes.as_slice()) {

@@ -2,7 +2,9 @@
 #![tactic(auto)]
 
 mod endings;
+mod faults;
 mod files;
+mod lines;
 mod tables;
 mod words;
 

@@ -1,13 +1,20 @@
 //! Tables that words name.
-ghost use Rattle.std.specs.Prelude.{◌≡◌, false, IfErr};
-ghost use Rattle.kr_shell.specs.Endings.{is_output};
+ghost use Rattle.std.specs.Prelude.{◌≡◌, false, IfErr, IfOk, IsOk, IsTrue};
+ghost use Rattle.kr_table.specs.declared.faults.TableFault.TheVariants as table_fault;
+ghost use Rattle.kr_shell.specs.declared.endings.Ending.TheVariants as ending;
+ghost use Rattle.kr_shell.specs.Endings.{MemoryOrTold, is_output};
+ghost use Rattle.kr_shell.specs.Lines.{told_line, table_fault_text};
+ghost use Rattle.kr_shell.specs.Named.{NamesTable, TellsNoTable};
+ghost use Rattle.kr_shell.specs.Words.{is_bundled};
 ghost use Rattle.kr_shell.specs.Tables.{table_of, names_of};
 ghost use Rattle.kr_shell.specs.Lawful.{lawful_of, named_of};
 
 use crate::endings::Ending;
+use crate::faults::table_fault_text;
 use crate::files::{Files, whole};
 use kr_protocol::{Im, Kvl, KvlUpdate, Mode, Protocol, RangeKey, Row, Side, Span};
 use kr_table::{Table, TableFault};
+use std::alloc::Global;
 
 /// One of the tables that the programs bring, or one that was read.
 #[derive(Debug, Drop)]
@@ -104,13 +111,17 @@ impl Protocol for AnyTable {
     ghost named = { λ t. named_of t };
 }
 
-/// The table that a word names, or how the program ends.
+/// The table that a word names, or how the program ends: the word is that of no bundled table, and its file can't be read, or
+/// its bytes are no table, and the first of their faults is told.
 pub fn table_at<R: std::rt::Files + AllocGlobal, F: Files>(
     rt: &R,
     word: &str,
     files: &F,
 ) -> Result<AnyTable, Ending>
-    ensures { IfErr result (λ e. is_output e ≡ false) }
+    ensures table { IfOk result (NamesTable (F.may_give files.now) word.now) }
+    ensures bundled { IsTrue (is_bundled word.now) → IsOk result }
+    ensures fault { IfErr result (λ e. MemoryOrTold e (TellsNoTable (F.may_give files.now) word.now)) }
+    ensures other { IfErr result (λ e. is_output e ≡ false) }
 {
     match word {
         "@kvl" => Ok(AnyTable::Kvl),
@@ -127,13 +138,28 @@ fn read_table<R: std::rt::Files + AllocGlobal, F: Files>(
     word: &str,
     files: &F,
 ) -> Result<AnyTable, Ending>
-    ensures { IfErr result (λ e. is_output e ≡ false) }
+    ensures table { IfOk result (NamesTable (F.may_give files.now) word.now) }
+    ensures fault { IfErr result (λ e. MemoryOrTold e (TellsNoTable (F.may_give files.now) word.now)) }
+    ensures other { IfErr result (λ e. is_output e ≡ false) }
 {
-    let alloc = rt.alloc();
     let bytes = whole(rt, word, files)?;
-    match kr_table::read(alloc, bytes.as_slice()) {
+    match kr_table::read(rt.alloc(), bytes.as_slice()) {
         Ok(table) => Ok(AnyTable::Read(table)),
-        Err(TableFault::Memory) => Err(Ending::Memory),
-        Err(fault) => Err(Ending::told(alloc, word, format!(in alloc; "{fault}")?.as_str())),
+        Err(fault) => Err(at_table_fault(rt.alloc(), word, fault)),
+    }
+}
+
+/// How a program ends at a fault of the table that a word names.
+fn at_table_fault(alloc: Global, word: &str, fault: TableFault) -> Ending
+    ensures line { MemoryOrTold result (λ line. line ≡ told_line word.now (table_fault_text fault)) }
+    ensures memory { fault ≡ table_fault.Memory → result ≡ ending.Memory }
+    ensures other { is_output result ≡ false }
+{
+    match fault {
+        TableFault::Memory => Ending::Memory,
+        fault => match table_fault_text(alloc, &fault) {
+            Ok(what) => Ending::told(alloc, word, what.as_str()),
+            Err(_) => Ending::Memory,
+        },
     }
 }

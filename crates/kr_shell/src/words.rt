@@ -1,7 +1,7 @@
 //! The words that a program is called with.
-ghost use Rattle.std.specs.Prelude.{◌≡◌, ◌↔◌, false, IfErr, IsTrue};
-ghost use Rattle.kr_shell.specs.Endings.{is_output};
-ghost use Rattle.kr_shell.specs.Words.{IsPlain};
+ghost use Rattle.std.specs.Prelude.{◌≡◌, ◌↔◌, ◌⊎◌, IfErr, IsTrue};
+ghost use Rattle.kr_shell.specs.declared.endings.Ending.TheVariants as ending;
+ghost use Rattle.kr_shell.specs.Words.{IsNoFile, IsPlain};
 
 use crate::endings::Ending;
 use std::env;
@@ -11,7 +11,7 @@ use std::rt::Env;
 /// The words that the program was called with, its own name left out, or how it ends: words that aren't UTF-8 aren't
 /// understood.
 pub fn words_given<R: Env + AllocGlobal>(rt: &R) -> Result<Vec<String>, Ending>
-    ensures { IfErr result (λ e. is_output e ≡ false) }
+    ensures { IfErr result (λ e. (e ≡ ending.Memory) ⊎ (e ≡ ending.NotUnderstood)) }
 {
     let mut given = match env::args(rt) {
         Ok(given) => given,
@@ -28,4 +28,12 @@ pub fn is_plain(word: &str) -> bool
 {
     let bytes = word.as_bytes();
     bytes.is_empty() || bytes[0] != b'-'
+}
+
+/// Whether a word never names a file: it begins with `@`.
+pub fn is_no_file(word: &str) -> bool
+    ensures { IsTrue result ↔ IsNoFile word.now }
+{
+    let bytes = word.as_bytes();
+    !bytes.is_empty() && bytes[0] == b'@'
 }

@@ -1,44 +1,48 @@
--- What is known of an answer, where it is one, and of an ending.
-use Rattle.std.specs.Prelude.{◌≡◌, ◌↔◌, ℕ, List, Bool, true, false, Option, Result, Ok, Err, IfOk, IfErr, OnOk, IsTrue, refl, ◌≢◌, ◌≤◌, ◌⊎◌}
-use Rattle.std.proofs.Common.{subst, arith, inl, inr}
+-- What is known of a page that was written, and of an ending without one.
+use Rattle.std.specs.Prelude.{◌≡◌, ◌↔◌, ℕ, List, Bool, Option, Result, Ok, Err, IfOk, IfErr, IsTrue, ◌⊎◌}
+use Rattle.std.proofs.Common.{subst, sym, inl, inr}
 use Rattle.std.specs.Io.KnownBytes.{Appends}
-use Rattle.kr_model.specs.Protocol.{Protocol, IsLawful}
+use Rattle.kr_model.specs.Protocol.{IsLawful}
 use Rattle.kr_script.specs.Script.{Script}
 use Rattle.kr_picture.specs.Page.{IsPage}
 use Rattle.kr_shell.specs.declared.endings.Ending.{Ending}
-use Rattle.kr_shell.specs.Endings.{is_output}
-use Rattle.kr_view_program.specs.Program.{IsSerialScript, Shows}
+use Rattle.kr_shell.specs.declared.endings.Ending.TheVariants.{NotUnderstood, Memory, Place, Output, Told}
+use Rattle.kr_shell.specs.declared.tables.AnyTable.{AnyTable}
+use Rattle.kr_shell.specs.Endings.{MemoryOrTold}
+use Rattle.kr_shell.specs.Named.{NamesTable, TellsNoTable, NamesScript, TellsNoScript}
+use Rattle.kr_shell.specs.Tables.{table_of}
+use Rattle.kr_view_program.specs.Program.{AreWords, IsSerialScript, ShowsAsked, Explains}
 
--- a page that was written, with the verdict on a script's run under a lawful table
-pub shown : (r : Result Bool Ending) (p : Protocol) (table : List ℕ) (old new : Option (List ℕ)) (s : Script) → IsLawful p → IfOk r (λ serial. (page : List ℕ) × (IsPage table serial page × Appends old new page)) → IfOk r (λ serial. IsTrue serial ↔ IsSerialScript p s) → IfOk r (λ serial. (q : Protocol) × (IsLawful q × ((name : List ℕ) × Shows q name old new serial)))
-shown (Ok serial) p table old new s lawful (page, (is_page, appends)) same = (p, (lawful, (table, (s, (page, (is_page, (appends, same)))))))
-shown (Err e) p table old new s lawful written same = tt
+-- a page that was written, with the verdict on a script's run under a lawful table that words name
+pub shown : (may_give : List ℕ → Option (List ℕ) → Type 0) (words : List (List ℕ)) (r : Result Bool Ending) (t : AnyTable) (table script : List ℕ) (old new : Option (List ℕ)) (s : Script) → AreWords words table script → NamesTable may_give table t → IsLawful (table_of t) → NamesScript may_give script s → IfOk r (λ serial. (page : List ℕ) × (IsPage table serial page × Appends old new page)) → IfOk r (λ serial. IsTrue serial ↔ IsSerialScript (table_of t) s) → IfOk r (ShowsAsked may_give words old new)
+shown may_give words (Ok serial) t table script old new s are_words names lawful named (page, (is_page, appends)) same = (table, script, (are_words, (t, (names, (lawful, (s, (named, (page, (is_page, (appends, same))))))))))
+shown may_give words (Err e) t table script old new s are_words names lawful named written same = tt
 
--- what holds of the answer holds of the one that it is
-pub ok_at : (r : Result Bool Ending) (b : Bool) (P : Bool → Type 0) → IfOk r P → r ≡ Ok b → P b
-ok_at (Ok a) b P h e = let same : a ≡ b = cc in subst P same h
-ok_at (Err x) b P h e = absurd (cc)
+-- an ending of a page that isn't written tells of no word
+pub page_fault : (may_give : List ℕ → Option (List ℕ) → Type 0) (words : List (List ℕ)) (r : Result Bool Ending) → IfErr r (λ e. (e ≡ Memory) ⊎ (e ≡ Output)) → IfErr r (Explains may_give words)
+page_fault may_give words (Ok serial) h = tt
+page_fault may_give words (Err e) (inl memory) = let P : Ending → Type 0 = λ x. Explains may_give words x in subst P (sym memory) tt
+page_fault may_give words (Err e) (inr output) = let P : Ending → Type 0 = λ x. Explains may_give words x in subst P (sym output) tt
 
--- where a status is neither that of a serial run nor that of another, the answer is an ending
-pub ending_at : (r : Result Bool Ending) (n : ℕ) (P : Ending → Type 0) → ((n ≡ 0) ↔ (r ≡ Ok true)) → ((n ≡ 1) ↔ (r ≡ Ok false)) → IfErr r P → n ≡ 2 → (e : Ending) × P e
-ending_at (Ok true) n P well not_well h two = absurd (omega (arith, well.1 refl))
-ending_at (Ok false) n P well not_well h two = absurd (omega (arith, not_well.1 refl))
-ending_at (Err e) n P well not_well h two = (e, h)
+-- words of no form
+pub no_form : (may_give : List ℕ → Option (List ℕ) → Type 0) (words : List (List ℕ)) (e : Ending) → e ≡ NotUnderstood → ((table script : List ℕ) → AreWords words table script → ⊥) → Explains may_give words e
+no_form may_give words e is isnt = let P : Ending → Type 0 = λ x. Explains may_give words x in subst P (sym is) isnt
 
--- and then nothing was written, unless output failed
-pub fault_at : (r : Result Bool Ending) (n : ℕ) (Same Cause : Type 0) → ((n ≡ 0) ↔ (r ≡ Ok true)) → ((n ≡ 1) ↔ (r ≡ Ok false)) → IfErr r (λ e. IsTrue (is_output e) ⊎ Same) → IfErr r (λ e. IsTrue (is_output e) → Cause) → n ≡ 2 → Cause ⊎ Same
-fault_at (Ok true) n Same Cause well not_well nothing cause two = absurd (omega (arith, well.1 refl))
-fault_at (Ok false) n Same Cause well not_well nothing cause two = absurd (omega (arith, not_well.1 refl))
-fault_at (Err e) n Same Cause well not_well (inl output) cause two = inl (cause output)
-fault_at (Err e) n Same Cause well not_well (inr same) cause two = inr same
+-- the word of a table that names none
+pub no_table : (may_give : List ℕ → Option (List ℕ) → Type 0) (words : List (List ℕ)) (table script : List ℕ) (e : Ending) → AreWords words table script → MemoryOrTold e (TellsNoTable may_give table) → Explains may_give words e
+no_table may_give words table script NotUnderstood are_words h = absurd h
+no_table may_give words table script Memory are_words h = tt
+no_table may_give words table script Place are_words h = absurd h
+no_table may_give words table script Output are_words h = absurd h
+no_table may_give words table script (Told line) are_words h = (table, script, (are_words, inl h))
 
--- nothing is told but at an ending
-pub silent_at : (r : Result Bool Ending) (n : ℕ) (Same : Type 0) → n ≤ 2 → ((n ≡ 0) ↔ (r ≡ Ok true)) → ((n ≡ 1) ↔ (r ≡ Ok false)) → OnOk r Same → Same ⊎ (n ≡ 2)
-silent_at (Ok b) n Same within well not_well silent = inl silent
-silent_at (Err e) n Same within well not_well silent =
-    let not_zero : n ≢ 0 = λ zero. let k : Err e ≡ Ok true = well.0 zero in absurd (cc) in
-    let not_one : n ≢ 1 = λ one. let k : Err e ≡ Ok false = not_well.0 one in absurd (cc) in
-    inr (omega arith)
+-- the word of a script that names none
+pub no_script : (may_give : List ℕ → Option (List ℕ) → Type 0) (words : List (List ℕ)) (t : AnyTable) (table script : List ℕ) (e : Ending) → AreWords words table script → NamesTable may_give table t → MemoryOrTold e (TellsNoScript may_give script) → Explains may_give words e
+no_script may_give words t table script NotUnderstood are_words names h = absurd h
+no_script may_give words t table script Memory are_words names h = tt
+no_script may_give words t table script Place are_words names h = absurd h
+no_script may_give words t table script Output are_words names h = absurd h
+no_script may_give words t table script (Told line) are_words names h = (table, script, (are_words, inr (t, (names, h))))
 
 -- a text that was written is a page where its bytes are
 pub written : (bytes page table : List ℕ) (serial : Bool) (old new : Option (List ℕ)) → bytes ≡ page → IsPage table serial page → Appends old new bytes → (p : List ℕ) × (IsPage table serial p × Appends old new p)

@@ -1,18 +1,50 @@
--- What the program writes of a script's run, and what it answers.
-use Rattle.std.specs.Prelude.{ℕ, Bool, List, Option, ◌↔◌, IsTrue}
+-- What the program writes of a script's run, what it answers, and why it ends without a page.
+use Rattle.std.specs.Prelude.{◌≡◌, ◌⊎◌, ℕ, Bool, List, [], ◌∷◌, Option, ◌↔◌, IsTrue, string_bytes}
 use Rattle.std.specs.Io.KnownBytes.{Appends}
-use Rattle.kr_model.specs.Protocol.{Protocol}
+use Rattle.kr_model.specs.Protocol.{Protocol, IsLawful}
 use Rattle.kr_model.specs.State.{start}
 use Rattle.kr_model.specs.Run.{run, programs}
 use Rattle.kr_model.specs.Serial.{AreSerial}
 use Rattle.kr_script.specs.Script.{Script}
+use Rattle.kr_shell.specs.declared.endings.Ending.{Ending}
+use Rattle.kr_shell.specs.declared.endings.Ending.TheVariants.{NotUnderstood, Memory, Place, Output, Told}
+use Rattle.kr_shell.specs.declared.tables.AnyTable.{AnyTable}
+use Rattle.kr_shell.specs.Named.{NamesTable, TellsNoTable, NamesScript, TellsNoScript}
+use Rattle.kr_shell.specs.Tables.{table_of}
+use Rattle.kr_shell.specs.Words.{IsPlain}
 use Rattle.kr_picture.specs.Page.{IsPage}
+
+-- The program's words: one names a table, and the other a script. Neither begins with a hyphen.
+abbrev pub AreWords : List (List ℕ) → List ℕ → List ℕ → Type 0
+AreWords words table script = (words ≡ table ∷ script ∷ []) × (IsPlain table × IsPlain script)
 
 -- The transactions that commit in a script's run under a protocol are serial.
 abbrev pub IsSerialScript : Protocol → Script → Type 0
 IsSerialScript p s = AreSerial s.opening (programs (run p (start s.opening) s.steps).history)
 
--- The page of a run was written, with its verdict, under the name of the table; and the verdict is that on some script's run.
-abbrev pub Shows : Protocol → List ℕ → Option (List ℕ) → Option (List ℕ) → Bool → Type 0
-Shows p table old new serial =
-    (s : Script) × ((page : List ℕ) × (IsPage table serial page × (Appends old new page × (IsTrue serial ↔ IsSerialScript p s))))
+-- The page of a script's run under a table was written, under a name of the table and with the verdict on that run.
+abbrev pub ShowsRun : AnyTable → Script → List ℕ → Option (List ℕ) → Option (List ℕ) → Bool → Type 0
+ShowsRun t s name old new serial =
+    (page : List ℕ) × (IsPage name serial page × (Appends old new page × (IsTrue serial ↔ IsSerialScript (table_of t) s)))
+
+-- The page was written of the run of the script that one word names, under the lawful table that the other names.
+abbrev pub Shows : (List ℕ → Option (List ℕ) → Type 0) → List ℕ → List ℕ → Option (List ℕ) → Option (List ℕ) → Bool → Type 0
+Shows may_give table script old new serial =
+    (t : AnyTable) × (NamesTable may_give table t × (IsLawful (table_of t) × ((s : Script) × (NamesScript may_give script s × ShowsRun t s table old new serial))))
+
+-- The page that the words ask for was written.
+abbrev pub ShowsAsked : (List ℕ → Option (List ℕ) → Type 0) → List (List ℕ) → Option (List ℕ) → Option (List ℕ) → Bool → Type 0
+ShowsAsked may_give words old new serial = (table script : List ℕ) × (AreWords words table script × Shows may_give table script old new serial)
+
+-- The line tells why the word of a table names none; or why the word of a script does, where that of the table names one.
+abbrev pub TellsWord : (List ℕ → Option (List ℕ) → Type 0) → List ℕ → List ℕ → List ℕ → Type 0
+TellsWord may_give table script line =
+    TellsNoTable may_give table line ⊎ ((t : AnyTable) × (NamesTable may_give table t × TellsNoScript may_give script line))
+
+-- Why the program ends without a page, or with a beginning of it.
+abbrev pub Explains : (List ℕ → Option (List ℕ) → Type 0) → List (List ℕ) → Ending → Type 0
+Explains may_give words NotUnderstood = (table script : List ℕ) → AreWords words table script → ⊥
+Explains may_give words Memory = Unit {0}
+Explains may_give words Place = ⊥
+Explains may_give words Output = Unit {0}
+Explains may_give words (Told line) = (table script : List ℕ) × (AreWords words table script × TellsWord may_give table script (string_bytes line))

@@ -1,14 +1,14 @@
 //! The program over its words, files and streams.
-ghost use Rattle.std.specs.Prelude.{◌≡◌, ◌⊎◌, ◌↔◌, ◌≤◌, ℕ, List, true, false, IfOk, IfErr, IsTrue};
+ghost use Rattle.std.specs.Prelude.{◌≡◌, ◌⊎◌, ◌↔◌, ◌≤◌, ℕ, List, true, false, IfOk, IfErr, IsTrue, map, string_bytes};
 ghost use Rattle.std.specs.Io.KnownBytes.{Appends};
-ghost use Rattle.kr_model.specs.Protocol.{Protocol, IsLawful};
+ghost use Rattle.kr_model.specs.Protocol.{IsLawful};
 ghost use Rattle.kr_model.specs.Covers.{IsCovered};
 ghost use Rattle.kr_script.specs.Puts.{HasCause, AppendsFront};
-ghost use Rattle.kr_script.specs.Script.{Script};
 ghost use Rattle.kr_shell.specs.Endings.{is_output, ending_line};
 ghost use Rattle.kr_shell.specs.declared.endings.Ending.{Ending};
+ghost use Rattle.kr_shell.specs.declared.endings.Ending.TheVariants as ending;
 ghost use Rattle.kr_picture.specs.Page.{IsPage};
-ghost use Rattle.kr_view_program.specs.Program.{IsSerialScript, Shows};
+ghost use Rattle.kr_view_program.specs.Program.{IsSerialScript, ShowsAsked, Explains};
 
 use crate::words::read_words;
 use kr_picture::picture;
@@ -40,6 +40,7 @@ pub fn write_page<P: Protocol, W: Sink>(
     ensures page { IfOk result (λ serial. (page : List ℕ) × (IsPage table.now serial page × Appends (W.taken out.old) (W.taken out.new) page)) }
     ensures serial { IfOk result (λ serial. IsTrue serial ↔ IsSerialScript (P.table protocol.now) script.now) }
     ensures covered { IsCovered (P.table protocol.now) → IfOk result (λ serial. IsTrue serial) }
+    ensures err { IfErr result (λ e. (e ≡ ending.Memory) ⊎ (e ≡ ending.Output)) }
     ensures nothing { IfErr result (λ e. IsTrue (is_output e) ⊎ (out.new ≡ out.old)) }
     ensures cause { IfErr result (λ e. IsTrue (is_output e) → HasCause (W.failures out.old) (W.failures out.new)) }
 {
@@ -55,7 +56,8 @@ fn view<R: std::rt::Files + AllocGlobal, F: Files, W: Sink>(
     files: &F,
     out: &mut W,
 ) -> Result<bool, Ending>
-    ensures shows { IfOk result (λ serial. (p : Protocol) × (IsLawful p × ((table : List ℕ) × Shows p table (W.taken out.old) (W.taken out.new) serial))) }
+    ensures shows { IfOk result (ShowsAsked (F.may_give files.now) (map string_bytes words.now) (W.taken out.old) (W.taken out.new)) }
+    ensures err { IfErr result (Explains (F.may_give files.now) (map string_bytes words.now)) }
     ensures nothing { IfErr result (λ e. IsTrue (is_output e) ⊎ (out.new ≡ out.old)) }
     ensures cause { IfErr result (λ e. IsTrue (is_output e) → HasCause (W.failures out.old) (W.failures out.new)) }
 {
@@ -67,8 +69,9 @@ fn view<R: std::rt::Files + AllocGlobal, F: Files, W: Sink>(
 }
 
 /// Runs the program on words without its own name, and answers its status: 0 where the run is serial, 1 where it isn't, and 2
-/// where it told a fault on `err`. At 0 and 1 the whole page of a script's run under a lawful table is written on `out`, and
-/// nothing on `err`; at a fault of words, files, tables, scripts or memory nothing is written on `out`.
+/// where it told a fault on `err`. At 0 and 1 the whole page is written on `out`, of the run of the script that the second word
+/// names under the table that the first names, and nothing on `err`; at a fault of words, files, tables, scripts or memory
+/// nothing is written on `out`.
 pub fn execute<R: std::rt::Files + AllocGlobal, F: Files, W: Sink, E: Sink>(
     rt: &R,
     words: &[String],
@@ -77,10 +80,11 @@ pub fn execute<R: std::rt::Files + AllocGlobal, F: Files, W: Sink, E: Sink>(
     err: &mut E,
 ) -> u8
     ensures within { result ≤ 2 }
-    ensures serial { result ≡ 0 → (p : Protocol) × (IsLawful p × ((table : List ℕ) × Shows p table (W.taken out.old) (W.taken out.new) true)) }
-    ensures not_serial { result ≡ 1 → (p : Protocol) × (IsLawful p × ((table : List ℕ) × Shows p table (W.taken out.old) (W.taken out.new) false)) }
+    ensures serial { result ≡ 0 → ShowsAsked (F.may_give files.now) (map string_bytes words.now) (W.taken out.old) (W.taken out.new) true }
+    ensures not_serial { result ≡ 1 → ShowsAsked (F.may_give files.now) (map string_bytes words.now) (W.taken out.old) (W.taken out.new) false }
     ensures fault { result ≡ 2 → HasCause (W.failures out.old) (W.failures out.new) ⊎ (out.new ≡ out.old) }
-    ensures told { result ≡ 2 → (e : Ending) × AppendsFront (E.taken err.old) (E.taken err.new) (ending_line NAME.now e) }
+    ensures told { result ≡ 2 → (e : Ending) × (Explains (F.may_give files.now) (map string_bytes words.now) e
+        × AppendsFront (E.taken err.old) (E.taken err.new) (ending_line NAME.now e)) }
     ensures silent { (err.new ≡ err.old) ⊎ (result ≡ 2) }
 {
     let done = view(rt, words, files, out);

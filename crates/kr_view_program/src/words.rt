@@ -1,7 +1,7 @@
 //! What the words ask.
-ghost use Rattle.std.specs.Prelude.{◌≡◌, [], ◌∷◌, IfOk, IfErr, map, string_bytes};
-ghost use Rattle.kr_shell.specs.Words.{IsPlain};
+ghost use Rattle.std.specs.Prelude.{◌≡◌, ℕ, List, IfOk, IfErr, OnErr, map, string_bytes};
 ghost use Rattle.kr_shell.specs.declared.endings.Ending.TheVariants as ending;
+ghost use Rattle.kr_view_program.specs.Program.{AreWords};
 
 use kr_shell::{Ending, is_plain};
 
@@ -16,9 +16,9 @@ pub struct Asked<'a> {
 
 /// What the words ask, the program's name left out: `TABLE SCRIPT`. Neither begins with a hyphen.
 pub fn read_words<'a>(words: &'a [String]) -> Result<Asked<'a>, Ending>
-    ensures words { IfOk result (λ a. map string_bytes words.now ≡ a.table.now ∷ a.script.now ∷ []) }
-    ensures plain { IfOk result (λ a. IsPlain a.table.now × IsPlain a.script.now) }
+    ensures words { IfOk result (λ a. AreWords (map string_bytes words.now) a.table.now a.script.now) }
     ensures err { IfErr result (λ e. e ≡ ending.NotUnderstood) }
+    ensures form { OnErr result ((table script : List ℕ) → AreWords (map string_bytes words.now) table script → ⊥) }
 {
     match words {
         [table, script] if is_plain(table.as_str()) && is_plain(script.as_str()) => Ok(Asked {

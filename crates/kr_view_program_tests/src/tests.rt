@@ -17,6 +17,8 @@ struct Shelf<'a> {
 }
 
 impl Files for Shelf<'_> {
+    ghost may_give = { λ _ _ _. Unit {0} };
+
     fn whole<R: std::rt::Files + AllocGlobal>(
         &self,
         rt: &R,

@@ -1,8 +1,29 @@
+use Rattle.std.specs.Prelude.{map, string_bytes}
+use Rattle.std.proofs.Common.{rules}
 use Rattle.kr_shell.specs.Tables.{table_of}
-use Rattle.kr_view_program.proofs.Shown.{shown}
+use Rattle.kr_view_program.proofs.Shown.{shown, page_fault, no_form, no_table, no_script}
 use Rattle.kr_view_program.proofs.program.view.Goals as goal
+
+pub returns-in_err-asked-clause-err : goal.returns-in_err-asked-clause-err
+returns-in_err-asked-clause-err g c =
+    let explained = no_form (g.F.Files.may_give c.args.files.now) (map string_bytes c.args.words.now) _ c.in_err-asked.ensures.err c.in_err-asked.ensures.form in
+    search rules
+
+pub returns-in_err-table-clause-err : goal.returns-in_err-table-clause-err
+returns-in_err-table-clause-err g c =
+    let explained = no_table (g.F.Files.may_give c.args.files.now) (map string_bytes c.args.words.now) _ c.in_ok-asked.asked.script.now _ c.in_ok-asked.ensures.words c.in_err-table.ensures.fault in
+    search rules
+
+pub returns-in_err-script-clause-err : goal.returns-in_err-script-clause-err
+returns-in_err-script-clause-err g c =
+    let explained = no_script (g.F.Files.may_give c.args.files.now) (map string_bytes c.args.words.now) c.in_ok-table.table _ _ _ c.in_ok-asked.ensures.words c.in_ok-table.ensures.table c.in_err-script.ensures.fault in
+    search rules
 
 pub returns-clause-shows : goal.returns-clause-shows
 returns-clause-shows g c =
     let taken = g.W.Sink.taken in
-    shown c.write_page.result (table_of c.in_ok-table.table) c.in_ok-asked.asked.table.now (taken c.args.out.now) (taken c.write_page.new.out) c.in_ok-script.script c.are_laws_kept.ensures c.write_page.ensures.page c.write_page.ensures.serial
+    shown (g.F.Files.may_give c.args.files.now) (map string_bytes c.args.words.now) c.write_page.result c.in_ok-table.table c.in_ok-asked.asked.table.now c.in_ok-asked.asked.script.now (taken c.args.out.now) (taken c.write_page.new.out) c.in_ok-script.script c.in_ok-asked.ensures.words c.in_ok-table.ensures.table c.are_laws_kept.ensures c.in_ok-script.ensures.script c.write_page.ensures.page c.write_page.ensures.serial
+
+pub returns-clause-err : goal.returns-clause-err
+returns-clause-err g c =
+    page_fault (g.F.Files.may_give c.args.files.now) (map string_bytes c.args.words.now) c.write_page.result c.write_page.ensures.err

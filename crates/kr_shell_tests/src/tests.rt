@@ -1,0 +1,57 @@
+//! Words on a shelf of one file, and what is had for them.
+use kr_script::{Io, ScriptFault, read_script};
+use kr_shell::{
+    AnyTable, Ending, FileFault, Files, at_fault, finish, is_plain, read_file, script_at, table_at,
+    unreadable, whole,
+};
+use kr_table::TableFault;
+use std::alloc::{AllocError, Global};
+use std::process::Abort;
+use std::test::Fail;
+
+mod faults;
+mod named;
+mod words;
+
+/// Bytes that are named `file`. To read `big` takes more memory than there is, and nothing else can be read.
+#[derive(Clone, Copy)]
+struct Shelf<'a>(&'a [u8]);
+
+impl Files for Shelf<'_> {
+    ghost may_give = { λ _ _ _. Unit {0} };
+
+    fn whole<R: std::rt::Files + AllocGlobal>(
+        &self,
+        rt: &R,
+        word: &str,
+    ) -> Result<Vec<u8>, FileFault> {
+        match word {
+            "big" => Err(FileFault::Memory),
+            "file" => self.0.to_vec(rt.alloc()).map_err(|_| FileFault::Memory),
+            _ => Err(FileFault::Unreadable),
+        }
+    }
+}
+
+/// A table of one mode, in which no row asks for anything.
+const TABLE: &str =
+    "format = 1\nmodes = [\"A\"]\ncompatible = { A = [] }\nconvert = { A = { A = \"A\" } }\nrules = {}\n";
+
+/// A script of one step.
+const SCRIPT: &str = r#"{"format":1,"opening":[[10,1]],"steps":[[1,"fetch",10]]}"#;
+
+/// The line on which a program of the name `p` tells an ending, whose status is 2.
+fn line_of(rt: &impl Abort, alloc: Global, ending: Ending) -> Result<Vec<u8>, AllocError> {
+    let mut err = Io::new(Vec::new(alloc));
+    let status = finish("p", &Err(ending), &mut err);
+    assert_eq!(rt; status, 2);
+    err.writer().to_vec(alloc)
+}
+
+/// Compares the line on which an ending is told, behind the name `p`.
+fn tells(rt: &impl Abort, alloc: Global, ending: Ending, told: &str) -> Result<(), AllocError> {
+    let line = line_of(rt, alloc, ending)?;
+    let expected = format!(in alloc; "p: {told}\n")?;
+    assert_eq!(rt; line.as_slice(), expected.as_bytes(), "{told}");
+    Ok(())
+}
