@@ -24,7 +24,9 @@ mod scripts;
 mod state;
 mod step;
 mod table;
+mod within;
 
 pub use closure::Closure;
 pub use counterexample::Counterexample;
 pub use ending::Ending;
+pub use within::Sought;
