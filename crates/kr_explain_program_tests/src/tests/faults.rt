@@ -2,6 +2,7 @@
 use super::{Full, SHORT_SCAN, Shelf, leaves, owned};
 use kr_explain_program::execute;
 use kr_script::Io;
+use std::process::Abort;
 use std::test::Fail;
 
 /// `@kvl`, where SIX held and IX asked make IS: it is refused, and no run of its cause is known.
@@ -77,7 +78,12 @@ const TABLES: &[(&str, &str)] = &[
 ];
 
 /// Compares the line that the program tells at a fault, behind its name; nothing else is printed.
-fn tells(rt: &HostRuntime, words: &[&str], table: &str, told: &str) -> Result<(), Fail> {
+fn tells<R: std::rt::Files + AllocGlobal + Abort>(
+    rt: &R,
+    words: &[&str],
+    table: &str,
+    told: &str,
+) -> Result<(), Fail> {
     let line = format!(in rt.alloc(); "kr_explain: {told}\n")?;
     leaves(rt, words, table, 2, "", line.as_str())
 }
