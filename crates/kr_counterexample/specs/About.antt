@@ -1,5 +1,5 @@
 -- Whether a failed case is about a state: a transaction that comes to the state has the modes of the case there, and can take the step that the case is about.
-use Rattle.std.specs.Prelude.{ℕ, ◌==◌, ◌&&◌, ◌||◌, nat_le, Bool, true, false, not, Option, Some, None}
+use Rattle.std.specs.Prelude.{ℕ, ◌==◌, ◌&&◌, ◌||◌, nat_le, Bool, true, false, not, Option, Some}
 use Rattle.kr_model.specs.declared.Cover.{Cover}
 use Rattle.kr_model.specs.declared.Cover.TheVariants.{ReadKey, ReadGap, InsertedKey, DeletedGap, UpdatedKey}
 use Rattle.kr_model.specs.declared.FailedCase.{FailedCase}

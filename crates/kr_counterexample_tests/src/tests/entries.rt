@@ -34,18 +34,22 @@ pub enum Edit {
     Turn(Mode, Mode),
 }
 
-/// All changes of one entry of a table with these clauses. A clause for some own modes has another beside it.
+/// All changes of one entry of a table with these clauses. At most two clauses are of one row and side.
 pub fn edits<P: Protocol>(
     alloc: Global,
     protocol: &P,
     clauses: &[Clause],
 ) -> Result<Vec<Edit>, Fail> {
     let mut edits = Vec::new(alloc);
+    let mut before: Option<Clause> = None;
     for (place, clause) in clauses.iter().enumerate() {
         edits_of_clause(protocol, place, *clause, &mut edits)?;
-        if !clause.2.is_empty() {
-            edits.push(Edit::AllLeftOut(clause.0, clause.1))?;
+        if let Some(before) = before {
+            if is_beside(before, *clause) {
+                edits.push(Edit::AllLeftOut(clause.0, clause.1))?;
+            }
         }
+        before = Some(*clause);
     }
     for held in 1..protocol.count() + 1 {
         for requested in 1..protocol.count() + 1 {
@@ -54,6 +58,10 @@ pub fn edits<P: Protocol>(
                     edits.push(Edit::Convert(held, requested, mode))?;
                 }
             }
+        }
+    }
+    for requested in 1..protocol.count() + 1 {
+        for held in 1..protocol.count() + 1 {
             edits.push(Edit::Turn(requested, held))?;
         }
     }
