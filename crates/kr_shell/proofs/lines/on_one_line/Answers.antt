@@ -1,6 +1,5 @@
-use Rattle.std.specs.Prelude.{string_bytes}
 use Rattle.std.specs.List.{flat_map}
-use Rattle.std.proofs.Common.{◌≡◌, sym, ap, ◌∙◌, map-id, ℕ, List}
+use Rattle.std.proofs.Common.{sym, ap, ◌∙◌, map-id, ℕ, List}
 use Rattle.std.proofs.lemmas.Iterator.{YieldsList-from_chars}
 use Rattle.std.proofs.lemmas.Iterator.Consumers.{YieldsList-end}
 use Rattle.kr_shell.specs.Lines.{shown}

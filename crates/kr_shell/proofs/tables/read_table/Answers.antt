@@ -1,5 +1,3 @@
-use Rattle.std.proofs.Common.{Some}
-use Rattle.kr_shell.specs.Files.{MayBeHad}
 use Rattle.kr_shell.proofs.TableFaults.{no_table}
 use Rattle.kr_shell.proofs.tables.read_table.Goals as goal
 

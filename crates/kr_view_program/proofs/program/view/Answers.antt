@@ -1,6 +1,5 @@
 use Rattle.std.specs.Prelude.{map, string_bytes}
 use Rattle.std.proofs.Common.{rules}
-use Rattle.kr_shell.specs.Tables.{table_of}
 use Rattle.kr_view_program.proofs.Shown.{shown, page_fault, no_form, no_table, no_script}
 use Rattle.kr_view_program.proofs.program.view.Goals as goal
 
