@@ -7,6 +7,7 @@ mod body;
 mod effort;
 mod explaining;
 mod explanation;
+mod lines;
 mod lists;
 mod mending;
 mod orders;
