@@ -35,8 +35,8 @@ causes_of told = map (λ e. e.cause) told
 -- What is told of a table that is refused, where these cases of it fail.
 pub record IsRefusal (p : Protocol) (failed : List FailedCase) (r : Refused) : Type 0 where
   -- it has so many cases, and so many of them fail
-  pub cases : r.cases ≡ length (cases p)
-  pub failed : r.failed ≡ length failed
+  pub has_cases : r.cases ≡ length (cases p)
+  pub has_failed : r.failed ≡ length failed
   -- each failed case is in exactly one of the causes
   pub shared : ShareOut (causes_of r.causes.items) failed
   pub told : All (IsTold p failed) r.causes.items
