@@ -1,5 +1,5 @@
 -- How an explanation is written: its text, and the lines of its runs.
-use Rattle.std.specs.Prelude.{◌≡◌, ℕ, List, ◌++◌, [], ◌∷◌, Option, Some, None, String, codes, decimal, string_bytes}
+use Rattle.std.specs.Prelude.{◌≡◌, ℕ, List, ◌++◌, [], ◌∷◌, Option, Some, None, codes, decimal}
 use Rattle.kr_explanation.specs.declared.run.Run.{Run}
 use Rattle.kr_explanation.specs.declared.explanation.Explanation.{Explanation}
 use Rattle.kr_explanation.specs.declared.explanation.Explanation.TheVariants as told
@@ -15,8 +15,8 @@ abbrev pub IsText : Explanation → List ℕ → Type 0
 IsText e text = (telling : List ℕ) × (text ≡ verdict_words e ++ telling ++ 10 ∷ [])
 
 -- The line of the script of a run, exactly where there is a run.
-abbrev pub IsScriptOf : Option Run → Option String → Type 0
+abbrev pub IsScriptOf : Option Run → Option (List ℕ) → Type 0
 IsScriptOf None None = Unit {0}
 IsScriptOf None (Some line) = ⊥
 IsScriptOf (Some run) None = ⊥
-IsScriptOf (Some run) (Some line) = IsLineOf run.script.opening.items run.script.events.items (string_bytes line)
+IsScriptOf (Some run) (Some line) = IsLineOf run.script.opening.items run.script.events.items line

@@ -1,5 +1,5 @@
 //! The scripts of the runs that are told.
-ghost use Rattle.std.specs.Prelude.{◌≡◌, IfOk, IfSome};
+ghost use Rattle.std.specs.Prelude.{◌≡◌, IfOk, IfSome, option_map, string_bytes};
 ghost use Rattle.kr_model.specs.Map.{IsMap};
 ghost use Rattle.kr_explanation.specs.Explained.{run_at};
 ghost use Rattle.kr_explanation.specs.Told.{IsScriptOf};
@@ -16,7 +16,7 @@ impl Explanation {
     /// The script of the run of the cause of this number, from 1, as a line of JSON with no line feed; or `None` where there
     /// is no such cause, or it has no run. The only fault is that a growth was refused.
     pub fn script(&self, alloc: Global, number: usize) -> Result<Option<String>, Memory>
-        ensures { IfOk result (IsScriptOf (run_at number self.now)) }
+        ensures { IfOk result (λ line. IsScriptOf (run_at number self.now) (option_map string_bytes line)) }
     {
         let Explanation::Refused(refused) = self else {
             return Ok(None);
