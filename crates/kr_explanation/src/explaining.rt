@@ -1,6 +1,5 @@
 //! Explaining a table.
 ghost use Rattle.std.specs.Prelude.{IfOk, ◌≡◌, All};
-ghost use Rattle.kr_causes.specs.Causes.{ShareOut};
 ghost use Rattle.kr_explanation.specs.Explained.{IsExplained, IsRefusal, IsTold, causes_of};
 
 use crate::effort::{Effort, MOST_MENDED};
@@ -33,6 +32,7 @@ pub fn explain<P: Protocol>(alloc: Global, protocol: &P) -> Result<Explanation, 
 }
 
 /// Why a table is refused of which these cases fail.
+#[tactic(auto, using(crate::proofs::ToldCauses::same_shared))]
 fn refusal<P: Protocol>(
     alloc: Global,
     protocol: &P,
@@ -40,29 +40,31 @@ fn refusal<P: Protocol>(
 ) -> Result<Refused, Memory>
     ensures { IfOk result (IsRefusal (P.table protocol.now) failed.now) }
 {
+    let causes = causes(alloc, protocol, failed)?;
     Ok(Refused {
         cases: cases(protocol.count(), protocol.updates()),
         failed: failed.len(),
-        causes: explained(alloc, protocol, failed)?,
+        causes: explained(alloc, protocol, failed, causes)?,
     })
 }
 
-/// What is to blame for the failed cases of a table, each with what is known of it.
+/// What is known of each of the causes to which these failed cases of a table are shared out, in their order.
 fn explained<P: Protocol>(
     alloc: Global,
     protocol: &P,
     failed: &[FailedCase],
+    causes: Vec<Cause>,
 ) -> Result<Vec<Explained>, Memory>
-    ensures shared { IfOk result (λ list. ShareOut (causes_of list.items) failed.now) }
+    ensures causes { IfOk result (λ list. causes.items ≡ causes_of list.items) }
     ensures told { IfOk result (λ list. All (IsTold (P.table protocol.now) failed.now) list.items) }
 {
     let closure = Closure::of(alloc, protocol)?;
-    let causes = causes(alloc, protocol, failed)?;
     let effort = Effort::of_each(causes.len());
     let mut list = Vec::new(alloc);
     for cause in causes {
         let is_mended = list.len() < MOST_MENDED;
-        list.push(told(alloc, protocol, &closure, failed, cause, effort, is_mended)?)?;
+        let told = told(alloc, protocol, &closure, failed, cause, effort, is_mended)?;
+        list.push(told)?;
     }
     Ok(list)
 }

@@ -1,6 +1,6 @@
 //! The text of an explanation.
 ghost use Rattle.std.specs.Prelude.{◌≡◌, IfOk, string_bytes};
-ghost use Rattle.kr_explanation.specs.Told.{IsText, verdict_words};
+ghost use Rattle.kr_explanation.specs.Told.{IsText, refused_words, verdict_words};
 
 use crate::body::body;
 use crate::effort::MOST_MENDED;
@@ -55,12 +55,16 @@ impl Explanation {
             Explanation::Accepted { cases } => {
                 format!(in alloc; "accepted: all {cases} cases hold.")
             }
-            Explanation::Refused(refused) => {
-                let (failed, cases) = (refused.failed, refused.cases);
-                format!(in alloc; "refused: {failed} of {cases} cases fail, by ")
-            }
+            Explanation::Refused(refused) => refused_words(alloc, refused.failed, refused.cases),
         }
     }
+}
+
+/// The words that the text of a table begins with of which so many cases fail.
+fn refused_words(alloc: Global, failed: usize, cases: usize) -> Result<String, Memory>
+    ensures { IfOk result (λ text. string_bytes text ≡ refused_words failed cases) }
+{
+    format!(in alloc; "refused: {failed} of {cases} cases fail, by ")
 }
 
 /// The text of a refusal behind the numbers of its cases, without its last line feed.
