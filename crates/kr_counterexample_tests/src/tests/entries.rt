@@ -176,6 +176,23 @@ fn write_rules<P: Protocol>(
     Ok(())
 }
 
+/// The mode that a clause asks for with the change, where it asks for this one without.
+fn mode_of<'a, P: Protocol>(protocol: &'a P, place: usize, asked: &'a str, edit: Edit) -> &'a str {
+    match edit {
+        Edit::Asks(at, mode) if at == place && mode <= protocol.count() => protocol.name(mode),
+        _ => asked,
+    }
+}
+
+/// The span that a clause has with the change, where it has this one without.
+fn span_of<'a>(place: usize, usual: &'a str, edit: Edit) -> &'a str {
+    match (edit, usual) {
+        (Edit::Turned(at), "commit") if at == place => "instant",
+        (Edit::Turned(at), _) if at == place => "commit",
+        _ => usual,
+    }
+}
+
 fn write_clause<P: Protocol>(
     protocol: &P,
     place: usize,
@@ -203,15 +220,8 @@ fn write_clause<P: Protocol>(
         }
         write!(text, "], ")?;
     }
-    let mode = match edit {
-        Edit::Asks(at, mode) if at == place && mode <= protocol.count() => protocol.name(mode),
-        _ => asked,
-    };
-    let span = match (edit, usual) {
-        (Edit::Turned(at), "commit") if at == place => "instant",
-        (Edit::Turned(at), _) if at == place => "commit",
-        _ => usual,
-    };
+    let mode = mode_of(protocol, place, asked, edit);
+    let span = span_of(place, usual, edit);
     write!(text, "mode = \"{mode}\", span = \"{span}\" }}, ")?;
     Ok(())
 }
