@@ -1,6 +1,8 @@
 //! All changes of one entry of the bundled tables: how many are refused, and of how many of these a failed case gives a
 //! script.
 
+ghost use Rattle.std.specs.Prelude.{◌<◌};
+
 use super::entries::{Clause, edits, text_of};
 use super::tables::failed;
 use kr_counterexample::Closure;
@@ -91,7 +93,9 @@ fn counts<P: Protocol>(
     protocol: &P,
     clauses: &[Clause],
     each: usize,
-) -> Result<Numbers, Fail> {
+) -> Result<Numbers, Fail>
+    requires { 0 < each }
+{
     let mut counts = Numbers::default();
     for edit in edits(alloc, protocol, clauses)?.iter().step_by(each) {
         let text = text_of(alloc, protocol, clauses, *edit)?;
