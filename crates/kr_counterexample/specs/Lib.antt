@@ -1,4 +1,2 @@
-pub mod About
 pub mod GoesWrong
-pub mod Reached
 pub mod Rising

