@@ -1,2 +1,4 @@
+pub mod About
 pub mod GoesWrong
+pub mod Reached
 pub mod Rising

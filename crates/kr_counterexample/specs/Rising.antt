@@ -1,5 +1,5 @@
 -- Keys that rise one after another.
-use Rattle.std.specs.Prelude.{ℕ, ◌&&◌, List, [], ◌∷◌, Bool, true, nat_lt, Option, Some, None}
+use Rattle.std.specs.Prelude.{ℕ, ◌&&◌, [], ◌∷◌, Bool, true, nat_lt, Option, Some, None}
 use Rattle.kr_model.specs.Map.{Map}
 
 -- whether a key is above the one before it

@@ -1,10 +1,14 @@
 //! The states that one transaction can come to.
-ghost use Rattle.std.specs.Prelude.{◌≤◌, vec_len};
-ghost use Rattle.kr_counterexample.specs.declared.closure.TheConstants.{MOST_STATES};
+ghost use Rattle.std.specs.Prelude.{◌≡◌, ◌≤◌, ◌↔◌, vec_len, All, IfOk, IsTrue};
+ghost use Rattle.std.specs.List.{Any};
+ghost use Rattle.kr_counterexample.specs.declared.reached.TheConstants.{MOST_STATES};
+ghost use Rattle.kr_counterexample.specs.About.{is_about};
+ghost use Rattle.kr_counterexample.specs.Reached.{IsReached};
 
+use crate::leading::is_reached;
 use crate::moves::{Moved, moves};
-use crate::own_steps::{OWN_STEPS, own_step};
-use crate::reached::{Last, Reached, World};
+use crate::own_steps::is_about;
+use crate::reached::{Last, MOST_STATES, Reached, World};
 use crate::ready::{Ready, ready_of};
 use crate::state::{NUMBERS, State};
 use crate::table::Table;
@@ -13,9 +17,6 @@ use kr_model::{FailedCase, Mode};
 use kr_protocol::Protocol;
 use std::alloc::{AllocError, Global};
 
-/// A closure holds so many states at most: others that a table has are left out.
-const MOST_STATES: usize = 20_000;
-
 /// Whether P and whether A stand in the openings, in their order of trial.
 const OPENINGS: [(bool, bool); 4] = [(false, true), (false, false), (true, true), (true, false)];
 
@@ -23,7 +24,8 @@ const OPENINGS: [(bool, bool); 4] = [(false, true), (false, false), (true, true)
 /// most 20,000.
 ///
 /// They are found breadth first, by a fixed list of moves at fixed keys, from four openings; then once more, from each mode
-/// that was reached on the first name alone, with its script moved one name up.
+/// that was reached on the first name alone, with its script moved one name up. The script of each was run: all its steps
+/// were granted, and it left the state's modes.
 #[derive(Drop)]
 pub struct Closure {
     pub(crate) reached: Vec<Reached>,
@@ -32,103 +34,122 @@ pub struct Closure {
 }
 
 impl Closure {
-    /// The closure over the modes of a lock table. The only fault is that a growth was refused.
-    pub fn of<P: Protocol>(alloc: Global, protocol: &P) -> Result<Closure, Memory> {
-        let table = Table { protocol };
-        let mut growing = Growing::new(alloc)?;
-        growing.begin(0, None)?;
-        growing.grow(alloc, &table, 0)?;
+    /// The closure over the modes of a lock table: a script leads to each of its states under the table. The only fault is
+    /// that a growth was refused.
+    pub fn of<P: Protocol>(alloc: Global, protocol: &P) -> Result<Closure, Memory>
+        ensures { IfOk result (λ c. All (λ r. IsReached (P.table protocol.now) r.state) c.reached.items) }
+    {
+        let mut growing = Growing::new(alloc, protocol)?;
+        growing.begin(alloc, 0, None)?;
+        growing.grow(alloc, 0)?;
         let on_one_name = growing.reached.len();
-        growing.raise()?;
-        growing.grow(alloc, &table, on_one_name)?;
+        growing.raise(alloc)?;
+        growing.grow(alloc, on_one_name)?;
         let reached = growing.reached;
         let ready = ready_of(alloc, &reached)?;
         Ok(Closure { reached, ready })
     }
 
-    /// Whether some state of the closure has a step that the case is about. Where none has, a script may still come to the
-    /// case. Takes no memory.
-    pub fn is_reached<P: Protocol>(&self, protocol: &P, case: &FailedCase) -> bool {
+    /// Whether the case is about some state of the closure: there a transaction has the modes of the case, and can take the
+    /// step that it is about. Where it is about none, a script may still come to the case. Takes no memory.
+    pub fn is_reached<P: Protocol>(&self, protocol: &P, case: &FailedCase) -> bool
+        ensures { IsTrue result ↔ Any (λ r. IsTrue (is_about (P.table protocol.now) case.now r.state)) self.now.reached.items }
+    {
         let table = Table { protocol };
-        for reached in self.reached.iter() {
-            for number in 0..OWN_STEPS {
-                if own_step(&table, reached.state, case, number).is_some() {
-                    return true;
-                }
-            }
-        }
-        false
+        self.reached
+            .iter()
+            .any(|reached| is_about(&table, reached.state, case))
     }
 }
 
 /// A closure that is being made.
 #[derive(Drop)]
-struct Growing {
+struct Growing<'a, P: Protocol> {
+    protocol: &'a P,
     reached: Vec<Reached>,
     /// Whether a state was reached, by its number.
     seen: Vec<bool>,
     ghost few: { vec_len reached ≤ MOST_STATES },
+    ghost are_reached: { All (λ r. IsReached (P.table protocol.now) r.state) reached.items },
 }
 
-impl Growing {
-    fn new(alloc: Global) -> Result<Growing, AllocError> {
+impl<'a, P: Protocol> Growing<'a, P> {
+    fn new(alloc: Global, protocol: &'a P) -> Result<Growing<'a, P>, AllocError>
+        ensures { IfOk result (λ g. g.protocol.now ≡ protocol.now) }
+    {
         Ok(Growing {
+            protocol,
             reached: Vec::new(alloc),
             seen: vec![in alloc; false; NUMBERS]?,
         })
     }
 
-    /// Puts a state behind the others, if it is new and there is room.
-    fn put(&mut self, reached: Reached) -> Result<(), AllocError> {
-        let number = reached.state.number();
-        if let Some(seen) = self.seen.get_mut(number) {
-            if !*seen && self.reached.len() < MOST_STATES {
-                self.reached.push(reached)?;
-                *seen = true;
-            }
+    /// Puts a state behind the others, if it is new, there is room, and its script leads to it.
+    fn put(&mut self, alloc: Global, reached: Reached) -> Result<(), Memory>
+        ensures { self.new.protocol.now ≡ self.old.protocol.now }
+    {
+        let Some(seen) = self.seen.get_mut(reached.state.number()) else {
+            return Ok(());
+        };
+        if *seen || self.reached.len() >= MOST_STATES {
+            return Ok(());
+        }
+        *seen = true;
+        if is_reached(alloc, self.protocol, &self.reached, reached)? {
+            self.reached.push(reached)?;
         }
         Ok(())
     }
 
     /// Begins with each opening, where a transaction has this mode on Y by the script of the state `above`.
-    fn begin(&mut self, on_y: Mode, above: Option<usize>) -> Result<(), AllocError> {
+    fn begin(&mut self, alloc: Global, on_y: Mode, above: Option<usize>) -> Result<(), Memory>
+        ensures { self.new.protocol.now ≡ self.old.protocol.now }
+    {
         for (p, a) in OPENINGS {
-            self.put(Reached {
-                state: State::fresh(p, a, on_y),
-                world: World { p, a, above },
-                last: None,
-            })?;
+            self.put(
+                alloc,
+                Reached {
+                    state: State::fresh(p, a, on_y),
+                    world: World { p, a, above },
+                    last: None,
+                },
+            )?;
         }
         Ok(())
     }
 
     /// Moves on from each state, from a place of the list on.
-    fn grow<P: Protocol>(
-        &mut self,
-        alloc: Global,
-        table: &Table<'_, P>,
-        from: usize,
-    ) -> Result<(), AllocError> {
+    fn grow(&mut self, alloc: Global, from: usize) -> Result<(), Memory>
+        ensures { self.new.protocol.now ≡ self.old.protocol.now }
+    {
+        let table = Table {
+            protocol: self.protocol,
+        };
         let mut found: Vec<Moved> = Vec::new(alloc);
         for at in from..MOST_STATES {
             let Some(reached) = self.reached.get(at).copied() else {
                 return Ok(());
             };
-            moves(table, reached.state, &mut found)?;
+            moves(&table, reached.state, &mut found)?;
             for moved in found.iter() {
                 let by = moved.by;
-                self.put(Reached {
-                    state: moved.to,
-                    world: reached.world,
-                    last: Some(Last { before: at, by }),
-                })?;
+                self.put(
+                    alloc,
+                    Reached {
+                        state: moved.to,
+                        world: reached.world,
+                        last: Some(Last { before: at, by }),
+                    },
+                )?;
             }
         }
         Ok(())
     }
 
     /// Begins anew with each mode that was reached on A, where it stands above an empty gap, and not on Y.
-    fn raise(&mut self) -> Result<(), AllocError> {
+    fn raise(&mut self, alloc: Global) -> Result<(), Memory>
+        ensures { self.new.protocol.now ≡ self.old.protocol.now }
+    {
         let mut had = [false; 16];
         for reached in self.reached.iter() {
             had[(reached.state.on_y % 16) as usize] = true;
@@ -139,7 +160,7 @@ impl Growing {
                 let mode = (state.on_a % 16) as usize;
                 if state.a && !state.p && !state.b && !had[mode] {
                     had[mode] = true;
-                    self.begin(state.on_a, Some(at))?;
+                    self.begin(alloc, state.on_a, Some(at))?;
                 }
             }
         }

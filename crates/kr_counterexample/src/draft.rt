@@ -72,7 +72,10 @@ impl Draft {
         for step in self.steps.iter() {
             events.push(numbers.event(*step)?)?;
         }
-        for (by, op) in last_steps(ending) {
+        let (through, last) = last_steps(ending);
+        let by = Actor::Intruder;
+        events.push(numbers.event(Step { by, op: through })?)?;
+        for (by, op) in last {
             events.push(numbers.event(Step { by: *by, op: *op })?)?;
         }
         let opening = self.opening.to_vec(alloc)?;

@@ -8,7 +8,6 @@ use crate::entrances::Entrance;
 use crate::finder::{Finder, Way};
 use crate::moves::{Move, Moved, moved_by, moves};
 use crate::state::State;
-use crate::table::Table;
 use kr_cases::Memory;
 use kr_model::{Cover, FailedCase, Op, Row, Side};
 use kr_protocol::Protocol;
@@ -16,9 +15,6 @@ use std::alloc::Global;
 
 /// So many scripts are run for one case at most.
 const MOST_RUNS: usize = 400;
-
-/// So many ways to the case are tried again, where no fresh intruder comes through after any.
-const WAYS_AGAIN: usize = 6;
 
 impl Closure {
     /// The first script that goes wrong made from a failed case of the closure's table, those through the entrance `prefer`
@@ -36,30 +32,14 @@ impl Closure {
     ) -> Result<Option<Counterexample>, Memory>
         ensures { IfOk result (λ found. IfSome found (λ c. GoesWrong (P.table protocol.now) c.opening.items c.events.items)) }
     {
-        let finder = Finder {
-            alloc,
-            table: Table { protocol },
-            closure: self,
-            case,
-        };
-        let ways = finder.ways(MOST_RUNS)?;
-        let mut runs_left = MOST_RUNS;
-        let found = finder.fresh(&ways, prefer, &mut runs_left)?;
-        if found.is_some() {
-            return Ok(found);
-        }
-        let again = &ways[..ways.len().min(WAYS_AGAIN)];
-        let found = finder.going_on(again, &mut runs_left)?;
-        if found.is_some() {
-            return Ok(found);
-        }
-        finder.readied(again, &mut runs_left)
+        let sought = self.find_within(alloc, protocol, case, prefer, MOST_RUNS)?;
+        Ok(sought.script)
     }
 }
 
 impl<P: Protocol> Finder<'_, P> {
     /// A fresh intruder after each way, the preferred entrance first.
-    fn fresh(
+    pub(crate) fn fresh(
         &self,
         ways: &[Way],
         prefer: Option<(Row, Side)>,
@@ -79,7 +59,7 @@ impl<P: Protocol> Finder<'_, P> {
     }
 
     /// The holder takes one step more after each way, and then a fresh intruder comes.
-    fn going_on(
+    pub(crate) fn going_on(
         &self,
         ways: &[Way],
         runs_left: &mut usize,
@@ -88,7 +68,7 @@ impl<P: Protocol> Finder<'_, P> {
     {
         let mut found = Vec::new(self.alloc);
         for way in ways {
-            if let Some(state) = moved_by(&self.table, way.state, way.op, &mut found)? {
+            if let Some(state) = moved_by(&self.table, way.end.state, way.op, &mut found)? {
                 moves(&self.table, state, &mut found)?;
                 let shown = self.gone_on(*way, state, &found, runs_left)?;
                 if shown.is_some() {

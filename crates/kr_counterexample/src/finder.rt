@@ -6,9 +6,9 @@ use crate::closure::Closure;
 use crate::counterexample::Counterexample;
 use crate::draft::Draft;
 use crate::entrances::{Entrance, entrances};
-use crate::own_steps::{OWN_STEPS, own_step};
+use crate::own_steps::own_steps;
+use crate::reached::Reached;
 use crate::scripts::{opening_of, script_to};
-use crate::state::State;
 use crate::table::Table;
 use kr_cases::Memory;
 use kr_model::{FailedCase, Mode, Op};
@@ -18,9 +18,7 @@ use std::alloc::Global;
 /// A state of the closure, and a step of it that the case is about.
 #[derive(Clone, Copy)]
 pub(crate) struct Way {
-    /// The place of the state in the closure.
-    pub at: usize,
-    pub state: State,
+    pub end: Reached,
     pub op: Op,
 }
 
@@ -37,14 +35,13 @@ impl<P: Protocol> Finder<'_, P> {
     /// The first ways to the case, so many at most.
     pub(crate) fn ways(&self, most: usize) -> Result<Vec<Way>, Memory> {
         let mut ways = Vec::new(self.alloc);
-        for at in 0..self.closure.reached.len() {
-            let state = self.closure.reached[at].state;
-            for number in 0..OWN_STEPS {
+        for end in self.closure.reached.iter() {
+            for step in own_steps(&self.table, end.state, self.case) {
                 if ways.len() >= most {
                     return Ok(ways);
                 }
-                if let Some(op) = own_step(&self.table, state, self.case, number) {
-                    ways.push(Way { at, state, op })?;
+                if let Some(op) = step {
+                    ways.push(Way { end: *end, op })?;
                 }
             }
         }
@@ -54,13 +51,9 @@ impl<P: Protocol> Finder<'_, P> {
     /// The script of a way, up to the step that the case is about.
     pub(crate) fn draft(&self, way: Way) -> Result<Draft, Memory> {
         let reached = &self.closure.reached;
-        let opening = match reached.get(way.at) {
-            Some(at) => opening_of(self.alloc, reached, at.world)?,
-            None => Vec::new(self.alloc),
-        };
         let mut draft = Draft {
-            opening,
-            steps: script_to(self.alloc, reached, way.at)?,
+            opening: opening_of(self.alloc, reached, way.end.world)?,
+            steps: script_to(self.alloc, reached, way.end)?,
             weak: 0,
         };
         draft.go_on(way.op)?;

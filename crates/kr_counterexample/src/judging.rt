@@ -32,7 +32,7 @@ pub(crate) fn goes_wrong<P: Protocol>(
 
 /// Whether the keys rise strictly.
 #[tactic(auto, using(crate::proofs::Rising::sorted_rising))]
-fn keys_rise(pairs: &[(u64, u64)]) -> bool
+pub(crate) fn keys_rise(pairs: &[(u64, u64)]) -> bool
     ensures { IsTrue result → IsMap pairs.now }
 {
     let mut before = None;
@@ -56,7 +56,7 @@ fn is_above(key: u64, before: Option<u64>) -> bool
 }
 
 /// Whether a reply is neither blocked nor refused.
-fn is_granted(reply: &Reply) -> bool
+pub(crate) fn is_granted(reply: &Reply) -> bool
     ensures { result ≡ is_granted reply.now }
 {
     !matches!(reply, Reply::Blocked(_) | Reply::Refused(_))

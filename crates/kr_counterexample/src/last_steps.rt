@@ -5,105 +5,88 @@ use crate::keys::{A, C, K, P};
 use crate::step::Actor::{self, Holder, Intruder, Third};
 use kr_model::Op::{self, Abort, Commit, Delete, Fetch, Insert, Scan, Update};
 
-/// The last steps of a script, from the intruder's that comes through on. Their values are given when the script is whole.
-pub(crate) fn last_steps(ending: Ending) -> &'static [(Actor, Op)] {
+/// Steps, each with who takes it.
+pub(crate) type Steps = &'static [(Actor, Op)];
+
+/// The intruder commits, and the holder reads A again.
+const A_READ_AGAIN: Steps = &[(Intruder, Commit), (Holder, Fetch(A)), (Holder, Commit)];
+
+/// The intruder commits, and the holder reads P again.
+const P_READ_AGAIN: Steps = &[(Intruder, Commit), (Holder, Fetch(P)), (Holder, Commit)];
+
+/// The intruder puts P in, and the holder reads P again.
+const P_FILLED_AND_READ_AGAIN: Steps = &[
+    (Intruder, Insert(P, 0)),
+    (Intruder, Commit),
+    (Holder, Fetch(P)),
+    (Holder, Commit),
+];
+
+/// The holder takes back what the intruder met, and the intruder commits.
+const TAKEN_BACK: Steps = &[(Holder, Abort), (Intruder, Commit)];
+
+/// The holder takes A back, on which the intruder's lock is: a third puts C in, which the intruder then reads.
+const C_FILLED: Steps = &[
+    (Holder, Abort),
+    (Third, Insert(C, 0)),
+    (Third, Commit),
+    (Intruder, Fetch(C)),
+    (Intruder, Commit),
+];
+
+/// The holder takes its change back, a third misses K, and the intruder brings K back.
+const K_MISSED: Steps = &[
+    (Holder, Abort),
+    (Third, Fetch(K)),
+    (Third, Commit),
+    (Intruder, Abort),
+];
+
+/// The holder takes its change back, a third misses P, and the intruder brings P back.
+const P_MISSED: Steps = &[
+    (Holder, Abort),
+    (Third, Fetch(P)),
+    (Third, Commit),
+    (Intruder, Abort),
+];
+
+/// The intruder commits, and the holder brings P back.
+const P_BROUGHT_BACK: Steps = &[(Intruder, Commit), (Holder, Abort)];
+
+/// The intruder commits, a third misses P, and the holder brings P back.
+const P_MISSED_AND_BROUGHT_BACK: Steps = &[
+    (Intruder, Commit),
+    (Third, Fetch(P)),
+    (Third, Commit),
+    (Holder, Abort),
+];
+
+/// The last steps of a script: the intruder's that comes through, and those after it. Values are given when the script is
+/// whole.
+pub(crate) fn last_steps(ending: Ending) -> (Op, Steps) {
     match ending {
-        Ending::ReadKeyGone => &[
-            (Intruder, Delete(A)),
-            (Intruder, Commit),
-            (Holder, Fetch(A)),
-            (Holder, Commit),
-        ],
-        Ending::ReadKeyUpdated => &[
-            (Intruder, Update(A, 0)),
-            (Intruder, Commit),
-            (Holder, Fetch(A)),
-            (Holder, Commit),
-        ],
-        Ending::ReadGapFilled => &[
-            (Intruder, Insert(P, 0)),
-            (Intruder, Commit),
-            (Holder, Fetch(P)),
-            (Holder, Commit),
-        ],
-        Ending::ReadGapGrown => &[
-            (Intruder, Delete(A)),
-            (Intruder, Insert(P, 0)),
-            (Intruder, Commit),
-            (Holder, Fetch(P)),
-            (Holder, Commit),
-        ],
-        Ending::InsertFetched | Ending::UpdateFetched => &[
-            (Intruder, Fetch(A)),
-            (Holder, Abort),
-            (Intruder, Commit),
-        ],
-        Ending::InsertMissedBelow => &[
-            (Intruder, Fetch(C)),
-            (Holder, Abort),
-            (Third, Insert(C, 0)),
-            (Third, Commit),
-            (Intruder, Fetch(C)),
-            (Intruder, Commit),
-        ],
-        Ending::InsertScanned | Ending::UpdateScanned => &[
-            (Intruder, Scan(A, A)),
-            (Holder, Abort),
-            (Intruder, Commit),
-        ],
-        Ending::InsertStoppedBelow => &[
-            (Intruder, Scan(C, C)),
-            (Holder, Abort),
-            (Third, Insert(C, 0)),
-            (Third, Commit),
-            (Intruder, Fetch(C)),
-            (Intruder, Commit),
-        ],
-        Ending::InsertDeleted | Ending::UpdateDeleted => &[
-            (Intruder, Delete(A)),
-            (Holder, Abort),
-            (Intruder, Commit),
-        ],
-        Ending::InsertDeletedBelow | Ending::DeleteDeletedBelow => &[
-            (Intruder, Delete(K)),
-            (Holder, Abort),
-            (Third, Fetch(K)),
-            (Third, Commit),
-            (Intruder, Abort),
-        ],
-        Ending::InsertDeletedPoint => &[
-            (Intruder, Delete(P)),
-            (Holder, Abort),
-            (Third, Fetch(P)),
-            (Third, Commit),
-            (Intruder, Abort),
-        ],
-        Ending::InsertUpdated | Ending::UpdateUpdated => &[
-            (Intruder, Update(A, 0)),
-            (Holder, Abort),
-            (Intruder, Commit),
-        ],
-        Ending::DeleteMissed => &[(Intruder, Fetch(P)), (Holder, Abort), (Intruder, Commit)],
-        Ending::DeleteScanned => &[(Intruder, Scan(P, A)), (Holder, Abort), (Intruder, Commit)],
-        Ending::DeleteStopped => &[(Intruder, Scan(P, P)), (Holder, Abort), (Intruder, Commit)],
-        Ending::DeleteFilled => &[
-            (Intruder, Insert(P, 0)),
-            (Intruder, Commit),
-            (Holder, Abort),
-        ],
-        Ending::DeleteSplit => &[
-            (Intruder, Insert(C, 0)),
-            (Intruder, Commit),
-            (Third, Fetch(P)),
-            (Third, Commit),
-            (Holder, Abort),
-        ],
-        Ending::DeleteGrown => &[
-            (Intruder, Delete(A)),
-            (Intruder, Commit),
-            (Third, Fetch(P)),
-            (Third, Commit),
-            (Holder, Abort),
-        ],
+        Ending::ReadKeyGone => (Delete(A), A_READ_AGAIN),
+        Ending::ReadKeyUpdated => (Update(A, 0), A_READ_AGAIN),
+        Ending::ReadGapFilled => (Insert(P, 0), P_READ_AGAIN),
+        Ending::ReadGapGrown => (Delete(A), P_FILLED_AND_READ_AGAIN),
+        Ending::InsertFetched => (Fetch(A), TAKEN_BACK),
+        Ending::InsertMissedBelow => (Fetch(C), C_FILLED),
+        Ending::InsertScanned => (Scan(A, A), TAKEN_BACK),
+        Ending::InsertStoppedBelow => (Scan(C, C), C_FILLED),
+        Ending::InsertDeleted => (Delete(A), TAKEN_BACK),
+        Ending::InsertDeletedBelow => (Delete(K), K_MISSED),
+        Ending::InsertDeletedPoint => (Delete(P), P_MISSED),
+        Ending::InsertUpdated => (Update(A, 0), TAKEN_BACK),
+        Ending::DeleteMissed => (Fetch(P), TAKEN_BACK),
+        Ending::DeleteScanned => (Scan(P, A), TAKEN_BACK),
+        Ending::DeleteStopped => (Scan(P, P), TAKEN_BACK),
+        Ending::DeleteFilled => (Insert(P, 0), P_BROUGHT_BACK),
+        Ending::DeleteSplit => (Insert(C, 0), P_MISSED_AND_BROUGHT_BACK),
+        Ending::DeleteGrown => (Delete(A), P_MISSED_AND_BROUGHT_BACK),
+        Ending::DeleteDeletedBelow => (Delete(K), K_MISSED),
+        Ending::UpdateFetched => (Fetch(A), TAKEN_BACK),
+        Ending::UpdateScanned => (Scan(A, A), TAKEN_BACK),
+        Ending::UpdateDeleted => (Delete(A), TAKEN_BACK),
+        Ending::UpdateUpdated => (Update(A, 0), TAKEN_BACK),
     }
 }

@@ -14,6 +14,7 @@ mod finder;
 mod judging;
 mod keys;
 mod last_steps;
+mod leading;
 mod moves;
 mod numbers;
 mod own_steps;
@@ -24,7 +25,9 @@ mod scripts;
 mod state;
 mod step;
 mod table;
+mod within;
 
 pub use closure::Closure;
 pub use counterexample::Counterexample;
 pub use ending::Ending;
+pub use within::Sought;

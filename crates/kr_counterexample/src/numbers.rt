@@ -63,3 +63,13 @@ impl Numbers {
         Ok(Event { txn, op })
     }
 }
+
+/// The events of a script.
+pub(crate) fn events_of(alloc: Global, steps: &[Step]) -> Result<Vec<Event>, AllocError> {
+    let mut numbers = Numbers::new(alloc);
+    let mut events = Vec::with_capacity(alloc, steps.len())?;
+    for step in steps {
+        events.push(numbers.event(*step)?)?;
+    }
+    Ok(events)
+}

@@ -1,4 +1,9 @@
-//! The step of the holder that a case is about.
+//! The steps of the holder that a case is about.
+ghost use Rattle.std.specs.Prelude.{◌≡◌, ◌≤◌, ◌&&◌, is_some};
+ghost use Rattle.std.specs.List.{list_any};
+ghost use Rattle.kr_model.specs.declared.Origin.TheVariants.{Two};
+ghost use Rattle.kr_model.specs.declared.Rule.TheVariants as rule_is;
+ghost use Rattle.kr_counterexample.specs.About.{asks, can_put, can_step, can_take, has_cover, is_about, is_asked_for, is_at, is_below};
 
 use crate::deed::Deed;
 use crate::keys::{A, B, C, K, P};
@@ -7,97 +12,173 @@ use crate::table::Table;
 use kr_model::{Cover, FailedCase, Mode, Op, Origin, Row, Rule, Side, Span};
 use kr_protocol::Protocol;
 
-/// The numbers of the steps that one state may have for a case are below this.
-pub(crate) const OWN_STEPS: u8 = 8;
+/// Steps that are tried in this order, where there are any.
+pub(crate) type OwnSteps = [Option<Op>; 7];
 
-/// The step of this number, from 0, by which the holder, in this state, makes the request that the case is about. Some
-/// numbers may have none where greater ones have one.
-pub(crate) fn own_step<T: Protocol>(
+/// The steps by which the holder, in this state, makes the request that the case is about.
+pub(crate) fn own_steps<T: Protocol>(
     table: &Table<'_, T>,
     state: State,
     case: &FailedCase,
-    number: u8,
-) -> Option<Op> {
+) -> OwnSteps
+    ensures { list_any is_some result ≡ is_about (T.table table.now.protocol.now) case.now state }
+{
     match case.from {
-        Origin::Two(held, asked) if case.case == Rule::Conversion => {
-            if is_due(state, case.cover, held) {
-                converting(table, state, asked, number)
-            } else {
-                None
-            }
-        }
-        _ if number > 0 => None,
-        Origin::Two(on_y, on_a) => {
-            let is_there = !state.a && state.on_y == on_y && state.on_a == on_a;
-            if is_there && (case.case == Rule::Insert || has_cover_below(state, case.cover)) {
-                Some(Op::Insert(A, 0))
-            } else {
-                None
-            }
-        }
-        Origin::One(own) => single(state, case.case, own),
+        Origin::One(own) => only(
+            state.a && state.on_a == own && can_step(case.case, state),
+            step_of(case.case),
+        ),
+        Origin::Two(first, second) => match case.case {
+            Rule::Conversion => converting(table, state, case.cover, first, second),
+            Rule::Insert => only(is_below(state, first, second), Op::Insert(A, 0)),
+            Rule::Split => only(
+                is_below(state, first, second) && has_cover(case.cover, state),
+                Op::Insert(A, 0),
+            ),
+            _ => [None; 7],
+        },
     }
 }
 
-/// Whether the holder has changed or read the gap below the name above P, so that it has the cover.
-fn has_cover_below(state: State, cover: Cover) -> bool {
-    let due = match state.did_p {
-        Deed::Deleted => true,
-        Deed::Nothing => false,
-        _ => cover == Cover::ReadGap,
-    };
-    due && !state.p
+/// Whether A is gone, and the holder has these modes on Y and on A.
+fn is_below(state: State, on_y: Mode, on_a: Mode) -> bool
+    ensures { result ≡ is_below on_y on_a state }
+{
+    !state.a && state.on_y == on_y && state.on_a == on_a
 }
 
-/// Whether the holder has the cover by this mode on A.
-fn is_due(state: State, cover: Cover, held: Mode) -> bool {
-    let has = match cover {
+/// Whether the state has a step that the case is about.
+pub(crate) fn is_about<T: Protocol>(table: &Table<'_, T>, state: State, case: &FailedCase) -> bool
+    ensures { result ≡ is_about (T.table table.now.protocol.now) case.now state }
+{
+    has_any(&own_steps(table, state, case))
+}
+
+/// Whether there is a step among them.
+fn has_any(steps: &[Option<Op>]) -> bool
+    ensures { result ≡ list_any is_some steps.now }
+{
+    steps.iter().any(|step| step.is_some())
+}
+
+/// The step alone, if it can be taken.
+fn only(can: bool, op: Op) -> OwnSteps
+    ensures { list_any is_some result ≡ can }
+{
+    [step_if(can, true, op), None, None, None, None, None, None]
+}
+
+/// Whether the holder did that which its lock has to protect.
+fn has_cover(cover: Cover, state: State) -> bool
+    ensures { result ≡ has_cover cover state }
+{
+    match cover {
         Cover::ReadKey => state.did_a != Deed::Nothing,
+        Cover::ReadGap => !state.p && state.did_p != Deed::Nothing,
         Cover::InsertedKey => state.did_a == Deed::Inserted,
+        Cover::DeletedGap => !state.p && state.did_p == Deed::Deleted,
         Cover::UpdatedKey => state.did_a == Deed::Updated,
-        Cover::ReadGap | Cover::DeletedGap => has_cover_below(state, cover),
-    };
-    has && state.a && state.on_a == held
+    }
 }
 
-/// The step of this number, if it can be taken and asks for the mode on A until commit.
+/// The steps that convert a mode on A which has the cover.
 fn converting<T: Protocol>(
     table: &Table<'_, T>,
     state: State,
+    cover: Cover,
+    held: Mode,
     asked: Mode,
-    number: u8,
-) -> Option<Op> {
-    let point = if state.p { C } else { P };
-    let below = !state.p && !state.b;
-    let (is_there, row, side, op) = match number {
-        0 => (true, Row::FetchHit, Side::Current, Op::Fetch(A)),
-        1 => (true, Row::FetchMiss, Side::Next, Op::Fetch(point)),
-        2 => (true, Row::ScanKey, Side::Current, Op::Scan(A, A)),
-        3 => (true, Row::ScanStop, Side::Next, Op::Scan(point, point)),
-        4 => (below, Row::Insert, Side::Next, Op::Insert(B, 0)),
-        5 => (below && state.k, Row::Delete, Side::Next, Op::Delete(K)),
-        6 => (state.p, Row::Delete, Side::Next, Op::Delete(P)),
-        _ => (true, Row::Update, Side::Current, Op::Update(A, 0)),
-    };
-    if is_there && table.ask(row, side, state.on_a) == Some((asked, Span::Commit)) {
-        Some(op)
+) -> OwnSteps
+    ensures { list_any is_some result ≡ is_at (T.table table.now.protocol.now) rule_is.Conversion cover (Two held asked) state }
+{
+    if state.a && state.on_a == held && held <= table.protocol.count() && has_cover(cover, state) {
+        asking(table, state, asked)
     } else {
-        None
+        [None; 7]
     }
 }
 
-/// The step of a case at one own mode on A.
-fn single(state: State, rule: Rule, own: Mode) -> Option<Op> {
-    if !state.a || state.on_a != own {
-        return None;
+/// The steps that can be taken and ask for the mode on A until commit.
+fn asking<T: Protocol>(table: &Table<'_, T>, state: State, asked: Mode) -> OwnSteps
+    requires { state.on_a ≤ (T.table table.now.protocol.now).count }
+    ensures { list_any is_some result ≡ is_asked_for (T.table table.now.protocol.now) asked state }
+{
+    let hits = asks(table, asked, state, Row::FetchHit, Side::Current);
+    let misses = asks(table, asked, state, Row::FetchMiss, Side::Next);
+    let scans = asks(table, asked, state, Row::ScanKey, Side::Current);
+    let stops = asks(table, asked, state, Row::ScanStop, Side::Next);
+    let puts = asks(table, asked, state, Row::Insert, Side::Next);
+    let takes = asks(table, asked, state, Row::Delete, Side::Next);
+    let updates = asks(table, asked, state, Row::Update, Side::Current);
+    let (point, taken) = points_below(state);
+    [
+        step_if(hits, true, Op::Fetch(A)),
+        step_if(misses, true, Op::Fetch(point)),
+        step_if(scans, true, Op::Scan(A, A)),
+        step_if(stops, true, Op::Scan(point, point)),
+        step_if(puts, can_put(state), Op::Insert(B, 0)),
+        step_if(takes, can_take(state), Op::Delete(taken)),
+        step_if(updates, true, Op::Update(A, 0)),
+    ]
+}
+
+/// A point below A that doesn't stand, and the key that can be deleted there.
+fn points_below(state: State) -> (u64, u64) {
+    if state.p { (C, P) } else { (P, K) }
+}
+
+/// Whether B can be put in right below A.
+fn can_put(state: State) -> bool
+    ensures { result ≡ can_put state }
+{
+    !state.p && !state.b
+}
+
+/// Whether P, or else K, can be deleted right below A.
+fn can_take(state: State) -> bool
+    ensures { result ≡ can_take state }
+{
+    state.p || !state.b && state.k
+}
+
+/// The step, if it asks for the mode and can be taken.
+fn step_if(asks: bool, can: bool, op: Op) -> Option<Op>
+    ensures { is_some result ≡ (asks && can) }
+{
+    if asks && can { Some(op) } else { None }
+}
+
+/// Whether a row asks on A for the mode until commit.
+fn asks<T: Protocol>(table: &Table<'_, T>, mode: Mode, state: State, row: Row, side: Side) -> bool
+    requires { state.on_a ≤ (T.table table.now.protocol.now).count }
+    ensures { result ≡ asks (T.table table.now.protocol.now) mode state row side }
+{
+    match table.ask(row, side, state.on_a) {
+        Some((asked, Span::Commit)) => asked == mode,
+        _ => false,
     }
+}
+
+/// Whether the step of a rule can be taken where A stands.
+fn can_step(rule: Rule, state: State) -> bool
+    ensures { result ≡ can_step rule state }
+{
     match rule {
-        Rule::FetchHit => Some(Op::Fetch(A)),
-        Rule::Update => Some(Op::Update(A, 0)),
-        Rule::Delete if state.p && state.did_p != Deed::Inserted => Some(Op::Delete(P)),
-        Rule::FetchMiss if !state.p => Some(Op::Fetch(P)),
-        Rule::ScanKey if !state.p => Some(Op::Scan(P, A)),
-        Rule::ScanStop if !state.p => Some(Op::Scan(P, P)),
-        _ => None,
+        Rule::FetchHit | Rule::Update => true,
+        Rule::FetchMiss | Rule::ScanKey | Rule::ScanStop => !state.p,
+        Rule::Delete => state.p && state.did_p != Deed::Inserted,
+        Rule::Conversion | Rule::Insert | Rule::Split => false,
+    }
+}
+
+/// The step of a rule where A stands, for those that have one.
+fn step_of(rule: Rule) -> Op {
+    match rule {
+        Rule::FetchMiss => Op::Fetch(P),
+        Rule::ScanKey => Op::Scan(P, A),
+        Rule::ScanStop => Op::Scan(P, P),
+        Rule::Delete => Op::Delete(P),
+        Rule::Update => Op::Update(A, 0),
+        _ => Op::Fetch(A),
     }
 }

@@ -3,6 +3,9 @@
 use crate::moves::Move;
 use crate::state::State;
 
+/// A closure holds so many states at most: others that a table has are left out.
+pub(crate) const MOST_STATES: usize = 20_000;
+
 /// The opening map of a script: K, and Y or what stands for it one name up.
 #[derive(Clone, Copy, Debug, PartialEq, Eq)]
 pub(crate) struct World {

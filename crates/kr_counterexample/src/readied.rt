@@ -70,7 +70,7 @@ impl<P: Protocol> Finder<'_, P> {
 
     /// The steps by which the intruder gets ready.
     fn intruders(&self, ready: Ready) -> Result<Vec<Step>, Memory> {
-        let mut steps = script_to(self.alloc, &self.closure.reached, ready.at)?;
+        let mut steps = script_to(self.alloc, &self.closure.reached, ready.end)?;
         for step in steps.iter_mut() {
             *step = step.of_intruder();
         }

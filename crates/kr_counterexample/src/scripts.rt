@@ -2,21 +2,21 @@
 
 use crate::keys::{A, K, P, Y, one_up};
 use crate::moves::Move;
-use crate::reached::{Reached, World};
+use crate::reached::{Last, MOST_STATES, Reached, World};
 use crate::step::{Actor, Step};
 use kr_model::Op;
 use std::alloc::{AllocError, Global};
 
-/// The moves that lead from a world to the state at a place of the list, last first.
-fn chain(alloc: Global, reached: &[Reached], to: usize) -> Result<Vec<Move>, AllocError> {
+/// The moves that lead from a world to a state, whose moves before the last lead to states of the list: last first.
+fn chain(alloc: Global, reached: &[Reached], to: Option<Last>) -> Result<Vec<Move>, AllocError> {
     let mut chain = Vec::new(alloc);
-    let mut at = to;
-    for _ in 0..reached.len() {
-        let Some(last) = reached.get(at).and_then(|reached| reached.last) else {
+    let mut end = to;
+    for _ in 0..MOST_STATES {
+        let Some(last) = end else {
             return Ok(chain);
         };
         chain.push(last.by)?;
-        at = last.before;
+        end = reached.get(last.before).and_then(|reached| reached.last);
     }
     Ok(chain)
 }
@@ -40,20 +40,20 @@ fn play(chain: &[Move], steps: &mut Vec<Step>) -> Result<(), AllocError> {
     Ok(())
 }
 
-/// The script that leads to the state at a place of the list.
+/// The script that leads to a state, whose moves before the last lead to states of the list.
 pub(crate) fn script_to(
     alloc: Global,
     reached: &[Reached],
-    to: usize,
+    to: Reached,
 ) -> Result<Vec<Step>, AllocError> {
     let mut steps = Vec::new(alloc);
-    if let Some(above) = reached.get(to).and_then(|reached| reached.world.above) {
-        play(&chain(alloc, reached, above)?, &mut steps)?;
+    if let Some(above) = to.world.above.and_then(|above| reached.get(above)) {
+        play(&chain(alloc, reached, above.last)?, &mut steps)?;
         for step in steps.iter_mut() {
             *step = step.one_name_up();
         }
     }
-    play(&chain(alloc, reached, to)?, &mut steps)?;
+    play(&chain(alloc, reached, to.last)?, &mut steps)?;
     Ok(steps)
 }
 

@@ -1,5 +1,5 @@
 //! What a lock table says of modes.
-ghost use Rattle.std.specs.Prelude.{◌≤◌};
+ghost use Rattle.std.specs.Prelude.{◌≡◌, ◌≤◌};
 
 use kr_model::{Cover, Mode, Row, Side, Span};
 use kr_protocol::Protocol;
@@ -13,7 +13,8 @@ pub(crate) struct Table<'a, P: Protocol> {
 impl<P: Protocol> Table<'_, P> {
     /// The mode, or none where it is past the table's modes.
     fn known(&self, mode: Mode) -> Mode
-        ensures { result ≤ (P.table self.now.protocol.now).count }
+        ensures known { result ≤ (P.table self.now.protocol.now).count }
+        ensures same { mode ≤ (P.table self.now.protocol.now).count → result ≡ mode }
     {
         if mode <= self.protocol.count() {
             mode
@@ -23,7 +24,9 @@ impl<P: Protocol> Table<'_, P> {
     }
 
     /// What a row asks for.
-    pub(crate) fn ask(&self, row: Row, side: Side, own_next: Mode) -> Option<(Mode, Span)> {
+    pub(crate) fn ask(&self, row: Row, side: Side, own_next: Mode) -> Option<(Mode, Span)>
+        ensures { own_next ≤ (P.table self.now.protocol.now).count → result ≡ (P.table self.now.protocol.now).ask row side own_next }
+    {
         self.protocol.ask(row, side, self.known(own_next))
     }
 

@@ -1,4 +1,4 @@
-//! What is told of a script, at each entrance of a table that asks for no lock at all.
+//! What is told of a script, at each entrance of tables that ask for no lock, or for few.
 
 use super::tables::{ASKS_NOTHING, Table, failed, table_of};
 use kr_counterexample::{Closure, Counterexample, Ending};
@@ -26,6 +26,36 @@ const UPDATES_ASK_NOTHING: Table = Table {
     changes: &[("format = 1", "format = 2")],
 };
 
+/// A table of one mode that asks for it until commit on the key of an insert or a delete, and for nothing else.
+const LOCKS_CHANGED_KEYS: Table = Table {
+    text: ASKS_NOTHING,
+    changes: &[(
+        "rules = {}",
+        "[rules]\ninsert.current = [{ mode = \"X\", span = \"commit\" }]\ndelete.current = [{ mode = \"X\", span = \"commit\" }]",
+    )],
+};
+
+/// What is told of the second table.
+const TOLD_OF_CHANGED_KEYS: &[Told] = &[
+    Told {
+        rule: Rule::Delete,
+        row: Row::Insert,
+        side: Side::Next,
+        ending: Ending::DeleteSplit,
+        third: Some(3),
+        script: r#"{"format":1,"opening":[[10,1],[15,2],[20,3],[30,4]],"steps":[[1,"delete",15],[2,"insert",17,5],[2,"commit"],[3,"fetch",15],[3,"commit"],[1,"abort"]]}"#,
+    },
+    Told {
+        rule: Rule::Delete,
+        row: Row::FetchMiss,
+        side: Side::Next,
+        ending: Ending::DeleteMissed,
+        third: None,
+        script: r#"{"format":1,"opening":[[10,1],[15,2],[20,3],[30,4]],"steps":[[1,"delete",15],[2,"fetch",15],[1,"abort"],[2,"commit"]]}"#,
+    },
+];
+
+/// What is told of the table that asks for no lock.
 const TOLD: &[Told] = &[
     Told {
         rule: Rule::FetchHit,
@@ -215,19 +245,28 @@ fn is_told(rt: &impl Abort, alloc: Global, row: &Told, found: &Counterexample) -
     Ok(())
 }
 
-#[test]
-fn at_each_entrance(rt: HostRuntime) -> Result<(), Fail> {
-    let alloc = rt.alloc();
-    let table = table_of(alloc, UPDATES_ASK_NOTHING)?;
+/// Looks for the script of each row under a table.
+fn each_is_told(rt: &impl Abort, alloc: Global, table: Table, rows: &[Told]) -> Result<(), Fail> {
+    let table = table_of(alloc, table)?;
     let closure = Closure::of(alloc, &table)?;
     let cases = failed(alloc, &table)?;
-    for row in TOLD {
+    for row in rows {
         let case = first_of(&cases, row.rule).ok_or("no such case")?;
         let prefer = Some((row.row, row.side));
         let found = closure
             .find(alloc, &table, case, prefer)?
             .ok_or("none known")?;
-        is_told(&rt, alloc, row, &found)?;
+        is_told(rt, alloc, row, &found)?;
     }
     Ok(())
+}
+
+#[test]
+fn at_each_entrance(rt: HostRuntime) -> Result<(), Fail> {
+    each_is_told(&rt, rt.alloc(), UPDATES_ASK_NOTHING, TOLD)
+}
+
+#[test]
+fn beside_changed_keys(rt: HostRuntime) -> Result<(), Fail> {
+    each_is_told(&rt, rt.alloc(), LOCKS_CHANGED_KEYS, TOLD_OF_CHANGED_KEYS)
 }
