@@ -1,0 +1,203 @@
+//! The sentences under the title of a cause: whose lock it is, what it has to protect, and what it lets in.
+
+use crate::answers::{asked, converted, name_of};
+use crate::lists::{listed, modes_listed, put_once};
+use crate::title::beside;
+use crate::words::{comer_words, cover_words, row_word, rule_step, side_words};
+use kr_cases::Memory;
+use kr_causes::{Blame, Cause};
+use kr_model::{Cover, FailedCase, Mode, Origin, Row, Rule, Side};
+use kr_protocol::Protocol;
+use std::alloc::Global;
+
+/// The covers, in their order.
+const COVERS: [Cover; 5] = [
+    Cover::ReadKey,
+    Cover::ReadGap,
+    Cover::InsertedKey,
+    Cover::DeletedGap,
+    Cover::UpdatedKey,
+];
+
+/// The paragraphs under the title, where `case` is the one whose run is shown.
+pub fn body<P: Protocol>(
+    alloc: Global,
+    protocol: &P,
+    cause: &Cause,
+    case: &FailedCase,
+) -> Result<Vec<String>, Memory> {
+    let cases = cause.cases.as_slice();
+    let mut out = Vec::new(alloc);
+    match cause.blame {
+        Blame::Place { row, side } => {
+            void_sentences(alloc, protocol, &mut out, cases, row, side)?;
+            return Ok(out);
+        }
+        Blame::Request { row, .. } => {
+            request_sentences(alloc, protocol, &mut out, cases, row)?;
+        }
+        Blame::Conversion { .. } => {
+            let covers = protected(alloc, cases, "and")?;
+            let steps = steps_of(alloc, cases)?;
+            out.push(format!(in alloc;
+                "Locks are tested and kept in the converted mode. This concerns {covers}, after {steps}."
+            )?)?;
+        }
+        Blame::Pair { held, .. } => {
+            let held = name_of(protocol, held);
+            let covers = protected(alloc, cases, "and")?;
+            let steps = steps_of(alloc, cases)?;
+            out.push(format!(in alloc;
+                "{held} is the lock after {steps}, and has to protect {covers}."
+            )?)?;
+        }
+    }
+    out.push(let_in_sentence(alloc, protocol, case)?)?;
+    Ok(out)
+}
+
+/// What the covers of the cases protect, in the order of the covers.
+fn protected(alloc: Global, cases: &[FailedCase], last: &str) -> Result<String, Memory> {
+    let mut words = Vec::new(alloc);
+    for cover in &COVERS {
+        if cases.iter().any(|case| case.cover == *cover) {
+            words.push(cover_words(*cover))?;
+        }
+    }
+    listed(alloc, &words, last)
+}
+
+/// The steps after which the cases ask for their covers, each once.
+fn steps_of(alloc: Global, cases: &[FailedCase]) -> Result<String, Memory> {
+    let mut words = Vec::new(alloc);
+    for case in cases {
+        put_once(&mut words, rule_step(case.case))?;
+    }
+    listed(alloc, &words, "and")
+}
+
+/// Whether a lock that has the cover has to refuse what comes at this place.
+fn is_kept_out(cover: Cover, row: Row, side: Side) -> bool {
+    match (row, side) {
+        (Row::Delete, Side::Current) => true,
+        (Row::FetchHit, _) => matches!(cover, Cover::InsertedKey | Cover::UpdatedKey),
+        (Row::ScanKey, _) => matches!(
+            cover,
+            Cover::InsertedKey | Cover::DeletedGap | Cover::UpdatedKey
+        ),
+        (Row::FetchMiss | Row::ScanStop | Row::Delete, _) => {
+            matches!(cover, Cover::InsertedKey | Cover::DeletedGap)
+        }
+        (Row::Insert, _) => matches!(cover, Cover::ReadGap | Cover::DeletedGap),
+        (Row::Update, _) => matches!(
+            cover,
+            Cover::ReadKey | Cover::InsertedKey | Cover::UpdatedKey
+        ),
+    }
+}
+
+/// What no lock keeps out, and what isn't safe then.
+fn void_sentences<P: Protocol>(
+    alloc: Global,
+    _protocol: &P,
+    out: &mut Vec<String>,
+    cases: &[FailedCase],
+    row: Row,
+    side: Side,
+) -> Result<(), Memory> {
+    let mut others = Vec::new(alloc);
+    for case in cases {
+        if is_kept_out(case.cover, row, side) {
+            others.push(*case)?;
+        }
+    }
+    if !others.is_empty() {
+        let comer = comer_words(row, side);
+        let covers = protected(alloc, &others, "or")?;
+        out.push(format!(in alloc;
+            "So no lock at all keeps out {comer}. Under none is {covers} safe."
+        )?)?;
+    }
+    if others.len() < cases.len() {
+        out.push(String::from_str(alloc, "And what it reads is not protected.")?)?;
+    }
+    Ok(())
+}
+
+/// The own mode on the next name that a case is taken at.
+fn own_next(case: &FailedCase) -> Mode {
+    match (case.case, case.from) {
+        (Rule::Insert | Rule::Split, Origin::Two(next, _)) => next,
+        (Rule::Delete, Origin::One(next)) => next,
+        _ => 0,
+    }
+}
+
+/// Where the request is too weak, and what it has to protect.
+fn request_sentences<P: Protocol>(
+    alloc: Global,
+    protocol: &P,
+    out: &mut Vec<String>,
+    cases: &[FailedCase],
+    row: Row,
+) -> Result<(), Memory> {
+    let count = protocol.count();
+    let mut owns = Vec::new(alloc);
+    for own in 0..=count {
+        if cases.iter().any(|case| own_next(case) == own) {
+            owns.push(own)?;
+        }
+    }
+    if matches!(row, Row::Insert | Row::Delete) && owns.len() <= count as usize {
+        let owns = modes_listed(alloc, protocol, &owns)?;
+        out.push(format!(in alloc; "This is so where the own mode on the next name is {owns}.")?)?;
+    }
+    let covers = protected(alloc, cases, "and")?;
+    let split = if cases.iter().all(|case| case.case == Rule::Split) {
+        ", which its insert splits"
+    } else {
+        ""
+    };
+    out.push(format!(in alloc; "Its lock there has to protect {covers}{split}.")?)?;
+    Ok(())
+}
+
+/// What the mode of a case lets in.
+fn let_in_sentence<P: Protocol>(
+    alloc: Global,
+    protocol: &P,
+    case: &FailedCase,
+) -> Result<String, Memory> {
+    let who = if case.mode == 0 {
+        "Where nothing is held, nothing is refused: it"
+    } else {
+        name_of(protocol, case.mode)
+    };
+    let what = let_in(alloc, protocol, case)?;
+    format!(in alloc; "{who} lets in {what}.")
+}
+
+/// Why a mode doesn't serve a cover: its first open place.
+fn let_in<P: Protocol>(alloc: Global, protocol: &P, case: &FailedCase) -> Result<String, Memory> {
+    let place = case.hole;
+    let comer = comer_words(place.row, place.side);
+    let side = side_words(place.side);
+    let Some((mode, _)) = asked(protocol, place.row, place.side, place.own_next) else {
+        return format!(in alloc; "{comer} asks for no lock on {side}");
+    };
+    let row = row_word(place.row);
+    let asks = name_of(protocol, mode);
+    let made = converted(protocol, place.own, mode);
+    let mut out = format!(in alloc; "{comer}, for which `{row}` asks {asks} on {side}")?;
+    if place.own != 0 {
+        let own = name_of(protocol, place.own);
+        let made = name_of(protocol, made);
+        write!(out, "; to one who holds {own} there already that is {made}")?;
+    }
+    if case.mode != 0 {
+        let other = beside(protocol, made, case.mode);
+        let made = name_of(protocol, made);
+        write!(out, ", and {made} stands beside {other}")?;
+    }
+    Ok(out)
+}

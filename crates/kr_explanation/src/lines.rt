@@ -1,0 +1,117 @@
+//! Scripts as lines of JSON.
+ghost use Rattle.std.specs.Prelude.{◌≡◌, ◌≢◌, All, IfOk, IsTrue};
+ghost use Rattle.kr_explanation.specs.Lines.{IsLineOf};
+
+use kr_cases::Memory;
+use kr_model::{Event, Op};
+use kr_script::{Script, ScriptFault, read_script};
+use std::alloc::{AllocError, Global};
+
+/// Whether a line reads as the script of this opening map and these steps, and has no line feed.
+pub fn is_line_of(
+    alloc: Global,
+    line: &str,
+    opening: &[(u64, u64)],
+    events: &[Event],
+) -> Result<bool, Memory>
+    ensures { IfOk result (λ is. IsTrue is → IsLineOf opening.now events.now line.now) }
+{
+    match read_script(alloc, line.as_bytes()) {
+        Ok(script) => {
+            if !is_script(&script, opening, events) {
+                return Ok(false);
+            }
+            Ok(has_no_line_feed(line.as_bytes()))
+        }
+        Err(ScriptFault::Memory) => Err(AllocError),
+        Err(_) => Ok(false),
+    }
+}
+
+/// Whether a script has this opening map and these steps.
+fn is_script(script: &Script, opening: &[(u64, u64)], events: &[Event]) -> bool
+    ensures { IsTrue result → script.now ≡ record { opening = opening.now; steps = events.now } }
+{
+    are_same_pairs(script.opening(), opening) && are_same_steps(script.steps(), events)
+}
+
+/// Whether two lists of pairs are the same.
+fn are_same_pairs(left: &[(u64, u64)], right: &[(u64, u64)]) -> bool
+    ensures { IsTrue result → left.now ≡ right.now }
+{
+    if left.len() != right.len() {
+        return false;
+    }
+    for at in 0..left.len() {
+        let ((key, value), (other_key, other_value)) = (left[at], right[at]);
+        if key != other_key || value != other_value {
+            return false;
+        }
+    }
+    true
+}
+
+/// Whether two lists of steps are the same.
+fn are_same_steps(left: &[Event], right: &[Event]) -> bool
+    ensures { IsTrue result → left.now ≡ right.now }
+{
+    if left.len() != right.len() {
+        return false;
+    }
+    for at in 0..left.len() {
+        if left[at] != right[at] {
+            return false;
+        }
+    }
+    true
+}
+
+/// Whether none of the bytes is a line feed.
+fn has_no_line_feed(bytes: &[u8]) -> bool
+    ensures { IsTrue result → All (λ b. b ≢ 10) bytes.now }
+{
+    bytes.iter().all(|byte| *byte != b'\n')
+}
+
+/// A script as a line of JSON: of format 2 where it has an update, and else of format 1.
+pub fn written(alloc: Global, opening: &[(u64, u64)], events: &[Event]) -> Result<String, Memory> {
+    let format = if events
+        .iter()
+        .any(|event| matches!(event.op, Op::Update(_, _)))
+    {
+        2
+    } else {
+        1
+    };
+    let mut out = format!(in alloc; "{{\"format\":{format},\"opening\":[")?;
+    let mut separator = "";
+    for (key, value) in opening {
+        write!(out, "{separator}[{key},{value}]")?;
+        separator = ",";
+    }
+    out.push_str("],\"steps\":[")?;
+    separator = "";
+    for event in events {
+        out.push_str(separator)?;
+        write_step(&mut out, *event)?;
+        separator = ",";
+    }
+    out.push_str("]}")?;
+    Ok(out)
+}
+
+/// Writes a step as an array.
+fn write_step(out: &mut String, event: Event) -> Result<(), Memory> {
+    let txn = event.txn;
+    match event.op {
+        Op::Fetch(key) => write!(out, "[{txn},\"fetch\",{key}]"),
+        Op::Scan(lo, hi) => write!(out, "[{txn},\"scan\",{lo},{hi}]"),
+        Op::Go => write!(out, "[{txn},\"go\"]"),
+        Op::Insert(key, value) => write!(out, "[{txn},\"insert\",{key},{value}]"),
+        Op::Delete(key) => write!(out, "[{txn},\"delete\",{key}]"),
+        Op::Update(key, value) => write!(out, "[{txn},\"update\",{key},{value}]"),
+        Op::Commit => write!(out, "[{txn},\"commit\"]"),
+        Op::Abort => write!(out, "[{txn},\"abort\"]"),
+        Op::Back => write!(out, "[{txn},\"back\"]"),
+    }
+}

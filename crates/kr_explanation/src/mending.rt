@@ -1,0 +1,91 @@
+//! The line that names the changes which mend a cause.
+
+use crate::answers::name_of;
+use crate::lists::modes_listed;
+use crate::words::{row_word, side_words, span_word};
+use kr_cases::Memory;
+use kr_causes::{Change, Mend};
+use kr_model::{Mode, Row, Side, Span};
+use kr_protocol::Protocol;
+use std::alloc::Global;
+
+/// The changes, by what they have in common, and the modes in which they differ.
+pub fn mend_sentence<P: Protocol>(
+    alloc: Global,
+    protocol: &P,
+    mend: &Mend,
+) -> Result<String, Memory> {
+    let tail = if mend.is_accepted {
+        "the table is then accepted"
+    } else {
+        "these cases then hold"
+    };
+    let modes = modes_of(alloc, mend.changes.as_slice())?;
+    let modes = modes_listed(alloc, protocol, &modes)?;
+    match mend.changes.as_slice().first() {
+        Some(
+            Change::Ask {
+                row,
+                side,
+                own_next,
+                span,
+                ..
+            },
+        ) => {
+            let owns = owns_words(alloc, protocol, *own_next)?;
+            let row = row_word(*row);
+            let side = side_words(*side);
+            let span = span_word(*span);
+            format!(in alloc; "let `{row}` ask {modes} ({span}) on {side}{owns}: {tail}")
+        }
+        Some(
+            Change::Convert {
+                held,
+                requested,
+                ..
+            },
+        ) => {
+            let held = name_of(protocol, *held);
+            let requested = name_of(protocol, *requested);
+            format!(in alloc; "let {held} held and {requested} asked make {modes}: {tail}")
+        }
+        Some(Change::Apart { requested, held }) => {
+            let held = name_of(protocol, *held);
+            let requested = name_of(protocol, *requested);
+            format!(in alloc; "let {requested} not stand beside {held}: {tail}")
+        }
+        None => Ok(String::new(alloc)),
+    }
+}
+
+/// The modes of the changes, in their order.
+fn modes_of(alloc: Global, changes: &[Change]) -> Result<Vec<Mode>, Memory> {
+    let mut modes = Vec::new(alloc);
+    for change in changes {
+        match change {
+            Change::Ask { mode, .. } => modes.push(*mode)?,
+            Change::Convert { mode, .. } => modes.push(*mode)?,
+            Change::Apart { .. } => {}
+        }
+    }
+    Ok(modes)
+}
+
+/// For which own modes on the next name the change is, unless it is for all.
+fn owns_words<P: Protocol>(
+    alloc: Global,
+    protocol: &P,
+    own_next: Option<u16>,
+) -> Result<String, Memory> {
+    let Some(modes) = own_next else {
+        return Ok(String::new(alloc));
+    };
+    let mut owns = Vec::new(alloc);
+    for own in 0..=protocol.count() {
+        if modes >> own & 1 == 1 {
+            owns.push(own)?;
+        }
+    }
+    let owns = modes_listed(alloc, protocol, &owns)?;
+    format!(in alloc; ", where the own mode on the next name is {owns}")
+}

@@ -1,0 +1,20 @@
+//! Runs that are told, each with its script as a line of JSON.
+ghost use Rattle.std.specs.Prelude.{string_bytes};
+ghost use Rattle.kr_model.specs.Map.{IsMap};
+ghost use Rattle.kr_explanation.specs.Lines.{IsLineOf};
+
+use kr_counterexample::Counterexample;
+use kr_model::FailedCase;
+
+/// A run that goes wrong, and the case that it was made from.
+#[derive(Drop)]
+pub struct Run {
+    /// The case that it was made from.
+    pub case: FailedCase,
+    /// Its opening map and its steps, and how it was put together.
+    pub script: Counterexample,
+    /// Its script as a line of JSON, with no line feed.
+    pub line: String,
+    ghost rising: { IsMap script.opening.items },
+    ghost reads: { IsLineOf script.opening.items script.events.items (string_bytes line) },
+}

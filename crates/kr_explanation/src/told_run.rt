@@ -1,0 +1,81 @@
+//! The run that is told of a cause.
+ghost use Rattle.std.specs.Prelude.{◌≤◌, IfOk, IfSome, length};
+ghost use Rattle.kr_counterexample.specs.GoesWrong.{GoesWrong};
+ghost use Rattle.kr_explanation.specs.Explained.{GoesWrongWith};
+
+use crate::effort::Effort;
+use crate::run::Run;
+use crate::scripts::run_of;
+use kr_cases::Memory;
+use kr_counterexample::{Closure, Counterexample};
+use kr_model::{FailedCase, Row, Side};
+use kr_protocol::Protocol;
+use std::alloc::Global;
+
+/// The run that is told of some cases, and how many of them gave one.
+#[derive(Drop)]
+pub struct ToldRun {
+    pub run: Option<Run>,
+    /// How many of the cases gave a run.
+    pub runs: usize,
+    /// How many of the cases were tried, from the first on.
+    pub tried: usize,
+}
+
+/// The shortest of the first runs of the cases, those through the preferred place before others. The cases are tried in
+/// their order for as long as the effort lasts.
+pub fn told_run<P: Protocol>(
+    alloc: Global,
+    protocol: &P,
+    closure: &Closure,
+    cases: &[FailedCase],
+    prefer: Option<(Row, Side)>,
+    effort: Effort,
+) -> Result<ToldRun, Memory>
+    ensures wrong { IfOk result (λ told. IfSome told.run (GoesWrongWith (P.table protocol.now))) }
+    ensures tried { IfOk result (λ told. told.tried ≤ length cases.now) }
+    ensures runs { IfOk result (λ told. told.runs ≤ told.tried) }
+{
+    let states = closure.states();
+    let mut effort = effort;
+    let mut told = ToldRun {
+        run: None,
+        runs: 0,
+        tried: 0,
+    };
+    for case in cases {
+        let Some(most_runs) = effort.for_case(states) else {
+            return Ok(told);
+        };
+        let sought = closure.find_within(alloc, protocol, case, prefer, most_runs)?;
+        effort = effort.after(states, sought.runs);
+        told.tried += 1;
+        if let Some(script) = sought.script {
+            told.runs += 1;
+            if is_told_before(&script, &told.run, prefer) {
+                if let Some(run) = run_of(alloc, *case, script)? {
+                    told.run = Some(run);
+                }
+            }
+        }
+    }
+    Ok(told)
+}
+
+/// Whether a script is told rather than the run so far.
+fn is_told_before(script: &Counterexample, run: &Option<Run>, prefer: Option<(Row, Side)>) -> bool {
+    let Some(run) = run else {
+        return true;
+    };
+    let is_there = is_through(script, prefer);
+    if is_there == is_through(&run.script, prefer) {
+        script.events.len() < run.script.events.len()
+    } else {
+        is_there
+    }
+}
+
+/// Whether the intruder comes through at the preferred place, if there is one.
+fn is_through(script: &Counterexample, prefer: Option<(Row, Side)>) -> bool {
+    prefer == Some((script.row, script.side))
+}

@@ -1,0 +1,49 @@
+//! Paragraphs, in lines of at most 118 characters.
+
+use kr_cases::Memory;
+
+/// So many characters a line has at most, unless one word is longer.
+const WIDTH: usize = 118;
+
+/// Writes spaces.
+pub fn write_spaces(out: &mut String, count: usize) -> Result<(), Memory> {
+    for _ in 0..count {
+        out.push_str(" ")?;
+    }
+    Ok(())
+}
+
+/// Writes a line.
+pub fn write_line(out: &mut String, line: &str) -> Result<(), Memory> {
+    out.push_str(line)?;
+    out.push_str("\n")
+}
+
+/// Writes the words of a text in lines, each behind `indent` spaces, and from the second line on behind `hang` more, which
+/// aren't counted.
+pub fn write_paragraph(
+    out: &mut String,
+    text: &str,
+    indent: usize,
+    hang: usize,
+) -> Result<(), Memory> {
+    write_spaces(out, indent)?;
+    let mut used = indent;
+    for word in text.split(' ') {
+        let length = word.chars().count();
+        if used > indent {
+            if used.saturating_add(1).saturating_add(length) > WIDTH {
+                out.push_str("\n")?;
+                write_spaces(out, indent)?;
+                write_spaces(out, hang)?;
+                used = indent;
+            } else {
+                out.push_str(" ")?;
+                used = used.saturating_add(1);
+            }
+        }
+        out.push_str(word)?;
+        used = used.saturating_add(length);
+    }
+    out.push_str("\n")
+}
