@@ -1,0 +1,16 @@
+//! Says why a lock table is refused, shows a run that goes wrong for each cause, and names changes that mend it.
+#![tactic(auto)]
+
+use kr_explain_program::{NAME, execute};
+use kr_script::Io;
+use kr_shell::{Disk, finish, words_given};
+use std::process::ExitCode;
+
+fn main(rt: HostRuntime) -> ExitCode {
+    let mut out = Io::new(rt.stdout());
+    let mut err = Io::new(rt.stderr());
+    ExitCode::from(match words_given(&rt) {
+        Ok(words) => execute(&rt, words.as_slice(), &Disk, &mut out, &mut err),
+        Err(ending) => finish(NAME, &Err(ending), &mut err),
+    })
+}

@@ -1,0 +1,7 @@
+use Rattle.std.specs.Prelude.{string_bytes}
+use Rattle.kr_explain_program.proofs.Ended.{no_script}
+use Rattle.kr_explain_program.proofs.explaining.write_script.Goals as goal
+
+pub returns-clause-err : goal.returns-clause-err
+returns-clause-err g c =
+    no_script (g.P.Protocol.table c.args.protocol.now) c.args.table.now c.as_str-in-None.result.now (string_bytes c.in_ok-what-in-None.what) c.args.number c.in_ok-explanation.explanation c.in_ok-line.field-0 c.told.result c.in_ok-explanation.ensures c.in_ok-line.ensures c.in-None.is c.as_str-in-None.ensures.value c.in_ok-what-in-None.ensures.ok c.told.ensures.line

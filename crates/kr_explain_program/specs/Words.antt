@@ -1,0 +1,16 @@
+-- The words that the program is called with.
+use Rattle.std.specs.Prelude.{ℕ, ◌<◌, ◌^◌, List, [], ◌∷◌, codes}
+use Rattle.std.specs.Fmt.{decimal}
+use Rattle.kr_shell.specs.Words.{IsPlain}
+use Rattle.kr_explain_program.specs.declared.words.Wanted.{Wanted}
+use Rattle.kr_explain_program.specs.declared.words.Wanted.TheVariants.{Explanation, Script}
+
+-- The words that ask for something of the table that a word names.
+abbrev pub words_of : List ℕ → Wanted → List (List ℕ)
+words_of table Explanation = table ∷ []
+words_of table (Script number) = table ∷ codes "--script" ∷ decimal number ∷ []
+
+-- What can be asked: the table's word can name one, and a number is from 1 and has 64 bits at most.
+abbrev pub IsAsked : List ℕ → Wanted → Type 0
+IsAsked table Explanation = IsPlain table
+IsAsked table (Script number) = IsPlain table × ((0 < number) × (number < 2 ^ 64))

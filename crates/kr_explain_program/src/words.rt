@@ -1,0 +1,64 @@
+//! What the words ask.
+ghost use Rattle.std.specs.Prelude.{◌≡◌, ◌<◌, ◌^◌, ℕ, List, IfOk, IfErr, OnErr, IfSome, IfNone, map, string_bytes};
+ghost use Rattle.std.specs.Fmt.{decimal};
+ghost use Rattle.kr_shell.specs.declared.endings.Ending.TheVariants as ending;
+ghost use Rattle.kr_explain_program.specs.Words.{words_of, IsAsked};
+ghost use Rattle.kr_explain_program.specs.declared.words.Wanted.{Wanted};
+
+use kr_shell::{Ending, is_plain};
+
+/// What is asked.
+#[derive(Clone, Copy, Debug, PartialEq, Eq)]
+pub struct Asked<'a> {
+    /// The word that names the table.
+    pub table: &'a str,
+    /// What is printed of it.
+    pub wanted: Wanted,
+}
+
+/// What is printed of a table.
+#[derive(Clone, Copy, Debug, PartialEq, Eq)]
+pub enum Wanted {
+    /// The explanation: status 0 where the table is accepted, and 1 where it is refused.
+    Explanation,
+    /// The script of the cause that has this number, from 1: status 1.
+    Script(usize),
+}
+
+/// What the words ask, the program's name left out: `TABLE`, or `TABLE --script N`. TABLE doesn't begin with a hyphen. N is
+/// from 1 to `2^64 - 1`, in decimal digits without a leading zero. Other words aren't understood.
+pub fn read_words<'a>(words: &'a [String]) -> Result<Asked<'a>, Ending>
+    ensures words { IfOk result (λ a. map string_bytes words.now ≡ words_of a.table.now a.wanted) }
+    ensures asked { IfOk result (λ a. IsAsked a.table.now a.wanted) }
+    ensures none { OnErr result ((table : List ℕ) (wanted : Wanted) → IsAsked table wanted → map string_bytes words.now ≡ words_of table wanted → ⊥) }
+    ensures err { IfErr result (λ e. e ≡ ending.NotUnderstood) }
+{
+    match words {
+        [table] if is_plain(table.as_str()) => Ok(Asked {
+            table: table.as_str(),
+            wanted: Wanted::Explanation,
+        }),
+        [table, option, number] if is_plain(table.as_str()) && option.as_str() == "--script" => {
+            match number_of(number.as_str()) {
+                Some(number) => Ok(Asked {
+                    table: table.as_str(),
+                    wanted: Wanted::Script(number),
+                }),
+                None => Err(Ending::NotUnderstood),
+            }
+        }
+        _ => Err(Ending::NotUnderstood),
+    }
+}
+
+/// The number, from 1, that is written so in decimal digits.
+fn number_of(word: &str) -> Option<usize>
+    ensures some { IfSome result (λ n. (0 < n) × (word.now ≡ decimal n)) }
+    ensures none { IfNone result ((n : ℕ) → 0 < n → n < 2 ^ 64 → word.now ≡ decimal n → ⊥) }
+{
+    let bytes = word.as_bytes();
+    if bytes.is_empty() || bytes[0] < b'1' {
+        return None;
+    }
+    word.parse::<usize>().ok()
+}

@@ -1,0 +1,123 @@
+//! Faults, and the lines that tell them.
+use super::{Full, SHORT_SCAN, Shelf, leaves, owned};
+use kr_explain_program::execute;
+use kr_script::Io;
+use std::process::Abort;
+use std::test::Fail;
+
+/// `@kvl`, where SIX held and IX asked make IS: it is refused, and no run of its cause is known.
+const NO_RUN: &str = r#"format = 1
+modes = ["IS", "IX", "S", "SIX", "X"]
+compatible = { IS = ["IS", "IX", "S", "SIX"], IX = ["IS", "IX"], S = ["IS", "S"], SIX = ["IS"], X = [] }
+
+[convert]
+IS = { IS = "IS", IX = "IX", S = "S", SIX = "SIX", X = "X" }
+IX = { IS = "IX", IX = "IX", S = "SIX", SIX = "SIX", X = "X" }
+S = { IS = "S", IX = "SIX", S = "S", SIX = "SIX", X = "X" }
+SIX = { IS = "SIX", IX = "IS", S = "SIX", SIX = "SIX", X = "X" }
+X = { IS = "X", IX = "X", S = "X", SIX = "X", X = "X" }
+
+[rules]
+fetch-hit = { current = [{ mode = "S", span = "commit" }] }
+fetch-miss = { next = [{ mode = "S", span = "commit" }] }
+scan-key = { current = [{ mode = "S", span = "commit" }] }
+scan-stop = { next = [{ mode = "S", span = "commit" }] }
+insert = { current = [{ own = ["S", "SIX", "X"], mode = "X", span = "commit" }, { mode = "IX", span = "commit" }], next = [{ mode = "IX", span = "instant" }] }
+delete = { current = [{ mode = "X", span = "instant" }], next = [{ mode = "X", span = "commit" }] }
+"#;
+
+/// Words, with the line behind the program's name.
+const WORDS: &[(&[&str], &str)] = &[
+    (&[], "words not understood"),
+    (&["-"], "words not understood"),
+    (&["--help"], "words not understood"),
+    (&["--script"], "words not understood"),
+    (&["@kvl", "@im"], "words not understood"),
+    (&["@kvl", "--script"], "words not understood"),
+    (&["--script", "1", "table"], "words not understood"),
+    (&["-table", "--script", "1"], "words not understood"),
+    (&["table", "-script", "1"], "words not understood"),
+    (&["table", "--scripts", "1"], "words not understood"),
+    (&["table", "--script=1"], "words not understood"),
+    (&["table", "--script", ""], "words not understood"),
+    (&["table", "--script", "0"], "words not understood"),
+    (&["table", "--script", "01"], "words not understood"),
+    (&["table", "--script", "+1"], "words not understood"),
+    (&["table", "--script", "-1"], "words not understood"),
+    (&["table", "--script", "1x"], "words not understood"),
+    (&["table", "--script", ":"], "words not understood"),
+    (
+        &["table", "--script", "18446744073709551616"],
+        "words not understood",
+    ),
+    (&["table", "--script", "1", "2"], "words not understood"),
+    (&[""], ": cannot be read"),
+    (&["none"], "none: cannot be read"),
+    (&["kvl"], "kvl: cannot be read"),
+    (&["@kvl2"], "@kvl2: cannot be read"),
+    (&["@"], "@: cannot be read"),
+    (&["a\nb"], "a\\u{a}b: cannot be read"),
+    (&["none", "--script", "1"], "none: cannot be read"),
+    (&["big"], "out of memory"),
+    (&["big", "--script", "1"], "out of memory"),
+    (&["@kvl", "--script", "1"], "@kvl: no script 1"),
+    (&["table", "--script", "2"], "table: no script 2"),
+    (
+        &["table", "--script", "18446744073709551615"],
+        "table: no script 18446744073709551615",
+    ),
+];
+
+/// Texts that are no table, or one with no run that is known, each with the line that a first script is answered with.
+const TABLES: &[(&str, &str)] = &[
+    ("", "table: fault 4 Field at format"),
+    ("format = 1", "table: fault 4 Field at modes"),
+    ("format = 3", "table: fault 3 Format"),
+    ("[", "table: fault 2 NotToml"),
+    (NO_RUN, "table: no script 1"),
+];
+
+/// Compares the line that the program tells at a fault, behind its name; nothing else is printed.
+fn tells<R: std::rt::Files + AllocGlobal + Abort>(
+    rt: &R,
+    words: &[&str],
+    table: &str,
+    told: &str,
+) -> Result<(), Fail> {
+    let line = format!(in rt.alloc(); "kr_explain: {told}\n")?;
+    leaves(rt, words, table, 2, "", line.as_str())
+}
+
+#[test]
+fn faults_of_words_and_files_are_told(rt: HostRuntime) -> Result<(), Fail> {
+    for (words, line) in WORDS {
+        tells(&rt, *words, SHORT_SCAN, *line)?;
+    }
+    Ok(())
+}
+
+#[test]
+fn faults_of_tables_are_told(rt: HostRuntime) -> Result<(), Fail> {
+    for (table, line) in TABLES {
+        tells(&rt, ["table", "--script", "1"].as_slice(), *table, *line)?;
+    }
+    Ok(())
+}
+
+#[test]
+fn output_that_fails(rt: HostRuntime) -> Result<(), Fail> {
+    let shelf = Shelf { table: SHORT_SCAN };
+    for words in [["@kvl"].as_slice(), ["table", "--script", "1"].as_slice()] {
+        let words = owned(rt.alloc(), words)?;
+        let mut err = Io::new(Vec::new(rt.alloc()));
+        let status = execute(&rt, words.as_slice(), &shelf, &mut Full, &mut err);
+        assert_eq!(rt; status, 2);
+        assert_eq!(rt;
+            err.writer().as_slice(),
+            b"kr_explain: output: cannot be written\n".as_slice()
+        );
+        let told_nowhere = execute(&rt, words.as_slice(), &shelf, &mut Full, &mut Full);
+        assert_eq!(rt; told_nowhere, 2);
+    }
+    Ok(())
+}
