@@ -196,7 +196,7 @@ fn share_sentence(alloc: Global, explained: &Explained) -> Result<Option<String>
     if tried < cases {
         let rest = cases - tried;
         let text = format!(in alloc;
-            "{runs} of the first {tried} cases {have} such a run; the other {rest} were not tried."
+            "{runs} of the first {tried} cases {have} such a run; not tried: {rest}."
         )?;
         Ok(Some(text))
     } else if runs < cases {
@@ -222,7 +222,7 @@ fn write_no_run<P: Protocol>(
     };
     let (tried, cases) = (explained.tried, explained.cause.cases.len());
     let left_out = if tried < cases {
-        format!(in alloc; " Of its {cases} cases the first {tried} were tried.")?
+        format!(in alloc; " Tried: the first {tried} of its {cases} cases.")?
     } else {
         String::new(alloc)
     };
