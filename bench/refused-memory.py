@@ -1,13 +1,15 @@
 #!/usr/bin/env python3
-"""Refuses growths, reads and writes of kr, one by one, and compares what it then does with what it does undisturbed:
-bench/refused-memory.py [KR [TESTS]], by default crates/kr/out/kr and crates/kr_hostile/out/kr_hostile_tests. Needs a C
-compiler, `cc`, for refuse.c beside it. Build first: any run of ./kr builds the program, and `rt test` in
-crates/kr_hostile the tests.
+"""Refuses growths, reads and writes of the programs, one by one, and compares what they then do with what they do
+undisturbed: bench/refused-memory.py [PROGRAM..], of kr, kr_view, kr_explain and kr_hostile, all four where none is named.
+Needs a C compiler, `cc`, for refuse.c beside it. Build first: any run of ./kr, ./kr_view or ./kr_explain builds that
+program, and `rt test` in crates/kr_hostile its tests.
 
-The words are each form of the program's on the shipped tables and scripts. For each of them
+The words are each form of a program's on the shipped tables and scripts; of kr_view and kr_explain, whose answers are long,
+a few. For each of them
 
-  memory    the k-th growth is refused, and then again with all after it, for k counted up until a run meets no refusal.
-            Each run ends with the right answer, or with 'kr: out of memory', status 2 and nothing on standard output
+  memory    the k-th growth is refused, and then again with all after it, for k counted up until a run meets no refusal;
+            beyond 400 by one in a hundred. Each run ends with the right answer, or with 'kr: out of memory', say, status 2
+            and nothing on standard output
   reads     the k-th read and all after it fail: a file that cannot be read, so told, or the fault that comes before it
   writes    the k-th write to standard output and all after it fail, or take nothing, and one byte moves at a time; standard
             output is full (/dev/full), a closed pipe, or closed. Right where all was taken; else a beginning of the
@@ -26,16 +28,49 @@ import tempfile
 from concurrent.futures import ThreadPoolExecutor
 
 TOP = os.path.dirname(os.path.dirname(os.path.abspath(__file__)))
-KR = os.path.abspath(sys.argv[1] if len(sys.argv) > 1 else f"{TOP}/crates/kr/out/kr")
-TESTS = os.path.abspath(sys.argv[2] if len(sys.argv) > 2 else f"{TOP}/crates/kr_hostile/out/kr_hostile_tests")
+PROGRAMS = sys.argv[1:] or ["kr", "kr_view", "kr_explain", "kr_hostile"]
+TESTS = f"{TOP}/crates/kr_hostile/out/kr_hostile_tests"
 AT_ONCE = 3
-OUT_OF_MEMORY = (2, b"", b"kr: out of memory\n")
-UNWRITTEN = b"kr: output: cannot be written\n"
 READER, CLOSED_PIPE = os.pipe()
 os.close(READER)  # before any child is made, which would hold it for a moment
 
 
+def command(words):
+    """The program of these words, of which the first is its name, with the others."""
+    return [f"{TOP}/crates/{words[0]}/out/{words[0]}", *words[1:]]
+
+
+def fault(words, what):
+    """The line of a fault, as the program of these words tells it."""
+    return f"{words[0]}: {what}\n".encode()
+
+
+def out_of_memory(words):
+    return 2, b"", fault(words, "out of memory")
+
+
 def all_words():
+    """The words with which the programs are run, each behind the program's name."""
+    for name, forms in [("kr", words_of_kr), ("kr_view", words_of_view), ("kr_explain", words_of_explain)]:
+        if name in PROGRAMS:
+            yield from ([name, *words] for words in forms())
+
+
+def words_of_view():
+    """A serial run, one that isn't, and a table and a script that are none."""
+    yield ["@kvl", "examples/phantom.json"]
+    yield ["examples/wrong/split.toml", "examples/wrong/split.json"]
+    yield from (["@kvl", "none.json"], ["none.toml", "examples/phantom.json"], ["@kvl", "examples/wrong/split.toml"])
+
+
+def words_of_explain():
+    """An accepted table, two that are refused, a script, and words that name none."""
+    yield from (["@im"], ["examples/wrong/delete.toml"], ["examples/wrong/split.toml"])
+    yield ["examples/wrong/delete.toml", "--script", "1"]
+    yield from (["@im", "--script", "1"], ["none.toml"], ["@im", "--script"])
+
+
+def words_of_kr():
     """Each form of the words, over the shipped tables and scripts."""
     tables = ["@kvl", "@kvl-update", "@im", "@range-key"]
     files = sorted(glob.glob("tables/*.toml") + glob.glob("examples/**/*.toml", recursive=True))
@@ -90,38 +125,42 @@ class Part:
 
 
 def refuse_memory(part, shim, words, right):
+    wanting = out_of_memory(words)
     for kind in ["GROWTH", "GROWTHS"]:
-        for k in range(1, 100_000):
-            ended, was_refused = run([KR, *words], shim, **{kind: k})
-            part.count(ended in ([right, OUT_OF_MEMORY] if was_refused else [right]), words, f"{kind}={k}", ended)
+        k = 1
+        while True:
+            ended, was_refused = run(command(words), shim, **{kind: k})
+            part.count(ended in ([right, wanting] if was_refused else [right]), words, f"{kind}={k}", ended)
             if not was_refused:
                 break
-            part.note("out of memory" if ended == OUT_OF_MEMORY else "right all the same")
+            part.note("out of memory" if ended == wanting else "right all the same")
+            k += max(1, k // 100 - 3)
 
 
 def fail_reads(part, shim, words, right):
-    unread = [(2, b"", f"kr: {word}: cannot be read\n".encode()) for word in words[1:]]
+    unread = [(2, b"", fault(words, f"{word}: cannot be read")) for word in words[1:]]
     for k in range(1, 100_000):
-        ended, was_refused = run([KR, *words], shim, READ=k)
+        ended, was_refused = run(command(words), shim, READ=k)
         is_right = ended in unread or (right[0] == 2 and ended == right) if was_refused else ended == right
         part.count(is_right, words, f"READ={k}", ended)
         if not was_refused:
             break
-    ended, _ = run([KR, *words], shim, ONE_BYTE=1)
+    ended, _ = run(command(words), shim, ONE_BYTE=1)
     part.count(ended == right, words, "ONE_BYTE=1", ended)
 
 
-def is_cut(ended, right):
+def is_cut(words, ended, right):
     """Whether output failed after a beginning of the right answer."""
-    return ended[0] == 2 and right[1].startswith(ended[1]) and ended[1] != right[1] and ended[2] == UNWRITTEN
+    unwritten = fault(words, "output: cannot be written")
+    return ended[0] == 2 and right[1].startswith(ended[1]) and ended[1] != right[1] and ended[2] == unwritten
 
 
 def fail_writes(part, shim, words, right):
     for kind in ["WRITE", "NO_WRITE"]:
         for one_byte in [0, 1]:
             for k in range(1, 100_000):
-                ended, was_refused = run([KR, *words], shim, ONE_BYTE=one_byte, **{kind: k})
-                part.count(is_cut(ended, right) if was_refused else ended == right, words, f"{kind}={k}", ended)
+                ended, was_refused = run(command(words), shim, ONE_BYTE=one_byte, **{kind: k})
+                part.count(is_cut(words, ended, right) if was_refused else ended == right, words, f"{kind}={k}", ended)
                 if not was_refused:
                     break
                 if k > 40:  # of the writes of one byte these are enough
@@ -130,15 +169,15 @@ def fail_writes(part, shim, words, right):
 
 
 def fail_outputs(part, words, right):
-    unwritten = (2, None, UNWRITTEN)
+    unwritten = fault(words, "output: cannot be written")
     with open("/dev/full", "wb") as full:
-        ended, _ = run([KR, *words], out=full)
-        part.count(ended == unwritten, words, "/dev/full", ended)
-    ended, _ = run([KR, *words], out=CLOSED_PIPE)
-    part.count(ended == unwritten, words, "a closed pipe", ended)
-    ended, _ = run(["sh", "-c", 'exec "$@" >&-', "sh", KR, *words])
-    part.count(ended == (2, b"", UNWRITTEN), words, "standard output closed", ended)
-    ended, _ = run(["sh", "-c", 'exec "$@" 2>&-', "sh", KR, *words])
+        ended, _ = run(command(words), out=full)
+        part.count(ended == (2, None, unwritten), words, "/dev/full", ended)
+    ended, _ = run(command(words), out=CLOSED_PIPE)
+    part.count(ended == (2, None, unwritten), words, "a closed pipe", ended)
+    ended, _ = run(["sh", "-c", 'exec "$@" >&-', "sh", *command(words)])
+    part.count(ended == (2, b"", unwritten), words, "standard output closed", ended)
+    ended, _ = run(["sh", "-c", 'exec "$@" 2>&-', "sh", *command(words)])
     part.count(ended == right, words, "standard error closed", ended)
 
 
@@ -173,8 +212,8 @@ def read_odd_files(part, folder):
         with open(f"{folder}/{name}", "wb") as it:
             it.write(text)
         for task in ["check"] if name.endswith(".toml") else ["run", "judge", "threads"]:
-            words = [task, *([] if task == "check" else ["@kvl"]), f"{folder}/{name}"]
-            ended, _ = run([KR, *words])
+            words = ["kr", task, *([] if task == "check" else ["@kvl"]), f"{folder}/{name}"]
+            ended, _ = run(command(words))
             told = (2, b"", f"kr: {words[-1]}: {fault}\n".encode())
             part.count(ended == told if fault else (ended[0], ended[2]) == (0, b""), words, "odd bytes", ended)
 
@@ -192,12 +231,12 @@ def main():
         shim = f"{folder}/refuse.so"
         subprocess.run(["cc", "-shared", "-fPIC", "-O1", "-o", shim, f"{TOP}/bench/refuse.c"], check=True)
         going = []
-        if os.path.exists(TESTS):
+        if "kr_hostile" in PROGRAMS:
             going += [pool.submit(refuse_tests, tests, shim, test) for test in tests_of()]
-        if os.path.exists(KR):
+        if "kr" in PROGRAMS:
             going.append(pool.submit(read_odd_files, files, folder))
-        for words in all_words() if os.path.exists(KR) else []:
-            right, _ = run([KR, *words])
+        for words in all_words():
+            right, _ = run(command(words))
             going.append(pool.submit(refuse_memory, memory, shim, words, right))
             going.append(pool.submit(fail_reads, reads, shim, words, right))
             if right[1]:
