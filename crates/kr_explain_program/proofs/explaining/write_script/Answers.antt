@@ -1,7 +1,12 @@
 use Rattle.std.specs.Prelude.{string_bytes}
 use Rattle.kr_explain_program.proofs.Ended.{no_script}
+use Rattle.kr_explain_program.proofs.Written.{script_written}
 use Rattle.kr_explain_program.proofs.explaining.write_script.Goals as goal
 
 pub returns-clause-err : goal.returns-clause-err
 returns-clause-err g c =
     no_script (g.P.Protocol.table c.args.protocol.now) c.args.table.now c.as_str-in-None.result.now (string_bytes c.in_ok-what-in-None.what) c.args.number c.in_ok-explanation.explanation c.in_ok-line.field-0 c.told.result c.in_ok-explanation.ensures c.in_ok-line.ensures c.in-None.is c.as_str-in-None.ensures.value c.in_ok-what-in-None.ensures.ok c.told.ensures.line
+
+pub returns-in-Some-clause-script : goal.returns-in-Some-clause-script
+returns-in-Some-clause-script g c =
+    script_written (g.P.Protocol.table c.args.protocol.now) c.args.number c.in_ok-explanation.explanation c.in_ok-line.field-0 c.in-Some.line c.as_str-in-Some.result.now (g.W.Sink.taken c.args.out.now) (g.W.Sink.taken c.print-in-Some.new.out) c.in_ok-explanation.ensures c.in_ok-line.ensures c.in-Some.is c.as_str-in-Some.ensures.value c.in_ok-print-in-Some.ensures.ok
