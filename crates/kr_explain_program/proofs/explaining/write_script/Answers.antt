@@ -9,4 +9,4 @@ returns-clause-err g c =
 
 pub returns-in-Some-clause-script : goal.returns-in-Some-clause-script
 returns-in-Some-clause-script g c =
-    script_written (g.P.Protocol.table c.args.protocol.now) c.args.number c.in_ok-explanation.explanation c.in_ok-line.field-0 c.in-Some.line c.as_str-in-Some.result.now (g.W.Sink.taken c.args.out.now) (g.W.Sink.taken c.print-in-Some.new.out) c.in_ok-explanation.ensures c.in_ok-line.ensures c.in-Some.is c.as_str-in-Some.ensures.value c.in_ok-print-in-Some.ensures.ok
+    script_written (g.P.Protocol.table c.args.protocol.now) c.args.number c.in_ok-explanation.explanation c.in_ok-line.field-0 c.in-Some.line c.as_str.result.now (g.W.Sink.taken c.args.out.now) (g.W.Sink.taken c.print.new.out) c.in_ok-explanation.ensures c.in_ok-line.ensures c.in-Some.is c.as_str.ensures.value c.in_ok-print-in-Some.ensures.ok
