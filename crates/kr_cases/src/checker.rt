@@ -7,11 +7,8 @@ ghost use Rattle.kr_cases.specs.Told.{Tells};
 use crate::finder::failed_cases;
 use kr_model::{FailedCase, Mode, Row, Side, Span};
 use kr_protocol::{Covered, Protocol};
-use std::alloc::{AllocError, Global};
+use std::alloc::Global;
 use thiserror::Error;
-
-/// A growth was refused.
-pub type Memory = AllocError;
 
 /// A protocol that the checker accepted: it answers as the one that was given, and every case of it holds.
 #[derive(Drop)]

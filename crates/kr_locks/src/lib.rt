@@ -12,13 +12,10 @@ mod list;
 mod names;
 
 pub use buckets::Buckets;
-pub use kr_model::{Mode, Name, Txn};
+pub use kr_model::{Memory, Mode, Name, Txn};
 use kr_protocol::Protocol;
 pub use list::List;
-use std::alloc::{AllocError, Global};
-
-/// A growth was refused.
-pub type Memory = AllocError;
+use std::alloc::Global;
 
 /// A set of locks, each a transaction, a name and a mode: one mode for each transaction and name.
 ///

@@ -8,6 +8,10 @@ mod programs;
 
 pub use lists::{Pairs, Txns};
 pub use programs::{Answers, Programs};
+use std::alloc::AllocError;
+
+/// A growth was refused.
+pub type Memory = AllocError;
 
 /// A lock mode: 0 is none, and the modes of a protocol are 1 to its count, at most 15.
 pub type Mode = u8;
