@@ -16,7 +16,7 @@ first (x ∷ xs) = Some x
 abbrev pub first_open : Protocol → Cover → ℕ → Option Place
 first_open p c h = first (open_places p c h)
 
--- A row tells that place for each mode of p, and for none.
+-- A row tells that place for 0, which is no lock, and for each mode of p.
 abbrev pub AreFirst : Protocol → Cover → List (Option Place) → Type 0
 AreFirst p c holes = (h : ℕ) → h ≤ p.count → slice_index_or holes h None ≡ first_open p c h
 

@@ -141,7 +141,7 @@ fn first_open<P: Protocol>(protocol: &P, cover: Cover, held: Mode) -> Option<Pla
     None
 }
 
-/// The first place that each mode leaves open of a cover, by mode, from none on.
+/// The first place that each mode leaves open of a cover, by mode, from 0 on.
 fn row_of<P: Protocol>(protocol: &P, cover: Cover) -> [Option<Place>; 16]
     ensures { AreFirst (P.table protocol.now) cover result }
 {
@@ -152,7 +152,7 @@ fn row_of<P: Protocol>(protocol: &P, cover: Cover) -> [Option<Place>; 16]
     row
 }
 
-/// The first place that each mode leaves open of each cover, by mode, from none on.
+/// The first place that each mode leaves open of each cover, by mode, from 0 on.
 #[derive(Drop)]
 pub(crate) struct Holes {
     pub(crate) read_key: [Option<Place>; 16],

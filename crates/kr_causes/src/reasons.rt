@@ -81,7 +81,7 @@ pub(crate) fn asked<P: Protocol>(
     protocol.ask(row, side, own_next)
 }
 
-/// Whether a request may stand beside a lock, both of them modes or none.
+/// Whether a request may stand beside a lock, both of them modes or 0.
 fn stands_beside<P: Protocol>(protocol: &P, requested: Mode, held: Mode) -> bool {
     if requested > protocol.count() || held > protocol.count() {
         return true;
@@ -89,7 +89,7 @@ fn stands_beside<P: Protocol>(protocol: &P, requested: Mode, held: Mode) -> bool
     protocol.ok(requested, held)
 }
 
-/// The mode of one who holds a mode and asks for another, both of them modes or none.
+/// The mode of one who holds a mode and asks for another, both of them modes or 0.
 fn converted<P: Protocol>(protocol: &P, held: Mode, requested: Mode) -> Mode {
     if held > protocol.count() || requested > protocol.count() {
         return requested;
@@ -162,7 +162,7 @@ fn taken_at(rule: Rule) -> Option<(Row, Side)> {
     }
 }
 
-/// The own mode on the next name with which the lock of a case was taken, and none where the row doesn't go by it.
+/// The own mode on the next name with which the lock of a case was taken, and 0 where the row doesn't go by it.
 pub(crate) fn own_next(case: &FailedCase) -> Mode {
     match (case.case, case.from) {
         (Rule::Insert | Rule::Split, Origin::Two(next, _)) => next,

@@ -38,7 +38,7 @@ asked_none p laws r side = by_request (p.ask r side 0) (λ q s e. laws.ask-mode 
 abbrev updated_refuses : List Ask
 updated_refuses = (row.FetchHit, Current) ∷ (row.ScanKey, Current) ∷ (row.Delete, Current) ∷ (row.Update, Current) ∷ []
 
--- None serves nothing: each cover that the protocol is asked for must refuse something.
+-- Who holds no lock has no cover: each cover that the protocol is asked for must conflict with something.
 none_serves : (p : Protocol) → IsLawful p → (c : Cover) → IsKnown p c → Serves p c 0 → ⊥
 none_serves p laws ReadKey up s = asked_none p laws row.Delete Current (refuses_current p ReadKey 0 row.Delete s (inl refl) 0 0 (omega arith) (omega arith))
 none_serves p laws ReadGap up s = asked_none p laws row.Insert Next (refuses_next p ReadGap 0 row.Insert s (inl refl) 0 (omega arith))

@@ -19,13 +19,13 @@ use std::alloc::Global;
 
 /// A set of locks, each a transaction, a name and a mode: one mode for each transaction and name.
 ///
-/// A mode is 0 for none, or one of a protocol's modes, 1 to its count. Only `blockers`, `keep` and `copy` may
+/// A mode is 0 for no lock, or one of a protocol's modes, 1 to its count. Only `blockers`, `keep` and `copy` may
 /// answer `Memory`, and then nothing has changed.
 pub trait Holdings: Drop {
     /// The locks by name, the end last, and then by transaction.
     ghost locks: { Self → Locks };
 
-    /// The mode of a transaction on a name, or 0 where it holds none.
+    /// The mode of a transaction on a name, or 0 where it holds no lock there.
     fn own(&self, txn: Txn, name: Name) -> Mode
         ensures { result ≡ own (locks self.now) txn name };
 

@@ -55,7 +55,7 @@ in_count_up a (suc n) k low high =
 pub in_modes : (p : Protocol) (m : ℕ) → IsMode p m → In m (modes p)
 in_modes p m is = in_count_up 1 p.count m is.some (let r = is.in_range in omega arith)
 
--- each number up to the count stands among none and the modes
+-- each number up to the count stands among 0 and the modes
 pub in_modes_or_none : (p : Protocol) (m : ℕ) → m ≤ p.count → In m (modes_or_none p)
 in_modes_or_none p m is = in_count_up 0 (suc p.count) m (omega arith) (omega arith)
 

@@ -29,7 +29,7 @@ count_up a (suc n) = a ∷ count_up (suc a) n
 abbrev pub modes : Protocol → List ℕ
 modes p = count_up 1 p.count
 
--- None and then the modes of p, rising: what a transaction may hold on a name.
+-- 0, for no lock, and then the modes of p, rising: what a transaction may hold on a name.
 abbrev pub modes_or_none : Protocol → List ℕ
 modes_or_none p = count_up 0 (suc p.count)
 

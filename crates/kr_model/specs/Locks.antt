@@ -40,7 +40,7 @@ Locks = List (Holder × ℕ)
 abbrev pub IsLocks : Locks → Type 0
 IsLocks h = IsTrue (is_sorted holder_cmp h)
 
--- The own mode of t on n, or none.
+-- The own mode of t on n, or 0 where it holds no lock there.
 abbrev pub own : Locks → ℕ → Name → ℕ
 own h t n = unwrap_or (find holder_cmp (n, t) h) 0
 
@@ -52,7 +52,7 @@ keep h t n m = put holder_cmp (n, t) m h
 abbrev pub forget : Locks → ℕ → Name → Locks
 forget h t n = filter (λ l. not (eq_by_cmp holder_cmp (n, t) l.0)) h
 
--- The locks with m as the mode of t on n, for any m: none takes the lock away.
+-- The locks with m as the mode of t on n, for any m: 0 takes the lock away.
 abbrev pub keep_or_drop : Locks → ℕ → Name → ℕ → Locks
 keep_or_drop h t n zero = forget h t n
 keep_or_drop h t n (suc m) = keep h t n (suc m)
@@ -65,7 +65,7 @@ release h t = filter (λ l. not (l.0.1 == t)) h
 abbrev pub AreWithin : ℕ → Locks → Type 0
 AreWithin count h = (t : ℕ) (n : Name) → own h t n ≤ count
 
--- No lock has the mode none.
+-- No lock has the mode 0.
 abbrev pub HasNoNone : Locks → Type 0
 HasNoNone h = (k : Holder) → find holder_cmp k h ≡ Some 0 → ⊥
 

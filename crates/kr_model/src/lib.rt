@@ -13,7 +13,7 @@ use std::alloc::AllocError;
 /// A growth was refused.
 pub type Memory = AllocError;
 
-/// A lock mode: 0 is none, and the modes of a protocol are 1 to its count, at most 15.
+/// A lock mode: 0 is no lock, and the modes of a protocol are 1 to its count, at most 15.
 pub type Mode = u8;
 
 /// A transaction's number, any `u32`. A number that has ended is never used again.
