@@ -12,7 +12,7 @@ abbrev pub first : {A : Type 0} → List A → Option A
 first [] = None
 first (x ∷ xs) = Some x
 
--- The first place that a lock in mode h leaves open, of those that the cover must refuse.
+-- The first place that a lock in mode h leaves open, of those that the cover must conflict with.
 abbrev pub first_open : Protocol → Cover → ℕ → Option Place
 first_open p c h = first (open_places p c h)
 

@@ -69,7 +69,7 @@ impl<P: Protocol> Table<'_, P> {
         }
     }
 
-    /// Whether a cover has to refuse what a row asks for: an update only where updates are offered.
+    /// Whether a cover has to conflict with what a row asks for: an update only where updates are offered.
     pub(crate) fn offers(&self, cover: Cover, row: Row) -> bool {
         self.protocol.updates() || cover != Cover::UpdatedKey && row != Row::Update
     }

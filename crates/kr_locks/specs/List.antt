@@ -1,4 +1,4 @@
--- Where locks stand in the sorted list, and which of them refuse a mode.
+-- Where locks stand in the sorted list, and which of them conflict with a mode.
 use Rattle.std.specs.Prelude.{◌≡◌, ℕ, ◌<◌, ◌≤◌, Bool, not, ◌&&◌, ◌==◌, filter, length}
 use Rattle.std.specs.List.{HoldsAt}
 use Rattle.std.specs.List.Sorted.{IsPartitionPoint}
@@ -21,5 +21,5 @@ abbrev pub locks_on : Locks → Name → Locks
 locks_on h n = filter (λ l. eq_by_cmp name_cmp l.0.0 n) h
 
 -- whether a lock is that of another than t, and mode m may not stand beside it
-abbrev pub refuses : Protocol → ℕ → ℕ → Holder × ℕ → Bool
-refuses p t m l = not (l.0.1 == t) && not (p.ok m l.1)
+abbrev pub lock_conflicts : Protocol → ℕ → ℕ → Holder × ℕ → Bool
+lock_conflicts p t m l = not (l.0.1 == t) && not (p.ok m l.1)

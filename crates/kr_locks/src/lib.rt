@@ -29,18 +29,18 @@ pub trait Holdings: Drop {
     fn own(&self, txn: Txn, name: Name) -> Mode
         ensures { result ≡ own (locks self.now) txn name };
 
-    /// Whether no other transaction refuses a request for a mode on a name.
+    /// Whether no other transaction's lock conflicts with a request for a mode on a name.
     ///
-    /// Another transaction refuses where the mode to which the requester's own would be converted may not stand
-    /// beside what it holds on the name. What the requester holds refuses nothing. The mode asked for and all held
-    /// modes are at most the protocol's count.
+    /// Another transaction's lock conflicts where the mode to which the requester's own would be converted may not
+    /// stand beside it. What the requester holds conflicts with nothing that it asks for. The mode asked for and all
+    /// held modes are at most the protocol's count.
     fn test<P: Protocol>(&self, protocol: &P, txn: Txn, name: Name, mode: Mode) -> bool
         requires asked { mode ≤ (P.table protocol.now).count }
         requires held { AreWithin (P.table protocol.now).count (locks self.now) }
         ensures { IsTrue result ↔ (blockers (P.table protocol.now) (locks self.now) txn
             ((name, mode, span.Commit) ∷ []) ≡ []) };
 
-    /// The transactions that refuse a request for a mode on a name, as `test` says it: rising, each once.
+    /// The transactions whose locks conflict with a request for a mode on a name, as `test` says it: rising, each once.
     ///
     /// The condition on modes is that of `test`.
     fn blockers<P: Protocol>(

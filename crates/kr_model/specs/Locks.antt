@@ -75,9 +75,9 @@ HasNoNone h = (k : Holder) → find holder_cmp k h ≡ Some 0 → ⊥
 abbrev pub Request : Type 0
 Request = Name × ℕ × Span
 
--- Whether u refuses the request of t: u is another, and the converted mode may not stand beside what u holds on the name.
-abbrev pub refused_by : Protocol → Locks → ℕ → Request → ℕ → Bool
-refused_by p h t r u = not (u == t) && not (p.ok (p.convert (own h t r.0) r.1) (own h u r.0))
+-- Whether u conflicts with the request of t: u is another, and the converted mode may not stand beside what u holds on the name.
+abbrev pub conflicts : Protocol → Locks → ℕ → Request → ℕ → Bool
+conflicts p h t r u = not (u == t) && not (p.ok (p.convert (own h t r.0) r.1) (own h u r.0))
 
 -- Rising numbers with x in its place, once.
 abbrev pub add_once : ℕ → List ℕ → List ℕ
@@ -89,9 +89,9 @@ abbrev pub lockers : Locks → List ℕ
 lockers [] = []
 lockers (l ∷ ls) = add_once l.0.1 (lockers ls)
 
--- The transactions that refuse one of the requests of t, rising, each once; the requests are granted exactly where there are none.
+-- The transactions that conflict with one of the requests of t, rising, each once; the requests are granted exactly where there are none.
 abbrev pub blockers : Protocol → Locks → ℕ → List Request → List ℕ
-blockers p h t rs = filter (λ u. list_any (λ r. refused_by p h t r u) rs) (lockers h)
+blockers p h t rs = filter (λ u. list_any (λ r. conflicts p h t r u) rs) (lockers h)
 
 -- The locks after a request of t is granted: one for commit sets the converted mode, an instant one leaves all.
 abbrev pub kept_one : Protocol → Locks → ℕ → Name → ℕ → Span → Locks
