@@ -91,7 +91,8 @@ fn conflicts<P: Protocol>(protocol: &P, txn: Txn, mode: Mode, lock: Lock) -> boo
     requires held { lock.1 ≤ (P.table protocol.now).count }
     ensures { result ≡ lock_conflicts (P.table protocol.now) txn mode lock }
 {
-    lock.0.1 != txn && !protocol.ok(mode, lock.1)
+    let ((_, holder), held) = lock;
+    holder != txn && !protocol.ok(mode, held)
 }
 
 /// Writes the mode of a transaction on a name. One that is there takes no memory.
