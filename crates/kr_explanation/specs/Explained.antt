@@ -32,7 +32,7 @@ pub record IsTold (p : Protocol) (failed : List FailedCase) (e : Explained) : Ty
 abbrev pub causes_of : List Explained → List Cause
 causes_of told = map (λ e. e.cause) told
 
--- What is told of a table that is refused, where these cases of it fail.
+-- What is told of a table that is rejected, where these cases of it fail.
 pub record IsRefusal (p : Protocol) (failed : List FailedCase) (r : Refused) : Type 0 where
   -- it has so many cases, and so many of them fail
   pub has_cases : r.cases ≡ length (cases p)
