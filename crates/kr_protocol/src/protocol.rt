@@ -56,7 +56,7 @@ pub trait Protocol: Drop {
     fn updates(&self) -> bool
         ensures { result ≡ (table self.now).updates };
 
-    /// No lock adds nothing and hinders nothing, and what is converted or asked for is a mode.
+    /// No lock adds nothing and conflicts with nothing, and what is converted or asked for is a mode.
     ghost lawful: { (p : Self) → IsLawful (table p) };
 
     /// Each mode has a name of its own.

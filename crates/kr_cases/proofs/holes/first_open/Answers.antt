@@ -11,7 +11,7 @@ pub returns-in-Some : goal.returns-in-Some
 returns-in-Some g c =
     let p = g.P.Protocol.table c.args.protocol.now in
     let i = c.loop-ask.ask-index in
-    let asks = c.must_refuse-ask-items.ensures in
+    let asks = c.must_conflict-ask-items.ensures in
     sym (listed_found (is_open p c.args.held) (places_of p) (must_conflict p c.args.cover) i (FetchHit, Current) c.in-Some.place
     (subst (λ xs. i < length xs) asks c.loop-ask-test.true) c.loop-ask.invariant
     (sym (subst (λ xs. Some c.in-Some.place ≡ first (filter (is_open p c.args.held) (places_of p (get_or xs i (FetchHit, Current))))) asks c.in-Some.ensures)))
