@@ -46,7 +46,7 @@ abbrev pub is_accepted : Explanation → Bool
 is_accepted (told.Accepted cases) = true
 is_accepted (told.Refused r) = false
 
--- What is told of p, accepted or refused.
+-- What is told of p, accepted or rejected.
 abbrev pub Tells : Protocol → Explanation → Type 0
 Tells p (told.Accepted n) = n ≡ length (cases p)
 Tells p (told.Refused r) = IsRefusal p (failed_cases p) r

@@ -131,7 +131,7 @@ pub struct FailedCase {
     pub from: Origin,
     /// The mode that doesn't serve the cover.
     pub mode: Mode,
-    /// The first place whose request isn't refused beside that mode.
+    /// The first place whose request doesn't conflict with that mode.
     pub hole: Place,
 }
 
