@@ -1,7 +1,7 @@
 """The checker of lock tables, written from docs/DEFINITIONS.md ("Covers and cases") alone."""
 
 COVERS = ['RK', 'RG', 'IK', 'DG', 'UK']
-MUST_REFUSE = {  # UK, and the places in the row update, only where updates are offered
+MUST_CONFLICT = {  # UK, and the places in the row update, only where updates are offered
     'RK': [('delete', 'current'), ('update', 'current')],
     'RG': [('insert', 'next'), ('delete', 'current')],
     'IK': [
@@ -33,13 +33,13 @@ class Checker:
             (cover, held): next(self.open_places(cover, held), None) for cover in self.covers for held in table.with_none
         }
 
-    def must_refuse(self, cover):
-        return [(row, side) for row, side in MUST_REFUSE[cover] if row != 'update' or self.table.updates]
+    def must_conflict(self, cover):
+        return [(row, side) for row, side in MUST_CONFLICT[cover] if row != 'update' or self.table.updates]
 
     def open_places(self, cover, held):
         """The rows and sides, with two own modes of the asker, at which the held mode lets a request in."""
         table = self.table
-        for row, side in self.must_refuse(cover):
+        for row, side in self.must_conflict(cover):
             for own in table.with_none:
                 for own_next in table.with_none if side == 'current' else [own]:
                     asked = table.ask(row, side, own_next)

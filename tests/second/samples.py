@@ -63,7 +63,7 @@ class Draft:
             self.rules['update', 'current'] = [clause]
 
     def change(self, random):
-        """Changes one entry. Most of these keep what the table refuses, so that many stay accepted."""
+        """Changes one entry. Most of these keep the table's conflicts, so that many stay accepted."""
         kind = random.randrange(8)
         if kind < 3 and self.compatible:
             self.compatible.discard(random.choice(sorted(self.compatible)))

@@ -12,11 +12,11 @@ abbrev pub first : {A : Type 0} → List A → Option A
 first [] = None
 first (x ∷ xs) = Some x
 
--- The first place that a lock in mode h leaves open, of those that the cover must refuse.
+-- The first place that a lock in mode h leaves open, of those that the cover must conflict with.
 abbrev pub first_open : Protocol → Cover → ℕ → Option Place
 first_open p c h = first (open_places p c h)
 
--- A row tells that place for each mode of p, and for none.
+-- A row tells that place for 0, which is no lock, and for each mode of p.
 abbrev pub AreFirst : Protocol → Cover → List (Option Place) → Type 0
 AreFirst p c holes = (h : ℕ) → h ≤ p.count → slice_index_or holes h None ≡ first_open p c h
 

@@ -7,11 +7,8 @@ ghost use Rattle.kr_cases.specs.Told.{Tells};
 use crate::finder::failed_cases;
 use kr_model::{FailedCase, Mode, Row, Side, Span};
 use kr_protocol::{Covered, Protocol};
-use std::alloc::{AllocError, Global};
+use std::alloc::Global;
 use thiserror::Error;
-
-/// A growth was refused.
-pub type Memory = AllocError;
 
 /// A protocol that the checker accepted: it answers as the one that was given, and every case of it holds.
 #[derive(Drop)]
@@ -98,7 +95,7 @@ pub struct Rejected<P: Protocol> {
 
 /// Accepts a protocol exactly where every case of it holds; else lists all cases that fail.
 ///
-/// It looks once at each place that a lock has to refuse, and then at each case. The list alone takes memory, so a
+/// It looks once at each place that a lock has to conflict with, and then at each case. The list alone takes memory, so a
 /// protocol that is covered is accepted in any case.
 pub fn check<P: Protocol>(alloc: Global, protocol: P) -> Result<Checked<P>, Rejected<P>>
     ensures exactly { IsOk result ↔ IsCovered (P.table protocol) }

@@ -1,15 +1,15 @@
 //! The first place that each mode leaves open of each cover.
 ghost use Rattle.std.specs.Prelude.{◌≡◌, ◌≤◌, filter, map};
 ghost use Rattle.kr_model.specs.declared.Side.TheVariants as side;
-ghost use Rattle.kr_model.specs.Covers.{must_refuse, place, places_of, modes_or_none, is_open};
+ghost use Rattle.kr_model.specs.Covers.{must_conflict, place, places_of, modes_or_none, is_open};
 ghost use Rattle.kr_cases.specs.Holes.{first, first_open, AreFirst, AreHoles};
 
 use kr_model::{Cover, Mode, Place, Row, Side};
 use kr_protocol::Protocol;
 
 /// What no other transaction may be granted beside a lock that has the cover, in order.
-fn must_refuse<P: Protocol>(protocol: &P, cover: Cover) -> &'static [(Row, Side)]
-    ensures { result.now ≡ must_refuse (P.table protocol.now) cover }
+fn must_conflict<P: Protocol>(protocol: &P, cover: Cover) -> &'static [(Row, Side)]
+    ensures { result.now ≡ must_conflict (P.table protocol.now) cover }
 {
     let updates = protocol.updates();
     match cover {
@@ -128,12 +128,12 @@ fn first_at<P: Protocol>(protocol: &P, held: Mode, ask: (Row, Side)) -> Option<P
     }
 }
 
-/// The first place that a lock in mode `held` leaves open, of those that the cover must refuse.
+/// The first place that a lock in mode `held` leaves open, of those that the cover must conflict with.
 fn first_open<P: Protocol>(protocol: &P, cover: Cover, held: Mode) -> Option<Place>
     requires { held ≤ (P.table protocol.now).count }
     ensures { result ≡ first_open (P.table protocol.now) cover held }
 {
-    for ask in must_refuse(protocol, cover) {
+    for ask in must_conflict(protocol, cover) {
         if let Some(place) = first_at(protocol, held, *ask) {
             return Some(place);
         }
@@ -141,7 +141,7 @@ fn first_open<P: Protocol>(protocol: &P, cover: Cover, held: Mode) -> Option<Pla
     None
 }
 
-/// The first place that each mode leaves open of a cover, by mode, from none on.
+/// The first place that each mode leaves open of a cover, by mode, from 0 on.
 fn row_of<P: Protocol>(protocol: &P, cover: Cover) -> [Option<Place>; 16]
     ensures { AreFirst (P.table protocol.now) cover result }
 {
@@ -152,7 +152,7 @@ fn row_of<P: Protocol>(protocol: &P, cover: Cover) -> [Option<Place>; 16]
     row
 }
 
-/// The first place that each mode leaves open of each cover, by mode, from none on.
+/// The first place that each mode leaves open of each cover, by mode, from 0 on.
 #[derive(Drop)]
 pub(crate) struct Holes {
     pub(crate) read_key: [Option<Place>; 16],

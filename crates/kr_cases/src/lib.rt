@@ -5,5 +5,5 @@ mod checker;
 mod finder;
 mod holes;
 
-pub use checker::{Cause, Checked, Memory, Rejected, cases, check};
-pub use kr_model::FailedCase;
+pub use checker::{Cause, Checked, Rejected, cases, check};
+pub use kr_model::{FailedCase, Memory};

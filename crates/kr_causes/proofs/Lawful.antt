@@ -12,7 +12,7 @@ use Rattle.kr_causes.specs.declared.change.Change.{Change}
 use Rattle.kr_causes.specs.declared.change.Change.TheVariants.{Ask, Convert, Apart}
 use Rattle.kr_causes.specs.Changes.{changed, is_change, is_mode, is_offered, row_number, side_number, is_place, concerns, moves_keys}
 
--- none is no mode
+-- 0 is no mode
 none_is_not : (m : ℕ) → 0 < m → (0 == m) ≡ false
 none_is_not m some = grind (arith, nat_tests)
 

@@ -4,8 +4,8 @@ use kr_model::{Mode, Row, Side, Span};
 /// What is to blame for failed cases.
 #[derive(Clone, Copy, Debug, PartialEq, Eq)]
 pub enum Blame {
-    /// What the row asks for at this side. No lock refuses it: the row asks for nothing there, or its request stands
-    /// beside every mode.
+    /// What the row asks for at this side. No lock conflicts with it: the row asks for nothing there, or its request
+    /// stands beside every mode.
     Place {
         row: Row,
         side: Side,

@@ -27,7 +27,7 @@ impl Reasons {
     }
 }
 
-/// The places that locks have to refuse, in the order in which they are blamed.
+/// The places that locks have to conflict with, in the order in which they are blamed.
 const PLACES: [(Row, Side); 8] = [
     (Row::FetchHit, Side::Current),
     (Row::FetchMiss, Side::Next),
@@ -39,8 +39,8 @@ const PLACES: [(Row, Side); 8] = [
     (Row::Update, Side::Current),
 ];
 
-/// Whether a lock that has the cover has to refuse what the row asks for at the side.
-fn must_refuse<P: Protocol>(protocol: &P, cover: Cover, row: Row, side: Side) -> bool {
+/// Whether a lock that has the cover has to conflict with what the row asks for at the side.
+fn must_conflict<P: Protocol>(protocol: &P, cover: Cover, row: Row, side: Side) -> bool {
     match (row, side) {
         (Row::FetchHit, Side::Current) => {
             matches!(cover, Cover::InsertedKey | Cover::UpdatedKey)
@@ -81,7 +81,7 @@ pub(crate) fn asked<P: Protocol>(
     protocol.ask(row, side, own_next)
 }
 
-/// Whether a request may stand beside a lock, both of them modes or none.
+/// Whether a request may stand beside a lock, both of them modes or 0.
 fn stands_beside<P: Protocol>(protocol: &P, requested: Mode, held: Mode) -> bool {
     if requested > protocol.count() || held > protocol.count() {
         return true;
@@ -89,7 +89,7 @@ fn stands_beside<P: Protocol>(protocol: &P, requested: Mode, held: Mode) -> bool
     protocol.ok(requested, held)
 }
 
-/// The mode of one who holds a mode and asks for another, both of them modes or none.
+/// The mode of one who holds a mode and asks for another, both of them modes or 0.
 fn converted<P: Protocol>(protocol: &P, held: Mode, requested: Mode) -> Mode {
     if held > protocol.count() || requested > protocol.count() {
         return requested;
@@ -97,7 +97,7 @@ fn converted<P: Protocol>(protocol: &P, held: Mode, requested: Mode) -> Mode {
     protocol.convert(held, requested)
 }
 
-/// Whether no lock refuses what the row asks for at the side, where the asker holds nothing.
+/// Whether no lock conflicts with what the row asks for at the side, where the asker holds nothing.
 fn is_void<P: Protocol>(protocol: &P, row: Row, side: Side) -> bool {
     match protocol.ask(row, side, 0) {
         None => true,
@@ -112,18 +112,18 @@ fn is_void<P: Protocol>(protocol: &P, row: Row, side: Side) -> bool {
     }
 }
 
-/// The first place that no lock refuses, of those that the cover has to refuse.
+/// The first place that no lock conflicts with, of those that the cover has to conflict with.
 fn void_place<P: Protocol>(protocol: &P, cover: Cover) -> Option<Blame> {
     for (row, side) in PLACES {
-        if must_refuse(protocol, cover, row, side) && is_void(protocol, row, side) {
+        if must_conflict(protocol, cover, row, side) && is_void(protocol, row, side) {
             return Some(Blame::Place { row, side });
         }
     }
     None
 }
 
-/// Whether a lock in a mode refuses what a row asks for at a side, whatever the asker holds.
-fn refuses<P: Protocol>(protocol: &P, held: Mode, row: Row, side: Side) -> bool {
+/// Whether a lock in a mode conflicts with what a row asks for at a side, whatever the asker holds.
+fn conflicts<P: Protocol>(protocol: &P, held: Mode, row: Row, side: Side) -> bool {
     for own_next in 0..protocol.count() + 1 {
         let Some((requested, _)) = protocol.ask(row, side, own_next) else {
             return false;
@@ -138,10 +138,10 @@ fn refuses<P: Protocol>(protocol: &P, held: Mode, row: Row, side: Side) -> bool 
     true
 }
 
-/// Whether a lock in a mode leaves no place open of those that the cover has to refuse.
+/// Whether a lock in a mode leaves no place open of those that the cover has to conflict with.
 fn serves<P: Protocol>(protocol: &P, cover: Cover, held: Mode) -> bool {
     for (row, side) in PLACES {
-        if must_refuse(protocol, cover, row, side) && !refuses(protocol, held, row, side) {
+        if must_conflict(protocol, cover, row, side) && !conflicts(protocol, held, row, side) {
             return false;
         }
     }
@@ -162,7 +162,7 @@ fn taken_at(rule: Rule) -> Option<(Row, Side)> {
     }
 }
 
-/// The own mode on the next name with which the lock of a case was taken, and none where the row doesn't go by it.
+/// The own mode on the next name with which the lock of a case was taken, and 0 where the row doesn't go by it.
 pub(crate) fn own_next(case: &FailedCase) -> Mode {
     match (case.case, case.from) {
         (Rule::Insert | Rule::Split, Origin::Two(next, _)) => next,

@@ -4,14 +4,14 @@ ghost use Rattle.std.specs.Prelude.{◌≡◌, ◌≤◌};
 use kr_model::{Cover, Mode, Row, Side, Span};
 use kr_protocol::Protocol;
 
-/// A lock table, asked about any numbers: one past the table's modes is taken for none.
+/// A lock table, asked about any numbers: one past the table's modes is taken for 0, no lock.
 #[derive(Drop)]
 pub(crate) struct Table<'a, P: Protocol> {
     pub protocol: &'a P,
 }
 
 impl<P: Protocol> Table<'_, P> {
-    /// The mode, or none where it is past the table's modes.
+    /// The mode, or 0 where it is past the table's modes.
     fn known(&self, mode: Mode) -> Mode
         ensures known { result ≤ (P.table self.now.protocol.now).count }
         ensures same { mode ≤ (P.table self.now.protocol.now).count → result ≡ mode }
@@ -69,7 +69,7 @@ impl<P: Protocol> Table<'_, P> {
         }
     }
 
-    /// Whether a cover has to refuse what a row asks for: an update only where updates are offered.
+    /// Whether a cover has to conflict with what a row asks for: an update only where updates are offered.
     pub(crate) fn offers(&self, cover: Cover, row: Row) -> bool {
         self.protocol.updates() || cover != Cover::UpdatedKey && row != Row::Update
     }

@@ -76,7 +76,7 @@ fn steps_of(alloc: Global, cases: &[FailedCase]) -> Result<String, Memory> {
     listed(alloc, &words, "and")
 }
 
-/// Whether a lock that has the cover has to refuse what comes at this place.
+/// Whether a lock that has the cover has to conflict with what comes at this place.
 fn is_kept_out(cover: Cover, row: Row, side: Side) -> bool {
     match (row, side) {
         (Row::Delete, Side::Current) => true,

@@ -1,4 +1,4 @@
-//! Why a lock table is refused: what is to blame, a run that goes wrong for each cause, and what mends it; as a text, and
+//! Why a lock table is rejected: what is to blame, a run that goes wrong for each cause, and what mends it; as a text, and
 //! each run as a script.
 #![tactic(auto)]
 

@@ -93,7 +93,7 @@ pub fn beside<P: Protocol>(protocol: &P, requested: Mode, held: Mode) -> &str {
     }
 }
 
-/// A place at which no lock refuses anything.
+/// A place at which no lock conflicts with anything.
 fn place_sentence<P: Protocol>(
     alloc: Global,
     protocol: &P,

@@ -184,7 +184,7 @@ module _ (p : Protocol) (laws : IsLawful p) (cov : IsCovered p) (opening : Map) 
         (λ live. reads_one (op.Update k v) (reply.Updated w) refl (λ f. refl))
         (record { scan = subst (λ z. StandsScan None z) (sym idle_now) tt; changes = ap (λ l. (k, Some w) ∷ l) same_changes; rolling = same_rolling })
 
-    -- By what stands at the key and by who refuses --
+    -- By what stands at the key and by who conflicts --
 
     fetch_decided : (k : ℕ) (v : Option ℕ) (bs : List ℕ) → get s.map k ≡ v
         → blockers p s.locks t (requests_of p s.locks t (if is_some v then access row.FetchHit (Some (Key k)) None else access row.FetchMiss None (Some (at s.map k)))) ≡ bs

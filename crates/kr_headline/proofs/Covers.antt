@@ -10,8 +10,8 @@ use Rattle.kr_model.specs.declared.Side.TheVariants.{Current, Next}
 use Rattle.kr_model.specs.declared.Cover.{Cover}
 use Rattle.kr_model.specs.declared.Cover.TheVariants.{ReadKey, ReadGap, InsertedKey, DeletedGap, UpdatedKey}
 use Rattle.kr_model.specs.Protocol.{Protocol}
-use Rattle.kr_model.specs.Covers.{IsCovered, mode_after, must_refuse, if_updating, Ask, is_open, places_of, is_empty}
-use Rattle.kr_model.proofs.Guarantees.{In, Serves, IsRefused, refuses_current, refuses_next, after_fetch_hit, after_fetch_miss, after_insert, after_split, after_delete, after_scan_key, after_scan_stop, after_update, in_updating}
+use Rattle.kr_model.specs.Covers.{IsCovered, mode_after, must_conflict, if_updating, Ask, is_open, places_of, is_empty}
+use Rattle.kr_model.proofs.Guarantees.{In, Serves, Conflicts, conflicts_current, conflicts_next, after_fetch_hit, after_fetch_miss, after_insert, after_split, after_delete, after_scan_key, after_scan_stop, after_update, in_updating}
 
 -- The cover that a touched point needs, by whether its key is there.
 abbrev pub read_cover : Bool → Cover
@@ -29,56 +29,56 @@ change_cover false = DeletedGap
 abbrev pub Modes : Type 0
 Modes = ℕ → Name → ℕ
 
--- No other transaction's mode refuses what t asks for at the row and side; `on` is the mode of t on the next name.
+-- No other transaction's mode conflicts with what t asks for at the row and side; `on` is the mode of t on the next name.
 abbrev pub Granted : Protocol → Modes → ℕ → Row → Side → Name → ℕ → Type 0
-Granted p own t row side name on = (u : ℕ) → u ≢ t → IsRefused p (own u name) (own t name) (p.ask row side on) → ⊥
+Granted p own t row side name on = (u : ℕ) → u ≢ t → Conflicts p (own u name) (own t name) (p.ask row side on) → ⊥
 
 -- At the side next the name is the next name, so the two own modes are one.
 abbrev pub Fits : Side → ℕ → ℕ → Type 0
 Fits Current o on = Unit
 Fits Next o on = on ≡ o
 
--- A granted request is none that another's cover must refuse. This is the only use of the conflict matrix.
+-- A granted request is none that another's cover must conflict with. This is the only use of the conflict matrix.
 pub clash : (p : Protocol) (own : Modes) (t u : ℕ) (row : Row) (side : Side) (name : Name) (on : ℕ) (cover : Cover)
-    → Granted p own t row side name on → u ≢ t → Serves p cover (own u name) → In {A = Ask} (row, side) (must_refuse p cover)
+    → Granted p own t row side name on → u ≢ t → Serves p cover (own u name) → In {A = Ask} (row, side) (must_conflict p cover)
     → own t name ≤ p.count → on ≤ p.count → Fits side (own t name) on → ⊥
 clash p own t u row Current name on cover granted other s listed a b fits =
-    granted u other (refuses_current p cover (own u name) row s listed (own t name) on a b)
+    granted u other (conflicts_current p cover (own u name) row s listed (own t name) on a b)
 clash p own t u row Next name on cover granted other s listed a b fits =
-    granted u other (subst (λ z. IsRefused p (own u name) (own t name) (p.ask row Next z)) (sym fits) (refuses_next p cover (own u name) row s listed (own t name) a))
+    granted u other (subst (λ z. Conflicts p (own u name) (own t name) (p.ask row Next z)) (sym fits) (conflicts_next p cover (own u name) row s listed (own t name) a))
 
--- What each cover must refuse.
-pub reads_refuse_delete : (p : Protocol) (b : Bool) → In {A = Ask} (Delete, Current) (must_refuse p (read_cover b))
-reads_refuse_delete p true = inl refl
-reads_refuse_delete p false = inr (inl refl)
+-- What each cover must conflict with.
+pub reads_conflict_delete : (p : Protocol) (b : Bool) → In {A = Ask} (Delete, Current) (must_conflict p (read_cover b))
+reads_conflict_delete p true = inl refl
+reads_conflict_delete p false = inr (inl refl)
 
-pub changes_refuse_miss : (p : Protocol) (b : Bool) → In {A = Ask} (FetchMiss, Next) (must_refuse p (change_cover b))
-changes_refuse_miss p true = inr (inl refl)
-changes_refuse_miss p false = inl refl
+pub changes_conflict_miss : (p : Protocol) (b : Bool) → In {A = Ask} (FetchMiss, Next) (must_conflict p (change_cover b))
+changes_conflict_miss p true = inr (inl refl)
+changes_conflict_miss p false = inl refl
 
-pub changes_refuse_key : (p : Protocol) (b : Bool) → In {A = Ask} (ScanKey, Current) (must_refuse p (change_cover b))
-changes_refuse_key p true = inr (inr (inl refl))
-changes_refuse_key p false = inr (inl refl)
+pub changes_conflict_key : (p : Protocol) (b : Bool) → In {A = Ask} (ScanKey, Current) (must_conflict p (change_cover b))
+changes_conflict_key p true = inr (inr (inl refl))
+changes_conflict_key p false = inr (inl refl)
 
-pub changes_refuse_stop : (p : Protocol) (b : Bool) → In {A = Ask} (ScanStop, Next) (must_refuse p (change_cover b))
-changes_refuse_stop p true = inr (inr (inr (inl refl)))
-changes_refuse_stop p false = inr (inr (inl refl))
+pub changes_conflict_stop : (p : Protocol) (b : Bool) → In {A = Ask} (ScanStop, Next) (must_conflict p (change_cover b))
+changes_conflict_stop p true = inr (inr (inr (inl refl)))
+changes_conflict_stop p false = inr (inr (inl refl))
 
-pub changes_refuse_delete : (p : Protocol) (b : Bool) (side : Side) → In {A = Ask} (Delete, side) (must_refuse p (change_cover b))
-changes_refuse_delete p true Current = inr (inr (inr (inr (inl refl))))
-changes_refuse_delete p true Next = inr (inr (inr (inr (inr (inl refl)))))
-changes_refuse_delete p false Current = inr (inr (inr (inr (inl refl))))
-changes_refuse_delete p false Next = inr (inr (inr (inr (inr (inl refl)))))
+pub changes_conflict_delete : (p : Protocol) (b : Bool) (side : Side) → In {A = Ask} (Delete, side) (must_conflict p (change_cover b))
+changes_conflict_delete p true Current = inr (inr (inr (inr (inl refl))))
+changes_conflict_delete p true Next = inr (inr (inr (inr (inr (inl refl)))))
+changes_conflict_delete p false Current = inr (inr (inr (inr (inl refl))))
+changes_conflict_delete p false Next = inr (inr (inr (inr (inr (inl refl)))))
 
-pub read_refuses_update : (p : Protocol) → p.updates ≡ true → In {A = Ask} (Update, Current) (must_refuse p ReadKey)
-read_refuses_update p up = inr (in_updating p (Update, Current) ((Update, Current) ∷ []) up (inl refl))
+pub read_conflicts_update : (p : Protocol) → p.updates ≡ true → In {A = Ask} (Update, Current) (must_conflict p ReadKey)
+read_conflicts_update p up = inr (in_updating p (Update, Current) ((Update, Current) ∷ []) up (inl refl))
 
 -- What is listed where updates are offered.
-abbrev updated_refuses : List Ask
-updated_refuses = (FetchHit, Current) ∷ (ScanKey, Current) ∷ (Delete, Current) ∷ (Update, Current) ∷ []
+abbrev updated_conflicts : List Ask
+updated_conflicts = (FetchHit, Current) ∷ (ScanKey, Current) ∷ (Delete, Current) ∷ (Update, Current) ∷ []
 
-in_updated : (p : Protocol) (a : Ask) → p.updates ≡ true → In a updated_refuses → In a (must_refuse p UpdatedKey)
-in_updated p a up i = in_updating p a updated_refuses up i
+in_updated : (p : Protocol) (a : Ask) → p.updates ≡ true → In a updated_conflicts → In a (must_conflict p UpdatedKey)
+in_updated p a up i = in_updating p a updated_conflicts up i
 
 -- The cover of a change serves as that of a read --
 
@@ -117,10 +117,10 @@ none_in f g [] h = refl
 none_in f g (y ∷ ys) h = none_both f (g y) (flat_map g ys) (h y (inl refl)) (none_in f g ys (λ x i. h x (inr i)))
 
 -- A cover with a longer list serves as one with a shorter.
-weaker : (p : Protocol) (h : ℕ) (c d : Cover) → ((a : Ask) → In a (must_refuse p c) → In a (must_refuse p d)) → Serves p d h → Serves p c h
-weaker p h c d within s = none_in (is_open p h) (places_of p) (must_refuse p c) (λ a i. none_of (is_open p h) (places_of p) (must_refuse p d) s a (within a i))
+weaker : (p : Protocol) (h : ℕ) (c d : Cover) → ((a : Ask) → In a (must_conflict p c) → In a (must_conflict p d)) → Serves p d h → Serves p c h
+weaker p h c d within s = none_in (is_open p h) (places_of p) (must_conflict p c) (λ a i. none_of (is_open p h) (places_of p) (must_conflict p d) s a (within a i))
 
-read_in_change : (p : Protocol) (b : Bool) (a : Ask) → In a (must_refuse p (read_cover b)) → In a (must_refuse p (change_cover b))
+read_in_change : (p : Protocol) (b : Bool) (a : Ask) → In a (must_conflict p (read_cover b)) → In a (must_conflict p (change_cover b))
 read_in_change p true a (inl e) = inr (inr (inr (inr (inl e))))
 read_in_change p true a (inr more) = inr (inr (inr (inr (inr (inr more)))))
 read_in_change p false a (inl e) = inr (inr (inr (inl e)))
@@ -137,7 +137,7 @@ if_updating_only p x xs i = by p.updates i
     by true i = i
     by false i = absurd i
 
-read_in_updated : (p : Protocol) → p.updates ≡ true → (a : Ask) → In a (must_refuse p ReadKey) → In a (must_refuse p UpdatedKey)
+read_in_updated : (p : Protocol) → p.updates ≡ true → (a : Ask) → In a (must_conflict p ReadKey) → In a (must_conflict p UpdatedKey)
 read_in_updated p up a (inl e) = in_updated p a up (inr (inr (inl e)))
 read_in_updated p up a (inr more) = in_updated p a up (inr (inr (inr (if_updating_only p a ((Update, Current) ∷ []) more))))
 
@@ -189,21 +189,21 @@ pub holds_read : (p : Protocol) (h : ℕ) → Holds p h → Serves p ReadKey h
 holds_read p h (inl s) = weaken p h true s
 holds_read p h (inr s) = update_read p h s.0 s.1
 
--- A row that both refuse on the key.
-abbrev pub BothRefuse : Protocol → Row → Type 0
-BothRefuse p row = In {A = Ask} (row, Current) (must_refuse p InsertedKey) × (p.updates ≡ true → In {A = Ask} (row, Current) (must_refuse p UpdatedKey))
+-- A row that both conflict with on the key.
+abbrev pub BothConflict : Protocol → Row → Type 0
+BothConflict p row = In {A = Ask} (row, Current) (must_conflict p InsertedKey) × (p.updates ≡ true → In {A = Ask} (row, Current) (must_conflict p UpdatedKey))
 
-pub both_refuse_hit : (p : Protocol) → BothRefuse p FetchHit
-both_refuse_hit p = (inl refl, λ up. in_updated p (FetchHit, Current) up (inl refl))
+pub both_conflict_hit : (p : Protocol) → BothConflict p FetchHit
+both_conflict_hit p = (inl refl, λ up. in_updated p (FetchHit, Current) up (inl refl))
 
-pub both_refuse_key : (p : Protocol) → BothRefuse p ScanKey
-both_refuse_key p = (inr (inr (inl refl)), λ up. in_updated p (ScanKey, Current) up (inr (inl refl)))
+pub both_conflict_key : (p : Protocol) → BothConflict p ScanKey
+both_conflict_key p = (inr (inr (inl refl)), λ up. in_updated p (ScanKey, Current) up (inr (inl refl)))
 
-pub both_refuse_delete : (p : Protocol) → BothRefuse p Delete
-both_refuse_delete p = (inr (inr (inr (inr (inl refl)))), λ up. in_updated p (Delete, Current) up (inr (inr (inl refl))))
+pub both_conflict_delete : (p : Protocol) → BothConflict p Delete
+both_conflict_delete p = (inr (inr (inr (inr (inl refl)))), λ up. in_updated p (Delete, Current) up (inr (inr (inl refl))))
 
 -- No other is granted such a row.
 pub holds_clash : (p : Protocol) (own : Modes) (t u : ℕ) (row : Row) (name : Name) (on : ℕ) → Granted p own t row Current name on → u ≢ t → Holds p (own u name)
-    → BothRefuse p row → own t name ≤ p.count → on ≤ p.count → ⊥
+    → BothConflict p row → own t name ≤ p.count → on ≤ p.count → ⊥
 holds_clash p own t u row name on granted other (inl s) both le on_le = clash p own t u row Current name on InsertedKey granted other s both.0 le on_le tt
 holds_clash p own t u row name on granted other (inr s) both le on_le = clash p own t u row Current name on UpdatedKey granted other s.1 (both.1 s.0) le on_le tt

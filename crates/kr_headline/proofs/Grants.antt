@@ -1,4 +1,4 @@
--- Grants: an attempt without blockers asks for nothing that another's mode refuses.
+-- Grants: an attempt without blockers asks for nothing that another's mode conflicts with.
 use Rattle.std.specs.Prelude.{◌≡◌, ℕ, ◌≤◌, Bool, true, false, not, ◌&&◌, ◌||◌, ◌==◌, List, [], ◌∷◌, Option, Some, None, refl, ◌⊎◌}
 use Rattle.std.specs.List.{list_any}
 use Rattle.std.proofs.lemmas.Bool.Decides.{nat_tests}
@@ -8,9 +8,9 @@ use Rattle.kr_model.specs.declared.Row.{Row}
 use Rattle.kr_model.specs.declared.Side.{Side}
 use Rattle.kr_model.specs.declared.Span.{Span}
 use Rattle.kr_model.specs.Protocol.{Protocol, IsLawful, IsMode}
-use Rattle.kr_model.specs.Locks.{Locks, own, lockers, blockers, refused_by, Request}
+use Rattle.kr_model.specs.Locks.{Locks, own, lockers, blockers, conflicts, Request}
 use Rattle.kr_model.specs.Plan.{Access, plan_by, requests}
-use Rattle.kr_model.proofs.Guarantees.{In, IsRefused}
+use Rattle.kr_model.proofs.Guarantees.{In, Conflicts}
 use Rattle.kr_model.proofs.Keep.{kept_mode}
 use Rattle.kr_model.proofs.Requests.{request_at}
 use Rattle.kr_model.proofs.RisingNumbers.{has, has-filter, has-lockers}
@@ -30,10 +30,10 @@ none_any f (y ∷ xs) h x i = split (f y) refl h i (λ g j. none_any f xs g x j)
     split false e g (inl s) rest = subst (λ w. f w ≡ false) s e
     split false e g (inr j) rest = rest g j
 
--- Who holds a lock and isn't a blocker refuses none of the requests.
-no_blocker : (p : Protocol) (h : Locks) (t : ℕ) (rs : List Request) → blockers p h t rs ≡ [] → (u : ℕ) (n : Name) → (own h u n ≡ 0 → ⊥) → list_any (λ r. refused_by p h t r u) rs ≡ false
+-- Who holds a lock and isn't a blocker conflicts with none of the requests.
+no_blocker : (p : Protocol) (h : Locks) (t : ℕ) (rs : List Request) → blockers p h t rs ≡ [] → (u : ℕ) (n : Name) → (own h u n ≡ 0 → ⊥) → list_any (λ r. conflicts p h t r u) rs ≡ false
 no_blocker p h t rs none u n held =
-    let test : ℕ → Bool = λ v. list_any (λ r. refused_by p h t r v) rs in
+    let test : ℕ → Bool = λ v. list_any (λ r. conflicts p h t r v) rs in
     passes (has (lockers h) u) (test u) (has-lockers h u n held) (sym (has-filter test (lockers h) u) ∙ ap (λ us. has us u) none)
   where
     passes : (a b : Bool) → a ≡ true → (a && b) ≡ false → b ≡ false
@@ -44,7 +44,7 @@ no_blocker p h t rs none u n held =
 stands_beside : (p : Protocol) (h : Locks) (t : ℕ) (rs : List Request) → blockers p h t rs ≡ [] → (r : Request) → In r rs → (u : ℕ) → (u ≡ t → ⊥) → (own h u r.0 ≡ 0 → ⊥)
     → p.ok (p.convert (own h t r.0) r.1) (own h u r.0) ≡ true
 stands_beside p h t rs none r i u other held =
-    allowed (u == t) (p.ok (p.convert (own h t r.0) r.1) (own h u r.0)) (untied u t other) (none_any (λ q. refused_by p h t q u) rs (no_blocker p h t rs none u r.0 held) r i)
+    allowed (u == t) (p.ok (p.convert (own h t r.0) r.1) (own h u r.0)) (untied u t other) (none_any (λ q. conflicts p h t q u) rs (no_blocker p h t rs none u r.0 held) r i)
   where
     untied : (u t : ℕ) → (u ≡ t → ⊥) → (u == t) ≡ false
     untied u t d = grind (arith, nat_tests)
@@ -66,12 +66,12 @@ granted_at p laws h t rs none range row side name on in_range within u other =
     same_or_not : (j k : ℕ) → (j ≡ k) ⊎ (j ≡ k → ⊥)
     same_or_not j k = grind arith
 
-    by_request : (a : Option (ℕ × Span)) → ((q : ℕ) (s : Span) → a ≡ Some (q, s) → IsMode p q) → ((r : Request) → In r (request_at (Some name) a) → In r rs) → IsRefused p (own h u name) (own h t name) a → ⊥
-    by_request None mode inside refused = refused
-    by_request (Some (q, s)) mode inside refused =
+    by_request : (a : Option (ℕ × Span)) → ((q : ℕ) (s : Span) → a ≡ Some (q, s) → IsMode p q) → ((r : Request) → In r (request_at (Some name) a) → In r rs) → Conflicts p (own h u name) (own h t name) a → ⊥
+    by_request None mode inside conflict = conflict
+    by_request (Some (q, s)) mode inside conflict =
         elim (same_or_not (own h u name) 0) [
           | inl e ↦ let i = mode q s refl in
               let m = kept_mode p (own h t name) q laws (range t name) i.some i.in_range in
-              true_not_false (sym (laws.ok-none_held (p.convert (own h t name) q) m.in_range) ∙ ap (λ x. p.ok (p.convert (own h t name) q) x) (sym e) ∙ refused)
-          | inr d ↦ let r : Request = (name, q, s) in true_not_false (sym (stands_beside p h t rs none r (inside r (inl refl)) u other d) ∙ refused)
+              true_not_false (sym (laws.ok-none_held (p.convert (own h t name) q) m.in_range) ∙ ap (λ x. p.ok (p.convert (own h t name) q) x) (sym e) ∙ conflict)
+          | inr d ↦ let r : Request = (name, q, s) in true_not_false (sym (stands_beside p h t rs none r (inside r (inl refl)) u other d) ∙ conflict)
         ]

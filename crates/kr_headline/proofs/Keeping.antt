@@ -19,35 +19,35 @@ use Rattle.kr_model.specs.Locks.{Locks, own, keep, Request, kept, kept_one, rele
 use Rattle.kr_model.proofs.LockLaws.{own-keep_same, own-keep_other, own-release_other, name_or_not}
 use Rattle.kr_model.proofs.Keep.{kept_mode}
 use Rattle.kr_model.proofs.Requests.{request_at, AskModes}
-use Rattle.kr_model.proofs.Guarantees.{IsRefused, Serves, refuses_current, refuses_next, keeps_cover, IsKnown, in_updating}
+use Rattle.kr_model.proofs.Guarantees.{Conflicts, Serves, conflicts_current, conflicts_next, keeps_cover, IsKnown, in_updating}
 use Rattle.kr_headline.proofs.Guarded.{Taken}
 
 -- Conversions --
 
-asked_none : (p : Protocol) → IsLawful p → (r : Row) (side : Side) → IsRefused p 0 0 (p.ask r side 0) → ⊥
+asked_none : (p : Protocol) → IsLawful p → (r : Row) (side : Side) → Conflicts p 0 0 (p.ask r side 0) → ⊥
 asked_none p laws r side = by_request (p.ask r side 0) (λ q s e. laws.ask-mode r side 0 q s (omega arith) e)
   where
     true_not_false : true ≡ false → ⊥
     true_not_false e = cc
 
-    by_request : (a : Option (ℕ × Span)) → ((q : ℕ) (s : Span) → a ≡ Some (q, s) → IsMode p q) → IsRefused p 0 0 a → ⊥
-    by_request None mode refused = refused
-    by_request (Some (q, s)) mode refused = let i = mode q s refl in let m = kept_mode p 0 q laws (omega arith) i.some i.in_range in true_not_false (sym (laws.ok-none_held (p.convert 0 q) m.in_range) ∙ refused)
+    by_request : (a : Option (ℕ × Span)) → ((q : ℕ) (s : Span) → a ≡ Some (q, s) → IsMode p q) → Conflicts p 0 0 a → ⊥
+    by_request None mode conflict = conflict
+    by_request (Some (q, s)) mode conflict = let i = mode q s refl in let m = kept_mode p 0 q laws (omega arith) i.some i.in_range in true_not_false (sym (laws.ok-none_held (p.convert 0 q) m.in_range) ∙ conflict)
 
--- What an update's cover must refuse, where updates are offered.
-abbrev updated_refuses : List Ask
-updated_refuses = (row.FetchHit, Current) ∷ (row.ScanKey, Current) ∷ (row.Delete, Current) ∷ (row.Update, Current) ∷ []
+-- What an update's cover must conflict with, where updates are offered.
+abbrev updated_conflicts : List Ask
+updated_conflicts = (row.FetchHit, Current) ∷ (row.ScanKey, Current) ∷ (row.Delete, Current) ∷ (row.Update, Current) ∷ []
 
--- None serves nothing: each cover that the protocol is asked for must refuse something.
+-- Who holds no lock has no cover: each cover that the protocol is asked for must conflict with something.
 none_serves : (p : Protocol) → IsLawful p → (c : Cover) → IsKnown p c → Serves p c 0 → ⊥
-none_serves p laws ReadKey up s = asked_none p laws row.Delete Current (refuses_current p ReadKey 0 row.Delete s (inl refl) 0 0 (omega arith) (omega arith))
-none_serves p laws ReadGap up s = asked_none p laws row.Insert Next (refuses_next p ReadGap 0 row.Insert s (inl refl) 0 (omega arith))
-none_serves p laws InsertedKey up s = asked_none p laws row.FetchHit Current (refuses_current p InsertedKey 0 row.FetchHit s (inl refl) 0 0 (omega arith) (omega arith))
-none_serves p laws DeletedGap up s = asked_none p laws row.FetchMiss Next (refuses_next p DeletedGap 0 row.FetchMiss s (inl refl) 0 (omega arith))
+none_serves p laws ReadKey up s = asked_none p laws row.Delete Current (conflicts_current p ReadKey 0 row.Delete s (inl refl) 0 0 (omega arith) (omega arith))
+none_serves p laws ReadGap up s = asked_none p laws row.Insert Next (conflicts_next p ReadGap 0 row.Insert s (inl refl) 0 (omega arith))
+none_serves p laws InsertedKey up s = asked_none p laws row.FetchHit Current (conflicts_current p InsertedKey 0 row.FetchHit s (inl refl) 0 0 (omega arith) (omega arith))
+none_serves p laws DeletedGap up s = asked_none p laws row.FetchMiss Next (conflicts_next p DeletedGap 0 row.FetchMiss s (inl refl) 0 (omega arith))
 none_serves p laws UpdatedKey up s = asked_none p laws row.FetchHit Current
-    (refuses_current p UpdatedKey 0 row.FetchHit s (in_updating p (row.FetchHit, Current) updated_refuses up (inl refl)) 0 0 (omega arith) (omega arith))
+    (conflicts_current p UpdatedKey 0 row.FetchHit s (in_updating p (row.FetchHit, Current) updated_conflicts up (inl refl)) 0 0 (omega arith) (omega arith))
 
--- A cover that the protocol isn't asked for refuses nothing, so every mode serves it.
+-- A cover that the protocol isn't asked for conflicts with nothing, so every mode serves it.
 known_or_free : (p : Protocol) (c : Cover) → IsKnown p c ⊎ ((h : ℕ) → Serves p c h)
 known_or_free p ReadKey = inl tt
 known_or_free p ReadGap = inl tt
@@ -57,7 +57,7 @@ known_or_free p UpdatedKey = by_updates (cases_Bool p.updates)
   where
     by_updates : (p.updates ≡ true) ⊎ (p.updates ≡ false) → (p.updates ≡ true) ⊎ ((h : ℕ) → Serves p UpdatedKey h)
     by_updates (inl e) = inl e
-    by_updates (inr e) = inr (λ h. subst (λ (b : Bool). is_empty (filter (is_open p h) (flat_map (places_of p) (if b then updated_refuses else []))) ≡ true) (sym e) refl)
+    by_updates (inr e) = inr (λ h. subst (λ (b : Bool). is_empty (filter (is_open p h) (flat_map (places_of p) (if b then updated_conflicts else []))) ≡ true) (sym e) refl)
 
 -- A conversion keeps what is served.
 converted_serves : (p : Protocol) → IsLawful p → IsCovered p → (c : Cover) (h q : ℕ) → h ≤ p.count → IsMode p q → Serves p c h → Serves p c (p.convert h q)

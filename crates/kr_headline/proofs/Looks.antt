@@ -162,7 +162,7 @@ module _ (p : Protocol) (laws : IsLawful p) (cov : IsCovered p) (opening : Map) 
     row_decided true e le = last_key (same_of x c.hi e)
     row_decided false e le = next_key (below_of x c.hi le e)
 
-  -- By the name that is looked at and by who refuses --
+  -- By the name that is looked at and by who conflicts --
 
   abbrev key_access : Bool → ℕ → Access
   key_access b k = if b then access row.ScanKey (Some (Key k)) None else access row.ScanStop None (Some (Key k))

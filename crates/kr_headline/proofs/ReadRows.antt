@@ -12,10 +12,10 @@ use Rattle.kr_model.specs.declared.Cover.TheVariants.{ReadKey, ReadGap}
 use Rattle.kr_model.specs.Protocol.{Protocol, IsLawful, MovesNoKey}
 use Rattle.kr_model.specs.Covers.{mode_after}
 use Rattle.kr_model.specs.Map.{Map, at}
-use Rattle.kr_model.proofs.Guarantees.{IsRefused, Serves}
+use Rattle.kr_model.proofs.Guarantees.{Conflicts, Serves}
 use Rattle.kr_headline.proofs.Gaps.{has, Reach, at-key, at-unique, reach-refl, reach-at}
 use Rattle.kr_headline.proofs.Parts.{Parts, Changed, Moved}
-use Rattle.kr_headline.proofs.Covers.{Modes, read_cover, Granted, Covered, holds_clash, both_refuse_hit, both_refuse_key, changes_refuse_miss, changes_refuse_stop}
+use Rattle.kr_headline.proofs.Covers.{Modes, read_cover, Granted, Covered, holds_clash, both_conflict_hit, both_conflict_key, changes_conflict_miss, changes_conflict_stop}
 use Rattle.kr_headline.proofs.Steps.{hit_apart, key_apart, gap_apart}
 use Rattle.kr_headline.proofs.Invariant.{Invariant, gone_moved}
 use Rattle.kr_headline.proofs.Scans.{key_cover, gap_reach}
@@ -36,8 +36,8 @@ module _ (p : Protocol) (laws : IsLawful p) (cases : Covered p) (m : Map) (own :
 
   -- A reading row asks the same whatever is held.
   whatever_held : (row : Row) (side : Side) (name : Name) → MovesNoKey row → Granted p own t row side name 0 → Granted p own t row side name (own t name)
-  whatever_held row side name reads granted u ne refused =
-      granted u ne (subst (λ z. IsRefused p (own u name) (own t name) z) (laws.ask-no_move row side (own t name) reads (range t name)) refused)
+  whatever_held row side name reads granted u ne conflict =
+      granted u ne (subst (λ z. Conflicts p (own u name) (own t name) z) (laws.ask-no_move row side (own t name) reads (range t name)) conflict)
 
   -- A fetch of a present key touches it.
   pub hit_touches : (k : ℕ) → has m k ≡ true → Granted p own t FetchHit Current (Key k) 0 → KeepsAfter p own own' t FetchHit Current (Key k) → MayTouch p m own' part t (λ y. y ≡ k)
@@ -48,14 +48,14 @@ module _ (p : Protocol) (laws : IsLawful p) (cases : Covered p) (m : Map) (own :
             (subst (λ b. Serves p (read_cover b) (own' t (at m k))) (sym there)
             (subst (λ z. Serves p ReadKey (own' t z)) (sym (at-unique m k k i.is_map (reach-refl m k) there)) (after ReadKey (cases.after_hit (own t (Key k)) (range t (Key k))))));
         apart = hit_apart p m i.is_map own part i.guarded t k 0 (omega arith) granted there;
-        unchanged = λ u y ne e changed. holds_clash p own t u FetchHit (Key k) 0 granted ne (w.present u k (subst (λ z. Changed (part u) z) e changed) there) (both_refuse_hit p) (range t (Key k)) (omega arith);
+        unchanged = λ u y ne e changed. holds_clash p own t u FetchHit (Key k) 0 granted ne (w.present u k (subst (λ z. Changed (part u) z) e changed) there) (both_conflict_hit p) (range t (Key k)) (omega arith);
       }
 
   -- A fetch of an absent key touches it.
   pub miss_touches : (k : ℕ) → has m k ≡ false → Granted p own t FetchMiss Next (at m k) 0 → KeepsAfter p own own' t FetchMiss Next (at m k) → MayTouch p m own' part t (λ y. y ≡ k)
   miss_touches k absent granted after =
       let w = i.owned in
-      let apart = gap_apart p m i.is_map own part i.guarded t k FetchMiss (changes_refuse_miss p) (whatever_held FetchMiss Next (at m k) tt granted) in
+      let apart = gap_apart p m i.is_map own part i.guarded t k FetchMiss (changes_conflict_miss p) (whatever_held FetchMiss Next (at m k) tt granted) in
       let reach : (y : ℕ) → y ≡ k → Reach m k y = λ y e. subst (λ z. Reach m k z) (sym e) (reach-refl m k) in
       record {
         covers = λ y e. subst (λ z. Serves p (read_cover (has m z)) (own' t (at m z))) (sym e)
@@ -79,7 +79,7 @@ module _ (p : Protocol) (laws : IsLawful p) (cases : Covered p) (m : Map) (own :
         unchanged = λ u y ne here changed. ⊎_elim
             (λ lt. apart u y y ne here (gone_moved p m own part w u y changed (k.2 y here.0 lt)) (reach-refl m y))
             (λ ge. let e : y ≡ x = omega (arith, ge, here.1) in
-            holds_clash p own t u ScanKey (Key x) 0 granted ne (w.present u x (subst (λ z. Changed (part u) z) e changed) k.1) (both_refuse_key p) (range t (Key x)) (omega arith))
+            holds_clash p own t u ScanKey (Key x) 0 granted ne (w.present u x (subst (λ z. Changed (part u) z) e changed) k.1) (both_conflict_key p) (range t (Key x)) (omega arith))
             (cases_lt y x);
       }
 
@@ -88,7 +88,7 @@ module _ (p : Protocol) (laws : IsLawful p) (cases : Covered p) (m : Map) (own :
   stop_touches from hi far granted after =
       let w = i.owned in
       let name = at m from in
-      let apart = gap_apart p m i.is_map own part i.guarded t from ScanStop (changes_refuse_stop p) (whatever_held ScanStop Next name tt granted) in
+      let apart = gap_apart p m i.is_map own part i.guarded t from ScanStop (changes_conflict_stop p) (whatever_held ScanStop Next name tt granted) in
       let reach : (y : ℕ) → (from ≤ y) × (y ≤ hi) → (Reach m from y) × (has m y ≡ false) = λ y here. gap_reach m i.is_map from hi y far here.0 here.1 in
       record {
         covers = λ y here.

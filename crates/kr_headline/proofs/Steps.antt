@@ -9,12 +9,12 @@ use Rattle.kr_model.specs.declared.Side.TheVariants.{Current, Next}
 use Rattle.kr_model.specs.declared.Cover.{Cover}
 use Rattle.kr_model.specs.declared.Cover.TheVariants.{ReadKey, ReadGap, InsertedKey, DeletedGap, UpdatedKey}
 use Rattle.kr_model.specs.Protocol.{Protocol}
-use Rattle.kr_model.specs.Covers.{mode_after, must_refuse, Ask}
+use Rattle.kr_model.specs.Covers.{mode_after, must_conflict, Ask}
 use Rattle.kr_model.specs.Map.{Map, IsMap, at}
 use Rattle.kr_model.proofs.Guarantees.{In, Serves}
 use Rattle.kr_headline.proofs.Gaps.{has, Reach, at-key, at-unique, reach-refl, reach-from, reach-trans, reach-at, reach-dec, at-stable, Alike, alike-outside, at-insert, reach-insert, at-delete, reach-delete, reach-stable}
 use Rattle.kr_headline.proofs.Parts.{Part, Parts, blank, Touched, Moved, blank_untouched, with_part}
-use Rattle.kr_headline.proofs.Covers.{Modes, read_cover, change_cover, Granted, clash, weaken, Covered, reads_refuse_delete, changes_refuse_delete, changes_refuse_key, read_refuses_update, update_read}
+use Rattle.kr_headline.proofs.Covers.{Modes, read_cover, change_cover, Granted, clash, weaken, Covered, reads_conflict_delete, changes_conflict_delete, changes_conflict_key, read_conflicts_update, update_read}
 use Rattle.kr_headline.proofs.Guarded.{Taken, Guarded, stepped}
 
 -- A point whose reach ends at an absent key is absent.
@@ -28,14 +28,14 @@ alone_there m k c there r = ⊎_elim (λ e. e) (λ far. absurd (true≢false (sy
 module _ (p : Protocol) (m : Map) (hm : IsMap m) (own : Modes) (part : Parts) (g : Guarded p m own part) (t : ℕ) where
   -- An insert --
 
-  -- It is refused in the reach of a point that another has touched.
+  -- It isn't granted in the reach of a point that another has touched.
   pub insert_outside : (u k y : ℕ) → Granted p own t Insert Next (at m k) (own t (at m k)) → has m k ≡ false → u ≢ t → Touched (part u) y → Reach m y k → ⊥
   insert_outside u k y granted absent other touch reach =
       let here = subst (λ h. Serves p (read_cover h) (own u (at m y))) (gap_below m y k reach absent) (g.cover u y touch) in
       clash p own t u Insert Next (at m k) (own t (at m k)) ReadGap granted other
       (subst (λ z. Serves p ReadGap (own u z)) (reach-at m y k hm reach) here) (inl refl) (g.range t (at m k)) (g.range t (at m k)) refl
 
-  -- It is refused of a key that another has deleted.
+  -- It isn't granted of a key that another has deleted.
   pub insert_not_moved : (u k : ℕ) → Granted p own t Insert Next (at m k) (own t (at m k)) → has m k ≡ false → u ≢ t → Moved (part u) k → ⊥
   insert_not_moved u k granted absent other moved =
       clash p own t u Insert Next (at m k) (own t (at m k)) DeletedGap granted other
@@ -43,33 +43,33 @@ module _ (p : Protocol) (m : Map) (hm : IsMap m) (own : Modes) (part : Parts) (g
 
   -- A delete --
 
-  -- It is refused in the reach of a point that another has touched.
+  -- It isn't granted in the reach of a point that another has touched.
   pub delete_outside : (u k y : ℕ) → Granted p own t Delete Current (Key k) (own t (at m (suc k))) → has m k ≡ true → u ≢ t → Touched (part u) y → Reach m y k → ⊥
   delete_outside u k y granted there other touch reach =
       clash p own t u Delete Current (Key k) (own t (at m (suc k))) (read_cover (has m y)) granted other
-      (subst (λ z. Serves p (read_cover (has m y)) (own u z)) (at-unique m y k hm reach there) (g.cover u y touch)) (reads_refuse_delete p (has m y)) (g.range t (Key k)) (g.range t (at m (suc k))) tt
+      (subst (λ z. Serves p (read_cover (has m y)) (own u z)) (at-unique m y k hm reach there) (g.cover u y touch)) (reads_conflict_delete p (has m y)) (g.range t (Key k)) (g.range t (at m (suc k))) tt
 
-  -- It is refused of a key that another has inserted.
+  -- It isn't granted of a key that another has inserted.
   pub delete_not_moved : (u k : ℕ) → Granted p own t Delete Current (Key k) (own t (at m (suc k))) → has m k ≡ true → u ≢ t → Moved (part u) k → ⊥
   delete_not_moved u k granted there other moved =
       clash p own t u Delete Current (Key k) (own t (at m (suc k))) (change_cover (has m k)) granted other
       (subst (λ z. Serves p (change_cover (has m k)) (own u z)) (at-unique m k k hm (reach-refl m k) there) (g.change u k moved))
-      (changes_refuse_delete p (has m k) Current) (g.range t (Key k)) (g.range t (at m (suc k))) tt
+      (changes_conflict_delete p (has m k) Current) (g.range t (Key k)) (g.range t (at m (suc k))) tt
 
-  -- It is refused where the point above the key reaches a key that another has moved, since the gap would be merged with that one.
+  -- It isn't granted where the point above the key reaches a key that another has moved, since the gap would be merged with that one.
   pub delete_none_above : (u k c : ℕ) → Granted p own t Delete Next (at m (suc k)) (own t (at m (suc k))) → u ≢ t → Moved (part u) c → Reach m (suc k) c → ⊥
   delete_none_above u k c granted other moved reach =
       clash p own t u Delete Next (at m (suc k)) (own t (at m (suc k))) (change_cover (has m c)) granted other
-      (subst (λ z. Serves p (change_cover (has m c)) (own u z)) (sym (reach-at m (suc k) c hm reach)) (g.change u c moved)) (changes_refuse_delete p (has m c) Next) (g.range t (at m (suc k))) (g.range t (at m (suc k))) refl
+      (subst (λ z. Serves p (change_cover (has m c)) (own u z)) (sym (reach-at m (suc k) c hm reach)) (g.change u c moved)) (changes_conflict_delete p (has m c) Next) (g.range t (at m (suc k))) (g.range t (at m (suc k))) refl
 
   -- An update --
 
-  -- It is refused of a key that another has touched.
+  -- It isn't granted of a key that another has touched.
   pub update_outside : (u k : ℕ) → p.updates ≡ true → Granted p own t Update Current (Key k) 0 → has m k ≡ true → u ≢ t → Touched (part u) k → ⊥
   update_outside u k up granted there other touch =
       clash p own t u Update Current (Key k) 0 ReadKey granted other
       (subst (λ z. Serves p ReadKey (own u z)) (at-unique m k k hm (reach-refl m k) there) (subst (λ h. Serves p (read_cover h) (own u (at m k))) there (g.cover u k touch)))
-      (read_refuses_update p up) (g.range t (Key k)) (omega arith) tt
+      (read_conflicts_update p up) (g.range t (Key k)) (omega arith) tt
 
   -- Reads --
 
@@ -91,10 +91,10 @@ module _ (p : Protocol) (m : Map) (hm : IsMap m) (own : Modes) (part : Parts) (g
       let le : c ≤ x = ⊎_elim (λ lt. absurd (true≢false (sym k.1 ∙ reach.1 x new.1 lt))) (λ ge. ge) (cases_lt x c) in
       let same : at m c ≡ Key x = at-unique m c x hm (reach-from m from c x upto (omega (arith, new.0, reach.0)) le) k.1 in
       clash p own t u ScanKey Current (Key x) on (change_cover (has m c)) granted ne
-      (subst (λ z. Serves p (change_cover (has m c)) (own u z)) same (g.change u c moved)) (changes_refuse_key p (has m c)) (g.range t (Key x)) in_range tt
+      (subst (λ z. Serves p (change_cover (has m c)) (own u z)) same (g.change u c moved)) (changes_conflict_key p (has m c)) (g.range t (Key x)) in_range tt
 
   -- A read of a gap, under the name above it, meets none that its points reach.
-  pub gap_apart : (from : ℕ) (row : Row) → ((b : Bool) → In {A = Ask} (row, Next) (must_refuse p (change_cover b))) → Granted p own t row Next (at m from) (own t (at m from))
+  pub gap_apart : (from : ℕ) (row : Row) → ((b : Bool) → In {A = Ask} (row, Next) (must_conflict p (change_cover b))) → Granted p own t row Next (at m from) (own t (at m from))
       → (u y c : ℕ) → u ≢ t → Reach m from y → Moved (part u) c → Reach m y c → ⊥
   gap_apart from row listed granted u y c ne new moved reach =
       clash p own t u row Next (at m from) (own t (at m from)) (change_cover (has m c)) granted ne

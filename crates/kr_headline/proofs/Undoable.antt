@@ -16,7 +16,7 @@ use Rattle.kr_model.proofs.UndoLaws.{IsMap-restore}
 use Rattle.kr_headline.proofs.Undo.{changed_or_not, restore_here, restore_back}
 use Rattle.kr_headline.proofs.Moves.{MovedIn, has_apart, moved_by, moved_more, unmoved_back}
 use Rattle.kr_headline.proofs.Parts.{Part, Parts, blank, rolling_with, Moved, with_part, with_other, by_part, whose}
-use Rattle.kr_headline.proofs.Covers.{Modes, Granted, clash, Covered, Holds, holds_clash, both_refuse_delete}
+use Rattle.kr_headline.proofs.Covers.{Modes, Granted, clash, Covered, Holds, holds_clash, both_conflict_delete}
 use Rattle.kr_headline.proofs.Guarded.{Taken, Guarded}
 use Rattle.kr_headline.proofs.Guards.{Guard, Stack, guard_frame, stack_frame, stack_keeps, stack_top, stack_insert, stack_delete, stack_update}
 use Rattle.kr_headline.proofs.Steps.{alone_there, insert_not_moved, delete_not_moved, delete_none_above}
@@ -65,7 +65,7 @@ module _ (p : Protocol) (m : Map) (hm : IsMap m) (own : Modes) (part : Parts) (g
       let on = own t (at m (suc k)) in
       let named = at-unique m k k hm (reach-refl m k) there in
       ⊎_elim
-      (λ mine. holds_clash p own t u Delete (Key k) on granted other (subst (λ z. Holds p (own u z)) named (top.changed there mine)) (both_refuse_delete p) (g.range t (Key k)) (g.range t (at m (suc k))))
+      (λ mine. holds_clash p own t u Delete (Key k) on granted other (subst (λ z. Holds p (own u z)) named (top.changed there mine)) (both_conflict_delete p) (g.range t (Key k)) (g.range t (at m (suc k))))
       (λ out. clash p own t u Delete Current (Key k) on DeletedGap granted other (subst (λ z. Serves p DeletedGap (own u z)) named (top.above there out))
       (inr (inr (inr (inr (inl refl))))) (g.range t (Key k)) (g.range t (at m (suc k))) tt)
       (changed_or_not (part u).changes k)

@@ -5,7 +5,7 @@
 
 ghost use Rattle.std.specs.Prelude.{◌≡◌, ℕ, IsTrue, Contains, map, List, Some, None, unwrap_or};
 ghost use Rattle.kr_model.specs.Protocol.{Protocol, IsLawful};
-ghost use Rattle.kr_model.specs.Covers.{Ask, must_refuse, serves, IsCovered};
+ghost use Rattle.kr_model.specs.Covers.{Ask, must_conflict, serves, IsCovered};
 ghost use Rattle.kr_model.specs.Kvl.{kvl};
 ghost use Rattle.kr_model.specs.KvlUpdate.{kvl_update};
 ghost use Rattle.kr_model.specs.Im.{im};
@@ -100,14 +100,14 @@ pub fn runs_are_steps_with_memory()
     ensures memory { (p : Protocol) (s : State) (events : List Event) → HadMemory (run p s events).history }
 {}
 
-/// The cover of a change must refuse all that the cover of a read must refuse there: that of an inserted key what that
-/// of a read key must, that of a deleted gap what that of a read gap must, and, where updates are offered, that of an
-/// updated key what that of a read key must. So a mode that serves it serves the read.
+/// The cover of a change must conflict with all that the cover of a read must conflict with there: that of an inserted key
+/// with what that of a read key must, that of a deleted gap with what that of a read gap must, and, where updates are
+/// offered, that of an updated key with what that of a read key must. So a mode that serves it serves the read.
 pub fn changes_cover_reads()
-    ensures inserted { (p : Protocol) (a : Ask) → Contains (must_refuse p ReadKey) a → Contains (must_refuse p InsertedKey) a }
-    ensures deleted { (p : Protocol) (a : Ask) → Contains (must_refuse p ReadGap) a → Contains (must_refuse p DeletedGap) a }
+    ensures inserted { (p : Protocol) (a : Ask) → Contains (must_conflict p ReadKey) a → Contains (must_conflict p InsertedKey) a }
+    ensures deleted { (p : Protocol) (a : Ask) → Contains (must_conflict p ReadGap) a → Contains (must_conflict p DeletedGap) a }
     ensures updated { (p : Protocol) (a : Ask) → IsTrue p.updates
-        → Contains (must_refuse p ReadKey) a → Contains (must_refuse p UpdatedKey) a }
+        → Contains (must_conflict p ReadKey) a → Contains (must_conflict p UpdatedKey) a }
     ensures serves_key { (p : Protocol) (mode : ℕ) → IsTrue (serves p InsertedKey mode) → IsTrue (serves p ReadKey mode) }
     ensures serves_gap { (p : Protocol) (mode : ℕ) → IsTrue (serves p DeletedGap mode) → IsTrue (serves p ReadGap mode) }
     ensures serves_update { (p : Protocol) (mode : ℕ) → IsTrue p.updates

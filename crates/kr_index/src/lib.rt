@@ -13,14 +13,11 @@ mod stretches;
 mod tree;
 mod walks;
 
-pub use kr_model::Name;
 use kr_model::Pairs;
+pub use kr_model::{Memory, Name};
 pub use sorted::Sorted;
-use std::alloc::{AllocError, Global};
+use std::alloc::Global;
 pub use tree::Tree;
-
-/// A growth was refused.
-pub type Memory = AllocError;
 
 /// A map from keys to values in the order of the keys, with a count of pins for each key.
 ///

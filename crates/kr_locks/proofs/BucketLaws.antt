@@ -1,4 +1,4 @@
--- What a release takes away, who hinders a request, and the list of all locks.
+-- What a release takes away, who conflicts with a request, and the list of all locks.
 use Rattle.std.proofs.Common.{◌≡◌, ℕ, ◌<◌, ◌≤◌, length, get_or, Bool, true, false, cond, not, List, [], ◌∷◌, ◌++◌, Option, Some, None, sym, ap, ◌∙◌, refl, subst, arith, IsTrue, filter, map}
 use Rattle.std.specs.Prelude.{T, unwrap_or, ◌&&◌, ◌||◌, ◌==◌, ◌≢◌}
 use mathlib.Core.Bool.{false≢true}
@@ -17,10 +17,10 @@ use Rattle.kr_model.specs.Protocol.{Protocol, IsLawful}
 use Rattle.kr_model.specs.Locks.{Locks, Holder, AreWithin, name_cmp, holder_cmp, own, forget, release, blockers}
 use Rattle.kr_model.proofs.LockLaws.{name_total, name_exact, holder_total, holder_exact, find-release}
 use Rattle.kr_model.proofs.Keep.{same}
-use Rattle.kr_locks.specs.List.{locks_on, refuses}
-use Rattle.kr_locks.specs.Buckets.{Holders, Names, IsHolders, IsNames, holders_at, with_holders, locks_of, locks_at, hinders, forget_all}
+use Rattle.kr_locks.specs.List.{locks_on, lock_conflicts}
+use Rattle.kr_locks.specs.Buckets.{Holders, Names, IsHolders, IsNames, holders_at, with_holders, locks_of, locks_at, holder_conflicts, forget_all}
 use Rattle.kr_locks.proofs.HolderPlaces.{t_holders, mode_at}
-use Rattle.kr_locks.proofs.Refusers.{refusers, refusers_are, converted_within}
+use Rattle.kr_locks.proofs.Conflicts.{conflicting, conflicting_are, converted_within}
 use Rattle.kr_locks.proofs.NameLaws.{find-locks_of, find-forget, sorted_locks, IsLocks-locks_of}
 
 first : (a b : Bool) → T (a && b) → T a
@@ -140,11 +140,11 @@ locks_on-at es s n sh =
         ∙ sym (find-at n (holders_at es n) q ∙ ap (λ r. cond (is_eq r) (find nat_cmp q.1 (holders_at es n)) None) e)
     by q Greater e = sym (find-at n (holders_at es n) q ∙ ap (λ r. cond (is_eq r) (find nat_cmp q.1 (holders_at es n)) None) e)
 
-refusers_at : (p : Protocol) (t m : ℕ) (n : Name) (hs : Holders) → refusers p t m (locks_at n hs) ≡ map (λ (h : ℕ × ℕ). h.0) (filter (hinders p t m) hs)
-refusers_at p t m n [] = refl
-refusers_at p t m n (h ∷ hs) = by (hinders p t m h) (refusers_at p t m n hs)
+conflicting_at : (p : Protocol) (t m : ℕ) (n : Name) (hs : Holders) → conflicting p t m (locks_at n hs) ≡ map (λ (h : ℕ × ℕ). h.0) (filter (holder_conflicts p t m) hs)
+conflicting_at p t m n [] = refl
+conflicting_at p t m n (h ∷ hs) = by (holder_conflicts p t m h) (conflicting_at p t m n hs)
   where
-    by : (b : Bool) → refusers p t m (locks_at n hs) ≡ map (λ (h : ℕ × ℕ). h.0) (filter (hinders p t m) hs) → map (λ (l : Holder × ℕ). l.0.1) (cond b (((n, h.0), h.1) ∷ filter (refuses p t m) (locks_at n hs)) (filter (refuses p t m) (locks_at n hs))) ≡ map (λ (h : ℕ × ℕ). h.0) (cond b (h ∷ filter (hinders p t m) hs) (filter (hinders p t m) hs))
+    by : (b : Bool) → conflicting p t m (locks_at n hs) ≡ map (λ (h : ℕ × ℕ). h.0) (filter (holder_conflicts p t m) hs) → map (λ (l : Holder × ℕ). l.0.1) (cond b (((n, h.0), h.1) ∷ filter (lock_conflicts p t m) (locks_at n hs)) (filter (lock_conflicts p t m) (locks_at n hs))) ≡ map (λ (h : ℕ × ℕ). h.0) (cond b (h ∷ filter (holder_conflicts p t m) hs) (filter (holder_conflicts p t m) hs))
     by true r = ap (λ (us : List ℕ). h.0 ∷ us) r
     by false r = r
 
@@ -180,22 +180,22 @@ module _ (p : Protocol) (es : Names) (t : ℕ) (n : Name) (q : ℕ) (hs : Holder
       (ap (λ o. unwrap_or o 0) (find-locks_of es a.names n u ∙ ap (find nat_cmp u) a.holders) ∙ sym (mode_at hs a.in_order u i (lt, λ e. ap (λ (h : ℕ × ℕ). nat_cmp h.0 u) (get_or_default hs i e d lt) ∙ tied_itself nat_cmp_total u) d))
       (a.within u n)
 
-  -- those that hinder it are its blockers
-  pub hindering_are : map (λ (h : ℕ × ℕ). h.0) (filter (hinders p t (p.convert (unwrap_or (find nat_cmp t hs) 0) q)) hs) ≡ blockers p (locks_of es) t ((n, q, Commit) ∷ [])
-  hindering_are =
+  -- those that conflict with it are its blockers
+  pub holders_are : map (λ (h : ℕ × ℕ). h.0) (filter (holder_conflicts p t (p.convert (unwrap_or (find nat_cmp t hs) 0) q)) hs) ≡ blockers p (locks_of es) t ((n, q, Commit) ∷ [])
+  holders_are =
       let m = p.convert (unwrap_or (find nat_cmp t hs) 0) q in
-      sym (refusers_at p t m n hs)
-      ∙ ap (λ (x : Holders). refusers p t m (locks_at n x)) (sym a.holders)
-      ∙ ap (refusers p t m) (sym (locks_on-at es a.names n (subst IsHolders (sym a.holders) a.in_order)))
-      ∙ refusers_are p (locks_of es) t n q Commit m a.laws (IsLocks-locks_of es) mode_within (ap (λ (x : ℕ). p.convert x q) (sym own_is))
+      sym (conflicting_at p t m n hs)
+      ∙ ap (λ (x : Holders). conflicting p t m (locks_at n x)) (sym a.holders)
+      ∙ ap (conflicting p t m) (sym (locks_on-at es a.names n (subst IsHolders (sym a.holders) a.in_order)))
+      ∙ conflicting_are p (locks_of es) t n q Commit m a.laws (IsLocks-locks_of es) mode_within (ap (λ (x : ℕ). p.convert x q) (sym own_is))
 
   none_left : (us : Holders) → map (λ (h : ℕ × ℕ). h.0) us ≡ [] → us ≡ []
   none_left [] e = refl
   none_left (u ∷ us) e = absurd (cc)
 
-  -- nobody hinders it exactly where it has no blockers
-  pub free_is : (filter (hinders p t (p.convert (unwrap_or (find nat_cmp t hs) 0) q)) hs ≡ [] → blockers p (locks_of es) t ((n, q, Commit) ∷ []) ≡ []) × (blockers p (locks_of es) t ((n, q, Commit) ∷ []) ≡ [] → filter (hinders p t (p.convert (unwrap_or (find nat_cmp t hs) 0) q)) hs ≡ [])
-  free_is = (λ e. sym hindering_are ∙ ap (λ (us : Holders). map (λ (h : ℕ × ℕ). h.0) us) e, λ e. none_left (filter (hinders p t (p.convert (unwrap_or (find nat_cmp t hs) 0) q)) hs) (hindering_are ∙ e))
+  -- nobody conflicts with it exactly where it has no blockers
+  pub free_is : (filter (holder_conflicts p t (p.convert (unwrap_or (find nat_cmp t hs) 0) q)) hs ≡ [] → blockers p (locks_of es) t ((n, q, Commit) ∷ []) ≡ []) × (blockers p (locks_of es) t ((n, q, Commit) ∷ []) ≡ [] → filter (holder_conflicts p t (p.convert (unwrap_or (find nat_cmp t hs) 0) q)) hs ≡ [])
+  free_is = (λ e. sym holders_are ∙ ap (λ (us : Holders). map (λ (h : ℕ × ℕ). h.0) us) e, λ e. none_left (filter (holder_conflicts p t (p.convert (unwrap_or (find nat_cmp t hs) 0) q)) hs) (holders_are ∙ e))
 
 -- The list of all --
 

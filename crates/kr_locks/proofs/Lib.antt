@@ -1,6 +1,6 @@
 pub mod Places
 pub mod OnName
-pub mod Refusers
+pub mod Conflicts
 pub mod HolderPlaces
 pub mod Masks
 pub mod NameLaws

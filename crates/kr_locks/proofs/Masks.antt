@@ -9,7 +9,7 @@ use Rattle.std.specs.Prelude.{not, ◌&&◌, ◌==◌, nat_le, nat_lt, min}
 use Rattle.std.proofs.lemmas.Bool.Decides.{nat_tests}
 use Rattle.kr_model.specs.Protocol.{Protocol, IsLawful}
 use Rattle.kr_protocol.specs.Rows.{conflicts, IsRow}
-use Rattle.kr_locks.specs.Buckets.{Holders, HasModes, hinders}
+use Rattle.kr_locks.specs.Buckets.{Holders, HasModes, holder_conflicts}
 
 larger_stays : (a b : ℕ) → a ≡ 1 → b < 2 → max a b ≡ 1
 larger_stays a b e lt = omega arith
@@ -54,7 +54,7 @@ no_conflict : (b : Bool) → ◌≡◌ {A = ℕ} (cond b 1 0) 0 → b ≡ false
 no_conflict true e = absurd (omega (arith, e))
 no_conflict false e = refl
 
-stands : (p : Protocol) (t m : ℕ) (h : ℕ × ℕ) → IsLawful p → m ≤ p.count → h.1 ≤ p.count → conflicts p m h.1 ≡ false → hinders p t m h ≡ false
+stands : (p : Protocol) (t m : ℕ) (h : ℕ × ℕ) → IsLawful p → m ≤ p.count → h.1 ≤ p.count → conflicts p m h.1 ≡ false → holder_conflicts p t m h ≡ false
 stands p t m (u, zero) laws few le e = by (not (u == t)) (p.ok m 0) (laws.ok-none_held m few)
   where
     by : (a b : Bool) → b ≡ true → (a && not b) ≡ false
@@ -74,11 +74,11 @@ stands p t m (u, suc x) laws few le e = by (not (u == t)) (nat_lt 0 (suc x)) (na
     by true false c d f g k = absurd (cc)
     by true true false d f g k = absurd (cc)
 
--- then no holder hinders
-pub free_by_mask : (p : Protocol) (t m mask row : ℕ) (hs : Holders) → IsLawful p → m ≤ p.count → IsRow p m row → HasModes mask hs → ((i : ℕ) (d : ℕ × ℕ) → i < length hs → (slice_index_or hs i d).1 ≤ p.count) → bit_and row mask ≡ 0 → filter (hinders p t m) hs ≡ []
+-- then no holder conflicts
+pub free_by_mask : (p : Protocol) (t m mask row : ℕ) (hs : Holders) → IsLawful p → m ≤ p.count → IsRow p m row → HasModes mask hs → ((i : ℕ) (d : ℕ × ℕ) → i < length hs → (slice_index_or hs i d).1 ≤ p.count) → bit_and row mask ≡ 0 → filter (holder_conflicts p t m) hs ≡ []
 free_by_mask p t m mask row [] laws few is has within none = refl
 free_by_mask p t m mask row (h ∷ hs) laws few is has within none =
-    ap (λ b. cond b (h ∷ filter (hinders p t m) hs) (filter (hinders p t m) hs)) (stands p t m h laws few le free)
+    ap (λ b. cond b (h ∷ filter (holder_conflicts p t m) hs) (filter (holder_conflicts p t m) hs)) (stands p t m h laws few le free)
     ∙ free_by_mask p t m mask row hs laws few is (λ i d lt low. has (suc i) d (omega arith) low) (λ i d lt. within (suc i) d (omega arith)) none
   where
     le : h.1 ≤ p.count
@@ -90,17 +90,17 @@ free_by_mask p t m mask row (h ∷ hs) laws few is has within none =
     free : conflicts p m h.1 ≡ false
     free = no_conflict (conflicts p m h.1) (sym (is h.1) ∙ bit)
 
--- One that hinders --
+-- One that conflicts --
 
-hinders_first : (f : ℕ × ℕ → Bool) (h : ℕ × ℕ) (hs : Holders) (b : Bool) → b ≡ true → cond b (h ∷ filter f hs) (filter f hs) ≡ [] → ⊥
-hinders_first f h hs true e none = cc
-hinders_first f h hs false e none = absurd (cc)
+conflicts_first : (f : ℕ × ℕ → Bool) (h : ℕ × ℕ) (hs : Holders) (b : Bool) → b ≡ true → cond b (h ∷ filter f hs) (filter f hs) ≡ [] → ⊥
+conflicts_first f h hs true e none = cc
+conflicts_first f h hs false e none = absurd (cc)
 
-hinders_later : (f : ℕ × ℕ → Bool) (h : ℕ × ℕ) (hs : Holders) (b : Bool) → (filter f hs ≡ [] → ⊥) → cond b (h ∷ filter f hs) (filter f hs) ≡ [] → ⊥
-hinders_later f h hs true some none = cc
-hinders_later f h hs false some none = some none
+conflicts_later : (f : ℕ × ℕ → Bool) (h : ℕ × ℕ) (hs : Holders) (b : Bool) → (filter f hs ≡ [] → ⊥) → cond b (h ∷ filter f hs) (filter f hs) ≡ [] → ⊥
+conflicts_later f h hs true some none = cc
+conflicts_later f h hs false some none = some none
 
-pub some_hinders : (f : ℕ × ℕ → Bool) (hs : Holders) (i : ℕ) (d : ℕ × ℕ) → i < length hs → f (get_or hs i d) ≡ true → filter f hs ≡ [] → ⊥
-some_hinders f [] i d lt e none = omega arith
-some_hinders f (h ∷ hs) zero d lt e none = hinders_first f h hs (f h) e none
-some_hinders f (h ∷ hs) (suc i) d lt e none = hinders_later f h hs (f h) (some_hinders f hs i d (omega arith) e) none
+pub some_conflicts : (f : ℕ × ℕ → Bool) (hs : Holders) (i : ℕ) (d : ℕ × ℕ) → i < length hs → f (get_or hs i d) ≡ true → filter f hs ≡ [] → ⊥
+some_conflicts f [] i d lt e none = omega arith
+some_conflicts f (h ∷ hs) zero d lt e none = conflicts_first f h hs (f h) e none
+some_conflicts f (h ∷ hs) (suc i) d lt e none = conflicts_later f h hs (f h) (some_conflicts f hs i d (omega arith) e) none

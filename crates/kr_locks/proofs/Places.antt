@@ -37,7 +37,7 @@ module _ (h : Locks) (s : IsLocks h) (t : ℕ) (n : Name) (i : ℕ) where
   pub find_gap_none : IsGapFor h (n, t) i → find holder_cmp (n, t) h ≡ None
   find_gap_none g = find_none holder_cmp holder_total (n, t) h i (t_locks h s) g.0 g.1
 
-  -- so the own mode is none
+  -- so the own mode is 0
   pub own_gap : IsGapFor h (n, t) i → 0 ≡ own h t n
   own_gap g = sym (ap (λ o. unwrap_or o 0) (find_gap_none g))
 

@@ -37,8 +37,8 @@ abbrev pub HasModes : ℕ → Holders → Type 0
 HasModes mask hs = (i : ℕ) (d : ℕ × ℕ) → i < length hs → (slice_index_or hs i d).1 < 16 → bit_at mask (slice_index_or hs i d).1 ≡ 1
 
 -- whether a holder is another than t, and mode m may not stand beside its mode
-abbrev pub hinders : Protocol → ℕ → ℕ → ℕ × ℕ → Bool
-hinders p t m h = not (h.0 == t) && not (p.ok m h.1)
+abbrev pub holder_conflicts : Protocol → ℕ → ℕ → ℕ × ℕ → Bool
+holder_conflicts p t m h = not (h.0 == t) && not (p.ok m h.1)
 
 -- All names --
 

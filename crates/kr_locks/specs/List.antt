@@ -1,4 +1,4 @@
--- Where locks stand in the sorted list, and which of them refuse a mode.
+-- Where locks stand in the sorted list, and which of them conflict with a mode.
 use Rattle.std.specs.Prelude.{◌≡◌, ℕ, ◌<◌, ◌≤◌, Bool, not, ◌&&◌, ◌==◌, filter, length}
 use Rattle.std.specs.List.{HoldsAt}
 use Rattle.std.specs.List.Sorted.{IsPartitionPoint}
@@ -6,7 +6,7 @@ use Rattle.std.specs.Ordering.{eq_by_cmp}
 use Rattle.std.specs.declared.cmp.Ordering.TheVariants.{Less, Equal, Greater}
 use Rattle.kr_model.specs.declared.Name.{Name}
 use Rattle.kr_model.specs.Protocol.{Protocol}
-use Rattle.kr_model.specs.Locks.{Locks, Holder, name_cmp, holder_cmp}
+use Rattle.kr_model.specs.Locks.{Lock, Locks, Holder, name_locked, holder_of, mode_held, name_cmp, holder_cmp}
 
 -- the lock of holder k stands at place i
 abbrev pub IsPlaceOf : Locks → Holder → ℕ → Type 0
@@ -18,8 +18,8 @@ IsGapFor h k i = (i ≤ length h) × IsPartitionPoint (λ l. holder_cmp l.0 k �
 
 -- the locks on a name
 abbrev pub locks_on : Locks → Name → Locks
-locks_on h n = filter (λ l. eq_by_cmp name_cmp l.0.0 n) h
+locks_on h n = filter (λ l. eq_by_cmp name_cmp (name_locked l) n) h
 
 -- whether a lock is that of another than t, and mode m may not stand beside it
-abbrev pub refuses : Protocol → ℕ → ℕ → Holder × ℕ → Bool
-refuses p t m l = not (l.0.1 == t) && not (p.ok m l.1)
+abbrev pub lock_conflicts : Protocol → ℕ → ℕ → Lock → Bool
+lock_conflicts p t m l = not (holder_of l == t) && not (p.ok m (mode_held l))

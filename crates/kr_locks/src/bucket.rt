@@ -2,7 +2,7 @@
 ghost use Rattle.std.specs.Prelude.{◌≡◌, ◌≢◌, ◌<◌, ◌≤◌, ◌↔◌, ◌==◌, ℕ, [], ◌∷◌, None, IsTrue, IsOk, OnOk, OnErr, IfOk, length, slice_index_or, filter, map, unwrap_or};
 ghost use Rattle.std.specs.Ordering.{nat_cmp};
 ghost use Rattle.std.specs.FinMap.{find, put};
-ghost use Rattle.kr_locks.specs.Buckets.{IsHolders, without, hinders};
+ghost use Rattle.kr_locks.specs.Buckets.{IsHolders, without, holder_conflicts};
 
 use crate::holders::{leave, mask_of, mode_of, store};
 use crate::{Memory, Mode, Txn};
@@ -30,10 +30,10 @@ impl Model for Bucket {
 }
 
 /// Whether a holder is another transaction, and a mode may not stand beside its mode.
-fn hinders<P: Protocol>(protocol: &P, txn: Txn, mode: Mode, holder: (Txn, Mode)) -> bool
+fn conflicts<P: Protocol>(protocol: &P, txn: Txn, mode: Mode, holder: (Txn, Mode)) -> bool
     requires asked { mode ≤ (P.table protocol.now).count }
     requires held { holder.1 ≤ (P.table protocol.now).count }
-    ensures { result ≡ hinders (P.table protocol.now) txn mode holder }
+    ensures { result ≡ holder_conflicts (P.table protocol.now) txn mode holder }
 {
     holder.0 != txn && !protocol.ok(mode, holder.1)
 }
@@ -96,13 +96,13 @@ impl Bucket {
     pub(crate) fn is_free<P: Protocol>(&self, protocol: &P, txn: Txn, mode: Mode) -> bool
         requires asked { mode ≤ (P.table protocol.now).count }
         requires held { (i : ℕ) (d : ℕ × ℕ) → i < length self.now → (slice_index_or self.now i d).1 ≤ (P.table protocol.now).count }
-        ensures { IsTrue result ↔ (filter (hinders (P.table protocol.now) txn mode) self.now ≡ []) }
+        ensures { IsTrue result ↔ (filter (holder_conflicts (P.table protocol.now) txn mode) self.now ≡ []) }
     {
         if protocol.row(mode) & self.mask == 0 {
             return true;
         }
         for &holder in self.holders.as_slice() {
-            if hinders(protocol, txn, mode, holder) {
+            if conflicts(protocol, txn, mode, holder) {
                 return false;
             }
         }
@@ -110,7 +110,7 @@ impl Bucket {
     }
 
     /// The other transactions that hold a mode beside which this one may not stand, rising.
-    pub(crate) fn hindering<P: Protocol>(
+    pub(crate) fn conflicting<P: Protocol>(
         &self,
         alloc: Global,
         protocol: &P,
@@ -119,11 +119,11 @@ impl Bucket {
     ) -> Result<Vec<Txn>, Memory>
         requires asked { mode ≤ (P.table protocol.now).count }
         requires held { (i : ℕ) (d : ℕ × ℕ) → i < length self.now → (slice_index_or self.now i d).1 ≤ (P.table protocol.now).count }
-        ensures { IfOk result (λ list. list.items ≡ map (λ h. h.0) (filter (hinders (P.table protocol.now) txn mode) self.now)) }
+        ensures { IfOk result (λ list. list.items ≡ map (λ h. h.0) (filter (holder_conflicts (P.table protocol.now) txn mode) self.now)) }
     {
         let mut list = Vec::new(alloc);
         for &holder in self.holders.as_slice() {
-            if hinders(protocol, txn, mode, holder) {
+            if conflicts(protocol, txn, mode, holder) {
                 list.push(holder.0)?;
             }
         }

@@ -6,7 +6,7 @@ ghost use Rattle.kr_locks.specs.Buckets.{IsNames, locks_of};
 ghost use Rattle.kr_locks.specs.Noted.{IsNoted, AreNoted, noted};
 
 use crate::bucket::Bucket;
-use crate::names::{all_locks, drop_lock, drop_locks, hindering, is_free, own_in, store};
+use crate::names::{all_locks, conflicting, drop_lock, drop_locks, is_free, own_in, store};
 use crate::{Holdings, Memory, Mode, Name, Txn};
 use kr_protocol::Protocol;
 use std::alloc::Global;
@@ -17,8 +17,8 @@ use std::marker::Model;
 /// it was given locks on.
 ///
 /// `own`, `test` and `blockers` look at the holders of the name, and `test` at none of them where the mask shows that no mode
-/// refuses. `keep` takes a logarithmic number of looks at names. `release` goes over the transaction's own names, and `copy`
-/// over all locks.
+/// conflicts. `keep` takes a logarithmic number of looks at names. `release` goes over the transaction's own names, and
+/// `copy` over all locks.
 #[derive(Drop)]
 pub struct Buckets {
     alloc: Global,
@@ -147,7 +147,7 @@ impl Holdings for Buckets {
         name: Name,
         mode: Mode,
     ) -> Result<Vec<Txn>, Memory> {
-        hindering(alloc, &self.names, protocol, txn, name, mode)
+        conflicting(alloc, &self.names, protocol, txn, name, mode)
     }
 
     fn keep(&mut self, txn: Txn, name: Name, mode: Mode) -> Result<(), Memory> {

@@ -12,38 +12,35 @@ mod list;
 mod names;
 
 pub use buckets::Buckets;
-pub use kr_model::{Mode, Name, Txn};
+pub use kr_model::{Memory, Mode, Name, Txn};
 use kr_protocol::Protocol;
 pub use list::List;
-use std::alloc::{AllocError, Global};
-
-/// A growth was refused.
-pub type Memory = AllocError;
+use std::alloc::Global;
 
 /// A set of locks, each a transaction, a name and a mode: one mode for each transaction and name.
 ///
-/// A mode is 0 for none, or one of a protocol's modes, 1 to its count. Only `blockers`, `keep` and `copy` may
+/// A mode is 0 for no lock, or one of a protocol's modes, 1 to its count. Only `blockers`, `keep` and `copy` may
 /// answer `Memory`, and then nothing has changed.
 pub trait Holdings: Drop {
     /// The locks by name, the end last, and then by transaction.
     ghost locks: { Self → Locks };
 
-    /// The mode of a transaction on a name, or 0 where it holds none.
+    /// The mode of a transaction on a name, or 0 where it holds no lock there.
     fn own(&self, txn: Txn, name: Name) -> Mode
         ensures { result ≡ own (locks self.now) txn name };
 
-    /// Whether no other transaction refuses a request for a mode on a name.
+    /// Whether no other transaction's lock conflicts with a request for a mode on a name.
     ///
-    /// Another transaction refuses where the mode to which the requester's own would be converted may not stand
-    /// beside what it holds on the name. What the requester holds refuses nothing. The mode asked for and all held
-    /// modes are at most the protocol's count.
+    /// Another transaction's lock conflicts where the mode to which the requester's own would be converted may not
+    /// stand beside it. What the requester holds conflicts with nothing that it asks for. The mode asked for and all
+    /// held modes are at most the protocol's count.
     fn test<P: Protocol>(&self, protocol: &P, txn: Txn, name: Name, mode: Mode) -> bool
         requires asked { mode ≤ (P.table protocol.now).count }
         requires held { AreWithin (P.table protocol.now).count (locks self.now) }
         ensures { IsTrue result ↔ (blockers (P.table protocol.now) (locks self.now) txn
             ((name, mode, span.Commit) ∷ []) ≡ []) };
 
-    /// The transactions that refuse a request for a mode on a name, as `test` says it: rising, each once.
+    /// The transactions whose locks conflict with a request for a mode on a name, as `test` says it: rising, each once.
     ///
     /// The condition on modes is that of `test`.
     fn blockers<P: Protocol>(

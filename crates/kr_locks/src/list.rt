@@ -3,7 +3,7 @@ ghost use Rattle.std.specs.Prelude.{◌≡◌, ◌≢◌, ◌≤◌, [], None, I
 ghost use Rattle.std.specs.Ordering.{is_lt, is_le};
 ghost use Rattle.std.specs.FinMap.{find, put};
 ghost use Rattle.kr_model.specs.Locks.{Locks, IsLocks, name_cmp, holder_cmp, own, keep_or_drop, forget, release};
-ghost use Rattle.kr_locks.specs.List.{IsPlaceOf, IsGapFor, locks_on, refuses};
+ghost use Rattle.kr_locks.specs.List.{IsPlaceOf, IsGapFor, lock_conflicts, locks_on};
 
 use crate::{Holdings, Memory, Mode, Name, Txn};
 use kr_protocol::Protocol;
@@ -86,12 +86,13 @@ fn own_in(held: &[Lock], txn: Txn, name: Name) -> Mode
 }
 
 /// Whether a lock is that of another transaction, and a mode may not stand beside it.
-fn refuses<P: Protocol>(protocol: &P, txn: Txn, mode: Mode, lock: Lock) -> bool
+fn conflicts<P: Protocol>(protocol: &P, txn: Txn, mode: Mode, lock: Lock) -> bool
     requires asked { mode ≤ (P.table protocol.now).count }
     requires held { lock.1 ≤ (P.table protocol.now).count }
-    ensures { result ≡ refuses (P.table protocol.now) txn mode lock }
+    ensures { result ≡ lock_conflicts (P.table protocol.now) txn mode lock }
 {
-    lock.0.1 != txn && !protocol.ok(mode, lock.1)
+    let ((_, holder), held) = lock;
+    holder != txn && !protocol.ok(mode, held)
 }
 
 /// Writes the mode of a transaction on a name. One that is there takes no memory.
@@ -165,7 +166,7 @@ impl Holdings for List {
     fn test<P: Protocol>(&self, protocol: &P, txn: Txn, name: Name, mode: Mode) -> bool {
         let converted = protocol.convert(self.own(txn, name), mode);
         for &lock in locks_on(&self.held, name) {
-            if refuses(protocol, txn, converted, lock) {
+            if conflicts(protocol, txn, converted, lock) {
                 return false;
             }
         }
@@ -184,7 +185,7 @@ impl Holdings for List {
         let converted = protocol.convert(own, mode);
         let mut blockers = Vec::new(alloc);
         for &lock in locks_on(&self.held, name) {
-            if refuses(protocol, txn, converted, lock) {
+            if conflicts(protocol, txn, converted, lock) {
                 blockers.push(lock.0.1)?;
             }
         }

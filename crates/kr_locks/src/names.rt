@@ -129,7 +129,7 @@ pub(crate) fn drop_locks(names: &mut BTreeMap<Name, Bucket>, txn: Txn, list: &[N
     }
 }
 
-/// Whether no other transaction refuses a request for a mode on a name.
+/// Whether no other transaction's lock conflicts with a request for a mode on a name.
 pub(crate) fn is_free<P: Protocol>(
     names: &BTreeMap<Name, Bucket>,
     protocol: &P,
@@ -152,8 +152,8 @@ pub(crate) fn is_free<P: Protocol>(
     }
 }
 
-/// The transactions that refuse a request for a mode on a name, rising.
-pub(crate) fn hindering<P: Protocol>(
+/// The transactions whose locks conflict with a request for a mode on a name, rising.
+pub(crate) fn conflicting<P: Protocol>(
     alloc: Global,
     names: &BTreeMap<Name, Bucket>,
     protocol: &P,
@@ -170,7 +170,7 @@ pub(crate) fn hindering<P: Protocol>(
     match names.get(&name) {
         Some(bucket) => {
             let converted = protocol.convert(bucket.own(txn), mode);
-            bucket.hindering(alloc, protocol, txn, converted)
+            bucket.conflicting(alloc, protocol, txn, converted)
         }
         None => Ok(Vec::new(alloc)),
     }

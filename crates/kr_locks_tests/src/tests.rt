@@ -61,14 +61,14 @@ fn answers<H: Holdings>(rt: &impl Abort, alloc: Global, mut locks: H) -> Result<
         (9, Name::End, SHARED, vec![in alloc; 1]?),
         (9, Name::Key(8), EXCLUSIVE, Vec::new(alloc)),
     ];
-    for (txn, name, mode, refusing) in requests {
+    for (txn, name, mode, conflicting) in requests {
         assert_eq!(rt;
             locks.test(&SharedExclusive, txn, name, mode),
-            refusing.is_empty()
+            conflicting.is_empty()
         );
         assert_eq!(rt;
             locks.blockers(alloc, &SharedExclusive, txn, name, mode)?,
-            refusing
+            conflicting
         );
     }
     Ok(())

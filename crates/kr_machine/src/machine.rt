@@ -166,7 +166,7 @@ impl<P: Protocol, I: Ordered, L: Holdings> Machine<P, I, L> {
     /// - `Refused(Memory)`: a growth was refused, and no other refusal applies. So it is for an insert, a delete or an update
     ///   that would change a key which the active transactions have changed 4,294,967,295 times. The commit or abort of an
     ///   active transaction takes no memory, nor does a change taken back.
-    /// - `Blocked`: these transactions hold locks that refuse a lock that the step asks for. A transaction that wasn't
+    /// - `Blocked`: these transactions hold locks that conflict with one that the step asks for. A transaction that wasn't
     ///   active isn't so after it.
     ///
     /// `Undone` says that the newest change of the transaction was taken back, and how many are left. It then rolls back: it

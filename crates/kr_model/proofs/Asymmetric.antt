@@ -102,7 +102,7 @@ both_ways =
     ∷ by 2 (Fetch 10)
     ∷ []
 
--- Both ways: U is let in beside S, and S isn't beside U; transaction 2, which holds U, asks for S and so for X, which the S of transaction 1 refuses, and holds X in the end.
+-- Both ways: U is let in beside S, and S isn't beside U; transaction 2, which holds U, asks for S and so for X, which conflicts with the S of transaction 1, and holds X in the end.
 pub both_ways-report : report asymmetric two both_ways
     ≡ (
       r.Found 1 ∷ r.Rows ((10, 1) ∷ []) ∷ r.Blocked (2 ∷ []) ∷ r.Rows ((20, 2) ∷ []) ∷ r.Blocked (4 ∷ []) ∷ r.Blocked (1 ∷ []) ∷ r.Committed ∷ r.Found 1 ∷ [],

@@ -15,7 +15,7 @@ use Rattle.kr_model.specs.declared.Rule.TheVariants as rule
 use Rattle.kr_model.specs.declared.Origin.TheVariants.{One, Two}
 use Rattle.kr_model.specs.declared.Place.{Place}
 use Rattle.kr_model.specs.Protocol.{Protocol, IsMode}
-use Rattle.kr_model.specs.Covers.{place, Case, case, cases, cases_of, row_cases, all_rules, all_covers, count_up, modes, modes_or_none, must_refuse, if_updating, places_of, open_places, is_open, refuses, serves, is_empty, mode_after, failure, failed_at, is_due, IsCovered}
+use Rattle.kr_model.specs.Covers.{place, Case, case, cases, cases_of, row_cases, all_rules, all_covers, count_up, modes, modes_or_none, must_conflict, if_updating, places_of, open_places, is_open, conflicts_with, serves, is_empty, mode_after, failure, failed_at, is_due, IsCovered}
 
 -- x stands in the list
 abbrev pub In : {A : Type 0} → A → List A → Type 0
@@ -55,7 +55,7 @@ in_count_up a (suc n) k low high =
 pub in_modes : (p : Protocol) (m : ℕ) → IsMode p m → In m (modes p)
 in_modes p m is = in_count_up 1 p.count m is.some (let r = is.in_range in omega arith)
 
--- each number up to the count stands among none and the modes
+-- each number up to the count stands among 0 and the modes
 pub in_modes_or_none : (p : Protocol) (m : ℕ) → m ≤ p.count → In m (modes_or_none p)
 in_modes_or_none p m is = in_count_up 0 (suc p.count) m (omega arith) (omega arith)
 
@@ -89,14 +89,14 @@ each_none f (y ∷ xs) h x i = gives_none f y xs x (f y) refl h i (λ g j. each_
 abbrev pub Serves : Protocol → Cover → ℕ → Type 0
 Serves p c h = serves p c h ≡ true
 
--- what stands at a place is refused
-abbrev pub IsRefused : Protocol → ℕ → ℕ → Option (ℕ × Span) → Type 0
-IsRefused p h o None = ⊥
-IsRefused p h o (Some (q, span)) = p.ok (p.convert o q) h ≡ false
+-- what is asked at a place conflicts with h
+abbrev pub Conflicts : Protocol → ℕ → ℕ → Option (ℕ × Span) → Type 0
+Conflicts p h o None = ⊥
+Conflicts p h o (Some (q, span)) = p.ok (p.convert o q) h ≡ false
 
-refused_of_test : (p : Protocol) (h o : ℕ) (a : Option (ℕ × Span)) → not (refuses p h o a) ≡ false → IsRefused p h o a
-refused_of_test p h o None e = absurd (cc)
-refused_of_test p h o (Some (q, span)) e = was_not (p.ok (p.convert o q) h) e
+conflict_of_test : (p : Protocol) (h o : ℕ) (a : Option (ℕ × Span)) → not (conflicts_with p h o a) ≡ false → Conflicts p h o a
+conflict_of_test p h o None e = absurd (cc)
+conflict_of_test p h o (Some (q, span)) e = was_not (p.ok (p.convert o q) h) e
   where
     was_not : (b : Bool) → not (not b) ≡ false → b ≡ false
     was_not true e = absurd (cc)
@@ -110,19 +110,19 @@ in_places_current p r o n io in_n =
 in_places_next : (p : Protocol) (r : Row) (o : ℕ) → o ≤ p.count → In (place (r, Next) o o) (places_of p (r, Next))
 in_places_next p r o io = in_map (λ x. place (r, Next) x x) o (modes_or_none p) (in_modes_or_none p o io)
 
--- a mode that serves a cover refuses what the cover must refuse, whatever the asker holds
-pub refuses_current : (p : Protocol) (c : Cover) (h : ℕ) (r : Row) → Serves p c h → In (r, Current) (must_refuse p c) → (o n : ℕ) → o ≤ p.count → n ≤ p.count → IsRefused p h o (p.ask r Current n)
-refuses_current p c h r s i o n io in_n =
-    refused_of_test p h o (p.ask r Current n)
-    (none_passes (is_open p h) (flat_map (places_of p) (must_refuse p c)) s (place (r, Current) o n)
-    (in_flat_map (places_of p) (r, Current) (place (r, Current) o n) (must_refuse p c) i (in_places_current p r o n io in_n)))
+-- a mode that serves a cover conflicts with what the cover must conflict with, whatever the asker holds
+pub conflicts_current : (p : Protocol) (c : Cover) (h : ℕ) (r : Row) → Serves p c h → In (r, Current) (must_conflict p c) → (o n : ℕ) → o ≤ p.count → n ≤ p.count → Conflicts p h o (p.ask r Current n)
+conflicts_current p c h r s i o n io in_n =
+    conflict_of_test p h o (p.ask r Current n)
+    (none_passes (is_open p h) (flat_map (places_of p) (must_conflict p c)) s (place (r, Current) o n)
+    (in_flat_map (places_of p) (r, Current) (place (r, Current) o n) (must_conflict p c) i (in_places_current p r o n io in_n)))
 
 -- the same at the side next, where the two own modes are one
-pub refuses_next : (p : Protocol) (c : Cover) (h : ℕ) (r : Row) → Serves p c h → In (r, Next) (must_refuse p c) → (o : ℕ) → o ≤ p.count → IsRefused p h o (p.ask r Next o)
-refuses_next p c h r s i o io =
-    refused_of_test p h o (p.ask r Next o)
-    (none_passes (is_open p h) (flat_map (places_of p) (must_refuse p c)) s (place (r, Next) o o)
-    (in_flat_map (places_of p) (r, Next) (place (r, Next) o o) (must_refuse p c) i (in_places_next p r o io)))
+pub conflicts_next : (p : Protocol) (c : Cover) (h : ℕ) (r : Row) → Serves p c h → In (r, Next) (must_conflict p c) → (o : ℕ) → o ≤ p.count → Conflicts p h o (p.ask r Next o)
+conflicts_next p c h r s i o io =
+    conflict_of_test p h o (p.ask r Next o)
+    (none_passes (is_open p h) (flat_map (places_of p) (must_conflict p c)) s (place (r, Next) o o)
+    (in_flat_map (places_of p) (r, Next) (place (r, Next) o o) (must_conflict p c) i (in_places_next p r o io)))
 
 -- what is listed only where updates are offered
 pub in_updating : {A : Type 0} (p : Protocol) (x : A) (xs : List A) → p.updates ≡ true → In x xs → In x (if_updating p xs)

@@ -26,7 +26,7 @@ of_t false h = absurd h
 abbrev pub same : Holder → Holder → Bool
 same a b = eq_by_cmp holder_cmp a b
 
--- whether a mode is none
+-- whether a mode is 0
 abbrev pub is_zero : ℕ → Bool
 is_zero zero = true
 is_zero (suc n) = false
@@ -112,7 +112,7 @@ none_entry : (m : ℕ) → cond (is_zero m) None (Some m) ≡ Some 0 → ⊥
 none_entry zero h = cc
 none_entry (suc m) h = cc
 
--- none is never kept
+-- 0 is never kept
 pub HasNoNone-keep : (h : Locks) (t : ℕ) (n : Name) (m : ℕ) → HasNoNone h → HasNoNone (keep_or_drop h t n m)
 HasNoNone-keep l t n m none q h =
     elim (same q (n, t)) as (λ b. same q (n, t) ≡ b → ⊥) [
@@ -162,7 +162,7 @@ held_facts p old real t n q was m laws within no_none in_order some few is_own i
       in_order = rw is_real (IsLocks-keep old t n m in_order);
     }
 
--- no lock has the mode none after a release
+-- no lock has the mode 0 after a release
 pub HasNoNone-release : (l : Locks) (t : ℕ) → HasNoNone l → HasNoNone (release l t)
 HasNoNone-release l t none q h =
     elim (not (q.1 == t)) as (λ b. not (q.1 == t) ≡ b → ⊥) [
@@ -184,7 +184,7 @@ AreWithin-release count h t within u n =
 same_entry : (h : Locks) (k : ℕ) (d e : Holder × ℕ) → k < length h → get_or h k e ≡ get_or h k d
 same_entry h k d e lt = get_or_default h k e d lt
 
--- of locks none of whose modes is above the count, each is so by itself
+-- where no mode is above the count, each lock is so by itself
 pub entries_within : (count : ℕ) (h : Locks) → IsLocks h → AreWithin count h → All (λ l. l.1 ≤ count) h
 entries_within count h sorted within k d lt =
     let e : Holder × ℕ = get_or h k d in

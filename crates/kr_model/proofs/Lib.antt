@@ -6,6 +6,9 @@ pub mod UndoLaws
 pub mod LockLaws
 pub mod RunLaws
 pub mod LogReads
+pub mod KindsOfSteps
+pub mod Ends
+pub mod ProgramLaws
 pub mod LogLaws
 pub mod SerialLaws
 pub mod DifferenceLaws

@@ -67,17 +67,8 @@ same_txn t x y e = ap (λ (z : Holder). not (z.1 == t)) (sym (holder_exact x y e
 pub find-release : (h : Locks) (t : ℕ) (x : Holder) → find holder_cmp x (release h t) ≡ cond (not (x.1 == t)) (find holder_cmp x h) None
 find-release h t x = find-where_key holder_cmp (λ (y : Holder). not (y.1 == t)) x (λ y e. same_txn t x y e) h
 
-tied : (t : ℕ) → (t == t) ≡ true
-tied t = grind (arith, nat_tests)
-
 untied : (u t : ℕ) → (u ≡ t → ⊥) → (u == t) ≡ false
 untied u t h = grind (arith, nat_tests)
-
--- after a release its transaction holds nothing
-pub own-release_same : (h : Locks) (t : ℕ) (n : Name) → own (release h t) t n ≡ 0
-own-release_same h t n =
-    ap (λ o. unwrap_or o 0) (find-release h t (n, t))
-    ∙ ap (λ b. unwrap_or (cond (not b) (find holder_cmp (n, t) h) None) 0) (tied t)
 
 -- every other transaction holds what it held
 pub own-release_other : (h : Locks) (t u : ℕ) (n : Name) → (u ≡ t → ⊥) → own (release h t) u n ≡ own h u n

@@ -1,10 +1,10 @@
 -- The log of a run has the operations so far of each active transaction, and the committed programs.
-use Rattle.std.specs.Prelude.{◌≡◌, ℕ, Bool, true, false, not, ◌==◌, ◌&&◌, ◌||◌, cond, List, [], ◌∷◌, ◌++◌, Option, Some, None, is_some, unwrap_or, filter, map, refl, if◌then◌else◌, ◌⊎◌, length}
-use Rattle.std.specs.List.{list_any, cons_option}
+use Rattle.std.specs.Prelude.{◌≡◌, ℕ, Bool, true, false, not, ◌==◌, ◌&&◌, ◌||◌, cond, List, [], ◌∷◌, ◌++◌, Option, Some, None, is_some, unwrap_or, filter, map, refl, if◌then◌else◌, ◌⊎◌}
+use Rattle.std.specs.List.{list_any}
 use Rattle.std.specs.Ordering.{nat_cmp, eq_by_cmp, is_lt}
 use Rattle.std.specs.Cmp.{nat_cmp_total}
 use Rattle.std.specs.FinMap.{find, put, is_sorted}
-use Rattle.std.specs.FinMap.Entries.{find-put, same_entries, below_all}
+use Rattle.std.specs.FinMap.Entries.{same_entries, below_all}
 use Rattle.std.proofs.lemmas.Map.Lookups.{exact_unsigned}
 use Rattle.std.proofs.lemmas.Bool.{cases_eq}
 use Rattle.std.proofs.Common.{sym, ◌∙◌, ap, ap₂, subst, append-nil, inl, inr, ⊎_elim}
@@ -13,239 +13,19 @@ use Rattle.kr_model.specs.declared.Op.TheVariants as op
 use Rattle.kr_model.specs.declared.Event.{Event}
 use Rattle.kr_model.specs.declared.Reply.{Reply}
 use Rattle.kr_model.specs.declared.Reply.TheVariants as reply
-use Rattle.kr_model.specs.declared.Refusal.{Refusal}
-use Rattle.kr_model.specs.declared.Refusal.TheVariants as refusal
 use Rattle.kr_model.specs.Protocol.{Protocol}
-use Rattle.kr_model.specs.Map.{Map, Changes, get}
-use Rattle.kr_model.specs.Locks.{Request, add_once, blockers}
-use Rattle.kr_model.specs.Plan.{plan_of, requests}
-use Rattle.kr_model.specs.declared.Step.TheVariants as attempt
-use Rattle.kr_model.specs.State.{State, Active, Scan, start, idle, active_of, standing, has_ended, is_scanning, is_rolling}
-use Rattle.kr_model.specs.Step.{Effect, Outcome, IsStep, refusal_of, unless_refused, performed, granted_or_blocked, looked, fetched, inserted, deleted, updated, attempted_scan, name_to_look, is_full, goes_on, takes_back, one_taken_back}
+use Rattle.kr_model.specs.Map.{Map}
+use Rattle.kr_model.specs.State.{State, Active, start, idle, active_of, has_ended, is_scanning, is_rolling}
+use Rattle.kr_model.specs.Step.{IsStep}
 use Rattle.kr_model.specs.Run.{Entry, Answered, Program, run, operations_of, first_rows, committed, programs, is_rows, is_committed, is_operation, is_granted, AreSteps}
 use Rattle.kr_model.specs.Log.{Log, no_log, operations_so_far, without_backs, with_step, step_logged, end_logged, logged, log_after}
-use Rattle.kr_model.proofs.MapLaws.{equal_of_test, t_of, sorted_put, sorted_where}
+use Rattle.kr_model.proofs.MapLaws.{t_of, sorted_put, sorted_where}
 use Rattle.kr_model.proofs.Actives.{tied, untied, any_add_once, or_true, find_put_same, find_put_other, find_filter, find_filter_other}
 use Rattle.kr_model.proofs.RunLaws.{steps_of_run}
-use Rattle.kr_model.proofs.LogReads.{event, turned, ReadsAs, append_entry, IsSilent, IsRowless, silent_other, silent_by, silent_refused, back_past, operations_kept, reads_silent, reads_whole, IsForward, forward_kept, forward_step, Adds, adds_answer, adds_begins, adds_goes_on, adds_ends, EffectAdds, adds_fetch, adds_insert, adds_delete, adds_update, adds_looked}
-
--- The kinds of steps --
-
--- A step of t that is granted and doesn't end it.
-record IsGranted (s : State) (t : ℕ) (o : Op) (a : Reply) (new : State) : Type 0 where
-  standing : Active
-  active : new.active ≡ put nat_cmp t standing s.active
-  ended : new.ended ≡ s.ended
-  works : has_ended s t ≡ false
-  unrolled : is_rolling s t ≡ false
-  adds : Adds o a (is_scanning s t) (is_some standing.scan)
-
--- A step of t that ends it.
-record IsEnd (s : State) (t : ℕ) (o : Op) (a : Reply) (new : State) : Type 0 where
-  active : new.active ≡ filter (λ e. not (e.0 == t)) s.active
-  ended : new.ended ≡ add_once t s.ended
-  works : has_ended s t ≡ false
-  kept : ((o ≡ op.Commit) × (a ≡ reply.Committed) × (is_rolling s t ≡ false)) ⊎ (a ≡ reply.Aborted)
-
--- A step of t that takes one of its changes back: t is active, and rolls back from then on.
-record IsBack (s : State) (t : ℕ) (o : Op) (a : Reply) (new : State) : Type 0 where
-  standing : Active
-  active : new.active ≡ put nat_cmp t standing s.active
-  ended : new.ended ≡ s.ended
-  works : has_ended s t ≡ false
-  present : is_some (active_of s t) ≡ true
-  rolls : standing.rolling ≡ true
-  left : ℕ
-  back : o ≡ op.Back
-  undone : a ≡ reply.Undone left
-
--- A step changes nothing, or is granted, or ends its transaction, or takes a change back.
-abbrev Kind : State → ℕ → Op → Reply → State → Type 0
-Kind s t o a new = ((new ≡ s) × (is_granted a ≡ false)) ⊎ (IsGranted s t o a new ⊎ (IsEnd s t o a new ⊎ IsBack s t o a new))
-
-silent_kind : (s : State) (t : ℕ) (o : Op) (a b : Reply) (new : State) → ◌≡◌ {A = Outcome} (a, new) (b, s) → is_granted b ≡ false → Kind s t o a new
-silent_kind s t o a b new e g = inl (ap (λ (x : Outcome). x.1) e, ap (λ (x : Outcome). is_granted x.0) e ∙ g)
-
-attempt_kind : (p : Protocol) (s : State) (t : ℕ) (o : Op) (rs : List Request) (e : Effect) (us : List ℕ) (a : Reply) (new : State) → has_ended s t ≡ false → is_rolling s t ≡ false → EffectAdds o (is_scanning s t) e
-    → ◌≡◌ {A = Outcome} (a, new) (granted_or_blocked p s t rs e us) → Kind s t o a new
-attempt_kind p s t o rs e (u ∷ us) a new works unrolled adds is = silent_kind s t o a (reply.Blocked (u ∷ us)) new is refl
-attempt_kind p s t o rs e [] a new works unrolled adds is =
-    inr (inl record {
-      standing = e.standing;
-      active = ap (λ (x : Outcome). x.1.active) is;
-      ended = ap (λ (x : Outcome). x.1.ended) is;
-      works = works;
-      unrolled = unrolled;
-      adds = subst (λ z. Adds o z (is_scanning s t) (is_some e.standing.scan)) (sym (ap (λ (x : Outcome). x.0) is)) adds;
-    })
-
-looked_kind : (p : Protocol) (s : State) (t : ℕ) (o : Op) (c : Scan) (a : Reply) (new : State) → has_ended s t ≡ false → is_rolling s t ≡ false
-    → ((rows : List (ℕ × ℕ)) → Adds o (reply.Rows rows) (is_scanning s t) false) → ((k : ℕ) → Adds o (reply.Going k) (is_scanning s t) true)
-    → ◌≡◌ {A = Outcome} (a, new) (attempted_scan p s t (Some c)) → Kind s t o a new
-looked_kind p s t o c a new works unrolled ends goes is =
-    let n = name_to_look s.map c in
-    let rs = requests (plan_of p s.map s.locks t (attempt.Look n c.hi)) in
-    attempt_kind p s t o rs (looked s.map (standing s t) c n) (blockers p s.locks t rs) a new works unrolled (adds_looked o (is_scanning s t) ends goes s.map (standing s t) c n) is
-
-go_kind : (p : Protocol) (s : State) (t : ℕ) (a : Reply) (new : State) (c : Option Scan) → (standing s t).scan ≡ c → has_ended s t ≡ false → is_rolling s t ≡ false
-    → ◌≡◌ {A = Outcome} (a, new) (attempted_scan p s t c) → Kind s t op.Go a new
-go_kind p s t a new None e works unrolled is = silent_kind s t op.Go a (reply.Refused refusal.NoScan) new is refl
-go_kind p s t a new (Some c) e works unrolled is = looked_kind p s t op.Go c a new works unrolled (λ rows. adds_ends rows (is_scanning s t) (ap is_some e)) (λ k. adds_goes_on k (is_scanning s t) (ap is_some e)) is
-
--- Who has changes is active.
-has_changes : (s : State) (t : ℕ) (x : Option Active) (c : ℕ × Option ℕ) (cs : Changes) → active_of s t ≡ x → (unwrap_or x idle).changes ≡ c ∷ cs → is_some (active_of s t) ≡ true
-has_changes s t (Some a) c cs is e = ap is_some is
-has_changes s t None c cs is e = absurd (cc)
-
-back_kind : (s : State) (t : ℕ) (a : Reply) (new : State) (cs : Changes) → (standing s t).changes ≡ cs → has_ended s t ≡ false
-    → ◌≡◌ {A = Outcome} (a, new) (one_taken_back s t cs) → Kind s t op.Back a new
-back_kind s t a new [] e works is = silent_kind s t op.Back a (reply.Refused refusal.NothingLeft) new is refl
-back_kind s t a new (c ∷ cs) e works is =
-    inr (inr (inr record {
-      standing = record { scan = None; changes = cs; rolling = true };
-      active = ap (λ (x : Outcome). x.1.active) is;
-      ended = ap (λ (x : Outcome). x.1.ended) is;
-      works = works;
-      present = has_changes s t (active_of s t) c cs refl e;
-      rolls = refl;
-      left = length cs;
-      back = refl;
-      undone = ap (λ (x : Outcome). x.0) is;
-    }))
-
--- What an operation does that isn't refused.
-performed_kind : (p : Protocol) (s : State) (t : ℕ) (o : Op) (a : Reply) (new : State) → has_ended s t ≡ false → (goes_on o ≡ false → is_scanning s t ≡ false) → (takes_back o ≡ false → is_rolling s t ≡ false)
-    → ◌≡◌ {A = Outcome} (a, new) (performed p s t o) → Kind s t o a new
-performed_kind p s t (op.Fetch k) a new works rest unrolled is =
-    let rs = requests (plan_of p s.map s.locks t (attempt.Fetch k)) in
-    attempt_kind p s t (op.Fetch k) rs (fetched s.map (standing s t) (get s.map k)) (blockers p s.locks t rs) a new works (unrolled refl) (adds_fetch s.map (standing s t) k (get s.map k) (is_scanning s t) (rest refl) (rest refl)) is
-performed_kind p s t (op.Insert k v) a new works rest unrolled is =
-    let rs = requests (plan_of p s.map s.locks t (attempt.Insert k)) in
-    attempt_kind p s t (op.Insert k v) rs (inserted s.map (standing s t) k v (get s.map k)) (blockers p s.locks t rs) a new works (unrolled refl) (adds_insert s.map (standing s t) k v (get s.map k) (is_scanning s t) (rest refl) (rest refl)) is
-performed_kind p s t (op.Delete k) a new works rest unrolled is =
-    let rs = requests (plan_of p s.map s.locks t (attempt.Delete k)) in
-    attempt_kind p s t (op.Delete k) rs (deleted s.map (standing s t) k (get s.map k)) (blockers p s.locks t rs) a new works (unrolled refl) (adds_delete s.map (standing s t) k (get s.map k) (is_scanning s t) (rest refl) (rest refl)) is
-performed_kind p s t (op.Update k v) a new works rest unrolled is =
-    let rs = requests (plan_of p s.map s.locks t (attempt.Update k)) in
-    attempt_kind p s t (op.Update k v) rs (updated s.map (standing s t) k v (get s.map k)) (blockers p s.locks t rs) a new works (unrolled refl) (adds_update s.map (standing s t) k v (get s.map k) (is_scanning s t) (rest refl) (rest refl)) is
-performed_kind p s t (op.Scan lo hi) a new works rest unrolled is =
-    looked_kind p s t (op.Scan lo hi) (record { lo = lo; hi = hi; rows = [] }) a new works (unrolled refl)
-    (λ rows. adds_answer (op.Scan lo hi) (reply.Rows rows) (is_scanning s t) (rest refl) (λ l u. refl) refl refl refl (λ u f. refl) (λ os. refl))
-    (λ k. adds_begins lo hi k (is_scanning s t) (rest refl)) is
-performed_kind p s t op.Go a new works rest unrolled is = go_kind p s t a new (standing s t).scan refl works (unrolled refl) is
-performed_kind p s t op.Commit a new works rest unrolled is =
-    inr (inr (inl record {
-      active = ap (λ (x : Outcome). x.1.active) is;
-      ended = ap (λ (x : Outcome). x.1.ended) is;
-      works = works;
-      kept = inl (refl, ap (λ (x : Outcome). x.0) is, unrolled refl);
-    }))
-performed_kind p s t op.Abort a new works rest unrolled is =
-    inr (inr (inl record {
-      active = ap (λ (x : Outcome). x.1.active) is;
-      ended = ap (λ (x : Outcome). x.1.ended) is;
-      works = works;
-      kept = inr (ap (λ (x : Outcome). x.0) is);
-    }))
-performed_kind p s t op.Back a new works rest unrolled is = back_kind s t a new (standing s t).changes refl works is
-
-pub not_refused : (b : Bool) (r : Refusal) (o : Option Refusal) → cond b (Some r) o ≡ None → (b ≡ false) × (o ≡ None)
-not_refused true r o e = absurd (cc)
-not_refused false r o e = (refl, e)
-
-not_busy : (b c : Bool) → (b && not c) ≡ false → c ≡ false → b ≡ false
-not_busy true true h e = absurd (cc)
-not_busy true false h e = absurd (cc)
-not_busy false c h e = refl
-
-unless_kind : (p : Protocol) (s : State) (t : ℕ) (o : Op) (a : Reply) (new : State) (r : Option Refusal) → refusal_of p s t o ≡ r → ◌≡◌ {A = Outcome} (a, new) (unless_refused p s t o r) → Kind s t o a new
-unless_kind p s t o a new (Some r) e is = silent_kind s t o a (reply.Refused r) new is refl
-unless_kind p s t o a new None e is =
-    let ended = not_refused (has_ended s t) refusal.Ended _ e in
-    let full = not_refused (is_full s t) refusal.Full _ ended.1 in
-    let rolls = not_refused (is_rolling s t && not (takes_back o)) refusal.RollingBack _ full.1 in
-    let busy = not_refused (is_scanning s t && not (goes_on o)) refusal.Busy _ rolls.1 in
-    performed_kind p s t o a new ended.0 (not_busy (is_scanning s t) (goes_on o) busy.0) (not_busy (is_rolling s t) (takes_back o) rolls.0) is
-
--- Each step is of one of the kinds.
-kind_of : (p : Protocol) (s : State) (t : ℕ) (o : Op) (a : Reply) (new : State) → IsStep p s t o a new → Kind s t o a new
-kind_of p s t o a new (inl e) = unless_kind p s t o a new (refusal_of p s t o) refl e
-kind_of p s t o a new (inr m) = inl (m.1, ap is_granted m.0)
-
--- The ended and the active --
-
-tied_key : (q k : ℕ) → eq_by_cmp nat_cmp q k ≡ true → k ≡ q
-tied_key q k e = sym (exact_unsigned q k (equal_of_test (nat_cmp q k) e))
-
-map_append : {A B : Type 0} (f : A → B) (xs ys : List A) → map f (xs ++ ys) ≡ map f xs ++ map f ys
-map_append f [] ys = refl
-map_append f (x ∷ xs) ys = ap (λ l. f x ∷ l) (map_append f xs ys)
-
-or_left : (a b : Bool) → a ≡ true → (a || b) ≡ true
-or_left true b h = refl
-or_left false b h = absurd (cc)
-
-or_none : (a b : Bool) → (a || b) ≡ false → (a ≡ false) × (b ≡ false)
-or_none true b h = absurd (cc)
-or_none false b h = (refl, h)
-
-same_some : {X Y : Type 0} (es : List (ℕ × X)) (fs : List (ℕ × Y)) (t q : ℕ) (v : X) (w : Y) → is_some (find nat_cmp q es) ≡ is_some (find nat_cmp q fs)
-    → is_some (find nat_cmp q (put nat_cmp t v es)) ≡ is_some (find nat_cmp q (put nat_cmp t w fs))
-same_some es fs t q v w h = ap is_some (find-put nat_cmp nat_cmp_total q t v es) ∙ by (eq_by_cmp nat_cmp q t) ∙ sym (ap is_some (find-put nat_cmp nat_cmp_total q t w fs))
-  where
-    by : (b : Bool) → is_some (cond b (Some v) (find nat_cmp q es)) ≡ is_some (cond b (Some w) (find nat_cmp q fs))
-    by true = refl
-    by false = h
-
-same_without : {X Y : Type 0} (es : List (ℕ × X)) (fs : List (ℕ × Y)) (t q : ℕ) → is_some (find nat_cmp q es) ≡ is_some (find nat_cmp q fs)
-    → is_some (find nat_cmp q (filter (λ e. not (e.0 == t)) es)) ≡ is_some (find nat_cmp q (filter (λ e. not (e.0 == t)) fs))
-same_without es fs t q h = ap is_some (find_filter es t q) ∙ by (not (q == t)) ∙ sym (ap is_some (find_filter fs t q))
-  where
-    by : (b : Bool) → is_some (cond b (find nat_cmp q es) None) ≡ is_some (cond b (find nat_cmp q fs) None)
-    by true = h
-    by false = refl
-
--- The programs --
-
-committed_append : (h g : List Entry) → committed (h ++ g) ≡ committed h ++ committed g
-committed_append [] g = refl
-committed_append ((e, a) ∷ h) g = one (is_committed a) e.txn (committed (h ++ g)) (committed h) (committed g) (committed_append h g)
-  where
-    one : (b : Bool) (t : ℕ) (xs ys zs : List ℕ) → xs ≡ ys ++ zs → cons_option (if b then Some t else None) xs ≡ cons_option (if b then Some t else None) ys ++ zs
-    one true t xs ys zs h = ap (λ l. t ∷ l) h
-    one false t xs ys zs h = h
-
-committed_with : (h : List Entry) (x : Entry) (b : Bool) → is_committed x.1 ≡ b → committed (h ++ x ∷ []) ≡ committed h ++ (if b then x.0.txn ∷ [] else [])
-committed_with h x b e = committed_append h (x ∷ []) ∙ ap (λ l. committed h ++ l) (ap (λ c. cons_option (if c then Some x.0.txn else None) []) e ∙ by b)
-  where
-    by : (b : Bool) → cons_option (if b then Some x.0.txn else None) [] ≡ (if b then x.0.txn ∷ [] else [])
-    by true = refl
-    by false = refl
-
--- The program of t in a history.
-abbrev program_in : List Entry → ℕ → Program
-program_in h t = record { txn = t; operations = operations_of t h }
-
--- All of these transactions have ended.
-abbrev HaveEnded : State → List ℕ → Type 0
-HaveEnded s [] = Unit {0}
-HaveEnded s (u ∷ us) = (has_ended s u ≡ true) × HaveEnded s us
-
-ended_stay : (s new : State) (us : List ℕ) → ((u : ℕ) → has_ended s u ≡ true → has_ended new u ≡ true) → HaveEnded s us → HaveEnded new us
-ended_stay s new [] f h = tt
-ended_stay s new (u ∷ us) f h = (f u h.0, ended_stay s new us f h.1)
-
-ended_more : (s : State) (t : ℕ) (us : List ℕ) → has_ended s t ≡ true → HaveEnded s us → HaveEnded s (us ++ t ∷ [])
-ended_more s t [] e h = (e, tt)
-ended_more s t (u ∷ us) e h = (h.0, ended_more s t us e h.1)
-
--- Programs of ended transactions stay, where an entry adds nothing to theirs.
-programs_stay : (s : State) (h : List Entry) (x : Entry) (us : List ℕ) → HaveEnded s us → ((u : ℕ) → has_ended s u ≡ true → IsSilent u x) → map (program_in (h ++ x ∷ [])) us ≡ map (program_in h) us
-programs_stay s h x [] ended silent = refl
-programs_stay s h x (u ∷ us) ended silent =
-    ap₂ (λ (os : List Answered) (more : List Program). let q : Program = record { txn = u; operations = os } in q ∷ more) (operations_kept u x h (silent u ended.0)) (programs_stay s h x us ended.1 silent)
-
--- The log of a history --
+use Rattle.kr_model.proofs.LogReads.{event, turned, ReadsAs, append_entry, IsSilent, IsRowless, silent_other, silent_by, silent_refused, back_past, operations_kept, reads_silent, reads_whole, IsForward, forward_kept, forward_step}
+use Rattle.kr_model.proofs.KindsOfSteps.{IsGranted, IsEnd, IsBack, Kind, kind_of}
+use Rattle.kr_model.proofs.Ends.{tied_key, map_append, or_left, or_none, same_some, same_without}
+use Rattle.kr_model.proofs.ProgramLaws.{committed_with, program_in, HaveEnded, ended_stay, ended_more, programs_stay}
 
 -- What holds of a log after each step: it has the active transactions, and what each has done so far but for the changes taken back; and the programs that have committed.
 record IsLog (h : List Entry) (s : State) (l : Log) : Type 0 where

@@ -39,10 +39,6 @@ same_test q k false e = keys_apart q k (λ s. grind (arith, nat_tests))
 pub get-set : (m : Map) (k v q : ℕ) → get (set m k v) q ≡ (if k == q then Some v else get m q)
 get-set m k v q = find-put nat_cmp nat_cmp_total q k v m ∙ ap (λ b. cond b (Some v) (get m q)) (same_test q k (k == q) refl)
 
--- the key just set has the value
-pub get-set_same : (m : Map) (k v : ℕ) → get (set m k v) k ≡ Some v
-get-set_same m k v = get-set m k v k ∙ ap (λ b. if b then Some v else get m k) (let e : (k == k) ≡ true = grind (arith, nat_tests) in e)
-
 -- every other key is as it was
 pub get-set_other : (m : Map) (k v q : ℕ) → (q ≡ k → ⊥) → get (set m k v) q ≡ get m q
 get-set_other m k v q other = get-set m k v q ∙ ap (λ b. if b then Some v else get m q) (let e : (k == q) ≡ false = grind (arith, nat_tests) in e)

@@ -1,4 +1,4 @@
--- Rising lists of numbers: a number put in, two lists joined, and what refuses several requests.
+-- Rising lists of numbers: a number put in, two lists joined, and what conflicts with several requests.
 use Rattle.std.specs.List.{insert, list_any, filter}
 use Rattle.std.specs.List.Sorted.{IsStrictlyIncreasing}
 use Rattle.std.proofs.lemmas.Bool.Decides.{nat_tests}
@@ -8,7 +8,7 @@ use Rattle.std.specs.declared.cmp.Ordering.TheVariants.{Less, Equal, Greater}
 use Rattle.std.specs.Ordering.{nat_cmp}
 use Rattle.std.specs.FinMap.Entries.{by_order}
 use Rattle.kr_model.specs.Protocol.{Protocol}
-use Rattle.kr_model.specs.Locks.{Locks, Request, add_once, lockers, blockers, refused_by}
+use Rattle.kr_model.specs.Locks.{Locks, Request, add_once, lockers, blockers, conflicts}
 
 less : (x y : ℕ) → x < y → nat_cmp x y ≡ Less
 less x y h = grind (arith, nat_tests)
@@ -178,11 +178,11 @@ any_append : (f : Request → Bool) (xs ys : List Request) → list_any f (xs ++
 any_append f [] ys = refl
 any_append f (x ∷ xs) ys = ap (λ b. f x || b) (any_append f xs ys) ∙ or_assoc (f x) (list_any f xs) (list_any f ys)
 
--- who refuses one of several requests refuses one of the first or one of the rest
+-- who conflicts with one of several requests conflicts with one of the first or one of the rest
 pub blockers-append : (p : Protocol) (h : Locks) (t : ℕ) (xs ys : List Request) → blockers p h t (xs ++ ys) ≡ merged (blockers p h t xs) (blockers p h t ys)
 blockers-append p h t xs ys =
-    filter_alike (λ u. list_any (λ r. refused_by p h t r u) (xs ++ ys)) (λ u. list_any (λ r. refused_by p h t r u) xs || list_any (λ r. refused_by p h t r u) ys) (lockers h) (λ u. any_append (λ r. refused_by p h t r u) xs ys)
-    ∙ sym (merged_filters (λ u. list_any (λ r. refused_by p h t r u) xs) (λ u. list_any (λ r. refused_by p h t r u) ys) (lockers h) (lockers_rise h))
+    filter_alike (λ u. list_any (λ r. conflicts p h t r u) (xs ++ ys)) (λ u. list_any (λ r. conflicts p h t r u) xs || list_any (λ r. conflicts p h t r u) ys) (lockers h) (λ u. any_append (λ r. conflicts p h t r u) xs ys)
+    ∙ sym (merged_filters (λ u. list_any (λ r. conflicts p h t r u) xs) (λ u. list_any (λ r. conflicts p h t r u) ys) (lockers h) (lockers_rise h))
 
 add_once_some : (t : ℕ) (xs : List ℕ) → add_once t xs ≡ [] → ⊥
 add_once_some t [] h = cc

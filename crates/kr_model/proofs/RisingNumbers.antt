@@ -27,9 +27,6 @@ tied x = grind (arith, nat_tests)
 apart : (x y : ℕ) → x < y → (x == y) ≡ false
 apart x y lt = grind (arith, nat_tests)
 
-apart_back : (x y : ℕ) → x < y → (y == x) ≡ false
-apart_back x y lt = grind (arith, nat_tests)
-
 same_of : (x y : ℕ) → (x == y) ≡ true → x ≡ y
 same_of x y e = grind (arith, nat_tests)
 

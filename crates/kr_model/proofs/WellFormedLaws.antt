@@ -31,7 +31,7 @@ use Rattle.kr_model.proofs.UndoLaws.{IsMap-restore, IsMap-restore_all}
 use Rattle.kr_model.proofs.Numbers.{increasing_add}
 use Rattle.kr_model.proofs.Actives.{any_add_once, find_put_other, find_filter, length_filter}
 use Rattle.kr_model.proofs.Requests.{AskModes, asks_by, AreLocks, kept_locks, released_locks}
-use Rattle.kr_model.proofs.LogLaws.{not_refused}
+use Rattle.kr_model.proofs.KindsOfSteps.{not_refused}
 use Rattle.kr_model.proofs.RunLaws.{steps_of_run}
 
 -- The start --

@@ -23,7 +23,7 @@ use Rattle.kr_model.proofs.WorkedCovers.{one_mode_ask, failed, cover_number}
 abbrev pub strict : ℕ
 strict = 1
 
--- A mode that, asked for, stands beside everything; held, it refuses strict.
+-- A mode that, asked for, stands beside everything; held, it conflicts with strict.
 abbrev pub lax : ℕ
 lax = 2
 

@@ -29,7 +29,7 @@ count_up a (suc n) = a ∷ count_up (suc a) n
 abbrev pub modes : Protocol → List ℕ
 modes p = count_up 1 p.count
 
--- None and then the modes of p, rising: what a transaction may hold on a name.
+-- 0, for no lock, and then the modes of p, rising: what a transaction may hold on a name.
 abbrev pub modes_or_none : Protocol → List ℕ
 modes_or_none p = count_up 0 (suc p.count)
 
@@ -43,13 +43,13 @@ Ask = Row × Side
 abbrev pub if_updating : {A : Type 0} → Protocol → List A → List A
 if_updating p xs = if p.updates then xs else []
 
--- What no other transaction may be granted beside a lock that has the cover, in order.
-abbrev pub must_refuse : Protocol → Cover → List Ask
-must_refuse p ReadKey = (row.Delete, Current) ∷ if_updating p ((row.Update, Current) ∷ [])
-must_refuse p ReadGap = (row.Insert, Next) ∷ (row.Delete, Current) ∷ []
-must_refuse p InsertedKey = (row.FetchHit, Current) ∷ (row.FetchMiss, Next) ∷ (row.ScanKey, Current) ∷ (row.ScanStop, Next) ∷ (row.Delete, Current) ∷ (row.Delete, Next) ∷ if_updating p ((row.Update, Current) ∷ [])
-must_refuse p DeletedGap = (row.FetchMiss, Next) ∷ (row.ScanKey, Current) ∷ (row.ScanStop, Next) ∷ (row.Insert, Next) ∷ (row.Delete, Current) ∷ (row.Delete, Next) ∷ []
-must_refuse p UpdatedKey = if_updating p ((row.FetchHit, Current) ∷ (row.ScanKey, Current) ∷ (row.Delete, Current) ∷ (row.Update, Current) ∷ [])
+-- What a lock that has the cover must conflict with, in order: no other transaction may be granted it.
+abbrev pub must_conflict : Protocol → Cover → List Ask
+must_conflict p ReadKey = (row.Delete, Current) ∷ if_updating p ((row.Update, Current) ∷ [])
+must_conflict p ReadGap = (row.Insert, Next) ∷ (row.Delete, Current) ∷ []
+must_conflict p InsertedKey = (row.FetchHit, Current) ∷ (row.FetchMiss, Next) ∷ (row.ScanKey, Current) ∷ (row.ScanStop, Next) ∷ (row.Delete, Current) ∷ (row.Delete, Next) ∷ if_updating p ((row.Update, Current) ∷ [])
+must_conflict p DeletedGap = (row.FetchMiss, Next) ∷ (row.ScanKey, Current) ∷ (row.ScanStop, Next) ∷ (row.Insert, Next) ∷ (row.Delete, Current) ∷ (row.Delete, Next) ∷ []
+must_conflict p UpdatedKey = if_updating p ((row.FetchHit, Current) ∷ (row.ScanKey, Current) ∷ (row.Delete, Current) ∷ (row.Update, Current) ∷ [])
 
 -- An asker at a row and side, with its own modes on the name and on the next name.
 abbrev pub place : Ask → ℕ → ℕ → Place
@@ -60,18 +60,18 @@ abbrev pub places_of : Protocol → Ask → List Place
 places_of p (r, Current) = flat_map (λ o. map (λ n. place (r, Current) o n) (modes_or_none p)) (modes_or_none p)
 places_of p (r, Next) = map (λ o. place (r, Next) o o) (modes_or_none p)
 
--- Whether what is asked by one who holds o is refused beside another's h: the converted mode may not stand there.
-abbrev pub refuses : Protocol → ℕ → ℕ → Option (ℕ × Span) → Bool
-refuses p h o None = false
-refuses p h o (Some (q, span)) = not (p.ok (p.convert o q) h)
+-- Whether what is asked by one who holds o conflicts with another's h: the converted mode may not stand there.
+abbrev pub conflicts_with : Protocol → ℕ → ℕ → Option (ℕ × Span) → Bool
+conflicts_with p h o None = false
+conflicts_with p h o (Some (q, span)) = not (p.ok (p.convert o q) h)
 
 -- Whether a lock in mode h lets the place through: nothing is asked there, or what is asked may stand beside h.
 abbrev pub is_open : Protocol → ℕ → Place → Bool
-is_open p h x = not (refuses p h x.own (p.ask x.row x.side x.own_next))
+is_open p h x = not (conflicts_with p h x.own (p.ask x.row x.side x.own_next))
 
--- The places that a lock in mode h leaves open, of those that the cover must refuse, in order.
+-- The places that a lock in mode h leaves open, of those that the cover must conflict with, in order.
 abbrev pub open_places : Protocol → Cover → ℕ → List Place
-open_places p c h = filter (is_open p h) (flat_map (places_of p) (must_refuse p c))
+open_places p c h = filter (is_open p h) (flat_map (places_of p) (must_conflict p c))
 
 -- Whether a list has no elements.
 abbrev pub is_empty : {A : Type 0} → List A → Bool

@@ -32,15 +32,31 @@ holder_cmp a b = ordering_then (name_cmp a.0 b.0) (nat_cmp a.1 b.1)
 
 -- The locks --
 
--- The holders with their modes.
+-- A holder with its mode.
+abbrev pub Lock : Type 0
+Lock = Holder × ℕ
+
+-- The name that is locked.
+abbrev pub name_locked : Lock → Name
+name_locked l = l.0.0
+
+-- The transaction that holds the lock.
+abbrev pub holder_of : Lock → ℕ
+holder_of l = l.0.1
+
+-- The mode that it holds.
+abbrev pub mode_held : Lock → ℕ
+mode_held l = l.1
+
+-- The locks that are held.
 abbrev pub Locks : Type 0
-Locks = List (Holder × ℕ)
+Locks = List Lock
 
 -- The holders rise, so each has one mode.
 abbrev pub IsLocks : Locks → Type 0
 IsLocks h = IsTrue (is_sorted holder_cmp h)
 
--- The own mode of t on n, or none.
+-- The own mode of t on n, or 0 where it holds no lock there.
 abbrev pub own : Locks → ℕ → Name → ℕ
 own h t n = unwrap_or (find holder_cmp (n, t) h) 0
 
@@ -52,20 +68,20 @@ keep h t n m = put holder_cmp (n, t) m h
 abbrev pub forget : Locks → ℕ → Name → Locks
 forget h t n = filter (λ l. not (eq_by_cmp holder_cmp (n, t) l.0)) h
 
--- The locks with m as the mode of t on n, for any m: none takes the lock away.
+-- The locks with m as the mode of t on n, for any m: 0 takes the lock away.
 abbrev pub keep_or_drop : Locks → ℕ → Name → ℕ → Locks
 keep_or_drop h t n zero = forget h t n
 keep_or_drop h t n (suc m) = keep h t n (suc m)
 
 -- The locks without those of t.
 abbrev pub release : Locks → ℕ → Locks
-release h t = filter (λ l. not (l.0.1 == t)) h
+release h t = filter (λ l. not (holder_of l == t)) h
 
 -- No mode is above the count.
 abbrev pub AreWithin : ℕ → Locks → Type 0
 AreWithin count h = (t : ℕ) (n : Name) → own h t n ≤ count
 
--- No lock has the mode none.
+-- No lock has the mode 0.
 abbrev pub HasNoNone : Locks → Type 0
 HasNoNone h = (k : Holder) → find holder_cmp k h ≡ Some 0 → ⊥
 
@@ -75,9 +91,21 @@ HasNoNone h = (k : Holder) → find holder_cmp k h ≡ Some 0 → ⊥
 abbrev pub Request : Type 0
 Request = Name × ℕ × Span
 
--- Whether u refuses the request of t: u is another, and the converted mode may not stand beside what u holds on the name.
-abbrev pub refused_by : Protocol → Locks → ℕ → Request → ℕ → Bool
-refused_by p h t r u = not (u == t) && not (p.ok (p.convert (own h t r.0) r.1) (own h u r.0))
+-- The name that a lock is asked for on.
+abbrev pub name_asked : Request → Name
+name_asked r = r.0
+
+-- The mode that is asked for.
+abbrev pub mode_asked : Request → ℕ
+mode_asked r = r.1
+
+-- How long the lock is to be held.
+abbrev pub span_asked : Request → Span
+span_asked r = r.2
+
+-- Whether u conflicts with the request of t: u is another, and the converted mode may not stand beside what u holds on the name.
+abbrev pub conflicts : Protocol → Locks → ℕ → Request → ℕ → Bool
+conflicts p h t r u = not (u == t) && not (p.ok (p.convert (own h t (name_asked r)) (mode_asked r)) (own h u (name_asked r)))
 
 -- Rising numbers with x in its place, once.
 abbrev pub add_once : ℕ → List ℕ → List ℕ
@@ -87,11 +115,11 @@ add_once x (y ∷ ys) = by_order (nat_cmp x y) (x ∷ y ∷ ys) (y ∷ ys) (y �
 -- The transactions that hold a lock, rising, each once.
 abbrev pub lockers : Locks → List ℕ
 lockers [] = []
-lockers (l ∷ ls) = add_once l.0.1 (lockers ls)
+lockers (l ∷ ls) = add_once (holder_of l) (lockers ls)
 
--- The transactions that refuse one of the requests of t, rising, each once; the requests are granted exactly where there are none.
+-- The transactions that conflict with one of the requests of t, rising, each once; the requests are granted exactly where there are none.
 abbrev pub blockers : Protocol → Locks → ℕ → List Request → List ℕ
-blockers p h t rs = filter (λ u. list_any (λ r. refused_by p h t r u) rs) (lockers h)
+blockers p h t rs = filter (λ u. list_any (λ r. conflicts p h t r u) rs) (lockers h)
 
 -- The locks after a request of t is granted: one for commit sets the converted mode, an instant one leaves all.
 abbrev pub kept_one : Protocol → Locks → ℕ → Name → ℕ → Span → Locks
@@ -101,4 +129,4 @@ kept_one p h t n q Commit = keep h t n (p.convert (own h t n) q)
 -- The locks after all the requests of t are granted.
 abbrev pub kept : Protocol → Locks → ℕ → List Request → Locks
 kept p h t [] = h
-kept p h t (r ∷ rs) = kept p (kept_one p h t r.0 r.1 r.2) t rs
+kept p h t (r ∷ rs) = kept p (kept_one p h t (name_asked r) (mode_asked r) (span_asked r)) t rs

@@ -12,11 +12,11 @@ stands_in xs x = list_any (λ y. x == y) xs
 abbrev pub line : List (List ℕ) → ℕ → List ℕ
 line lines m = slice_index_or lines (m - 1) []
 
--- A line for each mode asked for, with the held modes that it may stand beside; none stands beside all.
+-- A line for each mode asked for, with the held modes that it may stand beside; no lock stands beside all.
 abbrev pub ok_by : List (List ℕ) → ℕ → ℕ → Bool
 ok_by lines q h = q == 0 || h == 0 || stands_in (line lines q) h
 
--- A line for each held mode, with the converted mode for each mode asked for; none and a mode convert to that mode.
+-- A line for each held mode, with the converted mode for each mode asked for; no lock and a mode convert to that mode.
 abbrev pub convert_by : List (List ℕ) → ℕ → ℕ → ℕ
 convert_by lines h q = if h == 0 then q else if q == 0 then h else slice_index_or (line lines h) (q - 1) 0
 

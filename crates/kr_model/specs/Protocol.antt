@@ -1,5 +1,5 @@
 -- A lock protocol: its modes, which of them may stand beside each other, and what each row of the lock table asks for.
--- A mode is a number: 0 is none, and the modes are 1 to `count`.
+-- A mode is a number: 0 is no lock, and the modes are 1 to `count`.
 use Rattle.std.specs.Prelude.{◌≡◌, ℕ, ◌<◌, ◌≤◌, Bool, true, false, Option, Some, None}
 use Rattle.kr_model.specs.declared.Row.{Row}
 use Rattle.kr_model.specs.declared.Row.TheVariants.{FetchHit, FetchMiss, ScanKey, ScanStop, Insert, Delete, Update}
@@ -29,7 +29,7 @@ MovesNoKey Insert = ⊥
 MovesNoKey Delete = ⊥
 MovesNoKey Update = Unit {0}
 
--- A number is a mode of p if it isn't none and at most the count.
+-- A number is a mode of p if it is above 0 and at most the count.
 pub record IsMode (p : Protocol) (m : ℕ) : Type 0 where
   pub some : 0 < m
   pub in_range : m ≤ p.count
@@ -38,10 +38,10 @@ pub record IsMode (p : Protocol) (m : ℕ) : Type 0 where
 pub record IsLawful (p : Protocol) : Type 0 where
   -- there are at most 15 modes
   pub few : p.count ≤ 15
-  -- every request may stand beside none, and none beside every lock
+  -- every request may stand beside no lock, and no lock beside every lock
   pub ok-none_held : (q : ℕ) → q ≤ p.count → p.ok q 0 ≡ true
   pub ok-none_asked : (h : ℕ) → h ≤ p.count → p.ok 0 h ≡ true
-  -- none and a mode convert to that mode, and two modes to a mode
+  -- no lock and a mode convert to that mode, and two modes to a mode
   pub convert-none_held : (q : ℕ) → q ≤ p.count → p.convert 0 q ≡ q
   pub convert-none_asked : (h : ℕ) → h ≤ p.count → p.convert h 0 ≡ h
   pub convert-modes : (h q : ℕ) → IsMode p h → IsMode p q → IsMode p (p.convert h q)

@@ -26,11 +26,11 @@ key_part m = slice_index_or (0 ∷ 1 ∷ 3 ∷ 0 ∷ 1 ∷ 3 ∷ 0 ∷ 1 ∷ 3 �
 abbrev pub mode_of : ℕ → ℕ → ℕ
 mode_of range key = 3 * range + (if key == exclusive then 2 else key)
 
--- Parts may stand beside each other where one of them is none, or where both are shared or both insert.
+-- Parts may stand beside each other where one of them is 0, or where both are shared or both insert.
 abbrev pub parts_ok : ℕ → ℕ → Bool
 parts_ok a b = a == 0 || b == 0 || (a == b && (a == 1 || a == 2))
 
--- None and a part convert to that part, two equal parts to that part, and any other two to exclusive.
+-- No lock and a part convert to that part, two equal parts to that part, and any other two to exclusive.
 abbrev pub part_after : ℕ → ℕ → ℕ
 part_after a b = if a == 0 then b else if b == 0 then a else if a == b then a else exclusive
 

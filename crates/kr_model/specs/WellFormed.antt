@@ -12,7 +12,7 @@ use Rattle.kr_model.specs.State.{State, active_of, has_ended}
 pub record IsState (p : Protocol) (s : State) : Type 0 where
   -- the keys of the index rise
   pub is_map : IsMap s.map
-  -- the holders of locks rise, each with one mode: a mode of p, and never none
+  -- the holders of locks rise, each with one mode: a mode of p, and never 0
   pub are_locks : IsLocks s.locks
   pub within : AreWithin p.count s.locks
   pub no_none : HasNoNone s.locks

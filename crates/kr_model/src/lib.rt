@@ -8,8 +8,12 @@ mod programs;
 
 pub use lists::{Pairs, Txns};
 pub use programs::{Answers, Programs};
+use std::alloc::AllocError;
 
-/// A lock mode: 0 is none, and the modes of a protocol are 1 to its count, at most 15.
+/// A growth was refused.
+pub type Memory = AllocError;
+
+/// A lock mode: 0 is no lock, and the modes of a protocol are 1 to its count, at most 15.
 pub type Mode = u8;
 
 /// A transaction's number, any `u32`. A number that has ended is never used again.
@@ -127,7 +131,7 @@ pub struct FailedCase {
     pub from: Origin,
     /// The mode that doesn't serve the cover.
     pub mode: Mode,
-    /// The first place whose request isn't refused beside that mode.
+    /// The first place whose request doesn't conflict with that mode.
     pub hole: Place,
 }
 

@@ -8,7 +8,7 @@ use Rattle.std.proofs.lemmas.Bool.Decides.{nat_tests}
 use Rattle.std.proofs.lemmas.Nat.Bits.{bit_at_set_same, bit_at_set_other, bit_at-zero}
 use Rattle.kr_modes.specs.Matrix.{Matrix, ok_of, IsRowOf}
 
--- the bits below n are right: those of what f refuses, but bit 0
+-- the bits below n are right: those of what f says no to, but bit 0
 abbrev pub IsRowTo : (ℕ → Bool) → ℕ → ℕ → Type 0
 IsRowTo f n r = (h : ℕ) → bit_at r h ≡ cond ((nat_lt 0 h && nat_lt h n) && not (f h)) 1 0
 

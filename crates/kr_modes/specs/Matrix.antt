@@ -47,6 +47,6 @@ conflicts_of x q h = (nat_lt 0 h && nat_le h (length x.names)) && not (ok_of x q
 abbrev pub IsRowOf : Matrix → ℕ → ℕ → Type 0
 IsRowOf x q r = (h : ℕ) → bit_at r h ≡ (if conflicts_of x q h then 1 else 0)
 
--- row q stands at place q, for none and for each mode
+-- row q stands at place q, for no lock and for each mode
 abbrev pub AreRowsOf : Matrix → List ℕ → Type 0
 AreRowsOf x rows = (q : ℕ) → q ≤ length x.names → IsRowOf x q (slice_index_or rows q 0)

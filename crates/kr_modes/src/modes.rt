@@ -7,13 +7,13 @@ use kr_model::Mode;
 use std::marker::Model;
 
 /// 1 to 15 modes by name, with their compatibility and their conversion. The mode at place `i` of
-/// the names is `i + 1`, and 0 is none. No call takes memory.
+/// the names is `i + 1`, and 0 is no lock. No call takes memory.
 #[derive(Debug, Drop)]
 pub struct Modes {
     names: Vec<String>,
     compatible: Vec<bool>,
     conversion: Vec<Mode>,
-    /// For each mode requested, and none, the modes held that it conflicts with, each as a bit.
+    /// For no lock and for each mode requested, the modes held that it conflicts with, each as a bit.
     rows: [u16; 16],
 }
 
@@ -65,7 +65,7 @@ fn row_of(names: &[String], ok: &[bool], requested: Mode) -> u16
     row
 }
 
-/// The rows of none, which conflicts with nothing, and of each mode, by the square of the modes with these names.
+/// The rows of no lock, which conflicts with nothing, and of each mode, by the square of the modes with these names.
 fn rows_of(names: &[String], ok: &[bool]) -> [u16; 16]
     requires few { length names.now ≤ 15 }
     requires square { length ok.now ≡ length names.now * length names.now }
@@ -106,8 +106,8 @@ impl Modes {
         self.names.len() as Mode
     }
 
-    /// Whether a request in one mode may stand beside a lock that another holds. None stands
-    /// beside every mode, and every mode beside none.
+    /// Whether a request in one mode may stand beside a lock that another holds. No lock stands
+    /// beside every mode, and every mode beside no lock.
     pub fn ok(&self, requested: Mode, held: Mode) -> bool
         requires requested_is_mode { requested ≤ length self.now.names }
         requires held_is_mode { held ≤ length self.now.names }
@@ -128,8 +128,8 @@ impl Modes {
         self.rows[requested as usize]
     }
 
-    /// The mode of one who holds a mode and asks for another. Where one of them is none, it is
-    /// the other.
+    /// The mode of one who holds a mode and asks for another. Who holds no lock gets the mode asked
+    /// for, and who asks for none keeps the one held.
     pub fn convert(&self, held: Mode, requested: Mode) -> Mode
         requires held_is_mode { held ≤ length self.now.names }
         requires requested_is_mode { requested ≤ length self.now.names }

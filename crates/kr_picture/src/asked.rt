@@ -1,4 +1,4 @@
-//! What a blocked step asked for, and who refused it.
+//! What a blocked step asked for, and whose locks conflicted with it.
 ghost use Rattle.std.specs.Prelude.{◌≤◌, IfOk, OnOk};
 ghost use Rattle.kr_model.specs.Map.{IsMap};
 ghost use Rattle.kr_model.specs.Locks.{AreWithin};
@@ -11,13 +11,13 @@ use kr_protocol::Protocol;
 use std::alloc::Global;
 use std::collections::BTreeMap;
 
-/// A lock that a step asked for, and the transactions that refused it.
+/// A lock that a step asked for, and the transactions whose locks conflicted with it.
 #[derive(Debug, Drop)]
 pub struct Asked {
     pub name: Name,
     pub mode: Mode,
     pub span: Span,
-    pub refusers: Vec<Txn>,
+    pub blockers: Vec<Txn>,
 }
 
 /// How far a scan is.
@@ -72,7 +72,7 @@ impl Scans {
         }
     }
 
-    /// What a step asks for on an index with these locks, and who refuses it.
+    /// What a step asks for on an index with these locks, and whose locks conflict with it.
     pub fn asked<P: Protocol>(
         &self,
         alloc: Global,
@@ -95,7 +95,7 @@ impl Scans {
     }
 }
 
-/// Adds the request of a side, if there is one, with the transactions that refuse it.
+/// Adds the request of a side, if there is one, with the transactions whose locks conflict with it.
 fn push_side<P: Protocol>(
     alloc: Global,
     protocol: &P,
@@ -108,12 +108,12 @@ fn push_side<P: Protocol>(
     requires asked { SideIsMode (P.table protocol.now).count side }
 {
     if let Some((name, mode, span)) = side {
-        let refusers = locks.blockers(alloc, protocol, txn, name, mode)?;
+        let blockers = locks.blockers(alloc, protocol, txn, name, mode)?;
         list.push(Asked {
             name,
             mode,
             span,
-            refusers,
+            blockers,
         })?;
     }
     Ok(())

@@ -59,7 +59,7 @@ fn write_difference(
     out.push_str("</p>\n")
 }
 
-/// Writes in words what a blocked step asked for, and who refused it.
+/// Writes in words what a blocked step asked for, and whose locks conflicted with it.
 fn write_request<P: Protocol>(
     alloc: Global,
     protocol: &P,
@@ -73,11 +73,11 @@ fn write_request<P: Protocol>(
         Span::Instant => out.push_str(" for an instant: ")?,
         Span::Commit => out.push_str(" to commit: ")?,
     }
-    match request.refusers.len() {
+    match request.blockers.len() {
         0 => out.push_str("nobody refuses it")?,
         1 => out.push_str("refused by transaction ")?,
         _ => out.push_str("refused by transactions ")?,
     }
-    write_numbers(out, request.refusers.as_slice())?;
+    write_numbers(out, request.blockers.as_slice())?;
     out.push_str(".</p>\n")
 }

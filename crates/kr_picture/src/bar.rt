@@ -1,4 +1,4 @@
-//! The bars of a step: the locks that are held after it, and those that it asked for and was refused.
+//! The bars of a step: the locks that are held after it, and those that it asked for and wasn't granted.
 
 use crate::asked::Asked;
 use crate::columns::Columns;
@@ -20,7 +20,7 @@ pub struct Row {
     pub layer: u8,
 }
 
-/// A lock, or a request that was refused, on the name of a column.
+/// A lock, or a request that wasn't granted, on the name of a column.
 #[derive(Debug, Drop)]
 pub struct Bar {
     pub row: Row,
@@ -34,14 +34,14 @@ pub struct Bar {
 }
 
 impl Bar {
-    /// The holder and the mode, and with a word or a sign whether it refuses or was asked for.
+    /// The holder and the mode, and with a word or a sign whether it conflicts or was asked for.
     pub fn words(&self, alloc: Global, is_short: bool) -> Result<String, Memory> {
         let txn = self.row.txn;
         let mode = self.mode.as_str();
         match (self.kind, is_short) {
             (BarKind::Held, _) => format!(in alloc; "{txn} {mode}"),
-            (BarKind::Refusing, false) => format!(in alloc; "{txn} {mode} blocks"),
-            (BarKind::Refusing, true) => format!(in alloc; "{txn} {mode}!"),
+            (BarKind::Conflicting, false) => format!(in alloc; "{txn} {mode} blocks"),
+            (BarKind::Conflicting, true) => format!(in alloc; "{txn} {mode}!"),
             (BarKind::Asked, false) => format!(in alloc; "{txn} asks {mode}"),
             (BarKind::Asked, true) => format!(in alloc; "{txn} {mode}?"),
         }
@@ -53,9 +53,9 @@ impl Bar {
 pub enum BarKind {
     /// A lock.
     Held,
-    /// A lock that refuses what was asked for.
-    Refusing,
-    /// A request that was refused.
+    /// A lock that conflicts with what was asked for.
+    Conflicting,
+    /// A request that wasn't granted.
     Asked,
 }
 
@@ -102,10 +102,10 @@ fn row_of(txn: Txn, is_second: bool, reach: usize) -> Row {
     Row { txn, layer }
 }
 
-/// Whether a lock refuses what was asked for.
-fn refuses(asked: &[Asked], name: Name, txn: Txn) -> bool {
+/// Whether a lock conflicts with what was asked for.
+fn conflicts(asked: &[Asked], name: Name, txn: Txn) -> bool {
     for request in asked {
-        if request.name == name && request.refusers.as_slice().contains(&txn) {
+        if request.name == name && request.blockers.as_slice().contains(&txn) {
             return true;
         }
     }
@@ -125,8 +125,8 @@ pub fn push_held<P: Protocol>(
     for ((name, txn), mode) in locks {
         if let Some(column) = columns.of(*name) {
             let reach = reach_of(keys, column);
-            let kind = if refuses(asked, *name, *txn) {
-                BarKind::Refusing
+            let kind = if conflicts(asked, *name, *txn) {
+                BarKind::Conflicting
             } else {
                 BarKind::Held
             };
@@ -152,7 +152,7 @@ fn has_bar(bars: &[Bar], txn: Txn, column: usize) -> bool {
     false
 }
 
-/// Adds a bar for each lock that a transaction asked for and was refused. What nobody refuses is told in words alone.
+/// Adds a bar for each lock that a transaction asked for and wasn't granted. What nobody's lock conflicts with is told in words alone.
 pub fn push_asked<P: Protocol>(
     alloc: Global,
     protocol: &P,
@@ -163,8 +163,8 @@ pub fn push_asked<P: Protocol>(
     bars: &mut Vec<Bar>,
 ) -> Result<(), Memory> {
     for request in asked {
-        let is_refused = !request.refusers.is_empty();
-        if let (true, Some(column)) = (is_refused, columns.of(request.name)) {
+        let is_blocked = !request.blockers.is_empty();
+        if let (true, Some(column)) = (is_blocked, columns.of(request.name)) {
             let reach = reach_of(keys, column);
             let is_second = has_bar(bars.as_slice(), txn, column);
             bars.push(Bar {

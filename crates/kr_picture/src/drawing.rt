@@ -105,7 +105,7 @@ fn write_bar(layout: &Layout, bar: &Bar, y: u64, out: &mut String) -> Result<(),
     let colour = colour_of(bar.row.txn);
     let kind = match bar.kind {
         BarKind::Held => "held",
-        BarKind::Refusing => "held refuses",
+        BarKind::Conflicting => "held refuses",
         BarKind::Asked => "asked",
     };
     let class = format!(in *out.allocator(); "{kind} c{colour}")?;

@@ -1,4 +1,4 @@
-//! What an attempt asks for, and who refuses it.
+//! What an attempt asks for, and whose locks conflict with it.
 #![tactic(auto)]
 
 ghost use Rattle.std.specs.Prelude.{◌≡◌, ℕ, ◌<◌, ◌≤◌, IsTrue, List, [], ◌∷◌, OnOk, IfOk, ◌↔◌};
@@ -102,7 +102,7 @@ fn plan_at<P: Protocol, L: Holdings>(
     }
 }
 
-/// Whether nobody refuses the request of a side.
+/// Whether nobody's lock conflicts with the request of a side.
 fn side_granted<P: Protocol, L: Holdings>(
     protocol: &P,
     locks: &L,
@@ -119,11 +119,11 @@ fn side_granted<P: Protocol, L: Holdings>(
     }
 }
 
-/// Whether no other transaction refuses a request of a plan.
+/// Whether no other transaction's lock conflicts with a request of a plan.
 ///
-/// Another transaction refuses where the mode to which the own one would be converted may not stand beside what it holds
-/// on the name. Requests for an instant count as those to commit. The modes asked for are the protocol's, and the held
-/// ones at most its count. Takes no memory.
+/// Another transaction's lock conflicts where the mode to which the own one would be converted may not stand beside it.
+/// Requests for an instant count as those to commit. The modes asked for are the protocol's, and the held ones at most
+/// its count. Takes no memory.
 pub fn granted<P: Protocol, L: Holdings>(protocol: &P, locks: &L, txn: Txn, plan: &Plan) -> bool
     requires held { AreWithin (P.table protocol.now).count (L.locks locks.now) }
     requires asked { ArePlanModes (P.table protocol.now).count plan.now }
@@ -133,7 +133,7 @@ pub fn granted<P: Protocol, L: Holdings>(protocol: &P, locks: &L, txn: Txn, plan
         && side_granted(protocol, locks, txn, plan.next)
 }
 
-/// The transactions that refuse the request of a side.
+/// The transactions whose locks conflict with the request of a side.
 fn side_blockers<P: Protocol, L: Holdings>(
     alloc: Global,
     protocol: &P,
@@ -180,7 +180,7 @@ fn add_all(list: &mut Vec<Txn>, more: &[Txn]) -> Result<(), Memory>
     Ok(())
 }
 
-/// The transactions that refuse a request of a plan, as `granted` says it, rising, each once; or `Memory` where a growth
+/// The transactions whose locks conflict with a request of a plan, as `granted` says it, rising, each once; or `Memory` where a growth
 /// is refused. There are none exactly where the plan is granted.
 ///
 /// The conditions on modes are those of `granted`.

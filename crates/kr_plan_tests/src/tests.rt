@@ -153,8 +153,8 @@ fn plans<P: Protocol, I: Ordered, L: Holdings>(
     Ok(())
 }
 
-/// Who refuses attempts.
-fn refusers<P: Protocol, I: Ordered, L: Holdings>(
+/// Who conflicts with attempts.
+fn conflicts<P: Protocol, I: Ordered, L: Holdings>(
     rt: &impl Abort,
     alloc: Global,
     protocol: &P,
@@ -164,7 +164,7 @@ fn refusers<P: Protocol, I: Ordered, L: Holdings>(
     requires { L.locks locks ≡ [] }
 {
     fill(rt, protocol, &mut locks)?;
-    for (txn, step, refusing) in [
+    for (txn, step, conflicting) in [
         (2, Step::Fetch(12), Vec::new(alloc)),
         (1, Step::Insert(12), Vec::new(alloc)),
         (2, Step::Insert(12), vec![in alloc; 1]?),
@@ -176,12 +176,12 @@ fn refusers<P: Protocol, I: Ordered, L: Holdings>(
         let plan = plan(protocol, index, &locks, txn, step);
         assert_eq!(rt;
             granted(protocol, &locks, txn, &plan),
-            refusing.is_empty(),
+            conflicting.is_empty(),
             "{step:?}"
         );
         assert_eq!(rt;
             blockers(alloc, protocol, &locks, txn, &plan)?,
-            refusing,
+            conflicting,
             "{step:?}"
         );
     }
@@ -195,10 +195,10 @@ fn plans_under_key_value_locking(rt: HostRuntime) -> Result<(), Fail> {
 }
 
 #[test]
-fn refusers_under_key_value_locking(rt: HostRuntime) -> Result<(), Fail> {
+fn conflicts_under_key_value_locking(rt: HostRuntime) -> Result<(), Fail> {
     let alloc = rt.alloc();
-    refusers(&rt, alloc, &Kvl, &sample(alloc)?, List::new(alloc))?;
-    refusers(&rt, alloc, &&Kvl, &sample(alloc)?, List::new(alloc))
+    conflicts(&rt, alloc, &Kvl, &sample(alloc)?, List::new(alloc))?;
+    conflicts(&rt, alloc, &&Kvl, &sample(alloc)?, List::new(alloc))
 }
 
 /// An update of a present key goes by its own row, which asks for nothing where no updates are offered.

@@ -20,8 +20,8 @@ pub trait Protocol: Drop {
     fn count(&self) -> Mode
         ensures { result ≡ (table self.now).count };
 
-    /// Whether a request in one mode may stand beside a lock that another transaction holds. None
-    /// stands beside every mode, and every mode beside none.
+    /// Whether a request in one mode may stand beside a lock that another transaction holds. No
+    /// lock stands beside every mode, and every mode beside no lock.
     fn ok(&self, requested: Mode, held: Mode) -> bool
         requires requested_is_mode { requested ≤ (table self.now).count }
         requires held_is_mode { held ≤ (table self.now).count }
@@ -33,8 +33,8 @@ pub trait Protocol: Drop {
         requires { requested ≤ (table self.now).count }
         ensures { IsRow (table self.now) requested result };
 
-    /// The mode of one who holds a mode and asks for another. Where one of them is none, it is
-    /// the other.
+    /// The mode of one who holds a mode and asks for another. Who holds no lock gets the mode asked
+    /// for, and who asks for none keeps the one held.
     fn convert(&self, held: Mode, requested: Mode) -> Mode
         requires held_is_mode { held ≤ (table self.now).count }
         requires requested_is_mode { requested ≤ (table self.now).count }
@@ -56,7 +56,7 @@ pub trait Protocol: Drop {
     fn updates(&self) -> bool
         ensures { result ≡ (table self.now).updates };
 
-    /// None adds nothing and hinders nothing, and what is converted or asked for is a mode.
+    /// No lock adds nothing and conflicts with nothing, and what is converted or asked for is a mode.
     ghost lawful: { (p : Self) → IsLawful (table p) };
 
     /// Each mode has a name of its own.

@@ -51,7 +51,7 @@ const X_X: Mode = 11;
 ///   X                         +
 /// ```
 ///
-/// So it is for whole modes (none stands beside all):
+/// So it is for whole modes (no lock stands beside all):
 ///
 /// ```text
 ///   requested \ held   N-S   N-X   S-N   S-S   S-X   I-N   I-S   I-X   X-N   X-S   X-X
@@ -69,7 +69,7 @@ const X_X: Mode = 11;
 /// ```
 ///
 /// The parts of one who holds a part (down) and asks for another (across), each for itself; where
-/// it holds no mode, the mode is that asked for, and where it asks for none, that held:
+/// it holds no lock, the mode is that asked for, and where it asks for no lock, that held:
 ///
 /// ```text
 ///   range: held \ requested   N   S   I   X       key: held \ requested   N   S   X
@@ -100,7 +100,7 @@ const X_X: Mode = 11;
 #[derive(Clone, Copy, Debug, PartialEq, Eq)]
 pub struct RangeKey;
 
-/// The parts of a mode; those of none are both N.
+/// The parts of a mode; those of no lock are both N.
 fn parts_of(mode: Mode) -> (RangePart, KeyPart)
     requires { mode ≤ 11 }
     ensures range { range_number result.0 ≡ range_part mode }
@@ -122,7 +122,7 @@ fn parts_of(mode: Mode) -> (RangePart, KeyPart)
     }
 }
 
-/// The mode of two parts; none where both are N.
+/// The mode of two parts; 0, for no lock, where both are N.
 fn mode_of(range: RangePart, key: KeyPart) -> Mode
     ensures { result ≡ mode_of (range_number range) (key_number key) }
 {

@@ -10,7 +10,7 @@ use Rattle.kr_model.specs.declared.Refusal.TheVariants as refusal
 use Rattle.kr_model.specs.declared.Reply.{Reply}
 use Rattle.kr_model.specs.declared.Reply.TheVariants as reply
 use Rattle.kr_model.specs.Map.{Map}
-use Rattle.kr_model.specs.Locks.{Locks}
+use Rattle.kr_model.specs.Locks.{Lock, Locks, name_locked, holder_of, mode_held}
 use Rattle.kr_model.specs.ModeNames.{name_of}
 use Rattle.kr_model.specs.Difference.{refusal_number}
 use Rattle.kr_serial.specs.declared.verdict.Verdict.{Verdict}
@@ -68,8 +68,8 @@ name_data (Key k) = whole k
 name_data End = string (codes "End")
 
 -- A lock: its name, its holder, and the name of its mode.
-abbrev pub lock_data : List (List ℕ) → (Name × ℕ) × ℕ → Data
-lock_data names l = array (item (name_data l.0.0) (item (whole l.0.1) (item (string (name_of names l.1)) no_items)))
+abbrev pub lock_data : List (List ℕ) → Lock → Data
+lock_data names l = array (item (name_data (name_locked l)) (item (whole (holder_of l)) (item (string (name_of names (mode_held l))) no_items)))
 
 -- Locks, in their order.
 abbrev pub locks_data : List (List ℕ) → Locks → Data

@@ -75,7 +75,7 @@ abbrev pub asked : List (List ℕ) → Items → List ℕ → Request
 asked modes no_items own = None
 asked modes (item d ds) own = if fits own d then request modes d else asked modes ds own
 
--- What is asked for at each own mode, from none.
+-- What is asked for at each own mode, from 0, for no lock.
 abbrev pub asked_each : List (List ℕ) → Items → List Request
 asked_each modes ds = map (asked modes ds) (codes "none" ∷ modes)
 

@@ -15,7 +15,7 @@ abbrev pub Request : Type 0
 Request = Option (ℕ × Span)
 
 -- The modes with their names and matrices, and what each row asks for at its sides. Insert and delete have a request for
--- each own mode on the next name, from none. Where updates are offered, the last is what they ask for.
+-- each own mode on the next name, from 0, for no lock. Where updates are offered, the last is what they ask for.
 pub record TableData : Type 0 where
   pub modes : Matrix
   pub fetch_hit : Request
@@ -67,7 +67,7 @@ abbrev pub asks_mode : ℕ → Request → Bool
 asks_mode m None = true
 asks_mode m (Some (q, s)) = in_range m q
 
--- A request for each own mode, from none, and each for one of m modes.
+-- A request for each own mode, from 0, and each for one of m modes.
 pub record IsAsked (m : ℕ) (rs : List Request) : Type 0 where
   pub whole : length rs ≡ m + 1
   pub modes : list_all (asks_mode m) rs ≡ true

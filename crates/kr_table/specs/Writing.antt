@@ -88,7 +88,7 @@ one_side side ds = put side (array ds) no_members
 abbrev pub both_sides : Items → Items → Members
 both_sides current next = put (codes "next") (array next) (put (codes "current") (array current) no_members)
 
--- A row of both sides, with a request for each own mode, from none.
+-- A row of both sides, with a request for each own mode, from 0, for no lock.
 abbrev pub changing_row : List (List ℕ) → List Request → List Request → Members
 changing_row names current next = both_sides (own_clauses names (codes "none" ∷ names) current) (own_clauses names (codes "none" ∷ names) next)
 

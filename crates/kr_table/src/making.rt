@@ -183,7 +183,7 @@ fn asked(modes: &[String], clauses: &[Value], own: &str) -> Option<(Mode, Span)>
     None
 }
 
-/// What is asked for at each own mode, from none.
+/// What is asked for at each own mode, from 0, for no lock.
 fn asked_each(
     alloc: Global,
     modes: &[String],
@@ -220,7 +220,7 @@ fn update_at(updates: bool, modes: &[String], rules: &Value) -> Option<Option<(M
     }
 }
 
-/// What a row asks for at each own mode, from none.
+/// What a row asks for at each own mode, from 0, for no lock.
 fn each_at(
     alloc: Global,
     modes: &[String],

@@ -10,7 +10,7 @@ use kr_modes::{Mode, Modes};
 use kr_protocol::{Protocol, Row, Side, Span};
 
 /// What a table is made of. Insert and delete have a request for each own mode on the next name,
-/// from none. Where updates are offered, the last is what they ask for.
+/// from 0, for no lock. Where updates are offered, the last is what they ask for.
 #[derive(Debug, Drop)]
 pub struct Parts {
     pub modes: Modes,

@@ -13,13 +13,10 @@ mod log;
 mod unfinished;
 
 pub use ended::Ended;
-pub use kr_model::Txn;
 use kr_model::Txns;
+pub use kr_model::{Memory, Txn};
 pub use log::Log;
-use std::alloc::{AllocError, Global};
-
-/// A growth was refused.
-pub type Memory = AllocError;
+use std::alloc::Global;
 
 /// A scan in progress.
 #[derive(Drop)]

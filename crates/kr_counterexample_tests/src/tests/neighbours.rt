@@ -1,4 +1,4 @@
-//! All changes of one entry of the bundled tables: how many are refused, and of how many of these a failed case gives a
+//! All changes of one entry of the bundled tables: how many are rejected, and of how many of these a failed case gives a
 //! script.
 
 ghost use Rattle.std.specs.Prelude.{◌<◌};
@@ -68,7 +68,7 @@ const RANGE_KEY: &[Clause] = &[
     ("delete", "current", &[], "X-X", "instant"),
 ];
 
-/// The numbers of changes, of those by which the table is refused, and of those of them with a script.
+/// The numbers of changes, of those by which the table is rejected, and of those of them with a script.
 #[derive(Clone, Copy, Debug, Default, PartialEq, Eq)]
 struct Numbers {
     changes: usize,
@@ -112,7 +112,7 @@ fn counts<P: Protocol>(
     Ok(counts)
 }
 
-/// Compares the numbers of changes and of refused tables; those with a script may be more than are known.
+/// Compares the numbers of changes and of rejected tables; those with a script may be more than are known.
 fn are(rt: &impl Abort, found: Numbers, known: Numbers) {
     assert_eq!(rt;
         (found.changes, found.refused),

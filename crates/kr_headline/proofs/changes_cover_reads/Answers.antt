@@ -4,7 +4,7 @@ use Rattle.kr_model.specs.declared.Row.TheVariants as row
 use Rattle.kr_model.specs.declared.Side.TheVariants.{Current, Next}
 use Rattle.kr_model.specs.declared.Cover.TheVariants.{ReadKey, ReadGap, InsertedKey, DeletedGap, UpdatedKey}
 use Rattle.kr_model.specs.Protocol.{Protocol}
-use Rattle.kr_model.specs.Covers.{Ask, must_refuse}
+use Rattle.kr_model.specs.Covers.{Ask, must_conflict}
 use Rattle.kr_headline.proofs.Covers.{weaken, update_read}
 use Rattle.kr_headline.proofs.changes_cover_reads.Goals as goal
 
@@ -12,7 +12,7 @@ use Rattle.kr_headline.proofs.changes_cover_reads.Goals as goal
 abbrev update_if : Bool → List Ask
 update_if updates = if updates then (row.Update, Current) ∷ [] else []
 
-in_inserted : (p : Protocol) (a : Ask) → Contains (must_refuse p ReadKey) a → Contains (must_refuse p InsertedKey) a
+in_inserted : (p : Protocol) (a : Ask) → Contains (must_conflict p ReadKey) a → Contains (must_conflict p InsertedKey) a
 in_inserted p a h = by p.updates h
   where
     by : (b : Bool) → Contains ((row.Delete, Current) ∷ update_if b) a
@@ -22,12 +22,12 @@ in_inserted p a h = by p.updates h
     by true (suc (suc k), lt, is) = absurd (omega arith)
     by false (suc k, lt, is) = absurd (omega arith)
 
-in_deleted : (p : Protocol) (a : Ask) → Contains (must_refuse p ReadGap) a → Contains (must_refuse p DeletedGap) a
+in_deleted : (p : Protocol) (a : Ask) → Contains (must_conflict p ReadGap) a → Contains (must_conflict p DeletedGap) a
 in_deleted p a (zero, lt, is) = (3, omega arith, is)
 in_deleted p a (suc zero, lt, is) = (4, omega arith, is)
 in_deleted p a (suc (suc k), lt, is) = absurd (omega arith)
 
-in_updated : (p : Protocol) (a : Ask) → p.updates ≡ true → Contains (must_refuse p ReadKey) a → Contains (must_refuse p UpdatedKey) a
+in_updated : (p : Protocol) (a : Ask) → p.updates ≡ true → Contains (must_conflict p ReadKey) a → Contains (must_conflict p UpdatedKey) a
 in_updated p a up h = by p.updates up h
   where
     by : (b : Bool) → b ≡ true → Contains ((row.Delete, Current) ∷ update_if b) a

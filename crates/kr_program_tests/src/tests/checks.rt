@@ -190,7 +190,7 @@ fn checks(rt: HostRuntime) -> Result<(), Fail> {
     each_leaves(&rt, CHECKS)
 }
 
-/// A check of a table that is refused: how its report begins, how many cases fail, how often the name of each group stands in it,
+/// A check of a table that is rejected: how its report begins, how many cases fail, how often the name of each group stands in it,
 /// and how often further parts do.
 #[derive(Clone, Copy)]
 struct Refused<'a> {
@@ -205,7 +205,7 @@ struct Refused<'a> {
 const WITHOUT_CURRENT: &str =
     r#"{"accepted":false,"cases":244,"failed":[{"case":"G2","cover":"RK","from":["none"],"mode":"S","open":["delete","current","none","none"]},"#;
 
-/// Tables that are refused.
+/// Tables that are rejected.
 const REFUSED: &[Refused] = &[
     Refused {
         name: "insert always IX",
@@ -290,7 +290,7 @@ const REFUSED: &[Refused] = &[
     },
 ];
 
-/// The report of a check that refuses a table.
+/// The report of a check that rejects a table.
 fn refusal<R: std::rt::Files + AllocGlobal + Threads + Wait + Sync + Abort>(
     rt: &R,
     refused: &Refused,
@@ -318,7 +318,7 @@ fn stand<R: Abort>(rt: &R, name: &str, text: &str, parts: &[(&str, usize)]) {
     }
 }
 
-/// Checks a table that is refused, and looks at the report.
+/// Checks a table that is rejected, and looks at the report.
 fn refuses<R: std::rt::Files + AllocGlobal + Threads + Wait + Sync + Abort>(
     rt: &R,
     refused: &Refused,

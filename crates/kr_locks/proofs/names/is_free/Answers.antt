@@ -2,7 +2,7 @@ use Rattle.std.proofs.Common.{◌≡◌, ◌∙◌, ap, sym, subst, refl, Some, 
 use Rattle.std.specs.Prelude.{unwrap_or}
 use Rattle.std.specs.FinMap.{find}
 use Rattle.std.specs.Ordering.{nat_cmp}
-use Rattle.kr_locks.specs.Buckets.{hinders}
+use Rattle.kr_locks.specs.Buckets.{holder_conflicts}
 use Rattle.kr_locks.proofs.NameLaws.{holders_found}
 use Rattle.kr_locks.proofs.BucketLaws.{IsRequest, mode_within, held_within, all_within, free_is}
 use Rattle.kr_locks.proofs.names.is_free.Goals as goal
@@ -28,8 +28,8 @@ returns-in-Some g c =
     let f = free_is _ _ _ _ _ _ a in
     let p = g.P.Protocol.table c.args.protocol.now in
     let same : c.convert-converted.result ≡ p.convert (unwrap_or (find nat_cmp c.args.txn c.in-Some.bucket.now) 0) c.args.mode = c.convert-converted.ensures ∙ ap (λ x. p.convert x c.args.mode) c.own.ensures.mode in (
-      λ free. f.0 (subst (λ m. filter (hinders p c.args.txn m) c.in-Some.bucket.now ≡ []) same (c.is_free.ensures.0 free)),
-      λ none. c.is_free.ensures.1 (subst (λ m. filter (hinders p c.args.txn m) c.in-Some.bucket.now ≡ []) (sym same) (f.1 none)),
+      λ free. f.0 (subst (λ m. filter (holder_conflicts p c.args.txn m) c.in-Some.bucket.now ≡ []) same (c.is_free.ensures.0 free)),
+      λ none. c.is_free.ensures.1 (subst (λ m. filter (holder_conflicts p c.args.txn m) c.in-Some.bucket.now ≡ []) (sym same) (f.1 none)),
     )
 
 pub returns-in-None : goal.returns-in-None

@@ -1,7 +1,7 @@
 use Rattle.std.proofs.Common.{subst, sym, ◌∙◌, refl, ◌≡◌, filter, []}
 use mathlib.Core.Bool.{false≢true}
-use Rattle.kr_locks.specs.Buckets.{Holders, hinders, HasModes}
-use Rattle.kr_locks.proofs.Masks.{free_by_mask, some_hinders}
+use Rattle.kr_locks.specs.Buckets.{Holders, holder_conflicts, HasModes}
+use Rattle.kr_locks.proofs.Masks.{free_by_mask, some_conflicts}
 use Rattle.kr_locks.proofs.bucket.Bucket.is_free.Goals as goal
 
 pub returns-then-row-self-eq0 : goal.returns-then-row-self-eq0
@@ -10,8 +10,8 @@ returns-then-row-self-eq0 g c = (
   λ _. refl,
 )
 
-pub returns-then-hinders : goal.returns-then-hinders
-returns-then-hinders g c = (
+pub returns-then-conflicts : goal.returns-then-conflicts
+returns-then-conflicts g c = (
   λ f. absurd (false≢true f),
-  λ e. absurd (some_hinders (hinders (g.P.Protocol.table c.args.protocol.now) c.args.txn c.args.mode) c.as_slice-holder-items.result.now c.loop-holder.holder-index _ c.loop-holder-test.true (sym c.hinders.ensures ∙ c.if-hinders.true) (subst (λ (hs : Holders). filter (hinders (g.P.Protocol.table c.args.protocol.now) c.args.txn c.args.mode) hs ≡ []) (sym (c.as_slice-holder-items.ensures ∙ c.self.view_is)) e)),
+  λ e. absurd (some_conflicts (holder_conflicts (g.P.Protocol.table c.args.protocol.now) c.args.txn c.args.mode) c.as_slice-holder-items.result.now c.loop-holder.holder-index _ c.loop-holder-test.true (sym c.conflicts.ensures ∙ c.if-conflicts.true) (subst (λ (hs : Holders). filter (holder_conflicts (g.P.Protocol.table c.args.protocol.now) c.args.txn c.args.mode) hs ≡ []) (sym (c.as_slice-holder-items.ensures ∙ c.self.view_is)) e)),
 )

@@ -1,7 +1,7 @@
 use Rattle.std.proofs.Common.{arith, ap, ◌∙◌, subst}
 use Rattle.kr_model.specs.Locks.{Locks, IsLocks}
 use Rattle.kr_locks.specs.List.{locks_on}
-use Rattle.kr_locks.proofs.Refusers.{part_within, blockers_found}
+use Rattle.kr_locks.proofs.Conflicts.{part_within, blockers_found}
 use Rattle.kr_locks.proofs.list.ListHoldings.blockers.Goals as goal
 
 pub loop-lock-init : goal.loop-lock-init
@@ -17,8 +17,8 @@ loop-lock-init g c = record {
   found = c.new-blockers.ensures.items;
 }
 
-pub refuses-requires-clause-held : goal.refuses-requires-clause-held
-refuses-requires-clause-held g c = part_within _ _ _ _ _ _ _ c.loop-lock.invariant.asked _ _ c.loop-lock-test.true
+pub conflicts-requires-clause-held : goal.conflicts-requires-clause-held
+conflicts-requires-clause-held g c = part_within _ _ _ _ _ _ _ c.loop-lock.invariant.asked _ _ c.loop-lock-test.true
 
 pub returns : goal.returns
 returns g c = blockers_found _ _ _ _ _ _ _ c.loop-lock.invariant.asked c.loop-lock.lock-index _ (omega arith) c.loop-lock.invariant.found

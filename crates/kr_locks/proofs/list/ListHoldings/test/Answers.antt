@@ -2,7 +2,7 @@ use Rattle.std.proofs.Common.{arith, sym, ap, ◌∙◌, refl, subst}
 use mathlib.Core.Bool.{false≢true}
 use Rattle.kr_model.specs.Locks.{Locks, IsLocks}
 use Rattle.kr_locks.specs.List.{locks_on}
-use Rattle.kr_locks.proofs.Refusers.{part_within, none_refuses, one_refuses}
+use Rattle.kr_locks.proofs.Conflicts.{part_within, none_conflicts, one_conflicts}
 use Rattle.kr_locks.proofs.list.ListHoldings.test.Goals as goal
 
 pub loop-lock-init : goal.loop-lock-init
@@ -18,11 +18,11 @@ loop-lock-init g c = record {
   none = refl;
 }
 
-pub refuses-requires-clause-held : goal.refuses-requires-clause-held
-refuses-requires-clause-held g c = part_within _ _ _ _ _ _ _ c.loop-lock.invariant.asked _ _ c.loop-lock-test.true
+pub conflicts-requires-clause-held : goal.conflicts-requires-clause-held
+conflicts-requires-clause-held g c = part_within _ _ _ _ _ _ _ c.loop-lock.invariant.asked _ _ c.loop-lock-test.true
 
-pub returns-then-refuses : goal.returns-then-refuses
-returns-then-refuses g c = (λ f. absurd (false≢true f), λ e. absurd (one_refuses _ _ _ _ _ _ _ c.loop-lock.invariant.asked c.loop-lock.lock-index _ c.loop-lock-test.true (sym c.refuses.ensures ∙ c.if-refuses.true) e))
+pub returns-then-conflicts : goal.returns-then-conflicts
+returns-then-conflicts g c = (λ f. absurd (false≢true f), λ e. absurd (one_conflicts _ _ _ _ _ _ _ c.loop-lock.invariant.asked c.loop-lock.lock-index _ c.loop-lock-test.true (sym c.conflicts.ensures ∙ c.if-conflicts.true) e))
 
 pub returns : goal.returns
-returns g c = (λ yes. none_refuses _ _ _ _ _ _ _ c.loop-lock.invariant.asked c.loop-lock.lock-index (omega arith) c.loop-lock.invariant.none, λ e. refl)
+returns g c = (λ yes. none_conflicts _ _ _ _ _ _ _ c.loop-lock.invariant.asked c.loop-lock.lock-index (omega arith) c.loop-lock.invariant.none, λ e. refl)

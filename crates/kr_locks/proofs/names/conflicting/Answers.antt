@@ -2,25 +2,25 @@ use Rattle.std.proofs.Common.{◌≡◌, ◌∙◌, ap, refl, Some, None, [], fi
 use Rattle.std.specs.Prelude.{unwrap_or}
 use Rattle.std.specs.FinMap.{find}
 use Rattle.std.specs.Ordering.{nat_cmp}
-use Rattle.kr_locks.specs.Buckets.{hinders}
+use Rattle.kr_locks.specs.Buckets.{holder_conflicts}
 use Rattle.kr_locks.proofs.NameLaws.{holders_found}
-use Rattle.kr_locks.proofs.BucketLaws.{IsRequest, mode_within, held_within, all_within, hindering_are}
+use Rattle.kr_locks.proofs.BucketLaws.{IsRequest, mode_within, held_within, all_within, holders_are}
 use Rattle.std.proofs.lemmas.Result.{IfOk-weaker}
 use Rattle.std.specs.Prelude.{map, ℕ}
-use Rattle.kr_locks.proofs.names.hindering.Goals as goal
+use Rattle.kr_locks.proofs.names.conflicting.Goals as goal
 
 pub convert-converted-requires-clause-held_is_mode : goal.convert-converted-requires-clause-held_is_mode
 convert-converted-requires-clause-held_is_mode g c =
     let a : IsRequest (g.P.Protocol.table c.args.protocol.now) c.args.names.now.entries c.args.txn c.args.name c.args.mode c.in-Some.bucket.now = record { laws = g.met.P.Protocol.lawful c.args.protocol.now; names = c.requires.in_order; within = c.requires.held; few = c.requires.asked; holders = holders_found c.args.names.now c.args.name (Some c.in-Some.bucket.now) c.in-Some.ensures.value; in_order = c.own.ensures.in_order } in
     rw c.own.ensures.mode (held_within _ _ _ _ _ _ a)
 
-pub hindering-requires-clause-asked : goal.hindering-requires-clause-asked
-hindering-requires-clause-asked g c =
+pub conflicting-requires-clause-asked : goal.conflicting-requires-clause-asked
+conflicting-requires-clause-asked g c =
     let a : IsRequest (g.P.Protocol.table c.args.protocol.now) c.args.names.now.entries c.args.txn c.args.name c.args.mode c.in-Some.bucket.now = record { laws = g.met.P.Protocol.lawful c.args.protocol.now; names = c.requires.in_order; within = c.requires.held; few = c.requires.asked; holders = holders_found c.args.names.now c.args.name (Some c.in-Some.bucket.now) c.in-Some.ensures.value; in_order = c.own.ensures.in_order } in
     rw (c.convert-converted.ensures, c.own.ensures.mode) (mode_within _ _ _ _ _ _ a)
 
-pub hindering-requires-clause-held : goal.hindering-requires-clause-held
-hindering-requires-clause-held g c =
+pub conflicting-requires-clause-held : goal.conflicting-requires-clause-held
+conflicting-requires-clause-held g c =
     let a : IsRequest (g.P.Protocol.table c.args.protocol.now) c.args.names.now.entries c.args.txn c.args.name c.args.mode c.in-Some.bucket.now = record { laws = g.met.P.Protocol.lawful c.args.protocol.now; names = c.requires.in_order; within = c.requires.held; few = c.requires.asked; holders = holders_found c.args.names.now c.args.name (Some c.in-Some.bucket.now) c.in-Some.ensures.value; in_order = c.own.ensures.in_order } in
     all_within _ _ _ _ _ _ a
 
@@ -29,9 +29,9 @@ returns-in-Some g c =
     let a : IsRequest (g.P.Protocol.table c.args.protocol.now) c.args.names.now.entries c.args.txn c.args.name c.args.mode c.in-Some.bucket.now = record { laws = g.met.P.Protocol.lawful c.args.protocol.now; names = c.requires.in_order; within = c.requires.held; few = c.requires.asked; holders = holders_found c.args.names.now c.args.name (Some c.in-Some.bucket.now) c.in-Some.ensures.value; in_order = c.own.ensures.in_order } in
     let p = g.P.Protocol.table c.args.protocol.now in
     let same : c.convert-converted.result ≡ p.convert (unwrap_or (find nat_cmp c.args.txn c.in-Some.bucket.now) 0) c.args.mode = c.convert-converted.ensures ∙ ap (λ x. p.convert x c.args.mode) c.own.ensures.mode in
-    IfOk-weaker c.hindering.result _ _ (λ list is. is ∙ ap (λ m. map (λ (h : ℕ × ℕ). h.0) (filter (hinders p c.args.txn m) c.in-Some.bucket.now)) same ∙ hindering_are _ _ _ _ _ _ a) c.hindering.ensures
+    IfOk-weaker c.conflicting.result _ _ (λ list is. is ∙ ap (λ m. map (λ (h : ℕ × ℕ). h.0) (filter (holder_conflicts p c.args.txn m) c.in-Some.bucket.now)) same ∙ holders_are _ _ _ _ _ _ a) c.conflicting.ensures
 
 pub returns-in-None : goal.returns-in-None
 returns-in-None g c =
     let a : IsRequest (g.P.Protocol.table c.args.protocol.now) c.args.names.now.entries c.args.txn c.args.name c.args.mode [] = record { laws = g.met.P.Protocol.lawful c.args.protocol.now; names = c.requires.in_order; within = c.requires.held; few = c.requires.asked; holders = holders_found c.args.names.now c.args.name None c.in-None.ensures.value; in_order = refl } in
-    c.new.ensures.items ∙ hindering_are _ _ _ _ _ _ a
+    c.new.ensures.items ∙ holders_are _ _ _ _ _ _ a
