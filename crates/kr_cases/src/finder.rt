@@ -6,7 +6,6 @@ ghost use Rattle.kr_model.specs.declared.Rule.TheVariants as rule;
 ghost use Rattle.kr_model.specs.declared.Row.TheVariants as row;
 ghost use Rattle.kr_model.specs.declared.Side.TheVariants as side;
 ghost use Rattle.kr_model.specs.declared.Cover.TheVariants as cover;
-ghost use Rattle.kr_model.specs.declared.Origin.TheVariants as origin;
 ghost use Rattle.kr_model.specs.Covers.{case, cases_of, row_cases, all_covers, all_rules, modes, modes_or_none, mode_after, failure, failed_cases};
 ghost use Rattle.kr_cases.specs.Holes.{first_open, AreHoles};
 ghost use Rattle.kr_cases.specs.Cases.{failures, conversions_from, conversions_of, row_cover, inserts_at, splits_of};
@@ -175,7 +174,7 @@ impl<P: Protocol> Finder<'_, P> {
     {
         for asked in 1..self.protocol.count() + 1 {
             let mode = self.protocol.convert(held, asked);
-            let from = Origin::Two(held, asked);
+            let from = Origin::Conversion { held, asked };
             self.test(failed, Rule::Conversion, cover, from, Some(held), mode)?;
         }
         Ok(())
@@ -223,7 +222,7 @@ impl<P: Protocol> Finder<'_, P> {
     {
         for own in 0..self.protocol.count() + 1 {
             let mode = self.mode_after(own, row, side, 0);
-            self.test(failed, rule, cover, Origin::One(own), None, mode)?;
+            self.test(failed, rule, cover, Origin::Own(own), None, mode)?;
         }
         Ok(())
     }
@@ -266,7 +265,8 @@ impl<P: Protocol> Finder<'_, P> {
     {
         for own in 0..self.protocol.count() + 1 {
             let mode = self.mode_after(own, Row::Insert, Side::Current, own_next);
-            self.test(failed, rule, cover, Origin::Two(own_next, own), given, mode)?;
+            let from = Origin::Insert { own_next, own };
+            self.test(failed, rule, cover, from, given, mode)?;
         }
         Ok(())
     }
@@ -319,7 +319,7 @@ impl<P: Protocol> Finder<'_, P> {
     {
         for own_next in 0..self.protocol.count() + 1 {
             let mode = self.mode_after(own_next, Row::Delete, Side::Next, own_next);
-            let from = Origin::One(own_next);
+            let from = Origin::Own(own_next);
             self.test(failed, Rule::Delete, Cover::DeletedGap, from, None, mode)?;
         }
         Ok(())

@@ -13,7 +13,7 @@ use Rattle.kr_model.specs.declared.Cover.TheVariants.{ReadKey, ReadGap, Inserted
 use Rattle.kr_model.specs.declared.Rule.{Rule}
 use Rattle.kr_model.specs.declared.Rule.TheVariants as rule
 use Rattle.kr_model.specs.declared.Origin.{Origin}
-use Rattle.kr_model.specs.declared.Origin.TheVariants.{One, Two}
+use Rattle.kr_model.specs.declared.Origin.TheVariants as origin
 use Rattle.kr_model.specs.declared.Place.{Place}
 use Rattle.kr_model.specs.declared.FailedCase.{FailedCase}
 use Rattle.kr_model.specs.Protocol.{Protocol}
@@ -108,23 +108,23 @@ all_covers p = ReadKey ∷ ReadGap ∷ InsertedKey ∷ DeletedGap ∷ if_updatin
 
 -- The cases of a row that moves no key: for each of the covers and each own mode, the mode after the request serves the cover.
 abbrev pub row_cases : Protocol → Rule → Row → Side → List Cover → List Case
-row_cases p rl r side cs = flat_map (λ c. map (λ o. case rl c (One o) None (mode_after p o (p.ask r side 0))) (modes_or_none p)) cs
+row_cases p rl r side cs = flat_map (λ c. map (λ o. case rl c (origin.Own o) None (mode_after p o (p.ask r side 0))) (modes_or_none p)) cs
 
 -- The cases of a rule, in order.
 abbrev pub cases_of : Protocol → Rule → List Case
 -- A conversion keeps each cover that the held mode h serves.
-cases_of p rule.Conversion = flat_map (λ c. flat_map (λ h. map (λ q. case rule.Conversion c (Two h q) (Some h) (p.convert h q)) (modes p)) (modes p)) (all_covers p)
+cases_of p rule.Conversion = flat_map (λ c. flat_map (λ h. map (λ q. case rule.Conversion c (origin.Conversion h q) (Some h) (p.convert h q)) (modes p)) (modes p)) (all_covers p)
 -- What was read is covered.
 cases_of p rule.FetchHit = row_cases p rule.FetchHit row.FetchHit Current (ReadKey ∷ [])
 cases_of p rule.FetchMiss = row_cases p rule.FetchMiss row.FetchMiss Next (ReadGap ∷ [])
 cases_of p rule.ScanKey = row_cases p rule.ScanKey row.ScanKey Current (ReadKey ∷ ReadGap ∷ [])
 cases_of p rule.ScanStop = row_cases p rule.ScanStop row.ScanStop Next (ReadGap ∷ [])
 -- An inserted key is covered, from each own mode n on the next name and o on the key.
-cases_of p rule.Insert = flat_map (λ n. map (λ o. case rule.Insert InsertedKey (Two n o) None (mode_after p o (p.ask row.Insert Current n))) (modes_or_none p)) (modes_or_none p)
+cases_of p rule.Insert = flat_map (λ n. map (λ o. case rule.Insert InsertedKey (origin.Insert n o) None (mode_after p o (p.ask row.Insert Current n))) (modes_or_none p)) (modes_or_none p)
 -- An insert that splits a gap which its own transaction covers by n carries the cover over to the new name.
-cases_of p rule.Split = flat_map (λ c. flat_map (λ n. map (λ o. case rule.Split c (Two n o) (Some n) (mode_after p o (p.ask row.Insert Current n))) (modes_or_none p)) (modes_or_none p)) (ReadGap ∷ DeletedGap ∷ [])
+cases_of p rule.Split = flat_map (λ c. flat_map (λ n. map (λ o. case rule.Split c (origin.Insert n o) (Some n) (mode_after p o (p.ask row.Insert Current n))) (modes_or_none p)) (modes_or_none p)) (ReadGap ∷ DeletedGap ∷ [])
 -- A delete covers the gap that it widens, from each own mode n on the next name.
-cases_of p rule.Delete = map (λ n. case rule.Delete DeletedGap (One n) None (mode_after p n (p.ask row.Delete Next n))) (modes_or_none p)
+cases_of p rule.Delete = map (λ n. case rule.Delete DeletedGap (origin.Own n) None (mode_after p n (p.ask row.Delete Next n))) (modes_or_none p)
 -- An updated key is covered.
 cases_of p rule.Update = row_cases p rule.Update row.Update Current (UpdatedKey ∷ [])
 
