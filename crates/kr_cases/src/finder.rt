@@ -6,9 +6,9 @@ ghost use Rattle.kr_model.specs.declared.Rule.TheVariants as rule;
 ghost use Rattle.kr_model.specs.declared.Row.TheVariants as row;
 ghost use Rattle.kr_model.specs.declared.Side.TheVariants as side;
 ghost use Rattle.kr_model.specs.declared.Cover.TheVariants as cover;
-ghost use Rattle.kr_model.specs.Covers.{case, cases_of, row_cases, all_covers, all_rules, modes, modes_or_none, mode_after, failure, failed_cases};
+ghost use Rattle.kr_model.specs.Covers.{case, cases_of, row_cases, all_covers, all_rules, modes, modes_or_none, mode_after, failure, failed_cases, conversions_from, conversions_of, row_cover, inserts_at, splits_of};
 ghost use Rattle.kr_cases.specs.Holes.{first_open, AreHoles};
-ghost use Rattle.kr_cases.specs.Cases.{failures, conversions_from, conversions_of, row_cover, inserts_at, splits_of};
+ghost use Rattle.kr_cases.specs.Cases.{failures};
 
 use crate::holes::{Holes, holes_of};
 use kr_model::{Cover, FailedCase, Mode, Origin, Place, Row, Rule, Side, Span};

@@ -1,8 +1,8 @@
 use Rattle.std.proofs.Common.{◌≢◌, ◌+◌, ◌-◌, [], rules, arith}
 use Rattle.std.specs.List.{flat_map}
-use Rattle.kr_model.specs.Covers.{count_up, modes, failure}
+use Rattle.kr_model.specs.Covers.{count_up, modes, failure, conversions_from}
 use Rattle.kr_model.proofs.Guarantees.{in_modes}
-use Rattle.kr_cases.specs.Cases.{failures, conversions_from}
+use Rattle.kr_cases.specs.Cases.{failures}
 use Rattle.kr_cases.proofs.Counted.{below-more}
 use Rattle.kr_cases.proofs.Listed.{list_more, list_gives}
 use Rattle.kr_cases.proofs.finder.Finder.conversions_of.Goals as goal

@@ -1,9 +1,9 @@
 use Rattle.std.proofs.Common.{◌≡◌, ◌≢◌, ◌+◌, [], ◌++◌, Some, rules, subst, arith}
 use Rattle.std.specs.List.{flat_map}
 use Rattle.kr_model.specs.declared.Rule.TheVariants as rule
-use Rattle.kr_model.specs.Covers.{count_up, modes_or_none, failure}
+use Rattle.kr_model.specs.Covers.{count_up, modes_or_none, failure, inserts_at}
 use Rattle.kr_model.proofs.Guarantees.{in_modes_or_none}
-use Rattle.kr_cases.specs.Cases.{failures, inserts_at}
+use Rattle.kr_cases.specs.Cases.{failures}
 use Rattle.kr_cases.proofs.Counted.{before-more, all_modes_or_none}
 use Rattle.kr_cases.proofs.Listed.{list_more, list_gives}
 use Rattle.kr_cases.proofs.finder.Finder.splits_of.Goals as goal
