@@ -162,7 +162,7 @@ fn taken_at(rule: Rule) -> (Row, Side) {
     }
 }
 
-/// The own mode on the next name with which the lock of a case was taken, and 0 where its row doesn't go by it.
+/// The own mode on the next name with which the lock of a case was taken, and 0 where the row doesn't go by it.
 pub(crate) fn own_next(case: &FailedCase) -> Mode {
     match case.from {
         Origin::Insert { own_next, .. } => own_next,
