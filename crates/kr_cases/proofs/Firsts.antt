@@ -13,10 +13,6 @@ pub none_first : {A : Type 0} (xs : List A) → first xs ≡ None → xs ≡ []
 none_first [] h = refl
 none_first (x ∷ xs) h = absurd (cc)
 
--- the first of two lists put together, the first of which is empty
-first_after : {A : Type 0} (xs ys : List A) → xs ≡ [] → xs ++ ys ≡ ys
-first_after xs ys h = rw h
-
 -- the first of two lists put together, the first of which has one
 first-append : {A : Type 0} (xs ys : List A) (a : A) → first xs ≡ Some a → first (xs ++ ys) ≡ Some a
 first-append [] ys a h = absurd (cc)

@@ -4,6 +4,7 @@
 mod checker;
 mod finder;
 mod holes;
+mod rules;
 
 pub use checker::{Cause, Checked, Rejected, cases, check};
 pub use kr_model::{FailedCase, Memory};

@@ -252,7 +252,10 @@ fn insert_always_ix(rt: HostRuntime) -> Result<(), Fail> {
     let first = FailedCase {
         case: Rule::Split,
         cover: Cover::ReadGap,
-        from: Origin::Two(3, 0),
+        from: Origin::Insert {
+            own_next: 3,
+            own: 0,
+        },
         mode: 2,
         hole: Place {
             row: Row::Insert,
@@ -278,7 +281,7 @@ fn open_gap(own: Mode, row: Row) -> FailedCase {
     FailedCase {
         case: Rule::Delete,
         cover: Cover::DeletedGap,
-        from: Origin::One(own),
+        from: Origin::Own(own),
         mode: own,
         hole: Place {
             row,
@@ -305,6 +308,12 @@ fn deletes_next_instant(rt: HostRuntime) -> Result<(), Fail> {
     Ok(())
 }
 
+/// An insert by a transaction that holds nothing.
+const HOLDS_NOTHING: Origin = Origin::Insert {
+    own_next: 0,
+    own: 0,
+};
+
 /// A case in which an update under IX leaves a key open to another update.
 fn open_key(case: Rule, cover: Cover, from: Origin) -> FailedCase {
     FailedCase {
@@ -325,7 +334,7 @@ fn open_key(case: Rule, cover: Cover, from: Origin) -> FailedCase {
 fn update_under_ix(rt: HostRuntime) -> Result<(), Fail> {
     let failed = refused(&rt, rt.alloc(), UpdateUnderIx)?;
     assert_eq!(rt; failed.len(), 12);
-    let first = open_key(Rule::Insert, Cover::InsertedKey, Origin::Two(0, 0));
+    let first = open_key(Rule::Insert, Cover::InsertedKey, HOLDS_NOTHING);
     assert_eq!(rt; failed.first(), Some(&first));
     let (inserts, updates) = failed.split_at(9);
     for f in inserts {
@@ -334,9 +343,9 @@ fn update_under_ix(rt: HostRuntime) -> Result<(), Fail> {
     assert_eq!(rt;
         updates,
         [
-            open_key(Rule::Update, Cover::UpdatedKey, Origin::One(0)),
-            open_key(Rule::Update, Cover::UpdatedKey, Origin::One(1)),
-            open_key(Rule::Update, Cover::UpdatedKey, Origin::One(2)),
+            open_key(Rule::Update, Cover::UpdatedKey, Origin::Own(0)),
+            open_key(Rule::Update, Cover::UpdatedKey, Origin::Own(1)),
+            open_key(Rule::Update, Cover::UpdatedKey, Origin::Own(2)),
         ]
         .as_slice()
     );

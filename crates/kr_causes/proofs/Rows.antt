@@ -32,10 +32,6 @@ as_it_is a true false k e = refl
 as_it_is a false false k e = refl
 as_it_is a b true k e = absurd (cc)
 
-as_before : (a b c k : Bool) → b ≡ false → ◌≡◌ {A = ℕ} (cond (a && not k) 1 0) (cond (a && not (cond (b && c) false k)) 1 0)
-as_before a false c k e = refl
-as_before a true c k e = absurd (cc)
-
 -- the row of the request, with the lock's bit set
 pub row_apart : (p : Protocol) (q h r : ℕ) → is_mode p h ≡ true → h < 16 → IsRow p q r → IsRow (changed p (Apart q h)) q (bit_or r (1 * 2 ^ h % 2 ^ 16))
 row_apart p q h r mode small is k = by (same_or_other k h)
@@ -44,7 +40,3 @@ row_apart p q h r mode small is k = by (same_or_other k h)
     by (inl s) = subst (λ (x : ℕ). bit_at (bit_or r (1 * 2 ^ h % 2 ^ 16)) x ≡ cond (conflicts (changed p (Apart q h)) q x) 1 0) (sym s)
         (bit_at_set_same w16 r h small ∙ sym (one (nat_lt 0 h && nat_le h p.count) (q == q) (h == h) (p.ok q h) mode (same_test q) (same_test h)))
     by (inr o) = bit_at_set_other w16 r h small k o ∙ is k ∙ as_it_is (nat_lt 0 k && nat_le k p.count) (q == q) (k == h) (p.ok q k) (other_test k h o)
-
--- the row of another request
-pub row_other : (p : Protocol) (q h other r : ℕ) → other ≢ q → IsRow p other r → IsRow (changed p (Apart q h)) other r
-row_other p q h other r e is k = is k ∙ as_before (nat_lt 0 k && nat_le k p.count) (other == q) (k == h) (p.ok other k) (other_test other q e)

@@ -148,46 +148,38 @@ fn serves<P: Protocol>(protocol: &P, cover: Cover, held: Mode) -> bool {
     true
 }
 
-/// Where the lock was taken on which a case relies, of a case that isn't of a conversion.
-fn taken_at(rule: Rule) -> Option<(Row, Side)> {
+/// Where the lock was taken on which a case relies. One that is converted may have been taken by any row: it is told as
+/// a fetch's.
+fn taken_at(rule: Rule) -> (Row, Side) {
     match rule {
-        Rule::Conversion => None,
-        Rule::FetchHit => Some((Row::FetchHit, Side::Current)),
-        Rule::FetchMiss => Some((Row::FetchMiss, Side::Next)),
-        Rule::ScanKey => Some((Row::ScanKey, Side::Current)),
-        Rule::ScanStop => Some((Row::ScanStop, Side::Next)),
-        Rule::Insert | Rule::Split => Some((Row::Insert, Side::Current)),
-        Rule::Delete => Some((Row::Delete, Side::Next)),
-        Rule::Update => Some((Row::Update, Side::Current)),
+        Rule::Conversion | Rule::FetchHit => (Row::FetchHit, Side::Current),
+        Rule::FetchMiss => (Row::FetchMiss, Side::Next),
+        Rule::ScanKey => (Row::ScanKey, Side::Current),
+        Rule::ScanStop => (Row::ScanStop, Side::Next),
+        Rule::Insert | Rule::Split => (Row::Insert, Side::Current),
+        Rule::Delete => (Row::Delete, Side::Next),
+        Rule::Update => (Row::Update, Side::Current),
     }
 }
 
 /// The own mode on the next name with which the lock of a case was taken, and 0 where the row doesn't go by it.
 pub(crate) fn own_next(case: &FailedCase) -> Mode {
-    match (case.case, case.from) {
-        (Rule::Insert | Rule::Split, Origin::Two(next, _)) => next,
-        (Rule::Delete, Origin::One(next)) => next,
-        _ => 0,
-    }
-}
-
-/// The mode that the holder had on the name of a case before its step.
-fn own_there(case: &FailedCase) -> Mode {
     match case.from {
-        Origin::One(own) => own,
-        Origin::Two(_, own) => own,
+        Origin::Insert { own_next, .. } => own_next,
+        Origin::Own(own) if case.case == Rule::Delete => own,
+        Origin::Own(_) | Origin::Conversion { .. } => 0,
     }
 }
 
-/// The conversion by which the lock of a case was taken, where the mode that was asked for serves the cover by itself.
+/// The conversion by which a lock was taken, where the mode that was asked for serves the cover by itself.
 fn weakened<P: Protocol>(
     protocol: &P,
-    case: &FailedCase,
+    cover: Cover,
+    held: Mode,
     asked: Option<(Mode, Span)>,
 ) -> Option<Blame> {
-    let held = own_there(case);
     match asked {
-        Some((requested, Span::Commit)) if held != 0 && serves(protocol, case.cover, requested) => {
+        Some((requested, Span::Commit)) if held != 0 && serves(protocol, cover, requested) => {
             Some(Blame::Conversion { held, requested })
         }
         _ => None,
@@ -223,8 +215,16 @@ pub(crate) fn reasons_for<P: Protocol>(protocol: &P, case: &FailedCase) -> Reaso
         return Reasons::only(place);
     }
     let [conversion, pair] = let_in(protocol, case.mode, case.hole);
-    match (taken_at(case.case), case.from) {
-        (Some((row, side)), _) => {
+    match case.from {
+        Origin::Conversion { held, asked } => Reasons {
+            first: Blame::Conversion {
+                held,
+                requested: asked,
+            },
+            others: [None, conversion, pair],
+        },
+        Origin::Own(own) | Origin::Insert { own, .. } => {
+            let (row, side) = taken_at(case.case);
             let asked = asked(protocol, row, side, own_next(case));
             let first = if is_void(protocol, row, side) {
                 Blame::Place { row, side }
@@ -233,16 +233,8 @@ pub(crate) fn reasons_for<P: Protocol>(protocol: &P, case: &FailedCase) -> Reaso
             };
             Reasons {
                 first,
-                others: [weakened(protocol, case, asked), conversion, pair],
+                others: [weakened(protocol, case.cover, own, asked), conversion, pair],
             }
         }
-        (None, Origin::Two(held, requested)) => Reasons {
-            first: Blame::Conversion { held, requested },
-            others: [None, conversion, pair],
-        },
-        (None, Origin::One(held)) => Reasons {
-            first: Blame::Conversion { held, requested: 0 },
-            others: [None, conversion, pair],
-        },
     }
 }

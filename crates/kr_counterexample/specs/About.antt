@@ -4,7 +4,7 @@ use Rattle.kr_model.specs.declared.Cover.{Cover}
 use Rattle.kr_model.specs.declared.Cover.TheVariants.{ReadKey, ReadGap, InsertedKey, DeletedGap, UpdatedKey}
 use Rattle.kr_model.specs.declared.FailedCase.{FailedCase}
 use Rattle.kr_model.specs.declared.Origin.{Origin}
-use Rattle.kr_model.specs.declared.Origin.TheVariants.{One, Two}
+use Rattle.kr_model.specs.declared.Origin.TheVariants as origin
 use Rattle.kr_model.specs.declared.Row.{Row}
 use Rattle.kr_model.specs.declared.Row.TheVariants as row
 use Rattle.kr_model.specs.declared.Rule.{Rule}
@@ -85,13 +85,20 @@ can_step _ s = false
 abbrev pub is_below : ℕ → ℕ → State → Bool
 is_below on_y on_a s = not s.a && (s.on_y == on_y) && (s.on_a == on_a)
 
+-- Whether the holder has a mode on A that has the cover, and some step asks there for the other one.
+abbrev pub is_converted : Protocol → Cover → ℕ → ℕ → State → Bool
+is_converted p c held asked s = s.a && (s.on_a == held) && nat_le held p.count && has_cover c s && is_asked_for p asked s
+
+-- Whether an insert of A is one that a case of the rule is about: a split only where the holder has the cover of the gap.
+abbrev pub may_insert : Rule → Cover → State → Bool
+may_insert rule.Split c s = has_cover c s
+may_insert _ c s = true
+
 -- Whether a case of this rule, cover and modes is about the state.
 abbrev pub is_at : Protocol → Rule → Cover → Origin → State → Bool
-is_at p rule.Conversion c (Two held asked) s = s.a && (s.on_a == held) && nat_le held p.count && has_cover c s && is_asked_for p asked s
-is_at p rule.Insert c (Two on_y on_a) s = is_below on_y on_a s
-is_at p rule.Split c (Two on_y on_a) s = is_below on_y on_a s && has_cover c s
-is_at p r c (One own) s = s.a && (s.on_a == own) && can_step r s
-is_at p _ c _ s = false
+is_at p r c (origin.Own own) s = s.a && (s.on_a == own) && can_step r s
+is_at p r c (origin.Conversion held asked) s = is_converted p c held asked s
+is_at p r c (origin.Insert own_next own) s = is_below own_next own s && may_insert r c s
 
 -- Whether the case is about the state.
 abbrev pub is_about : Protocol → FailedCase → State → Bool

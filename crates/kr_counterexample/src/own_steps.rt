@@ -1,9 +1,7 @@
 //! The steps of the holder that a case is about.
 ghost use Rattle.std.specs.Prelude.{◌≡◌, ◌≤◌, ◌&&◌, is_some};
 ghost use Rattle.std.specs.List.{list_any};
-ghost use Rattle.kr_model.specs.declared.Origin.TheVariants.{Two};
-ghost use Rattle.kr_model.specs.declared.Rule.TheVariants as rule_is;
-ghost use Rattle.kr_counterexample.specs.About.{asks, can_put, can_step, can_take, has_cover, is_about, is_asked_for, is_at, is_below};
+ghost use Rattle.kr_counterexample.specs.About.{asks, can_put, can_step, can_take, has_cover, is_about, is_asked_for, is_below, is_converted, may_insert};
 
 use crate::deed::Deed;
 use crate::keys::{A, B, C, K, P};
@@ -24,19 +22,15 @@ pub(crate) fn own_steps<T: Protocol>(
     ensures { list_any is_some result ≡ is_about (T.table table.now.protocol.now) case.now state }
 {
     match case.from {
-        Origin::One(own) => only(
+        Origin::Own(own) => only(
             state.a && state.on_a == own && can_step(case.case, state),
             step_of(case.case),
         ),
-        Origin::Two(first, second) => match case.case {
-            Rule::Conversion => converting(table, state, case.cover, first, second),
-            Rule::Insert => only(is_below(state, first, second), Op::Insert(A, 0)),
-            Rule::Split => only(
-                is_below(state, first, second) && has_cover(case.cover, state),
-                Op::Insert(A, 0),
-            ),
-            _ => [None; 7],
-        },
+        Origin::Conversion { held, asked } => converting(table, state, case.cover, held, asked),
+        Origin::Insert { own_next, own } => only(
+            is_below(state, own_next, own) && may_insert(case.case, case.cover, state),
+            Op::Insert(A, 0),
+        ),
     }
 }
 
@@ -45,6 +39,16 @@ fn is_below(state: State, on_y: Mode, on_a: Mode) -> bool
     ensures { result ≡ is_below on_y on_a state }
 {
     !state.a && state.on_y == on_y && state.on_a == on_a
+}
+
+/// Whether an insert of A is one that the case is about: a split only where the holder has the cover of the gap.
+fn may_insert(rule: Rule, cover: Cover, state: State) -> bool
+    ensures { result ≡ may_insert rule cover state }
+{
+    match rule {
+        Rule::Split => has_cover(cover, state),
+        _ => true,
+    }
 }
 
 /// Whether the state has a step that the case is about.
@@ -89,7 +93,7 @@ fn converting<T: Protocol>(
     held: Mode,
     asked: Mode,
 ) -> OwnSteps
-    ensures { list_any is_some result ≡ is_at (T.table table.now.protocol.now) rule_is.Conversion cover (Two held asked) state }
+    ensures { list_any is_some result ≡ is_converted (T.table table.now.protocol.now) cover held asked state }
 {
     if state.a && state.on_a == held && held <= table.protocol.count() && has_cover(cover, state) {
         asking(table, state, asked)

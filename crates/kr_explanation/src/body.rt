@@ -124,12 +124,12 @@ fn void_sentences<P: Protocol>(
     Ok(())
 }
 
-/// The own mode on the next name that a case is taken at.
+/// The own mode on the next name that a case is taken at, and 0 where its row doesn't go by it.
 fn own_next(case: &FailedCase) -> Mode {
-    match (case.case, case.from) {
-        (Rule::Insert | Rule::Split, Origin::Two(next, _)) => next,
-        (Rule::Delete, Origin::One(next)) => next,
-        _ => 0,
+    match case.from {
+        Origin::Insert { own_next, .. } => own_next,
+        Origin::Own(own) if case.case == Rule::Delete => own,
+        Origin::Own(_) | Origin::Conversion { .. } => 0,
     }
 }
 

@@ -2,7 +2,7 @@
 
 use crate::answers::name_of;
 use kr_cases::Memory;
-use kr_model::{FailedCase, Name, Op, Origin, Reply, Txn};
+use kr_model::{FailedCase, Mode, Name, Op, Origin, Reply, Txn};
 use kr_protocol::Protocol;
 use std::alloc::Global;
 
@@ -92,11 +92,20 @@ pub fn origin_text<P: Protocol>(
     case: &FailedCase,
 ) -> Result<String, Memory> {
     match case.from {
-        Origin::One(own) => String::from_str(alloc, name_of(protocol, own)),
-        Origin::Two(first, second) => {
-            let first = name_of(protocol, first);
-            let second = name_of(protocol, second);
-            format!(in alloc; "{first} and {second}")
-        }
+        Origin::Own(own) => String::from_str(alloc, name_of(protocol, own)),
+        Origin::Conversion { held, asked } => two_modes(alloc, protocol, held, asked),
+        Origin::Insert { own_next, own } => two_modes(alloc, protocol, own_next, own),
     }
+}
+
+/// Two modes by their names.
+fn two_modes<P: Protocol>(
+    alloc: Global,
+    protocol: &P,
+    first: Mode,
+    second: Mode,
+) -> Result<String, Memory> {
+    let first = name_of(protocol, first);
+    let second = name_of(protocol, second);
+    format!(in alloc; "{first} and {second}")
 }

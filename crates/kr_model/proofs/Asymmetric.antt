@@ -11,7 +11,7 @@ use Rattle.kr_model.specs.declared.Side.TheVariants.{Current, Next}
 use Rattle.kr_model.specs.declared.Span.{Span}
 use Rattle.kr_model.specs.declared.Rule.TheVariants as rule
 use Rattle.kr_model.specs.declared.Cover.TheVariants.{InsertedKey, DeletedGap}
-use Rattle.kr_model.specs.declared.Origin.TheVariants.{One, Two}
+use Rattle.kr_model.specs.declared.Origin.TheVariants as origin
 use Rattle.kr_model.specs.declared.Name.TheVariants.{Key}
 use Rattle.kr_model.specs.declared.Op.TheVariants.{Fetch, Scan, Commit}
 use Rattle.kr_model.specs.declared.Event.{Event}
@@ -147,13 +147,13 @@ gives_up = record asymmetric { convert = convert_by gives_up_converted; ask = gi
 
 -- Gives up: all failed cases. Held U and X serve an inserted key and a deleted gap, and S lets another's S in.
 pub gives_up-failed : failed_cases gives_up
-    ≡ failed rule.Conversion InsertedKey (Two U S) S (row.FetchHit, Current) 0 0
-    ∷ failed rule.Conversion InsertedKey (Two X S) S (row.FetchHit, Current) 0 0
-    ∷ failed rule.Conversion DeletedGap (Two U S) S (row.FetchMiss, Next) 0 0
-    ∷ failed rule.Conversion DeletedGap (Two X S) S (row.FetchMiss, Next) 0 0
-    ∷ failed rule.Delete DeletedGap (One 0) S (row.FetchMiss, Next) 0 0
-    ∷ failed rule.Delete DeletedGap (One S) S (row.FetchMiss, Next) 0 0
-    ∷ failed rule.Delete DeletedGap (One U) S (row.FetchMiss, Next) 0 0
-    ∷ failed rule.Delete DeletedGap (One X) S (row.FetchMiss, Next) 0 0
+    ≡ failed rule.Conversion InsertedKey (origin.Conversion U S) S (row.FetchHit, Current) 0 0
+    ∷ failed rule.Conversion InsertedKey (origin.Conversion X S) S (row.FetchHit, Current) 0 0
+    ∷ failed rule.Conversion DeletedGap (origin.Conversion U S) S (row.FetchMiss, Next) 0 0
+    ∷ failed rule.Conversion DeletedGap (origin.Conversion X S) S (row.FetchMiss, Next) 0 0
+    ∷ failed rule.Delete DeletedGap (origin.Own 0) S (row.FetchMiss, Next) 0 0
+    ∷ failed rule.Delete DeletedGap (origin.Own S) S (row.FetchMiss, Next) 0 0
+    ∷ failed rule.Delete DeletedGap (origin.Own U) S (row.FetchMiss, Next) 0 0
+    ∷ failed rule.Delete DeletedGap (origin.Own X) S (row.FetchMiss, Next) 0 0
     ∷ []
 gives_up-failed = refl

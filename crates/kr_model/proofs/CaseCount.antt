@@ -10,9 +10,9 @@ use Rattle.kr_model.specs.declared.Side.{Side}
 use Rattle.kr_model.specs.declared.Side.TheVariants.{Current, Next}
 use Rattle.kr_model.specs.declared.Cover.{Cover}
 use Rattle.kr_model.specs.declared.Cover.TheVariants.{ReadKey, ReadGap, InsertedKey, DeletedGap, UpdatedKey}
-use Rattle.kr_model.specs.declared.Origin.TheVariants.{One, Two}
+use Rattle.kr_model.specs.declared.Origin.TheVariants as origin
 use Rattle.kr_model.specs.Protocol.{Protocol}
-use Rattle.kr_model.specs.Covers.{count_up, modes, modes_or_none, cases, cases_of, row_cases, case, mode_after, all_covers, case_count, Case}
+use Rattle.kr_model.specs.Covers.{count_up, modes, modes_or_none, cases, cases_of, conversions_of, row_cases, splits_of, case, mode_after, all_covers, case_count, Case}
 
 length_count : (a n : ℕ) → length (count_up a n) ≡ n
 length_count a zero = refl
@@ -44,26 +44,26 @@ module _ (p : Protocol) where
 
   conversions : length (cases_of p rule.Conversion) ≡ length (all_covers p) * (p.count * p.count)
   conversions =
-      length_each (λ c. flat_map (λ h. map (λ q. case rule.Conversion c (Two h q) (Some h) (p.convert h q)) (modes p)) (modes p)) (p.count * p.count)
-      (λ c. length_nested (λ h q. case rule.Conversion c (Two h q) (Some h) (p.convert h q)) (modes p) (modes p) ∙ product p.count p.count (length (modes p)) (length (modes p)) (length_count 1 p.count) (length_count 1 p.count))
+      length_each (conversions_of p) (p.count * p.count)
+      (λ c. length_nested (λ h q. case rule.Conversion c (origin.Conversion h q) (Some h) (p.convert h q)) (modes p) (modes p) ∙ product p.count p.count (length (modes p)) (length (modes p)) (length_count 1 p.count) (length_count 1 p.count))
       (all_covers p)
 
   rows : (rl : Rule) (r : Row) (side : Side) (cs : List Cover) → length (row_cases p rl r side cs) ≡ length cs * (p.count + 1)
-  rows rl r side cs = length_nested (λ c o. case rl c (One o) None (mode_after p o (p.ask r side 0))) cs (modes_or_none p) ∙ product (length cs) (p.count + 1) (length cs) (length (modes_or_none p)) refl or_none
+  rows rl r side cs = length_nested (λ c o. case rl c (origin.Own o) None (mode_after p o (p.ask r side 0))) cs (modes_or_none p) ∙ product (length cs) (p.count + 1) (length cs) (length (modes_or_none p)) refl or_none
 
   inserts : length (cases_of p rule.Insert) ≡ (p.count + 1) * (p.count + 1)
-  inserts = length_nested (λ n o. case rule.Insert InsertedKey (Two n o) None (mode_after p o (p.ask row.Insert Current n))) (modes_or_none p) (modes_or_none p)
+  inserts = length_nested (λ n o. case rule.Insert InsertedKey (origin.Insert n o) None (mode_after p o (p.ask row.Insert Current n))) (modes_or_none p) (modes_or_none p)
       ∙ product (p.count + 1) (p.count + 1) (length (modes_or_none p)) (length (modes_or_none p)) or_none or_none
 
   splits : length (cases_of p rule.Split) ≡ 2 * ((p.count + 1) * (p.count + 1))
   splits =
-      length_each (λ c. flat_map (λ n. map (λ o. case rule.Split c (Two n o) (Some n) (mode_after p o (p.ask row.Insert Current n))) (modes_or_none p)) (modes_or_none p)) ((p.count + 1) * (p.count + 1))
-      (λ c. length_nested (λ n o. case rule.Split c (Two n o) (Some n) (mode_after p o (p.ask row.Insert Current n))) (modes_or_none p) (modes_or_none p)
+      length_each (splits_of p) ((p.count + 1) * (p.count + 1))
+      (λ c. length_nested (λ n o. case rule.Split c (origin.Insert n o) (Some n) (mode_after p o (p.ask row.Insert Current n))) (modes_or_none p) (modes_or_none p)
       ∙ product (p.count + 1) (p.count + 1) (length (modes_or_none p)) (length (modes_or_none p)) or_none or_none)
       (ReadGap ∷ DeletedGap ∷ [])
 
   deletes : length (cases_of p rule.Delete) ≡ p.count + 1
-  deletes = length_mapped (λ n. case rule.Delete DeletedGap (One n) None (mode_after p n (p.ask row.Delete Next n))) (modes_or_none p) ∙ or_none
+  deletes = length_mapped (λ n. case rule.Delete DeletedGap (origin.Own n) None (mode_after p n (p.ask row.Delete Next n))) (modes_or_none p) ∙ or_none
 
   -- the cases of updates, where they are offered
   abbrev more : Bool → List Case

@@ -12,7 +12,7 @@ use Rattle.kr_model.specs.declared.Cover.{Cover}
 use Rattle.kr_model.specs.declared.Cover.TheVariants.{ReadKey, ReadGap, InsertedKey, DeletedGap, UpdatedKey}
 use Rattle.kr_model.specs.declared.Rule.{Rule}
 use Rattle.kr_model.specs.declared.Rule.TheVariants as rule
-use Rattle.kr_model.specs.declared.Origin.TheVariants.{One, Two}
+use Rattle.kr_model.specs.declared.Origin.TheVariants as origin
 use Rattle.kr_model.specs.declared.Place.{Place}
 use Rattle.kr_model.specs.Protocol.{Protocol, IsMode}
 use Rattle.kr_model.specs.Covers.{place, Case, case, cases, cases_of, row_cases, all_rules, all_covers, count_up, modes, modes_or_none, must_conflict, if_updating, places_of, open_places, is_open, conflicts_with, serves, is_empty, mode_after, failure, failed_at, is_due, IsCovered}
@@ -177,26 +177,26 @@ in_two f a b xs ys ia ib = in_flat_map (λ x. map (λ y. f x y) ys) a (f a b) xs
 -- a conversion keeps what the held mode serves
 pub keeps_cover : (p : Protocol) → IsCovered p → (c : Cover) → IsKnown p c → (h q : ℕ) → IsMode p h → IsMode p q → Serves p c h → Serves p c (p.convert h q)
 keeps_cover p cov c up h q ih iq s =
-    covered_case p cov rule.Conversion tt (case rule.Conversion c (Two h q) (Some h) (p.convert h q))
-    (in_flat_map (λ d. flat_map (λ x. map (λ y. case rule.Conversion d (Two x y) (Some x) (p.convert x y)) (modes p)) (modes p)) c (case rule.Conversion c (Two h q) (Some h) (p.convert h q)) (all_covers p) (in_all_covers p c up)
-    (in_two (λ x y. case rule.Conversion c (Two x y) (Some x) (p.convert x y)) h q (modes p) (modes p) (in_modes p h ih) (in_modes p q iq)))
+    covered_case p cov rule.Conversion tt (case rule.Conversion c (origin.Conversion h q) (Some h) (p.convert h q))
+    (in_flat_map (λ d. flat_map (λ x. map (λ y. case rule.Conversion d (origin.Conversion x y) (Some x) (p.convert x y)) (modes p)) (modes p)) c (case rule.Conversion c (origin.Conversion h q) (Some h) (p.convert h q)) (all_covers p) (in_all_covers p c up)
+    (in_two (λ x y. case rule.Conversion c (origin.Conversion x y) (Some x) (p.convert x y)) h q (modes p) (modes p) (in_modes p h ih) (in_modes p q iq)))
     s
 
-in_row : (p : Protocol) (rl : Rule) (r : Row) (side : Side) (cs : List Cover) (c : Cover) (o : ℕ) → In c cs → o ≤ p.count → In (case rl c (One o) None (mode_after p o (p.ask r side 0))) (row_cases p rl r side cs)
-in_row p rl r side cs c o ic io = in_two (λ d x. case rl d (One x) None (mode_after p x (p.ask r side 0))) c o cs (modes_or_none p) ic (in_modes_or_none p o io)
+in_row : (p : Protocol) (rl : Rule) (r : Row) (side : Side) (cs : List Cover) (c : Cover) (o : ℕ) → In c cs → o ≤ p.count → In (case rl c (origin.Own o) None (mode_after p o (p.ask r side 0))) (row_cases p rl r side cs)
+in_row p rl r side cs c o ic io = in_two (λ d x. case rl d (origin.Own x) None (mode_after p x (p.ask r side 0))) c o cs (modes_or_none p) ic (in_modes_or_none p o io)
 
 -- a fetch that finds its key covers the key
 pub after_fetch_hit : (p : Protocol) → IsCovered p → (o : ℕ) → o ≤ p.count → Serves p ReadKey (mode_after p o (p.ask row.FetchHit Current 0))
-after_fetch_hit p cov o io = covered_case p cov rule.FetchHit tt (case rule.FetchHit ReadKey (One o) None (mode_after p o (p.ask row.FetchHit Current 0))) (in_row p rule.FetchHit row.FetchHit Current (ReadKey ∷ []) ReadKey o (inl refl) io) refl
+after_fetch_hit p cov o io = covered_case p cov rule.FetchHit tt (case rule.FetchHit ReadKey (origin.Own o) None (mode_after p o (p.ask row.FetchHit Current 0))) (in_row p rule.FetchHit row.FetchHit Current (ReadKey ∷ []) ReadKey o (inl refl) io) refl
 
 -- a fetch that finds nothing covers the gap
 pub after_fetch_miss : (p : Protocol) → IsCovered p → (n : ℕ) → n ≤ p.count → Serves p ReadGap (mode_after p n (p.ask row.FetchMiss Next 0))
-after_fetch_miss p cov n io = covered_case p cov rule.FetchMiss tt (case rule.FetchMiss ReadGap (One n) None (mode_after p n (p.ask row.FetchMiss Next 0))) (in_row p rule.FetchMiss row.FetchMiss Next (ReadGap ∷ []) ReadGap n (inl refl) io) refl
+after_fetch_miss p cov n io = covered_case p cov rule.FetchMiss tt (case rule.FetchMiss ReadGap (origin.Own n) None (mode_after p n (p.ask row.FetchMiss Next 0))) (in_row p rule.FetchMiss row.FetchMiss Next (ReadGap ∷ []) ReadGap n (inl refl) io) refl
 
 -- an insert covers the key that it brings
 pub after_insert : (p : Protocol) → IsCovered p → (n o : ℕ) → n ≤ p.count → o ≤ p.count → Serves p InsertedKey (mode_after p o (p.ask row.Insert Current n))
-after_insert p cov n o in_n io = covered_case p cov rule.Insert tt (case rule.Insert InsertedKey (Two n o) None (mode_after p o (p.ask row.Insert Current n)))
-    (in_two (λ x y. case rule.Insert InsertedKey (Two x y) None (mode_after p y (p.ask row.Insert Current x))) n o (modes_or_none p) (modes_or_none p) (in_modes_or_none p n in_n) (in_modes_or_none p o io)) refl
+after_insert p cov n o in_n io = covered_case p cov rule.Insert tt (case rule.Insert InsertedKey (origin.Insert n o) None (mode_after p o (p.ask row.Insert Current n)))
+    (in_two (λ x y. case rule.Insert InsertedKey (origin.Insert x y) None (mode_after p y (p.ask row.Insert Current x))) n o (modes_or_none p) (modes_or_none p) (in_modes_or_none p n in_n) (in_modes_or_none p o io)) refl
 
 -- the covers of a gap
 abbrev pub gap_covers : List Cover
@@ -204,16 +204,16 @@ gap_covers = ReadGap ∷ DeletedGap ∷ []
 
 -- an insert into a gap that its own transaction covers carries the cover over
 pub after_split : (p : Protocol) → IsCovered p → (c : Cover) → In c gap_covers → (n o : ℕ) → n ≤ p.count → o ≤ p.count → Serves p c n → Serves p c (mode_after p o (p.ask row.Insert Current n))
-after_split p cov c ic n o in_n io s = covered_case p cov rule.Split tt (case rule.Split c (Two n o) (Some n) (mode_after p o (p.ask row.Insert Current n)))
-    (in_flat_map (λ d. flat_map (λ x. map (λ y. case rule.Split d (Two x y) (Some x) (mode_after p y (p.ask row.Insert Current x))) (modes_or_none p)) (modes_or_none p)) c
-    (case rule.Split c (Two n o) (Some n) (mode_after p o (p.ask row.Insert Current n))) gap_covers ic
-    (in_two (λ x y. case rule.Split c (Two x y) (Some x) (mode_after p y (p.ask row.Insert Current x))) n o (modes_or_none p) (modes_or_none p) (in_modes_or_none p n in_n) (in_modes_or_none p o io)))
+after_split p cov c ic n o in_n io s = covered_case p cov rule.Split tt (case rule.Split c (origin.Insert n o) (Some n) (mode_after p o (p.ask row.Insert Current n)))
+    (in_flat_map (λ d. flat_map (λ x. map (λ y. case rule.Split d (origin.Insert x y) (Some x) (mode_after p y (p.ask row.Insert Current x))) (modes_or_none p)) (modes_or_none p)) c
+    (case rule.Split c (origin.Insert n o) (Some n) (mode_after p o (p.ask row.Insert Current n))) gap_covers ic
+    (in_two (λ x y. case rule.Split c (origin.Insert x y) (Some x) (mode_after p y (p.ask row.Insert Current x))) n o (modes_or_none p) (modes_or_none p) (in_modes_or_none p n in_n) (in_modes_or_none p o io)))
     s
 
 -- a delete covers the gap that it widens
 pub after_delete : (p : Protocol) → IsCovered p → (n : ℕ) → n ≤ p.count → Serves p DeletedGap (mode_after p n (p.ask row.Delete Next n))
-after_delete p cov n io = covered_case p cov rule.Delete tt (case rule.Delete DeletedGap (One n) None (mode_after p n (p.ask row.Delete Next n)))
-    (in_map (λ x. case rule.Delete DeletedGap (One x) None (mode_after p x (p.ask row.Delete Next x))) n (modes_or_none p) (in_modes_or_none p n io)) refl
+after_delete p cov n io = covered_case p cov rule.Delete tt (case rule.Delete DeletedGap (origin.Own n) None (mode_after p n (p.ask row.Delete Next n)))
+    (in_map (λ x. case rule.Delete DeletedGap (origin.Own x) None (mode_after p x (p.ask row.Delete Next x))) n (modes_or_none p) (in_modes_or_none p n io)) refl
 
 -- the covers of a key that a scan reads
 abbrev pub scan_covers : List Cover
@@ -221,12 +221,12 @@ scan_covers = ReadKey ∷ ReadGap ∷ []
 
 -- a scan covers each key that it reads, and the gap below it
 pub after_scan_key : (p : Protocol) → IsCovered p → (c : Cover) → In c scan_covers → (o : ℕ) → o ≤ p.count → Serves p c (mode_after p o (p.ask row.ScanKey Current 0))
-after_scan_key p cov c ic o io = covered_case p cov rule.ScanKey tt (case rule.ScanKey c (One o) None (mode_after p o (p.ask row.ScanKey Current 0))) (in_row p rule.ScanKey row.ScanKey Current scan_covers c o ic io) refl
+after_scan_key p cov c ic o io = covered_case p cov rule.ScanKey tt (case rule.ScanKey c (origin.Own o) None (mode_after p o (p.ask row.ScanKey Current 0))) (in_row p rule.ScanKey row.ScanKey Current scan_covers c o ic io) refl
 
 -- a scan covers the gap in which it stops
 pub after_scan_stop : (p : Protocol) → IsCovered p → (n : ℕ) → n ≤ p.count → Serves p ReadGap (mode_after p n (p.ask row.ScanStop Next 0))
-after_scan_stop p cov n io = covered_case p cov rule.ScanStop tt (case rule.ScanStop ReadGap (One n) None (mode_after p n (p.ask row.ScanStop Next 0))) (in_row p rule.ScanStop row.ScanStop Next (ReadGap ∷ []) ReadGap n (inl refl) io) refl
+after_scan_stop p cov n io = covered_case p cov rule.ScanStop tt (case rule.ScanStop ReadGap (origin.Own n) None (mode_after p n (p.ask row.ScanStop Next 0))) (in_row p rule.ScanStop row.ScanStop Next (ReadGap ∷ []) ReadGap n (inl refl) io) refl
 
 -- an update covers its key
 pub after_update : (p : Protocol) → IsCovered p → p.updates ≡ true → (o : ℕ) → o ≤ p.count → Serves p UpdatedKey (mode_after p o (p.ask row.Update Current 0))
-after_update p cov up o io = covered_case p cov rule.Update up (case rule.Update UpdatedKey (One o) None (mode_after p o (p.ask row.Update Current 0))) (in_row p rule.Update row.Update Current (UpdatedKey ∷ []) UpdatedKey o (inl refl) io) refl
+after_update p cov up o io = covered_case p cov rule.Update up (case rule.Update UpdatedKey (origin.Own o) None (mode_after p o (p.ask row.Update Current 0))) (in_row p rule.Update row.Update Current (UpdatedKey ∷ []) UpdatedKey o (inl refl) io) refl

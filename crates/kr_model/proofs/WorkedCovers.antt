@@ -13,7 +13,7 @@ use Rattle.kr_model.specs.declared.Rule.TheVariants as rule
 use Rattle.kr_model.specs.declared.Cover.{Cover}
 use Rattle.kr_model.specs.declared.Cover.TheVariants.{ReadKey, ReadGap, InsertedKey, DeletedGap, UpdatedKey}
 use Rattle.kr_model.specs.declared.Origin.{Origin}
-use Rattle.kr_model.specs.declared.Origin.TheVariants.{One, Two}
+use Rattle.kr_model.specs.declared.Origin.TheVariants as origin
 use Rattle.kr_model.specs.declared.FailedCase.{FailedCase}
 use Rattle.kr_model.specs.Matrices.{ok_by, convert_by, for_commit, at_once}
 use Rattle.kr_model.specs.Kvl.{kvl, kvl_ask, IS, IX, S, X}
@@ -102,7 +102,7 @@ pub insert_always_ix-covers : failed_by_cover insert_always_ix ≡ 0 ∷ 9 ∷ 0
 insert_always_ix-covers = refl
 
 -- Insert always IX: the first failed case.
-pub insert_always_ix-first : first_failed insert_always_ix ≡ Some (failed rule.Split ReadGap (Two S 0) IX (row.Insert, Next) 0 0)
+pub insert_always_ix-first : first_failed insert_always_ix ≡ Some (failed rule.Split ReadGap (origin.Insert S 0) IX (row.Insert, Next) 0 0)
 insert_always_ix-first = refl
 
 -- Insert N-X: range-key locking whose insert takes N-X in place of I-X on its key --
@@ -130,7 +130,7 @@ pub insert_n_x-rules : failed_by_rule insert_n_x ≡ 0 ∷ 0 ∷ 0 ∷ 0 ∷ 0 �
 insert_n_x-rules = refl
 
 -- Insert N-X: the first failed case; N-X is mode 2.
-pub insert_n_x-first : first_failed insert_n_x ≡ Some (failed rule.Insert InsertedKey (Two 0 0) 2 (row.FetchMiss, Next) 0 0)
+pub insert_n_x-first : first_failed insert_n_x ≡ Some (failed rule.Insert InsertedKey (origin.Insert 0 0) 2 (row.FetchMiss, Next) 0 0)
 insert_n_x-first = refl
 
 -- Delete's next instant: key-value locking whose delete doesn't keep its lock on the next name --
@@ -146,10 +146,10 @@ deletes_next_instant = record kvl { ask = deletes_next_instant_ask }
 
 -- Delete's next instant: all failed cases.
 pub deletes_next_instant-failed : failed_cases deletes_next_instant
-    ≡ failed rule.Delete DeletedGap (One 0) 0 (row.FetchMiss, Next) 0 0
-    ∷ failed rule.Delete DeletedGap (One IS) IS (row.FetchMiss, Next) 0 0
-    ∷ failed rule.Delete DeletedGap (One IX) IX (row.Insert, Next) 0 0
-    ∷ failed rule.Delete DeletedGap (One S) S (row.FetchMiss, Next) 0 0
+    ≡ failed rule.Delete DeletedGap (origin.Own 0) 0 (row.FetchMiss, Next) 0 0
+    ∷ failed rule.Delete DeletedGap (origin.Own IS) IS (row.FetchMiss, Next) 0 0
+    ∷ failed rule.Delete DeletedGap (origin.Own IX) IX (row.Insert, Next) 0 0
+    ∷ failed rule.Delete DeletedGap (origin.Own S) S (row.FetchMiss, Next) 0 0
     ∷ []
 deletes_next_instant-failed = refl
 
@@ -177,7 +177,7 @@ pub delete_without_current-serves : map (λ c. filter (serves delete_without_cur
 delete_without_current-serves = refl
 
 -- Delete without current: the first failed case.
-pub delete_without_current-first : first_failed delete_without_current ≡ Some (failed rule.FetchHit ReadKey (One 0) S (row.Delete, Current) 0 0)
+pub delete_without_current-first : first_failed delete_without_current ≡ Some (failed rule.FetchHit ReadKey (origin.Own 0) S (row.Delete, Current) 0 0)
 delete_without_current-first = refl
 
 -- Update under IX: key-value locking with updates, whose update takes IX on its key --
@@ -200,7 +200,7 @@ pub update_under_ix-rules : failed_by_rule update_under_ix ≡ 0 ∷ 0 ∷ 0 ∷
 update_under_ix-rules = refl
 
 -- Update under IX: the first failed case.
-pub update_under_ix-first : first_failed update_under_ix ≡ Some (failed rule.Insert InsertedKey (Two 0 0) IX (row.Update, Current) 0 0)
+pub update_under_ix-first : first_failed update_under_ix ≡ Some (failed rule.Insert InsertedKey (origin.Insert 0 0) IX (row.Update, Current) 0 0)
 update_under_ix-first = refl
 
 -- An update that isn't kept: index-specific locking with updates, whose update doesn't keep its lock --
@@ -220,8 +220,8 @@ update_at_once-cases = refl
 
 -- An update that isn't kept: the two cases that fail, both of them updates.
 pub update_at_once-failed : failed_cases update_at_once
-    ≡ failed rule.Update UpdatedKey (One 0) 0 (row.FetchHit, Current) 0 0
-    ∷ failed rule.Update UpdatedKey (One im.S) im.S (row.FetchHit, Current) 0 0
+    ≡ failed rule.Update UpdatedKey (origin.Own 0) 0 (row.FetchHit, Current) 0 0
+    ∷ failed rule.Update UpdatedKey (origin.Own im.S) im.S (row.FetchHit, Current) 0 0
     ∷ []
 update_at_once-failed = refl
 
@@ -248,7 +248,7 @@ pub asks_nothing-rules : failed_by_rule asks_nothing ≡ 0 ∷ 2 ∷ 2 ∷ 4 ∷
 asks_nothing-rules = refl
 
 -- The table that asks nothing: the first failed case.
-pub asks_nothing-first : first_failed asks_nothing ≡ Some (failed rule.FetchHit ReadKey (One 0) 0 (row.Delete, Current) 0 0)
+pub asks_nothing-first : first_failed asks_nothing ≡ Some (failed rule.FetchHit ReadKey (origin.Own 0) 0 (row.Delete, Current) 0 0)
 asks_nothing-first = refl
 
 -- What the one-mode table asks for: its mode on every side of every row, at once for insert next and delete current.

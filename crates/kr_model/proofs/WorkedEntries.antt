@@ -11,7 +11,7 @@ use Rattle.kr_model.specs.declared.Side.TheVariants.{Current, Next}
 use Rattle.kr_model.specs.declared.Span.{Span}
 use Rattle.kr_model.specs.declared.Cover.{Cover}
 use Rattle.kr_model.specs.declared.Cover.TheVariants.{ReadKey, ReadGap, InsertedKey, DeletedGap, UpdatedKey}
-use Rattle.kr_model.specs.declared.Origin.TheVariants.{One, Two}
+use Rattle.kr_model.specs.declared.Origin.TheVariants as origin
 use Rattle.kr_model.specs.declared.Rule.TheVariants as rule
 use Rattle.kr_model.specs.declared.FailedCase.{FailedCase}
 use Rattle.kr_model.specs.declared.Place.{Place}
@@ -172,35 +172,35 @@ abbrev pub first_of : Cover → Ask → Option FailedCase
 first_of c a = slice_get (filter (λ f. cover_number f.cover == cover_number c) (failed_cases (lets_in a))) 0
 
 -- A read key: the lock of a fetch lets in who deletes the key.
-pub read_key-fails : first_of ReadKey (Delete, Current) ≡ Some (failed rule.FetchHit ReadKey (One 0) strict (Delete, Current) 0 0)
+pub read_key-fails : first_of ReadKey (Delete, Current) ≡ Some (failed rule.FetchHit ReadKey (origin.Own 0) strict (Delete, Current) 0 0)
 read_key-fails = refl
 
 -- A read gap: the lock of a fetch that missed lets in who inserts into the gap, or deletes the key above it.
 pub read_gap-fails : map (first_of ReadGap) ((Insert, Next) ∷ (Delete, Current) ∷ [])
-    ≡ Some (failed rule.FetchMiss ReadGap (One 0) strict (Insert, Next) 0 0)
-    ∷ Some (failed rule.FetchMiss ReadGap (One 0) strict (Delete, Current) 0 0)
+    ≡ Some (failed rule.FetchMiss ReadGap (origin.Own 0) strict (Insert, Next) 0 0)
+    ∷ Some (failed rule.FetchMiss ReadGap (origin.Own 0) strict (Delete, Current) 0 0)
     ∷ []
 read_gap-fails = refl
 
 -- An inserted key: the lock of an insert lets in who reads the key or the gap below it, or deletes the key or the one below it.
 pub inserted_key-fails : map (first_of InsertedKey) ((FetchHit, Current) ∷ (FetchMiss, Next) ∷ (ScanKey, Current) ∷ (ScanStop, Next) ∷ (Delete, Current) ∷ (Delete, Next) ∷ [])
-    ≡ Some (failed rule.Insert InsertedKey (Two 0 0) strict (FetchHit, Current) 0 0)
-    ∷ Some (failed rule.Insert InsertedKey (Two 0 0) strict (FetchMiss, Next) 0 0)
-    ∷ Some (failed rule.Insert InsertedKey (Two 0 0) strict (ScanKey, Current) 0 0)
-    ∷ Some (failed rule.Insert InsertedKey (Two 0 0) strict (ScanStop, Next) 0 0)
-    ∷ Some (failed rule.Insert InsertedKey (Two 0 0) strict (Delete, Current) 0 0)
-    ∷ Some (failed rule.Insert InsertedKey (Two 0 0) strict (Delete, Next) 0 0)
+    ≡ Some (failed rule.Insert InsertedKey (origin.Insert 0 0) strict (FetchHit, Current) 0 0)
+    ∷ Some (failed rule.Insert InsertedKey (origin.Insert 0 0) strict (FetchMiss, Next) 0 0)
+    ∷ Some (failed rule.Insert InsertedKey (origin.Insert 0 0) strict (ScanKey, Current) 0 0)
+    ∷ Some (failed rule.Insert InsertedKey (origin.Insert 0 0) strict (ScanStop, Next) 0 0)
+    ∷ Some (failed rule.Insert InsertedKey (origin.Insert 0 0) strict (Delete, Current) 0 0)
+    ∷ Some (failed rule.Insert InsertedKey (origin.Insert 0 0) strict (Delete, Next) 0 0)
     ∷ []
 inserted_key-fails = refl
 
 -- A deleted gap: the lock of a delete on the next name lets in who reads the gap, scans on to the key above it, inserts into it, or deletes the key at either end of it.
 pub deleted_gap-fails : map (first_of DeletedGap) ((FetchMiss, Next) ∷ (ScanKey, Current) ∷ (ScanStop, Next) ∷ (Insert, Next) ∷ (Delete, Current) ∷ (Delete, Next) ∷ [])
-    ≡ Some (failed rule.Delete DeletedGap (One 0) strict (FetchMiss, Next) 0 0)
-    ∷ Some (failed rule.Delete DeletedGap (One 0) strict (ScanKey, Current) 0 0)
-    ∷ Some (failed rule.Delete DeletedGap (One 0) strict (ScanStop, Next) 0 0)
-    ∷ Some (failed rule.Delete DeletedGap (One 0) strict (Insert, Next) 0 0)
-    ∷ Some (failed rule.Delete DeletedGap (One 0) strict (Delete, Current) 0 0)
-    ∷ Some (failed rule.Delete DeletedGap (One 0) lax (Delete, Next) 0 0)
+    ≡ Some (failed rule.Delete DeletedGap (origin.Own 0) strict (FetchMiss, Next) 0 0)
+    ∷ Some (failed rule.Delete DeletedGap (origin.Own 0) strict (ScanKey, Current) 0 0)
+    ∷ Some (failed rule.Delete DeletedGap (origin.Own 0) strict (ScanStop, Next) 0 0)
+    ∷ Some (failed rule.Delete DeletedGap (origin.Own 0) strict (Insert, Next) 0 0)
+    ∷ Some (failed rule.Delete DeletedGap (origin.Own 0) strict (Delete, Current) 0 0)
+    ∷ Some (failed rule.Delete DeletedGap (origin.Own 0) lax (Delete, Next) 0 0)
     ∷ []
 deleted_gap-fails = refl
 
@@ -210,16 +210,16 @@ first_of_updating c a = slice_get (filter (λ f. cover_number f.cover == cover_n
 
 -- A read key and an inserted key: the lock of a fetch or of an insert lets in who updates the key.
 pub read_and_inserted_key-fail : map (λ c. first_of_updating c (Update, Current)) (ReadKey ∷ InsertedKey ∷ [])
-    ≡ Some (failed rule.FetchHit ReadKey (One 0) strict (Update, Current) 0 0)
-    ∷ Some (failed rule.Insert InsertedKey (Two 0 0) strict (Update, Current) 0 0)
+    ≡ Some (failed rule.FetchHit ReadKey (origin.Own 0) strict (Update, Current) 0 0)
+    ∷ Some (failed rule.Insert InsertedKey (origin.Insert 0 0) strict (Update, Current) 0 0)
     ∷ []
 read_and_inserted_key-fail = refl
 
 -- An updated key: the lock of an update lets in who reads the key, deletes it or updates it again.
 pub updated_key-fails : map (first_of_updating UpdatedKey) ((FetchHit, Current) ∷ (ScanKey, Current) ∷ (Delete, Current) ∷ (Update, Current) ∷ [])
-    ≡ Some (failed rule.Update UpdatedKey (One 0) strict (FetchHit, Current) 0 0)
-    ∷ Some (failed rule.Update UpdatedKey (One 0) strict (ScanKey, Current) 0 0)
-    ∷ Some (failed rule.Update UpdatedKey (One 0) strict (Delete, Current) 0 0)
-    ∷ Some (failed rule.Update UpdatedKey (One 0) lax (Update, Current) 0 0)
+    ≡ Some (failed rule.Update UpdatedKey (origin.Own 0) strict (FetchHit, Current) 0 0)
+    ∷ Some (failed rule.Update UpdatedKey (origin.Own 0) strict (ScanKey, Current) 0 0)
+    ∷ Some (failed rule.Update UpdatedKey (origin.Own 0) strict (Delete, Current) 0 0)
+    ∷ Some (failed rule.Update UpdatedKey (origin.Own 0) lax (Update, Current) 0 0)
     ∷ []
 updated_key-fails = refl

@@ -13,7 +13,7 @@ use Rattle.kr_model.specs.declared.Cover.TheVariants.{ReadKey, ReadGap, Inserted
 use Rattle.kr_model.specs.declared.Rule.{Rule}
 use Rattle.kr_model.specs.declared.Rule.TheVariants as rule
 use Rattle.kr_model.specs.declared.Origin.{Origin}
-use Rattle.kr_model.specs.declared.Origin.TheVariants.{One, Two}
+use Rattle.kr_model.specs.declared.Origin.TheVariants as origin
 use Rattle.kr_model.specs.declared.Place.{Place}
 use Rattle.kr_model.specs.declared.FailedCase.{FailedCase}
 use Rattle.kr_model.specs.Protocol.{Protocol}
@@ -106,31 +106,55 @@ case r c from given mode = record { rule = r; cover = c; from = from; given = gi
 abbrev pub all_covers : Protocol → List Cover
 all_covers p = ReadKey ∷ ReadGap ∷ InsertedKey ∷ DeletedGap ∷ if_updating p (UpdatedKey ∷ [])
 
--- The cases of a row that moves no key: for each of the covers and each own mode, the mode after the request serves the cover.
+-- A conversion from the held mode h keeps the cover if h serves it, whichever mode q is asked for.
+abbrev pub conversions_from : Protocol → Cover → ℕ → List Case
+conversions_from p c h = map (λ q. case rule.Conversion c (origin.Conversion h q) (Some h) (p.convert h q)) (modes p)
+
+-- A conversion keeps the cover, from each held mode.
+abbrev pub conversions_of : Protocol → Cover → List Case
+conversions_of p c = flat_map (conversions_from p c) (modes p)
+
+-- A row that moves no key has the cover: for each own mode o, the mode after the request serves it.
+abbrev pub row_cover : Protocol → Rule → Row → Side → Cover → List Case
+row_cover p rl r side c = map (λ o. case rl c (origin.Own o) None (mode_after p o (p.ask r side 0))) (modes_or_none p)
+
+-- A row that moves no key has each of the covers.
 abbrev pub row_cases : Protocol → Rule → Row → Side → List Cover → List Case
-row_cases p rl r side cs = flat_map (λ c. map (λ o. case rl c (One o) None (mode_after p o (p.ask r side 0))) (modes_or_none p)) cs
+row_cases p rl r side cs = flat_map (row_cover p rl r side) cs
+
+-- An insert at the own mode n on the next name has the cover: for each own mode o on the key, the mode after the request serves it.
+abbrev pub inserts_at : Protocol → Rule → Cover → Option ℕ → ℕ → List Case
+inserts_at p rl c given n =
+    map (λ o. case rl c (origin.Insert n o) given (mode_after p o (p.ask row.Insert Current n))) (modes_or_none p)
+
+-- An insert that splits a gap carries the cover over to the new name, from each own mode n on the next name that serves it.
+abbrev pub splits_of : Protocol → Cover → List Case
+splits_of p c = flat_map (λ n. inserts_at p rule.Split c (Some n) n) (modes_or_none p)
 
 -- The cases of a rule, in order.
 abbrev pub cases_of : Protocol → Rule → List Case
--- A conversion keeps each cover that the held mode h serves.
-cases_of p rule.Conversion = flat_map (λ c. flat_map (λ h. map (λ q. case rule.Conversion c (Two h q) (Some h) (p.convert h q)) (modes p)) (modes p)) (all_covers p)
+-- A conversion keeps each cover that the held mode serves.
+cases_of p rule.Conversion = flat_map (conversions_of p) (all_covers p)
 -- What was read is covered.
 cases_of p rule.FetchHit = row_cases p rule.FetchHit row.FetchHit Current (ReadKey ∷ [])
 cases_of p rule.FetchMiss = row_cases p rule.FetchMiss row.FetchMiss Next (ReadGap ∷ [])
 cases_of p rule.ScanKey = row_cases p rule.ScanKey row.ScanKey Current (ReadKey ∷ ReadGap ∷ [])
 cases_of p rule.ScanStop = row_cases p rule.ScanStop row.ScanStop Next (ReadGap ∷ [])
--- An inserted key is covered, from each own mode n on the next name and o on the key.
-cases_of p rule.Insert = flat_map (λ n. map (λ o. case rule.Insert InsertedKey (Two n o) None (mode_after p o (p.ask row.Insert Current n))) (modes_or_none p)) (modes_or_none p)
--- An insert that splits a gap which its own transaction covers by n carries the cover over to the new name.
-cases_of p rule.Split = flat_map (λ c. flat_map (λ n. map (λ o. case rule.Split c (Two n o) (Some n) (mode_after p o (p.ask row.Insert Current n))) (modes_or_none p)) (modes_or_none p)) (ReadGap ∷ DeletedGap ∷ [])
+-- An inserted key is covered, from each own mode on the next name.
+cases_of p rule.Insert = flat_map (inserts_at p rule.Insert InsertedKey None) (modes_or_none p)
+-- An insert that splits a gap which its own transaction covers carries the cover over to the new name.
+cases_of p rule.Split = flat_map (splits_of p) (ReadGap ∷ DeletedGap ∷ [])
 -- A delete covers the gap that it widens, from each own mode n on the next name.
-cases_of p rule.Delete = map (λ n. case rule.Delete DeletedGap (One n) None (mode_after p n (p.ask row.Delete Next n))) (modes_or_none p)
+cases_of p rule.Delete =
+    map (λ n. case rule.Delete DeletedGap (origin.Own n) None (mode_after p n (p.ask row.Delete Next n))) (modes_or_none p)
 -- An updated key is covered.
 cases_of p rule.Update = row_cases p rule.Update row.Update Current (UpdatedKey ∷ [])
 
 -- The rules that p is asked for, in order.
 abbrev pub all_rules : Protocol → List Rule
-all_rules p = rule.Conversion ∷ rule.FetchHit ∷ rule.FetchMiss ∷ rule.ScanKey ∷ rule.ScanStop ∷ rule.Insert ∷ rule.Split ∷ rule.Delete ∷ if_updating p (rule.Update ∷ [])
+all_rules p =
+    rule.Conversion ∷ rule.FetchHit ∷ rule.FetchMiss ∷ rule.ScanKey ∷ rule.ScanStop ∷ rule.Insert ∷ rule.Split ∷ rule.Delete
+    ∷ if_updating p (rule.Update ∷ [])
 
 -- All cases of a protocol, in order.
 abbrev pub cases : Protocol → List Case

@@ -107,9 +107,11 @@ pub enum Rule {
 #[derive(Clone, Copy, Debug, PartialEq, Eq)]
 pub enum Origin {
     /// The own mode on the name that the row asks for.
-    One(Mode),
-    /// For a conversion the held mode and the mode asked for; else the own modes on the next name and on the key.
-    Two(Mode, Mode),
+    Own(Mode),
+    /// The held mode of a conversion, and the mode asked for.
+    Conversion { held: Mode, asked: Mode },
+    /// The own modes of an insert, on the next name and on the key.
+    Insert { own_next: Mode, own: Mode },
 }
 
 /// A place where a lock may be asked for, and what the asker holds already.

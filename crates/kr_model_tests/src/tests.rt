@@ -55,14 +55,17 @@ fn words_compare_by_their_parts(rt: HostRuntime) {
     let failed = FailedCase {
         case: Rule::Split,
         cover: Cover::ReadGap,
-        from: Origin::Two(3, 0),
+        from: Origin::Insert {
+            own_next: 3,
+            own: 0,
+        },
         mode: 2,
         hole,
     };
     assert!(rt;
         failed
             != FailedCase {
-                from: Origin::One(3),
+                from: Origin::Own(3),
                 ..failed
             }
     );

@@ -4,7 +4,7 @@ use Rattle.serde_json.specs.Data.{Data}
 use Rattle.serde_json.specs.Written.{has_float, items_have_float}
 use Rattle.serde_json.specs.View.{items_of}
 use Rattle.kr_model.specs.declared.Origin.{Origin}
-use Rattle.kr_model.specs.declared.Origin.TheVariants.{One, Two}
+use Rattle.kr_model.specs.declared.Origin.TheVariants as origin
 use Rattle.kr_model.specs.declared.FailedCase.{FailedCase}
 use Rattle.kr_model.specs.Protocol.{Protocol}
 use Rattle.kr_script.specs.CheckReport.{from_data, failed_data, check_data}
@@ -15,8 +15,9 @@ no_float_in f h [] = refl
 no_float_in f h (x ∷ xs) = rw (h x, no_float_in f h xs)
 
 no_float_in_from : (names : List (List ℕ)) (o : Origin) → has_float (from_data names o) ≡ false
-no_float_in_from names (One a) = refl
-no_float_in_from names (Two a b) = refl
+no_float_in_from names (origin.Own own) = refl
+no_float_in_from names (origin.Conversion held asked) = refl
+no_float_in_from names (origin.Insert own_next own) = refl
 
 no_float_in_failed : (names : List (List ℕ)) (f : FailedCase) → has_float (failed_data names f) ≡ false
 no_float_in_failed names f = rw (no_float_in_from names f.from)

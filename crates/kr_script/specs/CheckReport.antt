@@ -12,7 +12,7 @@ use Rattle.kr_model.specs.declared.Rule.TheVariants as rule
 use Rattle.kr_model.specs.declared.Cover.{Cover}
 use Rattle.kr_model.specs.declared.Cover.TheVariants as cover
 use Rattle.kr_model.specs.declared.Origin.{Origin}
-use Rattle.kr_model.specs.declared.Origin.TheVariants.{One, Two}
+use Rattle.kr_model.specs.declared.Origin.TheVariants as origin
 use Rattle.kr_model.specs.declared.Place.{Place}
 use Rattle.kr_model.specs.declared.FailedCase.{FailedCase}
 use Rattle.kr_model.specs.Protocol.{Protocol}
@@ -61,8 +61,9 @@ mode_data names m = string (name_of names m)
 
 -- The modes that a case is taken at.
 abbrev pub from_data : List (List ℕ) → Origin → Data
-from_data names (One a) = array (item (mode_data names a) no_items)
-from_data names (Two a b) = array (item (mode_data names a) (item (mode_data names b) no_items))
+from_data names (origin.Own own) = array (item (mode_data names own) no_items)
+from_data names (origin.Conversion held asked) = array (item (mode_data names held) (item (mode_data names asked) no_items))
+from_data names (origin.Insert own_next own) = array (item (mode_data names own_next) (item (mode_data names own) no_items))
 
 -- An open place: its row and side, and the own modes on its name and on the next name.
 abbrev pub place_data : List (List ℕ) → Place → Data

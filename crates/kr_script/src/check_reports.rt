@@ -65,14 +65,19 @@ fn from_value<P: Protocol>(alloc: Global, protocol: &P, from: Origin) -> Result<
     ensures { IfOk result (λ v. view v ≡ from_data (P.names protocol.now) from) }
 {
     match from {
-        Origin::One(a) => {
-            let a = mode_name(protocol, a);
-            json!(in alloc; [a])
+        Origin::Own(own) => {
+            let own = mode_name(protocol, own);
+            json!(in alloc; [own])
         }
-        Origin::Two(a, b) => {
-            let a = mode_name(protocol, a);
-            let b = mode_name(protocol, b);
-            json!(in alloc; [a, b])
+        Origin::Conversion { held, asked } => {
+            let held = mode_name(protocol, held);
+            let asked = mode_name(protocol, asked);
+            json!(in alloc; [held, asked])
+        }
+        Origin::Insert { own_next, own } => {
+            let own_next = mode_name(protocol, own_next);
+            let own = mode_name(protocol, own);
+            json!(in alloc; [own_next, own])
         }
     }
 }

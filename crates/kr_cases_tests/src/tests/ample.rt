@@ -1,6 +1,6 @@
 //! Checks with ample memory, none of which answers want of memory: accepted and refused, each again and again, by reference,
 //! and once more when accepted.
-use super::{DeletesNextInstant, InsertAlwaysIx, UpdateUnderIx, open_key};
+use super::{DeletesNextInstant, HOLDS_NOTHING, InsertAlwaysIx, UpdateUnderIx, open_key};
 use kr_cases::{Cause, FailedCase, Rejected, check};
 use kr_model::{Cover, Mode, Origin, Place, Row, Rule, Side};
 use kr_protocol::{Im, Kvl, KvlUpdate, Protocol, RangeKey};
@@ -56,7 +56,10 @@ fn refused_again_and_again(rt: HostRuntime) {
     let split = first(
         Rule::Split,
         Cover::ReadGap,
-        Origin::Two(3, 0),
+        Origin::Insert {
+            own_next: 3,
+            own: 0,
+        },
         2,
         Row::Insert,
         Side::Next,
@@ -64,12 +67,12 @@ fn refused_again_and_again(rt: HostRuntime) {
     let gap = first(
         Rule::Delete,
         Cover::DeletedGap,
-        Origin::One(0),
+        Origin::Own(0),
         0,
         Row::FetchMiss,
         Side::Next,
     );
-    let key = open_key(Rule::Insert, Cover::InsertedKey, Origin::Two(0, 0));
+    let key = open_key(Rule::Insert, Cover::InsertedKey, HOLDS_NOTHING);
     for _ in 0..20 {
         assert_eq!(rt; failed(&rt, alloc, InsertAlwaysIx), (15, Some(split)));
         assert_eq!(rt; failed(&rt, alloc, &UpdateUnderIx), (12, Some(key)));

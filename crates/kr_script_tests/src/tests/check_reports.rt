@@ -55,7 +55,10 @@ fn reports_accepted_tables(rt: HostRuntime) -> Result<(), AllocError> {
 const A_SPLIT: FailedCase = FailedCase {
     case: Rule::Split,
     cover: Cover::ReadGap,
-    from: Origin::Two(3, 0),
+    from: Origin::Insert {
+        own_next: 3,
+        own: 0,
+    },
     mode: 2,
     hole: Place {
         row: Row::Insert,
@@ -79,7 +82,7 @@ fn reports_a_split(rt: HostRuntime) -> Result<(), AllocError> {
 const A_FETCHED_KEY: FailedCase = FailedCase {
     case: Rule::FetchHit,
     cover: Cover::ReadKey,
-    from: Origin::One(4),
+    from: Origin::Own(4),
     mode: 4,
     hole: Place {
         row: Row::Delete,
@@ -103,7 +106,7 @@ fn reports_a_fetched_key(rt: HostRuntime) -> Result<(), AllocError> {
 const AN_UPDATE: FailedCase = FailedCase {
     case: Rule::Update,
     cover: Cover::UpdatedKey,
-    from: Origin::One(0),
+    from: Origin::Own(0),
     mode: 2,
     hole: Place {
         row: Row::Update,

@@ -72,12 +72,18 @@ fn mode_at(i: usize) -> (Mode, &'static str) {
 
 /// What it comes from.
 fn origin_at(i: usize) -> Origin {
-    let (own, _) = mode_at(i / 7);
-    if i % 2 == 0 {
-        Origin::One(own)
-    } else {
-        let (mode, _) = mode_at(i);
-        Origin::Two(own, mode)
+    let (first, _) = mode_at(i / 7);
+    let (second, _) = mode_at(i);
+    match i % 4 {
+        1 => Origin::Conversion {
+            held: first,
+            asked: second,
+        },
+        3 => Origin::Insert {
+            own_next: first,
+            own: second,
+        },
+        _ => Origin::Own(first),
     }
 }
 

@@ -2,8 +2,8 @@ use Rattle.std.proofs.Common.{◌≢◌, ◌+◌, [], take, get_or, rules}
 use Rattle.std.specs.List.{flat_map}
 use Rattle.std.proofs.lemmas.List.{take_more}
 use Rattle.kr_model.specs.declared.Cover.TheVariants.{ReadKey}
-use Rattle.kr_model.specs.Covers.{failure}
-use Rattle.kr_cases.specs.Cases.{failures, conversions_of}
+use Rattle.kr_model.specs.Covers.{failure, conversions_of}
+use Rattle.kr_cases.specs.Cases.{failures}
 use Rattle.kr_cases.proofs.Listed.{in_listed, list_more, list_gives}
 use Rattle.kr_cases.proofs.finder.Finder.conversions.Goals as goal
 

@@ -1,7 +1,7 @@
 use Rattle.std.proofs.Common.{◌≡◌, ◌-◌, ◌++◌}
 use Rattle.std.specs.List.{flat_map}
-use Rattle.kr_model.specs.Covers.{count_up}
-use Rattle.kr_cases.specs.Cases.{failures, conversions_from}
+use Rattle.kr_model.specs.Covers.{count_up, conversions_from}
+use Rattle.kr_cases.specs.Cases.{failures}
 use Rattle.kr_cases.proofs.finder.Finder.conversions_of.Given as goal
 
 -- the failed ones of the cases so far stand behind those of before

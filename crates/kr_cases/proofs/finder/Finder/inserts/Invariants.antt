@@ -2,8 +2,8 @@ use Rattle.std.proofs.Common.{◌≡◌, ◌++◌, None}
 use Rattle.std.specs.List.{flat_map}
 use Rattle.kr_model.specs.declared.Rule.TheVariants as rule
 use Rattle.kr_model.specs.declared.Cover.TheVariants.{InsertedKey}
-use Rattle.kr_model.specs.Covers.{count_up}
-use Rattle.kr_cases.specs.Cases.{failures, inserts_at}
+use Rattle.kr_model.specs.Covers.{count_up, inserts_at}
+use Rattle.kr_cases.specs.Cases.{failures}
 use Rattle.kr_cases.proofs.finder.Finder.inserts.Given as goal
 
 -- the failed ones of the cases so far stand behind those of before

@@ -1,16 +1,15 @@
 use Rattle.std.proofs.Common.{◌≢◌, ◌+◌, [], take, get_or, rules}
-use Rattle.std.specs.List.{flat_map}
 use Rattle.std.proofs.lemmas.List.{take_more}
 use Rattle.kr_model.specs.declared.Cover.TheVariants.{ReadKey}
-use Rattle.kr_model.specs.Covers.{failure}
-use Rattle.kr_cases.specs.Cases.{failures, row_cover}
+use Rattle.kr_model.specs.Covers.{failure, row_cover, row_cases}
+use Rattle.kr_cases.specs.Cases.{failures}
 use Rattle.kr_cases.proofs.Listed.{in_listed, list_more, list_gives}
 use Rattle.kr_cases.proofs.finder.Finder.row.Goals as goal
 
 pub returns-in_err-row_covers-clause-err : goal.returns-in_err-row_covers-clause-err
 returns-in_err-row_covers-clause-err g c =
     let p = g.P.Protocol.table c.args.self.now.protocol.now in
-    let some : failures p (flat_map (row_cover p c.args.rule c.args.row c.args.side) c.args.covers.now) ≢ [] = list_gives (failure p) (row_cover p c.args.rule c.args.row c.args.side) c.args.covers.now (get_or c.args.covers.now c.loop-cover.cover-index ReadKey) (in_listed c.args.covers.now c.loop-cover.cover-index ReadKey c.loop-cover-test.true) c.in_err-row_covers.ensures.err in
+    let some : failures p (row_cases p c.args.rule c.args.row c.args.side c.args.covers.now) ≢ [] = list_gives (failure p) (row_cover p c.args.rule c.args.row c.args.side) c.args.covers.now (get_or c.args.covers.now c.loop-cover.cover-index ReadKey) (in_listed c.args.covers.now c.loop-cover.cover-index ReadKey c.loop-cover-test.true) c.in_err-row_covers.ensures.err in
     search (rules, some)
 
 pub loop-cover-preserved : goal.loop-cover-preserved

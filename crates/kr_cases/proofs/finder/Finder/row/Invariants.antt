@@ -1,6 +1,7 @@
 use Rattle.std.proofs.Common.{◌≡◌, ◌++◌, take}
 use Rattle.std.specs.List.{flat_map}
-use Rattle.kr_cases.specs.Cases.{failures, row_cover}
+use Rattle.kr_model.specs.Covers.{row_cover}
+use Rattle.kr_cases.specs.Cases.{failures}
 use Rattle.kr_cases.proofs.finder.Finder.row.Given as goal
 
 -- the failed ones of the cases so far stand behind those of before

@@ -1,9 +1,9 @@
 use Rattle.std.proofs.Common.{◌≡◌, ◌≢◌, ◌+◌, [], ◌++◌, Some, rules, subst, arith}
 use Rattle.std.specs.List.{flat_map}
 use Rattle.kr_model.specs.declared.Rule.TheVariants as rule
-use Rattle.kr_model.specs.Covers.{count_up, modes_or_none, failure}
+use Rattle.kr_model.specs.Covers.{count_up, modes_or_none, failure, inserts_at, splits_of}
 use Rattle.kr_model.proofs.Guarantees.{in_modes_or_none}
-use Rattle.kr_cases.specs.Cases.{failures, inserts_at}
+use Rattle.kr_cases.specs.Cases.{failures}
 use Rattle.kr_cases.proofs.Counted.{before-more, all_modes_or_none}
 use Rattle.kr_cases.proofs.Listed.{list_more, list_gives}
 use Rattle.kr_cases.proofs.finder.Finder.splits_of.Goals as goal
@@ -11,7 +11,7 @@ use Rattle.kr_cases.proofs.finder.Finder.splits_of.Goals as goal
 pub returns-in_err-inserts_at-clause-err : goal.returns-in_err-inserts_at-clause-err
 returns-in_err-inserts_at-clause-err g c =
     let p = g.P.Protocol.table c.args.self.now.protocol.now in
-    let some : failures p (flat_map (λ n. inserts_at p rule.Split c.args.cover (Some n) n) (modes_or_none p)) ≢ [] = list_gives (failure p) (λ n. inserts_at p rule.Split c.args.cover (Some n) n) (modes_or_none p) c.loop-own_next.own_next (in_modes_or_none p c.loop-own_next.own_next (omega arith)) c.in_err-inserts_at.ensures.err in
+    let some : failures p (splits_of p c.args.cover) ≢ [] = list_gives (failure p) (λ n. inserts_at p rule.Split c.args.cover (Some n) n) (modes_or_none p) c.loop-own_next.own_next (in_modes_or_none p c.loop-own_next.own_next (omega arith)) c.in_err-inserts_at.ensures.err in
     search (rules, some)
 
 pub loop-own_next-preserved : goal.loop-own_next-preserved

@@ -1,8 +1,8 @@
 use Rattle.std.proofs.Common.{◌≡◌, ◌++◌, Some}
 use Rattle.std.specs.List.{flat_map}
 use Rattle.kr_model.specs.declared.Rule.TheVariants as rule
-use Rattle.kr_model.specs.Covers.{count_up}
-use Rattle.kr_cases.specs.Cases.{failures, inserts_at}
+use Rattle.kr_model.specs.Covers.{count_up, inserts_at}
+use Rattle.kr_cases.specs.Cases.{failures}
 use Rattle.kr_cases.proofs.finder.Finder.splits_of.Given as goal
 
 -- the failed ones of the cases so far stand behind those of before
