@@ -5,15 +5,15 @@ use Rattle.kr_model.specs.declared.Name.{Name}
 use Rattle.kr_model.specs.declared.Name.TheVariants.{Key}
 use Rattle.kr_model.specs.Protocol.{Protocol}
 use Rattle.kr_model.specs.Map.{Map, IsMap, Changes, get, restore, restore_all, pairs_between}
-use Rattle.kr_headline.proofs.Gaps.{has}
-use Rattle.kr_headline.proofs.Maps.{has_same, between_same}
-use Rattle.kr_headline.proofs.Undo.{restore_apart, restore_back, ChangedIn, changed_or_not, restore_all_apart, restore_all_same}
-use Rattle.kr_headline.proofs.Moves.{MovedIn, moved_by, moved_changed, absent_moved, unmoved_kept, moved_frame}
-use Rattle.kr_headline.proofs.Parts.{Progress, Part, Parts, blank, rolling_with, changed_touched, Touched, Scanned, Changed, Moved, with_part, with_same, with_other, by_part, whose}
-use Rattle.kr_headline.proofs.Covers.{Modes, Holds}
-use Rattle.kr_headline.proofs.Guarded.{Guarded}
-use Rattle.kr_headline.proofs.Undoable.{Undoable}
-use Rattle.kr_headline.proofs.Replay.{base, Replays, replays_stable, Committed}
+use Rattle.kr_headline.proofs.gaps.Gaps.{has}
+use Rattle.kr_headline.proofs.gaps.Maps.{has_same, between_same}
+use Rattle.kr_headline.proofs.gaps.Undo.{restore_apart, restore_back, ChangedIn, changed_or_not, restore_all_apart, restore_all_same}
+use Rattle.kr_headline.proofs.gaps.Moves.{MovedIn, moved_by, moved_changed, absent_moved, unmoved_kept, moved_frame}
+use Rattle.kr_headline.proofs.step.Parts.{Progress, Part, Parts, blank, rolling_with, changed_touched, Touched, Scanned, Changed, Moved, with_part, with_same, with_other, by_part, whose}
+use Rattle.kr_headline.proofs.step.Covers.{Modes, Holds}
+use Rattle.kr_headline.proofs.step.Guarded.{Guarded}
+use Rattle.kr_headline.proofs.step.Undoable.{Undoable}
+use Rattle.kr_headline.proofs.step.Replay.{base, Replays, replays_stable, Committed}
 
 -- What a transaction owns: the keys that it changed.
 pub record Owned (p : Protocol) (m : Map) (own : Modes) (part : Parts) : Type 0 where

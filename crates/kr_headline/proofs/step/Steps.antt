@@ -12,10 +12,10 @@ use Rattle.kr_model.specs.Protocol.{Protocol}
 use Rattle.kr_model.specs.Covers.{mode_after, must_refuse, Ask}
 use Rattle.kr_model.specs.Map.{Map, IsMap, at}
 use Rattle.kr_model.proofs.Guarantees.{In, Serves}
-use Rattle.kr_headline.proofs.Gaps.{has, Reach, at-key, at-unique, reach-refl, reach-from, reach-trans, reach-at, reach-dec, at-stable, Alike, alike-outside, at-insert, reach-insert, at-delete, reach-delete, reach-stable}
-use Rattle.kr_headline.proofs.Parts.{Part, Parts, blank, Touched, Moved, blank_untouched, with_part}
-use Rattle.kr_headline.proofs.Covers.{Modes, read_cover, change_cover, Granted, clash, weaken, Covered, reads_refuse_delete, changes_refuse_delete, changes_refuse_key, read_refuses_update, update_read}
-use Rattle.kr_headline.proofs.Guarded.{Taken, Guarded, stepped}
+use Rattle.kr_headline.proofs.gaps.Gaps.{has, Reach, at-key, at-unique, reach-refl, reach-from, reach-trans, reach-at, reach-dec, at-stable, Alike, alike-outside, at-insert, reach-insert, at-delete, reach-delete, reach-stable}
+use Rattle.kr_headline.proofs.step.Parts.{Part, Parts, blank, Touched, Moved, blank_untouched, with_part}
+use Rattle.kr_headline.proofs.step.Covers.{Modes, read_cover, change_cover, Granted, clash, weaken, Covered, reads_refuse_delete, changes_refuse_delete, changes_refuse_key, read_refuses_update, update_read}
+use Rattle.kr_headline.proofs.step.Guarded.{Taken, Guarded, stepped}
 
 -- A point whose reach ends at an absent key is absent.
 gap_below : (m : Map) (k c : ℕ) → Reach m k c → has m c ≡ false → has m k ≡ false

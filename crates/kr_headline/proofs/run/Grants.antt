@@ -14,7 +14,7 @@ use Rattle.kr_model.proofs.Guarantees.{In, IsRefused}
 use Rattle.kr_model.proofs.Keep.{kept_mode}
 use Rattle.kr_model.proofs.Requests.{request_at}
 use Rattle.kr_model.proofs.RisingNumbers.{has, has-filter, has-lockers}
-use Rattle.kr_headline.proofs.Covers.{Granted}
+use Rattle.kr_headline.proofs.step.Covers.{Granted}
 
 -- The requests of both sides.
 abbrev pub requests_of : Protocol → Locks → ℕ → Access → List Request

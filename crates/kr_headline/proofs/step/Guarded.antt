@@ -5,9 +5,9 @@ use Rattle.kr_model.specs.declared.Cover.{Cover}
 use Rattle.kr_model.specs.Protocol.{Protocol}
 use Rattle.kr_model.specs.Map.{Map, IsMap, at}
 use Rattle.kr_model.proofs.Guarantees.{Serves}
-use Rattle.kr_headline.proofs.Gaps.{has, Reach, reach-refl, at-stable, reach-stable}
-use Rattle.kr_headline.proofs.Parts.{Part, Parts, Touched, Moved, with_part, with_other, by_part, whose}
-use Rattle.kr_headline.proofs.Covers.{Modes, read_cover, change_cover}
+use Rattle.kr_headline.proofs.gaps.Gaps.{has, Reach, reach-refl, at-stable, reach-stable}
+use Rattle.kr_headline.proofs.step.Parts.{Part, Parts, Touched, Moved, with_part, with_other, by_part, whose}
+use Rattle.kr_headline.proofs.step.Covers.{Modes, read_cover, change_cover}
 
 -- What a step of t does to the locks: all modes stay in range, those of others stay, and what those of t serve stays served.
 pub record Taken (p : Protocol) (before after : Modes) (t : ℕ) : Type 0 where

@@ -4,15 +4,15 @@ use Rattle.kr_model.specs.declared.Name.TheVariants.{Key}
 use Rattle.kr_model.specs.declared.Op.{Op}
 use Rattle.kr_model.specs.Protocol.{Protocol}
 use Rattle.kr_model.specs.Map.{Map, get, restore_all}
-use Rattle.kr_headline.proofs.Moves.{moved_by}
-use Rattle.kr_headline.proofs.Parts.{Progress, Part, Parts, Points, Touched, Scanned, Changed, Moved, finished, finished_touches, finished_old, with_part}
-use Rattle.kr_headline.proofs.Covers.{Modes, holds_keep}
-use Rattle.kr_headline.proofs.Guarded.{Taken}
-use Rattle.kr_headline.proofs.ReadRows.{MayTouch}
-use Rattle.kr_headline.proofs.Steps.{read_step}
-use Rattle.kr_headline.proofs.Undoable.{undoable_same}
-use Rattle.kr_headline.proofs.Replay.{answer, after_op, Replays, replays_going, replays_finished}
-use Rattle.kr_headline.proofs.Invariant.{Owned, owned_stepped, HasRead, Invariant, invariant_stepped, moved_touched, committed_same}
+use Rattle.kr_headline.proofs.gaps.Moves.{moved_by}
+use Rattle.kr_headline.proofs.step.Parts.{Progress, Part, Parts, Points, Touched, Scanned, Changed, Moved, finished, finished_touches, finished_old, with_part}
+use Rattle.kr_headline.proofs.step.Covers.{Modes, holds_keep}
+use Rattle.kr_headline.proofs.step.Guarded.{Taken}
+use Rattle.kr_headline.proofs.step.ReadRows.{MayTouch}
+use Rattle.kr_headline.proofs.step.Steps.{read_step}
+use Rattle.kr_headline.proofs.step.Undoable.{undoable_same}
+use Rattle.kr_headline.proofs.step.Replay.{answer, after_op, Replays, replays_going, replays_finished}
+use Rattle.kr_headline.proofs.step.Invariant.{Owned, owned_stepped, HasRead, Invariant, invariant_stepped, moved_touched, committed_same}
 
 -- The part of a transaction after an operation that changes nothing.
 abbrev pub reading : Map → Part → Op → Part

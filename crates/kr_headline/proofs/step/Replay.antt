@@ -11,9 +11,9 @@ use Rattle.kr_model.specs.Serial.{whole, whole_insert, whole_delete, whole_updat
 use Rattle.kr_model.specs.Map.{Map, IsMap, Changes, get, restore_all}
 use Rattle.kr_model.proofs.MapLaws.{get-set, get-without}
 use Rattle.kr_model.proofs.MapLaws.{IsMap-set, IsMap-without}
-use Rattle.kr_headline.proofs.Maps.{between_same}
-use Rattle.kr_headline.proofs.Undo.{ChangedIn, changed_or_not, restore_all_apart, restore_all_same}
-use Rattle.kr_headline.proofs.Parts.{Part, Parts, blank, Points, point_or_not, Touched, Changed, finished, finished_new, with_part, with_other, by_part}
+use Rattle.kr_headline.proofs.gaps.Maps.{between_same}
+use Rattle.kr_headline.proofs.gaps.Undo.{ChangedIn, changed_or_not, restore_all_apart, restore_all_same}
+use Rattle.kr_headline.proofs.step.Parts.{Part, Parts, blank, Points, point_or_not, Touched, Changed, finished, finished_new, with_part, with_other, by_part}
 
 -- The answer of an operation run whole, and the map after it.
 abbrev pub answer : Map → Op → Reply

@@ -9,7 +9,7 @@ use Rattle.kr_model.specs.declared.Reply.{Reply}
 use Rattle.kr_model.specs.declared.Reply.TheVariants as reply
 use Rattle.kr_model.specs.Run.{Entry, Answered, Program, operations_of, answer_of, first_rows, committed, programs, is_rows, is_committed, is_operation, is_granted}
 use Rattle.kr_model.specs.Serial.{all_operations}
-use Rattle.kr_headline.proofs.Parts.{Progress}
+use Rattle.kr_headline.proofs.step.Parts.{Progress}
 use Rattle.kr_model.proofs.Actives.{tied}
 
 -- An event of t with its reply.

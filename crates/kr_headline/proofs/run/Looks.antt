@@ -22,19 +22,19 @@ use Rattle.kr_model.specs.Step.{granted_or_blocked, after_effect, looked, row_re
 use Rattle.kr_model.specs.Run.{Entry}
 use Rattle.kr_model.specs.Serial.{map_left}
 use Rattle.kr_model.proofs.Guarantees.{in_left}
-use Rattle.kr_headline.proofs.Gaps.{at-key}
-use Rattle.kr_headline.proofs.Covers.{covered}
-use Rattle.kr_headline.proofs.Maps.{has-get, none_has}
-use Rattle.kr_headline.proofs.Parts.{Progress, Part}
-use Rattle.kr_headline.proofs.ReadRows.{MayTouch, key_touches, stop_touches}
-use Rattle.kr_headline.proofs.ReadKeeps.{scanning, going_keeps}
+use Rattle.kr_headline.proofs.gaps.Gaps.{at-key}
+use Rattle.kr_headline.proofs.step.Covers.{covered}
+use Rattle.kr_headline.proofs.gaps.Maps.{has-get, none_has}
+use Rattle.kr_headline.proofs.step.Parts.{Progress, Part}
+use Rattle.kr_headline.proofs.step.ReadRows.{MayTouch, key_touches, stop_touches}
+use Rattle.kr_headline.proofs.step.ReadKeeps.{scanning, going_keeps}
 use Rattle.kr_model.proofs.Requests.{request_at, AskModes, asks_one, asks_both}
-use Rattle.kr_headline.proofs.Keeping.{kept_first, kept_only, taken}
-use Rattle.kr_headline.proofs.Grants.{requests_of, granted_at}
-use Rattle.kr_headline.proofs.Scans.{LooksFrom, one_more, no_more, from_in_range, scanned_below, below_scanned, gap_reach}
-use Rattle.kr_headline.proofs.Reading.{entry, ReadsAs}
-use Rattle.kr_headline.proofs.Known.{Known, KnownAfter, joined, stays, goes, state_after}
-use Rattle.kr_headline.proofs.Attempts.{read_done}
+use Rattle.kr_headline.proofs.run.Keeping.{kept_first, kept_only, taken}
+use Rattle.kr_headline.proofs.run.Grants.{requests_of, granted_at}
+use Rattle.kr_headline.proofs.step.Scans.{LooksFrom, one_more, no_more, from_in_range, scanned_below, below_scanned, gap_reach}
+use Rattle.kr_headline.proofs.run.Reading.{entry, ReadsAs}
+use Rattle.kr_headline.proofs.run.Known.{Known, KnownAfter, joined, stays, goes, state_after}
+use Rattle.kr_headline.proofs.run.Attempts.{read_done}
 
 -- The name after the row read last.
 name_after_last : (m : Map) (lo : ℕ) (rows : List (ℕ × ℕ)) (x v : ℕ) → name_after m lo (rows ++ (x, v) ∷ []) ≡ at m (suc x)

@@ -16,10 +16,10 @@ use Rattle.kr_model.specs.Serial.{AreAnswered, map_left}
 use Rattle.kr_model.proofs.Guarantees.{In}
 use Rattle.kr_model.proofs.MapLaws.{sorted_put, sorted_where}
 use Rattle.kr_model.proofs.Actives.{tied, untied, any_add_once, find_put_same, find_put_other, find_filter_other}
-use Rattle.kr_headline.proofs.Actives.{true_not_false, or_left, or_right, or_false, in_put, in_filter}
-use Rattle.kr_headline.proofs.Parts.{Progress, Part, Parts, blank, with_part, with_same, with_other}
-use Rattle.kr_headline.proofs.Invariant.{Invariant}
-use Rattle.kr_headline.proofs.Reading.{entry, ReadsAs, IsSilent, silent_other, silent_refused, reads_silent, committed_none}
+use Rattle.kr_headline.proofs.run.Actives.{true_not_false, or_left, or_right, or_false, in_put, in_filter}
+use Rattle.kr_headline.proofs.step.Parts.{Progress, Part, Parts, blank, with_part, with_same, with_other}
+use Rattle.kr_headline.proofs.step.Invariant.{Invariant}
+use Rattle.kr_headline.proofs.run.Reading.{entry, ReadsAs, IsSilent, silent_other, silent_refused, reads_silent, committed_none}
 
 -- What the state keeps of a transaction, and its part --
 

@@ -5,17 +5,17 @@ use Rattle.kr_model.specs.Protocol.{Protocol}
 use Rattle.kr_model.specs.Serial.{AreAnswered, map_left}
 use Rattle.kr_model.specs.Map.{Map, Changes, get, restore, restore_all}
 use Rattle.kr_model.proofs.UndoLaws.{IsMap-restore, IsMap-restore_all}
-use Rattle.kr_headline.proofs.Undo.{ChangedIn, restore_apart, restore_all_apart}
-use Rattle.kr_headline.proofs.Parts.{Part, Parts, blank, blank_untouched, changed_touched, moved_or_not, rolling_with, rolling_touched, Touched, Changed, Moved, with_part, with_same}
-use Rattle.kr_headline.proofs.Covers.{Modes, Holds}
-use Rattle.kr_headline.proofs.Gaps.{has, at-unique, reach-refl}
-use Rattle.kr_headline.proofs.Moves.{MovedIn, moved_by, moved_changed, moved_more, unmoved_back}
-use Rattle.kr_headline.proofs.Guarded.{Guarded, stepped}
-use Rattle.kr_headline.proofs.Guards.{Guard, Level, level_read, level_change, Stack, stack_top, guard_changed, guard_closed}
-use Rattle.kr_headline.proofs.Undoable.{undoable_end, undoable_back}
-use Rattle.kr_headline.proofs.Steps.{end_step}
-use Rattle.kr_headline.proofs.Replay.{Replays, commit_serial, IsMap-map_left}
-use Rattle.kr_headline.proofs.Invariant.{Owned, owned_stepped, kept, Invariant, invariant_stepped, moved_touched, committed_undo, committed_back}
+use Rattle.kr_headline.proofs.gaps.Undo.{ChangedIn, restore_apart, restore_all_apart}
+use Rattle.kr_headline.proofs.step.Parts.{Part, Parts, blank, blank_untouched, changed_touched, moved_or_not, rolling_with, rolling_touched, Touched, Changed, Moved, with_part, with_same}
+use Rattle.kr_headline.proofs.step.Covers.{Modes, Holds}
+use Rattle.kr_headline.proofs.gaps.Gaps.{has, at-unique, reach-refl}
+use Rattle.kr_headline.proofs.gaps.Moves.{MovedIn, moved_by, moved_changed, moved_more, unmoved_back}
+use Rattle.kr_headline.proofs.step.Guarded.{Guarded, stepped}
+use Rattle.kr_headline.proofs.step.Guards.{Guard, Level, level_read, level_change, Stack, stack_top, guard_changed, guard_closed}
+use Rattle.kr_headline.proofs.step.Undoable.{undoable_end, undoable_back}
+use Rattle.kr_headline.proofs.step.Steps.{end_step}
+use Rattle.kr_headline.proofs.step.Replay.{Replays, commit_serial, IsMap-map_left}
+use Rattle.kr_headline.proofs.step.Invariant.{Owned, owned_stepped, kept, Invariant, invariant_stepped, moved_touched, committed_undo, committed_back}
 
 -- Nothing has to be replayed of a transaction that is over.
 blank_replays : (m : Map) → Replays m blank

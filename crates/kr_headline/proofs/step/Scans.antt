@@ -6,11 +6,11 @@ use Rattle.kr_model.specs.declared.Cover.TheVariants.{ReadKey, ReadGap}
 use Rattle.kr_model.specs.Protocol.{Protocol}
 use Rattle.kr_model.specs.Map.{Map, IsMap, at, get, pairs_between}
 use Rattle.kr_model.proofs.Guarantees.{Serves}
-use Rattle.kr_headline.proofs.Gaps.{has, Reach, at-key, at-end, at-unique, cases_name}
-use Rattle.kr_headline.proofs.Maps.{between_nothing, between_one, between_more, between_none}
-use Rattle.kr_headline.proofs.Parts.{Progress, Scanned}
-use Rattle.kr_headline.proofs.Covers.{read_cover}
-use Rattle.kr_headline.proofs.Invariant.{HasRead}
+use Rattle.kr_headline.proofs.gaps.Gaps.{has, Reach, at-key, at-end, at-unique, cases_name}
+use Rattle.kr_headline.proofs.gaps.Maps.{between_nothing, between_one, between_more, between_none}
+use Rattle.kr_headline.proofs.step.Parts.{Progress, Scanned}
+use Rattle.kr_headline.proofs.step.Covers.{read_cover}
+use Rattle.kr_headline.proofs.step.Invariant.{HasRead}
 
 -- A scan from lo to hi, in progress or about to begin, looks from here next and has these pairs.
 abbrev pub LooksFrom : Option Progress → ℕ → ℕ → ℕ → List (ℕ × ℕ) → Type 0

@@ -15,7 +15,7 @@ use Rattle.kr_model.specs.State.{Active}
 use Rattle.kr_model.specs.Serial.{rolled_back}
 use Rattle.kr_model.proofs.Guarantees.{In}
 use Rattle.kr_model.proofs.UndoLaws.{IsMap-restore_all}
-use Rattle.kr_headline.proofs.Undo.{ChangedIn, changed_or_not, restore_all_apart}
+use Rattle.kr_headline.proofs.gaps.Undo.{ChangedIn, changed_or_not, restore_all_apart}
 
 -- What stands at a key when all is rolled back --
 

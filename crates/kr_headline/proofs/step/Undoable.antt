@@ -10,16 +10,16 @@ use Rattle.kr_model.specs.Protocol.{Protocol}
 use Rattle.kr_model.specs.Covers.{mode_after}
 use Rattle.kr_model.specs.Map.{Map, IsMap, Changes, at, get, restore}
 use Rattle.kr_model.proofs.Guarantees.{Serves}
-use Rattle.kr_headline.proofs.Gaps.{has, at-unique, reach-refl, Alike, reach-delete}
-use Rattle.kr_headline.proofs.Maps.{has_none, has_some}
+use Rattle.kr_headline.proofs.gaps.Gaps.{has, at-unique, reach-refl, Alike, reach-delete}
+use Rattle.kr_headline.proofs.gaps.Maps.{has_none, has_some}
 use Rattle.kr_model.proofs.UndoLaws.{IsMap-restore}
-use Rattle.kr_headline.proofs.Undo.{changed_or_not, restore_here, restore_back}
-use Rattle.kr_headline.proofs.Moves.{MovedIn, has_apart, moved_by, moved_more, unmoved_back}
-use Rattle.kr_headline.proofs.Parts.{Part, Parts, blank, rolling_with, Moved, with_part, with_other, by_part, whose}
-use Rattle.kr_headline.proofs.Covers.{Modes, Granted, clash, Covered, Holds, holds_clash, both_refuse_delete}
-use Rattle.kr_headline.proofs.Guarded.{Taken, Guarded}
-use Rattle.kr_headline.proofs.Guards.{Guard, Stack, guard_frame, stack_frame, stack_keeps, stack_top, stack_insert, stack_delete, stack_update}
-use Rattle.kr_headline.proofs.Steps.{alone_there, insert_not_moved, delete_not_moved, delete_none_above}
+use Rattle.kr_headline.proofs.gaps.Undo.{changed_or_not, restore_here, restore_back}
+use Rattle.kr_headline.proofs.gaps.Moves.{MovedIn, has_apart, moved_by, moved_more, unmoved_back}
+use Rattle.kr_headline.proofs.step.Parts.{Part, Parts, blank, rolling_with, Moved, with_part, with_other, by_part, whose}
+use Rattle.kr_headline.proofs.step.Covers.{Modes, Granted, clash, Covered, Holds, holds_clash, both_refuse_delete}
+use Rattle.kr_headline.proofs.step.Guarded.{Taken, Guarded}
+use Rattle.kr_headline.proofs.step.Guards.{Guard, Stack, guard_frame, stack_frame, stack_keeps, stack_top, stack_insert, stack_delete, stack_update}
+use Rattle.kr_headline.proofs.step.Steps.{alone_there, insert_not_moved, delete_not_moved, delete_none_above}
 
 -- What lets changes be taken back one at a time.
 pub record Undoable (p : Protocol) (m : Map) (own : Modes) (part : Parts) : Type 0 where

@@ -13,12 +13,12 @@ use Rattle.kr_model.specs.Protocol.{Protocol, IsLawful, MovesNoKey}
 use Rattle.kr_model.specs.Covers.{mode_after}
 use Rattle.kr_model.specs.Map.{Map, at}
 use Rattle.kr_model.proofs.Guarantees.{IsRefused, Serves}
-use Rattle.kr_headline.proofs.Gaps.{has, Reach, at-key, at-unique, reach-refl, reach-at}
-use Rattle.kr_headline.proofs.Parts.{Parts, Changed, Moved}
-use Rattle.kr_headline.proofs.Covers.{Modes, read_cover, Granted, Covered, holds_clash, both_refuse_hit, both_refuse_key, changes_refuse_miss, changes_refuse_stop}
-use Rattle.kr_headline.proofs.Steps.{hit_apart, key_apart, gap_apart}
-use Rattle.kr_headline.proofs.Invariant.{Invariant, gone_moved}
-use Rattle.kr_headline.proofs.Scans.{key_cover, gap_reach}
+use Rattle.kr_headline.proofs.gaps.Gaps.{has, Reach, at-key, at-unique, reach-refl, reach-at}
+use Rattle.kr_headline.proofs.step.Parts.{Parts, Changed, Moved}
+use Rattle.kr_headline.proofs.step.Covers.{Modes, read_cover, Granted, Covered, holds_clash, both_refuse_hit, both_refuse_key, changes_refuse_miss, changes_refuse_stop}
+use Rattle.kr_headline.proofs.step.Steps.{hit_apart, key_apart, gap_apart}
+use Rattle.kr_headline.proofs.step.Invariant.{Invariant, gone_moved}
+use Rattle.kr_headline.proofs.step.Scans.{key_cover, gap_reach}
 
 -- The points that t may touch: each is covered by its locks after the step, and no other has moved what one reaches, or changed one.
 pub record MayTouch (p : Protocol) (m : Map) (own' : Modes) (part : Parts) (t : ℕ) (New : ℕ → Type 0) : Type 0 where

@@ -10,7 +10,7 @@ use Rattle.std.proofs.lemmas.Map.Lookups.{exact_unsigned}
 use Rattle.std.proofs.Common.{sym, ◌∙◌, ap, subst, arith, inl, inr}
 use Rattle.kr_model.proofs.Guarantees.{In}
 use Rattle.kr_model.proofs.MapLaws.{keys_apart, key_tie}
-use Rattle.kr_headline.proofs.Gaps.{and_one, and_two}
+use Rattle.kr_headline.proofs.gaps.Gaps.{and_one, and_two}
 
 pub true_not_false : true ≡ false → ⊥
 true_not_false e = cc

@@ -7,8 +7,8 @@ use Rattle.kr_model.specs.declared.Op.TheVariants as op
 use Rattle.kr_model.specs.declared.Reply.{Reply}
 use Rattle.kr_model.specs.Run.{Answered}
 use Rattle.kr_model.specs.Map.{Map, Changes}
-use Rattle.kr_headline.proofs.Undo.{ChangedIn}
-use Rattle.kr_headline.proofs.Moves.{MovedIn, moved_by}
+use Rattle.kr_headline.proofs.gaps.Undo.{ChangedIn}
+use Rattle.kr_headline.proofs.gaps.Moves.{MovedIn, moved_by}
 
 -- A scan in progress: its range, the key read last, and the pairs read.
 pub record Progress : Type 0 where

@@ -23,19 +23,19 @@ use Rattle.kr_model.specs.Run.{Entry, is_operation, is_granted, is_committed, an
 use Rattle.kr_model.specs.Serial.{whole_insert, whole_delete, whole_update, found_or_none, map_left}
 use Rattle.kr_model.proofs.Guarantees.{in_left, in_right}
 use Rattle.kr_model.proofs.Requests.{request_at, AskModes, asks_one, asks_both}
-use Rattle.kr_headline.proofs.Gaps.{at-key}
-use Rattle.kr_headline.proofs.Covers.{Covered, covered}
-use Rattle.kr_headline.proofs.Maps.{has_none, has_some}
-use Rattle.kr_headline.proofs.Parts.{Part, Points, Touched, Scanned, finished, with_part}
-use Rattle.kr_headline.proofs.Replay.{answer, after_op}
-use Rattle.kr_headline.proofs.Invariant.{Invariant}
-use Rattle.kr_headline.proofs.ReadRows.{MayTouch, hit_touches, miss_touches}
-use Rattle.kr_headline.proofs.ReadKeeps.{read_keeps}
-use Rattle.kr_headline.proofs.WriteKeeps.{insert_keeps, delete_keeps, update_keeps}
-use Rattle.kr_headline.proofs.Keeping.{kept_first, kept_only, kept_second, taken}
-use Rattle.kr_headline.proofs.Grants.{requests_of, granted_at}
-use Rattle.kr_headline.proofs.Reading.{entry, ReadsAs, reads_answer}
-use Rattle.kr_headline.proofs.Known.{Known, KnownAfter, StandsScan, joined, stays, goes, state_after}
+use Rattle.kr_headline.proofs.gaps.Gaps.{at-key}
+use Rattle.kr_headline.proofs.step.Covers.{Covered, covered}
+use Rattle.kr_headline.proofs.gaps.Maps.{has_none, has_some}
+use Rattle.kr_headline.proofs.step.Parts.{Part, Points, Touched, Scanned, finished, with_part}
+use Rattle.kr_headline.proofs.step.Replay.{answer, after_op}
+use Rattle.kr_headline.proofs.step.Invariant.{Invariant}
+use Rattle.kr_headline.proofs.step.ReadRows.{MayTouch, hit_touches, miss_touches}
+use Rattle.kr_headline.proofs.step.ReadKeeps.{read_keeps}
+use Rattle.kr_headline.proofs.step.WriteKeeps.{insert_keeps, delete_keeps, update_keeps}
+use Rattle.kr_headline.proofs.run.Keeping.{kept_first, kept_only, kept_second, taken}
+use Rattle.kr_headline.proofs.run.Grants.{requests_of, granted_at}
+use Rattle.kr_headline.proofs.run.Reading.{entry, ReadsAs, reads_answer}
+use Rattle.kr_headline.proofs.run.Known.{Known, KnownAfter, StandsScan, joined, stays, goes, state_after}
 
 module _ (p : Protocol) (laws : IsLawful p) (cov : IsCovered p) (opening : Map) (h : List Entry) (s : State) (g : Known p opening h s) (t : ℕ) (live_t : has_ended s t ≡ false) (unrolled : (g.part t).rolling ≡ false) where
   range : (u : ℕ) (name : Name) → own s.locks u name ≤ p.count

@@ -14,14 +14,14 @@ use Rattle.kr_model.specs.Run.{Entry, Answered}
 use Rattle.kr_model.specs.Serial.{AreAnswered, map_left}
 use Rattle.kr_model.proofs.Keep.{AreWithin-release}
 use Rattle.kr_model.proofs.Actives.{tied, untied, any_add_once, or_true}
-use Rattle.kr_headline.proofs.Actives.{true_not_false}
+use Rattle.kr_headline.proofs.run.Actives.{true_not_false}
 use Rattle.kr_model.proofs.SerialLaws.{answered_append, map_left-append}
-use Rattle.kr_headline.proofs.Parts.{blank, rolling_with, with_part}
-use Rattle.kr_headline.proofs.Invariant.{Invariant}
-use Rattle.kr_headline.proofs.EndKeeps.{commit_keeps, abort_keeps, back_keeps}
-use Rattle.kr_headline.proofs.Reading.{entry, ReadsAs, silent_other, silent_by, reads_silent, committed_append, committed_none}
-use Rattle.kr_headline.proofs.Keeping.{released_others}
-use Rattle.kr_headline.proofs.Known.{Known, KnownAfter, joined, joined_push, txns_push, Fixed, fixed_more, fixed_push, stays, goes, ends}
+use Rattle.kr_headline.proofs.step.Parts.{blank, rolling_with, with_part}
+use Rattle.kr_headline.proofs.step.Invariant.{Invariant}
+use Rattle.kr_headline.proofs.step.EndKeeps.{commit_keeps, abort_keeps, back_keeps}
+use Rattle.kr_headline.proofs.run.Reading.{entry, ReadsAs, silent_other, silent_by, reads_silent, committed_append, committed_none}
+use Rattle.kr_headline.proofs.run.Keeping.{released_others}
+use Rattle.kr_headline.proofs.run.Known.{Known, KnownAfter, joined, joined_push, txns_push, Fixed, fixed_more, fixed_push, stays, goes, ends}
 
 module _ (p : Protocol) (opening : Map) (h : List Entry) (s : State) (g : Known p opening h s) (t : ℕ) (live_t : has_ended s t ≡ false) where
   apart : (u : ℕ) → has_ended s u ≡ true → u ≢ t

@@ -4,7 +4,7 @@ use Rattle.std.proofs.lemmas.Bool.{cases_eq, eq-eqb, ne_eqb}
 use Rattle.std.specs.Prelude.{if◌then◌else◌}
 use Rattle.kr_model.specs.Map.{Map, IsMap, Changes, get, restore, restore_all}
 use Rattle.kr_model.proofs.UndoLaws.{get-restore, IsMap-restore}
-use Rattle.kr_headline.proofs.Maps.{same_map}
+use Rattle.kr_headline.proofs.gaps.Maps.{same_map}
 
 -- One change --
 

@@ -20,7 +20,7 @@ use Rattle.kr_model.proofs.LockLaws.{own-keep_same, own-keep_other, own-release_
 use Rattle.kr_model.proofs.Keep.{kept_mode}
 use Rattle.kr_model.proofs.Requests.{request_at, AskModes}
 use Rattle.kr_model.proofs.Guarantees.{IsRefused, Serves, refuses_current, refuses_next, keeps_cover, IsKnown, in_updating}
-use Rattle.kr_headline.proofs.Guarded.{Taken}
+use Rattle.kr_headline.proofs.step.Guarded.{Taken}
 
 -- Conversions --
 

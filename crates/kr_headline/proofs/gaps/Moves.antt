@@ -3,9 +3,9 @@ use Rattle.std.proofs.Common.{ℕ, Bool, true, false, List, [], ◌∷◌, Optio
 use Rattle.std.specs.Prelude.{if◌then◌else◌, not, ◌&&◌}
 use Rattle.std.proofs.lemmas.Bool.{cases_eq}
 use Rattle.kr_model.specs.Map.{Map, IsMap, Changes, get, restore, restore_all}
-use Rattle.kr_headline.proofs.Gaps.{has, and_one, and_two}
-use Rattle.kr_headline.proofs.Maps.{has-get}
-use Rattle.kr_headline.proofs.Undo.{ChangedIn, restore_here, restore_apart, restore_back}
+use Rattle.kr_headline.proofs.gaps.Gaps.{has, and_one, and_two}
+use Rattle.kr_headline.proofs.gaps.Maps.{has-get}
+use Rattle.kr_headline.proofs.gaps.Undo.{ChangedIn, restore_here, restore_apart, restore_back}
 
 pub has_apart : (m : Map) (k : ℕ) (b : Option ℕ) (q : ℕ) → q ≢ k → has (restore m k b) q ≡ has m q
 has_apart m k b q ne = has-get (restore m k b) q ∙ ap is_some (restore_apart m k b q ne) ∙ sym (has-get m q)

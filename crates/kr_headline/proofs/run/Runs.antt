@@ -21,17 +21,17 @@ use Rattle.kr_model.specs.Run.{Entry, operations_of, programs, run}
 use Rattle.kr_model.specs.Serial.{AreAnswered, map_left, all_operations, rolled_back, IsSerialRun}
 use Rattle.kr_model.proofs.Guarantees.{In}
 use Rattle.kr_headline.specs.Passes.{RunsOfAreSerial}
-use Rattle.kr_headline.proofs.Maps.{same_map}
-use Rattle.kr_headline.proofs.Undo.{ChangedIn, restore_all_same}
-use Rattle.kr_headline.proofs.Parts.{Progress, Changed, blank, blank_untouched}
-use Rattle.kr_headline.proofs.Scans.{LooksFrom}
-use Rattle.kr_headline.proofs.Actives.{sorted_finds}
-use Rattle.kr_headline.proofs.Reading.{ReadsAs, reads_answer, reads_begins, reads_goes_on, reads_ends, reads_whole, all_operations_programs}
-use Rattle.kr_headline.proofs.Known.{Known, KnownAfter, Programs, Fixed, txns, joined, StandsScan, stays}
-use Rattle.kr_headline.proofs.Ends.{commits, aborts, backs}
-use Rattle.kr_headline.proofs.Attempts.{fetches, inserts, deletes, updates}
-use Rattle.kr_headline.proofs.Looks.{looks}
-use Rattle.kr_headline.proofs.Rollback.{SomeChanged, some_changed, changed_some, IsMap-rolled_back, rolled, in_order, in_other_order, some_changed_in, found_in}
+use Rattle.kr_headline.proofs.gaps.Maps.{same_map}
+use Rattle.kr_headline.proofs.gaps.Undo.{ChangedIn, restore_all_same}
+use Rattle.kr_headline.proofs.step.Parts.{Progress, Changed, blank, blank_untouched}
+use Rattle.kr_headline.proofs.step.Scans.{LooksFrom}
+use Rattle.kr_headline.proofs.run.Actives.{sorted_finds}
+use Rattle.kr_headline.proofs.run.Reading.{ReadsAs, reads_answer, reads_begins, reads_goes_on, reads_ends, reads_whole, all_operations_programs}
+use Rattle.kr_headline.proofs.run.Known.{Known, KnownAfter, Programs, Fixed, txns, joined, StandsScan, stays}
+use Rattle.kr_headline.proofs.run.Ends.{commits, aborts, backs}
+use Rattle.kr_headline.proofs.run.Attempts.{fetches, inserts, deletes, updates}
+use Rattle.kr_headline.proofs.run.Looks.{looks}
+use Rattle.kr_headline.proofs.run.Rollback.{SomeChanged, some_changed, changed_some, IsMap-rolled_back, rolled, in_order, in_other_order, some_changed_in, found_in}
 
 -- No refusal --
 

@@ -9,7 +9,7 @@ use Rattle.std.proofs.lemmas.Map.Lookups.{exact_unsigned}
 use Rattle.std.proofs.lemmas.Bool.{cases_lt, cases_eq, cases_order, cases_Bool, leb-true, and_parts, and_from, and_left, and_right, le-leb, lt-leb}
 use Rattle.kr_model.specs.Map.{Map, IsMap, get, pairs_between}
 use Rattle.kr_model.proofs.MapLaws.{same_test, t_of, sorted_where}
-use Rattle.kr_headline.proofs.Gaps.{has, Rising, rising}
+use Rattle.kr_headline.proofs.gaps.Gaps.{has, Rising, rising}
 
 -- What holds of both branches holds of a choice.
 pub if_both : {X : Type 0} (b : Bool) (x y : X) (P : X → Type 0) → (b ≡ true → P x) → (b ≡ false → P y) → P (if b then x else y)

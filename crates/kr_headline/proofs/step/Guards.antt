@@ -8,12 +8,12 @@ use Rattle.kr_model.specs.declared.Cover.TheVariants.{InsertedKey, DeletedGap, U
 use Rattle.kr_model.specs.Protocol.{Protocol}
 use Rattle.kr_model.specs.Map.{Map, IsMap, Changes, at, get, restore}
 use Rattle.kr_model.proofs.Guarantees.{Serves}
-use Rattle.kr_headline.proofs.Maps.{has_some}
+use Rattle.kr_headline.proofs.gaps.Maps.{has_some}
 use Rattle.kr_model.proofs.UndoLaws.{IsMap-restore}
-use Rattle.kr_headline.proofs.Undo.{ChangedIn, changed_or_not, restore_back}
-use Rattle.kr_headline.proofs.Moves.{MovedIn, has_apart, has_here, moved_by, moved_changed, moved_frame, moved_push}
-use Rattle.kr_headline.proofs.Covers.{Holds, holds_keep, holds_read, weaken, read_cover, change_cover}
-use Rattle.kr_headline.proofs.Gaps.{has, Reach, at-unique, reach-refl, reach-from, reach-trans, reach-at, reach-dec, at-stable, reach-stable, Alike, alike-outside, at-insert, at-delete}
+use Rattle.kr_headline.proofs.gaps.Undo.{ChangedIn, changed_or_not, restore_back}
+use Rattle.kr_headline.proofs.gaps.Moves.{MovedIn, has_apart, has_here, moved_by, moved_changed, moved_frame, moved_push}
+use Rattle.kr_headline.proofs.step.Covers.{Holds, holds_keep, holds_read, weaken, read_cover, change_cover}
+use Rattle.kr_headline.proofs.gaps.Gaps.{has, Reach, at-unique, reach-refl, reach-from, reach-trans, reach-at, reach-dec, at-stable, reach-stable, Alike, alike-outside, at-insert, at-delete}
 
 -- The points that the changes keep others from: a changed key, and of a removal all up to the next name.
 abbrev pub Guard : Map → Changes → ℕ → Type 0

@@ -13,18 +13,18 @@ use Rattle.kr_model.specs.Covers.{mode_after}
 use Rattle.kr_model.specs.Map.{Map, at, get, restore, restore_all}
 use Rattle.kr_model.specs.Serial.{whole_insert, whole_delete, whole_update}
 use Rattle.kr_model.proofs.Guarantees.{Serves}
-use Rattle.kr_headline.proofs.Gaps.{reach-refl, Alike, has}
-use Rattle.kr_headline.proofs.Maps.{has_none, has_some, has_same}
+use Rattle.kr_headline.proofs.gaps.Gaps.{reach-refl, Alike, has}
+use Rattle.kr_headline.proofs.gaps.Maps.{has_none, has_some, has_same}
 use Rattle.kr_model.proofs.UndoLaws.{IsMap-restore}
-use Rattle.kr_headline.proofs.Undo.{restore_here, restore_apart, restore_back}
-use Rattle.kr_headline.proofs.Moves.{moved_by, moved_push}
-use Rattle.kr_headline.proofs.Parts.{Part, Parts, changed_touched, Points, Touched, Scanned, Changed, Moved, finished, finished_touches, finished_old, with_part}
-use Rattle.kr_headline.proofs.Covers.{Modes, Granted, Covered, Holds, holds_keep}
-use Rattle.kr_headline.proofs.Guarded.{Taken, Guarded}
-use Rattle.kr_headline.proofs.Steps.{insert_step, delete_step, update_step, insert_outside, delete_outside, update_outside}
-use Rattle.kr_headline.proofs.Undoable.{Undoable, undoable_insert, undoable_delete, undoable_update}
-use Rattle.kr_headline.proofs.Replay.{answer, after_op, Replays, replays_finished}
-use Rattle.kr_headline.proofs.Invariant.{Owned, owned_stepped, Invariant, invariant_stepped, moved_touched, committed_change}
+use Rattle.kr_headline.proofs.gaps.Undo.{restore_here, restore_apart, restore_back}
+use Rattle.kr_headline.proofs.gaps.Moves.{moved_by, moved_push}
+use Rattle.kr_headline.proofs.step.Parts.{Part, Parts, changed_touched, Points, Touched, Scanned, Changed, Moved, finished, finished_touches, finished_old, with_part}
+use Rattle.kr_headline.proofs.step.Covers.{Modes, Granted, Covered, Holds, holds_keep}
+use Rattle.kr_headline.proofs.step.Guarded.{Taken, Guarded}
+use Rattle.kr_headline.proofs.step.Steps.{insert_step, delete_step, update_step, insert_outside, delete_outside, update_outside}
+use Rattle.kr_headline.proofs.step.Undoable.{Undoable, undoable_insert, undoable_delete, undoable_update}
+use Rattle.kr_headline.proofs.step.Replay.{answer, after_op, Replays, replays_finished}
+use Rattle.kr_headline.proofs.step.Invariant.{Owned, owned_stepped, Invariant, invariant_stepped, moved_touched, committed_change}
 
 -- The part of a transaction after an operation that changes k, where `old` stood, and after which these keys are moved.
 abbrev pub changing : Map → Part → Op → ℕ → Option ℕ → List ℕ → Part
