@@ -2,7 +2,7 @@
 
 use super::tables::{Shown, Table, each_shows};
 use kr_model::{Row, Side};
-use kr_table::texts::{IM, KVL, RANGE_KEY};
+use kr_table::bundled::{IM, KVL, RANGE_KEY};
 use std::test::Fail;
 
 /// Changes of the table with two modes.

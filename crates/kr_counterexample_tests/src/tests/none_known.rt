@@ -2,7 +2,7 @@
 
 use super::tables::{ASKS_NOTHING, Table, failed, table_of};
 use kr_counterexample::Closure;
-use kr_table::texts::{KVL, KVL_UPDATE};
+use kr_table::bundled::{KVL, KVL_UPDATE};
 use std::test::Fail;
 
 /// A refused table, and the numbers of its cases: those that fail, those of them to which some state of the closure comes,

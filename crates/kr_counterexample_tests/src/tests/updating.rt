@@ -2,7 +2,7 @@
 
 use super::tables::{Shown, Table, each_shows};
 use kr_model::{Row, Side};
-use kr_table::texts::KVL_UPDATE;
+use kr_table::bundled::KVL_UPDATE;
 use std::test::Fail;
 
 const UPDATES: &[Shown] = &[

@@ -3,7 +3,7 @@
 use kr_cases::{Cause, FailedCase, Rejected, check};
 use kr_protocol::{Im, Kvl, KvlUpdate, Protocol, RangeKey};
 use kr_script::report_check;
-use kr_table::texts::{KVL, KVL_UPDATE};
+use kr_table::bundled::{KVL, KVL_UPDATE};
 use kr_table::{Table, TableFault, WriteFault, read, write};
 use std::alloc::Global;
 use std::process::Abort;

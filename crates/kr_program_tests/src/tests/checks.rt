@@ -2,7 +2,7 @@
 use super::{
     Change, NO_TABLE, PLAIN_TABLE, Row, Table, Texts, each_leaves, run_program, table_text,
 };
-use kr_table::texts::{IM, KVL, KVL_UPDATE, RANGE_KEY};
+use kr_table::bundled::{IM, KVL, KVL_UPDATE, RANGE_KEY};
 use std::process::Abort;
 use std::sync::Wait;
 use std::test::Fail;

@@ -1,6 +1,6 @@
 //! Tables from files.
 use super::{Change, NO_TABLE, PHANTOM, PLAIN, PLAIN_TABLE, Row, Table, each_leaves, leaves};
-use kr_table::texts::{IM, KVL, KVL_UPDATE, RANGE_KEY};
+use kr_table::bundled::{IM, KVL, KVL_UPDATE, RANGE_KEY};
 use std::test::Fail;
 
 /// Faults of the table that asks for nothing with a part changed, told before the script is looked at.

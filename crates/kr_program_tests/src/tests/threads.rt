@@ -1,7 +1,7 @@
 //! Runs of scripts by several threads.
 use super::checks::{DELETES_NEXT_INSTANT, DELETES_NEXT_INSTANT_TABLE};
 use super::{NO_TABLE, Row, Table, Texts, each_leaves, run_program};
-use kr_table::texts::{KVL, KVL_UPDATE};
+use kr_table::bundled::{KVL, KVL_UPDATE};
 use std::alloc::{AllocError, Global};
 use std::process::Abort;
 use std::sync::Wait;
