@@ -8,7 +8,7 @@ use std::alloc::Global;
 use std::process::Abort;
 use std::test::Fail;
 
-/// What the checker refuses of a protocol.
+/// The cases that fail of a protocol.
 fn failed<P: Protocol>(rt: &impl Abort, alloc: Global, protocol: &P) -> Vec<FailedCase> {
     match check(alloc, protocol) {
         Err(
@@ -17,11 +17,11 @@ fn failed<P: Protocol>(rt: &impl Abort, alloc: Global, protocol: &P) -> Vec<Fail
                 cause: kr_cases::Cause::Failed(failed),
             },
         ) => failed,
-        _ => panic!(rt; "not refused"),
+        _ => panic!(rt; "not rejected"),
     }
 }
 
-/// What is told of a table that is refused for one cause.
+/// What is told of a table that is rejected for one cause.
 #[derive(Clone, Copy)]
 struct Told {
     cases: usize,
@@ -32,7 +32,7 @@ struct Told {
     modes: [Mode; 2],
 }
 
-/// A change by which a protocol is refused for one cause, and what is told of it.
+/// A change by which a protocol is rejected for one cause, and what is told of it.
 #[derive(Clone, Copy)]
 struct Refused {
     name: &'static str,

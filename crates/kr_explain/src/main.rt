@@ -1,4 +1,4 @@
-//! Says why a lock table is refused, shows a run that goes wrong for each cause, and names changes that mend it.
+//! Says why a lock table is rejected, shows a run that goes wrong for each cause, and names changes that mend it.
 #![tactic(auto)]
 
 use kr_explain_program::{NAME, execute};

@@ -51,7 +51,7 @@ impl Sink for Full {
     }
 }
 
-/// A scan gives up the lock on each key that it finds: the table is refused, by one cause.
+/// A scan gives up the lock on each key that it finds: the table is rejected, by one cause.
 const SHORT_SCAN: &str = r#"format = 1
 modes = ["S", "X"]
 compatible = { S = ["S"], X = [] }

@@ -32,7 +32,7 @@ pub record IsTold (p : Protocol) (failed : List FailedCase) (e : Explained) : Ty
 abbrev pub causes_of : List Explained → List Cause
 causes_of told = map (λ e. e.cause) told
 
--- What is told of a table that is refused, where these cases of it fail.
+-- What is told of a table that is rejected, where these cases of it fail.
 pub record IsRefusal (p : Protocol) (failed : List FailedCase) (r : Refused) : Type 0 where
   -- it has so many cases, and so many of them fail
   pub has_cases : r.cases ≡ length (cases p)
@@ -46,7 +46,7 @@ abbrev pub is_accepted : Explanation → Bool
 is_accepted (told.Accepted cases) = true
 is_accepted (told.Refused r) = false
 
--- What is told of p, accepted or refused.
+-- What is told of p, accepted or rejected.
 abbrev pub Tells : Protocol → Explanation → Type 0
 Tells p (told.Accepted n) = n ≡ length (cases p)
 Tells p (told.Refused r) = IsRefusal p (failed_cases p) r

@@ -5,7 +5,7 @@ use Rattle.kr_explanation.specs.declared.explanation.Explanation.{Explanation}
 use Rattle.kr_explanation.specs.declared.explanation.Explanation.TheVariants as told
 use Rattle.kr_explanation.specs.Lines.{IsLineOf}
 
--- The words that the text of a refused table begins with.
+-- The words that the text of a rejected table begins with.
 abbrev pub refused_words : ℕ → ℕ → List ℕ
 refused_words failed cases = codes "refused: " ++ (decimal failed ++ (codes " of " ++ (decimal cases ++ codes " cases fail, by ")))
 

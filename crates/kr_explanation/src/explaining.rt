@@ -12,7 +12,7 @@ use kr_model::FailedCase;
 use kr_protocol::Protocol;
 use std::alloc::{AllocError, Global};
 
-/// Has a table checked, and where it is refused, says why: the failed cases put together by what is to blame, for each
+/// Has a table checked, and where it is rejected, says why: the failed cases put together by what is to blame, for each
 /// cause a run that goes wrong where one is known, and the changes that mend it of those that are tried. How much is tried
 /// is bounded, and the explanation says what was left out. The only fault is that a growth was refused.
 pub fn explain<P: Protocol>(alloc: Global, protocol: &P) -> Result<Explanation, Memory>
@@ -31,7 +31,7 @@ pub fn explain<P: Protocol>(alloc: Global, protocol: &P) -> Result<Explanation, 
     }
 }
 
-/// Why a table is refused of which these cases fail.
+/// Why a table is rejected of which these cases fail.
 #[tactic(auto, using(crate::proofs::ToldCauses::same_shared))]
 fn refusal<P: Protocol>(
     alloc: Global,

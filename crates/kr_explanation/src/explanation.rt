@@ -5,7 +5,7 @@ ghost use Rattle.kr_explanation.specs.Explained.{is_accepted};
 use crate::run::Run;
 use kr_causes::{Cause, Mend};
 
-/// What the check says of a table, and where it refuses the table, why.
+/// What the check says of a table, and where it rejects the table, why.
 #[derive(Drop)]
 pub enum Explanation {
     /// The table is covered, and has so many cases.
@@ -26,7 +26,7 @@ impl Explanation {
     }
 }
 
-/// Why a table is refused.
+/// Why a table is rejected.
 #[derive(Drop)]
 pub struct Refused {
     /// How many cases the table has.

@@ -23,7 +23,7 @@ use std::alloc::Global;
 const INDENT: usize = 3;
 
 impl Explanation {
-    /// The text for a person, each line ended by a line feed: the verdict, and where the table is refused, each cause with
+    /// The text for a person, each line ended by a line feed: the verdict, and where the table is rejected, each cause with
     /// its run and the changes that mend it. `word` names the table in the last line. The table is to be the one that was
     /// explained: its names, steps and answers are told. The only fault is that a growth was refused.
     pub fn text<P: Protocol>(

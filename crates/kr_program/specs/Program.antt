@@ -15,7 +15,7 @@ use Rattle.kr_program.specs.declared.words.Task.TheVariants.{Check, Run, Judge, 
 use Rattle.kr_program.specs.declared.program.Ending.{Ending}
 use Rattle.kr_program.specs.declared.program.Ending.TheVariants.{Line, Memory, Place, Output}
 
--- Under a covered table the whole report of a run of some script by several threads was written, and the answer is that it is serial; under another the report of the check, and the answer is that it is refused.
+-- Under a covered table the whole report of a run of some script by several threads was written, and the answer is that it is serial; under another the report of the check, and the answer is that it is rejected.
 abbrev pub ThreadsReported : Protocol → List (List ℕ) → Option (List ℕ) → Option (List ℕ) → Bool → Type 0
 ThreadsReported p names old new well =
     ((well ≡ true) × (IsCovered p × ((s : Script) × ((d : Threaded) × (IsThreaded p s.opening s.steps d × Appends old new (threads_line d))))))

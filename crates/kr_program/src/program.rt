@@ -242,7 +242,7 @@ fn thread_script<
 }
 
 /// Checks a table, and where it is accepted runs the script in the file that a word names by several threads under it. Where
-/// it is refused the report of the check is written, and the script isn't read.
+/// it is rejected the report of the check is written, and the script isn't read.
 fn check_and_thread<
     R: std::rt::Files + AllocGlobal + Threads + Wait + Sync,
     P: Protocol + Sync,
@@ -352,7 +352,7 @@ where
 }
 
 /// Runs the program on words without its own name, and answers its status: 0 where it accepted a table or each run was
-/// serial, 1 where it refused a table or a run wasn't serial, and 2 where it told a fault on `err`. At 0 and 1 the whole
+/// serial, 1 where it rejected a table or a run wasn't serial, and 2 where it told a fault on `err`. At 0 and 1 the whole
 /// report of a task under a lawful table is written on `out`; at a fault of words, files, tables, scripts or memory
 /// nothing is.
 pub fn execute<

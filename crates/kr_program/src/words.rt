@@ -18,7 +18,7 @@ pub struct Asked<'a> {
 /// What is done under a table.
 #[derive(Drop)]
 pub enum Task<'a> {
-    /// The table is checked: status 0 where it is accepted, and 1 where it is refused.
+    /// The table is checked: status 0 where it is accepted, and 1 where it is rejected.
     Check,
     /// The script that a word names is run: status 0 where the run is serial, and 1 where it isn't.
     Run(&'a str),
@@ -26,7 +26,7 @@ pub enum Task<'a> {
     /// and 1 where one isn't.
     Judge(Vec<&'a str>),
     /// The table is checked, and then the script that a word names is run by so many workers, each a thread: status 0 where
-    /// the run is serial, and 1 where it isn't or the table is refused.
+    /// the run is serial, and 1 where it isn't or the table is rejected.
     Threads(&'a str, Workers),
 }
 

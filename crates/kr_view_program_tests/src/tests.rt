@@ -52,7 +52,7 @@ impl Sink for Full {
     }
 }
 
-/// A table of one mode in which no row asks for anything: it is refused.
+/// A table of one mode in which no row asks for anything: it is rejected.
 const ASKS_NOTHING: &str =
     "format = 1\nmodes = [\"A\"]\ncompatible = { A = [] }\nconvert = { A = { A = \"A\" } }\nrules = {}\n";
 

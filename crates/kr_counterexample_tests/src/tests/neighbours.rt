@@ -1,4 +1,4 @@
-//! All changes of one entry of the bundled tables: how many are refused, and of how many of these a failed case gives a
+//! All changes of one entry of the bundled tables: how many are rejected, and of how many of these a failed case gives a
 //! script.
 
 ghost use Rattle.std.specs.Prelude.{◌<◌};
@@ -68,11 +68,11 @@ const RANGE_KEY: &[Clause] = &[
     ("delete", "current", &[], "X-X", "instant"),
 ];
 
-/// The numbers of changes, of those by which the table is refused, and of those of them with a script.
+/// The numbers of changes, of those by which the table is rejected, and of those of them with a script.
 #[derive(Clone, Copy, Debug, Default, PartialEq, Eq)]
 struct Numbers {
     changes: usize,
-    refused: usize,
+    rejected: usize,
     shown: usize,
 }
 
@@ -103,7 +103,7 @@ fn counts<P: Protocol>(
         let cases = failed(alloc, &table)?;
         counts.changes = counts.changes.saturating_add(1);
         if !cases.is_empty() {
-            counts.refused = counts.refused.saturating_add(1);
+            counts.rejected = counts.rejected.saturating_add(1);
             if is_shown(alloc, &table, &cases)? {
                 counts.shown = counts.shown.saturating_add(1);
             }
@@ -112,11 +112,11 @@ fn counts<P: Protocol>(
     Ok(counts)
 }
 
-/// Compares the numbers of changes and of refused tables; those with a script may be more than are known.
+/// Compares the numbers of changes and of rejected tables; those with a script may be more than are known.
 fn are(rt: &impl Abort, found: Numbers, known: Numbers) {
     assert_eq!(rt;
-        (found.changes, found.refused),
-        (known.changes, known.refused)
+        (found.changes, found.rejected),
+        (known.changes, known.rejected)
     );
     assert!(rt; found.shown >= known.shown, "{found:?}");
 }
@@ -129,7 +129,7 @@ fn of_two_modes(rt: HostRuntime) -> Result<(), Fail> {
         found,
         Numbers {
             changes: 32,
-            refused: 24,
+            rejected: 24,
             shown: 24,
         },
     );
@@ -144,7 +144,7 @@ fn of_intention_modes(rt: HostRuntime) -> Result<(), Fail> {
         found,
         Numbers {
             changes: 183,
-            refused: 116,
+            rejected: 116,
             shown: 77,
         },
     );
@@ -159,7 +159,7 @@ fn of_intention_modes_and_updates(rt: HostRuntime) -> Result<(), Fail> {
         found,
         Numbers {
             changes: 189,
-            refused: 121,
+            rejected: 121,
             shown: 82,
         },
     );
@@ -175,7 +175,7 @@ fn of_two_parts(rt: HostRuntime) -> Result<(), Fail> {
         found,
         Numbers {
             changes: 121,
-            refused: 81,
+            rejected: 81,
             shown: 41,
         },
     );

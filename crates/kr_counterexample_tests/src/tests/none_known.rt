@@ -5,7 +5,7 @@ use kr_counterexample::Closure;
 use kr_table::bundled::{KVL, KVL_UPDATE};
 use std::test::Fail;
 
-/// A refused table, and the numbers of its cases: those that fail, those of them to which some state of the closure comes,
+/// A rejected table, and the numbers of its cases: those that fail, those of them to which some state of the closure comes,
 /// and those with a script.
 #[derive(Clone, Copy)]
 struct Counts {

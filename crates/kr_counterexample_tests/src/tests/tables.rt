@@ -17,7 +17,7 @@ pub struct Table {
     pub changes: &'static [(&'static str, &'static str)],
 }
 
-/// A refused table, and the shortest of the scripts that its failed cases give, the entrance `prefer` tried first.
+/// A rejected table, and the shortest of the scripts that its failed cases give, the entrance `prefer` tried first.
 #[derive(Clone, Copy)]
 pub struct Shown {
     pub name: &'static str,

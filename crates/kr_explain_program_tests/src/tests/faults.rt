@@ -5,7 +5,7 @@ use kr_script::Io;
 use std::process::Abort;
 use std::test::Fail;
 
-/// `@kvl`, where SIX held and IX asked make IS: it is refused, and no run of its cause is known.
+/// `@kvl`, where SIX held and IX asked make IS: it is rejected, and no run of its cause is known.
 const NO_RUN: &str = r#"format = 1
 modes = ["IS", "IX", "S", "SIX", "X"]
 compatible = { IS = ["IS", "IX", "S", "SIX"], IX = ["IS", "IX"], S = ["IS", "S"], SIX = ["IS"], X = [] }

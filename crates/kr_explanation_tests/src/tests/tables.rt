@@ -13,7 +13,7 @@ pub struct Table {
     pub changes: &'static [(&'static str, &'static str)],
 }
 
-/// A refused table, and what is told of it.
+/// A rejected table, and what is told of it.
 #[derive(Clone, Copy)]
 pub struct Told {
     pub name: &'static str,

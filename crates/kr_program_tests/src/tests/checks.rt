@@ -190,10 +190,10 @@ fn checks(rt: HostRuntime) -> Result<(), Fail> {
     each_leaves(&rt, CHECKS)
 }
 
-/// A check of a table that is refused: how its report begins, how many cases fail, how often the name of each group stands in it,
+/// A check of a table that is rejected: how its report begins, how many cases fail, how often the name of each group stands in it,
 /// and how often further parts do.
 #[derive(Clone, Copy)]
-struct Refused<'a> {
+struct Rejected<'a> {
     name: &'a str,
     table: Table<'a>,
     beginning: &'a str,
@@ -205,9 +205,9 @@ struct Refused<'a> {
 const WITHOUT_CURRENT: &str =
     r#"{"accepted":false,"cases":244,"failed":[{"case":"G2","cover":"RK","from":["none"],"mode":"S","open":["delete","current","none","none"]},"#;
 
-/// Tables that are refused.
-const REFUSED: &[Refused] = &[
-    Refused {
+/// Tables that are rejected.
+const REJECTED: &[Rejected] = &[
+    Rejected {
         name: "insert always IX",
         table: ALWAYS_IX_TABLE,
         beginning: r#"{"accepted":false,"cases":244,"failed":[{"case":"G7","cover":"RG","from":["S","none"],"mode":"IX","open":["insert","next","none","none"]},"#,
@@ -218,7 +218,7 @@ const REFUSED: &[Refused] = &[
             (r#"{"case":"G7","cover":"DG""#, 6),
         ],
     },
-    Refused {
+    Rejected {
         name: "update under IX",
         table: Table {
             text: KVL_UPDATE,
@@ -233,7 +233,7 @@ const REFUSED: &[Refused] = &[
         parts: &[],
     },
     // A table of format 2 offers updates, also where it has no row for them.
-    Refused {
+    Rejected {
         name: "no row for updates",
         table: Table {
             text: KVL,
@@ -244,7 +244,7 @@ const REFUSED: &[Refused] = &[
         groups: [0, 6, 0, 6, 0, 36, 0, 0, 6],
         parts: &[],
     },
-    Refused {
+    Rejected {
         name: "insert N-X",
         table: Table {
             text: RANGE_KEY,
@@ -258,7 +258,7 @@ const REFUSED: &[Refused] = &[
         groups: [0, 0, 0, 0, 0, 36, 0, 0, 0],
         parts: &[(r#""case":"G6""#, 36)],
     },
-    Refused {
+    Rejected {
         name: "delete without current",
         table: Table {
             text: KVL,
@@ -269,7 +269,7 @@ const REFUSED: &[Refused] = &[
         groups: [0, 6, 6, 12, 6, 36, 0, 6, 0],
         parts: &[],
     },
-    Refused {
+    Rejected {
         name: "cut before deletes",
         table: Table {
             text: KVL,
@@ -280,7 +280,7 @@ const REFUSED: &[Refused] = &[
         groups: [0, 6, 6, 12, 6, 36, 0, 6, 0],
         parts: &[],
     },
-    Refused {
+    Rejected {
         name: "the table that asks nothing",
         table: PLAIN_TABLE,
         beginning: r#"{"accepted":false,"cases":28,"failed":[{"case":"G2","cover":"RK","from":["none"],"mode":"none","open":["delete","current","none","none"]},"#,
@@ -290,22 +290,22 @@ const REFUSED: &[Refused] = &[
     },
 ];
 
-/// The report of a check that refuses a table.
-fn refusal<R: std::rt::Files + AllocGlobal + Threads + Wait + Sync + Abort>(
+/// The report of a check that rejects a table.
+fn rejection<R: std::rt::Files + AllocGlobal + Threads + Wait + Sync + Abort>(
     rt: &R,
-    refused: &Refused,
+    rejected: &Rejected,
 ) -> Result<String, Fail>
 where
     R::File: Send + Sync,
     R::Dir: Send + Sync,
 {
-    let table = table_text(rt.alloc(), refused.table)?;
+    let table = table_text(rt.alloc(), rejected.table)?;
     let files = Texts {
         table: table.as_str(),
         script: "",
     };
     let ran = run_program(rt, ["check", "table"].as_slice(), &files)?;
-    let name = refused.name;
+    let name = rejected.name;
     assert_eq!(rt; ran.status, 1, "{name}");
     assert!(rt; ran.err.is_empty(), "{name}");
     Ok(String::from_utf8(ran.out).map_err(|_| "no text")?)
@@ -318,21 +318,26 @@ fn stand<R: Abort>(rt: &R, name: &str, text: &str, parts: &[(&str, usize)]) {
     }
 }
 
-/// Checks a table that is refused, and looks at the report.
-fn refuses<R: std::rt::Files + AllocGlobal + Threads + Wait + Sync + Abort>(
+/// Checks a table that is rejected, and looks at the report.
+fn rejects<R: std::rt::Files + AllocGlobal + Threads + Wait + Sync + Abort>(
     rt: &R,
-    refused: &Refused,
+    rejected: &Rejected,
 ) -> Result<(), Fail>
 where
     R::File: Send + Sync,
     R::Dir: Send + Sync,
 {
-    let name = refused.name;
-    let text = refusal(rt, refused)?;
+    let name = rejected.name;
+    let text = rejection(rt, rejected)?;
     let report = text.as_str();
-    assert!(rt; report.starts_with(refused.beginning), "{name}: {report}");
-    stand(rt, name, report, [("\"case\":", refused.failed)].as_slice());
-    let [g1, g2, g3, g4, g5, g6, g7, g8, g9] = refused.groups;
+    assert!(rt; report.starts_with(rejected.beginning), "{name}: {report}");
+    stand(
+        rt,
+        name,
+        report,
+        [("\"case\":", rejected.failed)].as_slice(),
+    );
+    let [g1, g2, g3, g4, g5, g6, g7, g8, g9] = rejected.groups;
     let groups = [
         ("G1", g1),
         ("G2", g2),
@@ -345,14 +350,14 @@ where
         ("G9", g9),
     ];
     stand(rt, name, report, groups.as_slice());
-    stand(rt, name, report, refused.parts);
+    stand(rt, name, report, rejected.parts);
     Ok(())
 }
 
 #[test]
-fn refusals(rt: HostRuntime) -> Result<(), Fail> {
-    for refused in REFUSED {
-        refuses(&rt, refused)?;
+fn rejections(rt: HostRuntime) -> Result<(), Fail> {
+    for rejected in REJECTED {
+        rejects(&rt, rejected)?;
     }
     Ok(())
 }

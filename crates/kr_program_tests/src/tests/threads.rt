@@ -179,7 +179,7 @@ const HISTORIES: &[Row] = &[
     },
     // The script isn't there, and isn't read.
     Row {
-        name: "a refused table",
+        name: "a rejected table",
         words: &["threads", "table", "missing"],
         table: DELETES_NEXT_INSTANT_TABLE,
         script: "",
