@@ -1,4 +1,4 @@
-//! Why a lock table is refused: what is to blame, a run that goes wrong for each cause, and what mends it; as a text, and
+//! Why a lock table is rejected: what is to blame, a run that goes wrong for each cause, and what mends it; as a text, and
 //! each run as a script.
 #![tactic(auto)]
 
@@ -24,6 +24,6 @@ mod words;
 mod wrap;
 
 pub use explaining::explain;
-pub use explanation::{Explained, Explanation, Refused};
+pub use explanation::{Explained, Explanation, Rejected};
 pub use kr_cases::Memory;
 pub use run::Run;
