@@ -3,7 +3,7 @@
 bench/explain.py [SEED [TABLES]], 1 and 60 if none are given. Build first, by any run of ./kr_explain.
 
 For each bundled table so many tables are made that differ from it in one entry, and as many of fifteen modes that are drawn
-at random; of these the ones that are refused count. A line has how many they are, the greatest processor time (user and
+at random; of these the ones that are rejected count. A line has how many they are, the greatest processor time (user and
 system) of the whole process, and how many of the texts say that something wasn't tried. Ends at a status other than 0 and 1.
 """
 import os

@@ -204,7 +204,7 @@ fn accepted<P: Protocol>(
 }
 
 /// Checks a protocol that isn't covered, and gives what fails.
-fn refused<P: Protocol>(
+fn rejected<P: Protocol>(
     rt: &impl Abort,
     alloc: Global,
     protocol: P,
@@ -247,7 +247,7 @@ fn numbers_of_cases(rt: HostRuntime) {
 
 #[test]
 fn insert_always_ix(rt: HostRuntime) -> Result<(), Fail> {
-    let failed = refused(&rt, rt.alloc(), InsertAlwaysIx)?;
+    let failed = rejected(&rt, rt.alloc(), InsertAlwaysIx)?;
     assert_eq!(rt; failed.len(), 15);
     let first = FailedCase {
         case: Rule::Split,
@@ -294,7 +294,7 @@ fn open_gap(own: Mode, row: Row) -> FailedCase {
 
 #[test]
 fn deletes_next_instant(rt: HostRuntime) -> Result<(), Fail> {
-    let failed = refused(&rt, rt.alloc(), DeletesNextInstant)?;
+    let failed = rejected(&rt, rt.alloc(), DeletesNextInstant)?;
     assert_eq!(rt;
         failed.as_slice(),
         [
@@ -332,7 +332,7 @@ fn open_key(case: Rule, cover: Cover, from: Origin) -> FailedCase {
 
 #[test]
 fn update_under_ix(rt: HostRuntime) -> Result<(), Fail> {
-    let failed = refused(&rt, rt.alloc(), UpdateUnderIx)?;
+    let failed = rejected(&rt, rt.alloc(), UpdateUnderIx)?;
     assert_eq!(rt; failed.len(), 12);
     let first = open_key(Rule::Insert, Cover::InsertedKey, HOLDS_NOTHING);
     assert_eq!(rt; failed.first(), Some(&first));

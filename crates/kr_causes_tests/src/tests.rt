@@ -8,7 +8,7 @@ use std::alloc::Global;
 use std::process::Abort;
 use std::test::Fail;
 
-/// What the checker rejects of a protocol.
+/// The cases that fail of a protocol.
 fn failed<P: Protocol>(rt: &impl Abort, alloc: Global, protocol: &P) -> Vec<FailedCase> {
     match check(alloc, protocol) {
         Err(
@@ -17,7 +17,7 @@ fn failed<P: Protocol>(rt: &impl Abort, alloc: Global, protocol: &P) -> Vec<Fail
                 cause: kr_cases::Cause::Failed(failed),
             },
         ) => failed,
-        _ => panic!(rt; "not refused"),
+        _ => panic!(rt; "not rejected"),
     }
 }
 

@@ -13,7 +13,7 @@ use Rattle.kr_model.specs.Map.{IsMap}
 use Rattle.kr_model.specs.Protocol.{IsLawful}
 use Rattle.kr_model.specs.Covers.{IsCovered}
 use Rattle.kr_model.specs.Serial.{IsSerialRun}
-use Rattle.kr_headline.proofs.Runs.{runs_are_serial}
+use Rattle.kr_headline.proofs.run.Runs.{runs_are_serial}
 use Rattle.std.specs.Prelude.{All}
 use Rattle.std.proofs.lemmas.List.Elements.{All-contains}
 use Rattle.kr_engine.specs.declared.numbers.Number.{Number}

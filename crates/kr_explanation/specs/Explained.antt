@@ -10,7 +10,7 @@ use Rattle.kr_causes.specs.Mends.{IsMend}
 use Rattle.kr_counterexample.specs.GoesWrong.{GoesWrong}
 use Rattle.kr_explanation.specs.declared.run.Run.{Run}
 use Rattle.kr_explanation.specs.declared.explanation.Explained.{Explained}
-use Rattle.kr_explanation.specs.declared.explanation.Refused.{Refused}
+use Rattle.kr_explanation.specs.declared.explanation.Rejected.{Rejected}
 use Rattle.kr_explanation.specs.declared.explanation.Explanation.{Explanation}
 use Rattle.kr_explanation.specs.declared.explanation.Explanation.TheVariants as told
 
@@ -33,7 +33,7 @@ abbrev pub causes_of : List Explained → List Cause
 causes_of told = map (λ e. e.cause) told
 
 -- What is told of a table that is rejected, where these cases of it fail.
-pub record IsRefusal (p : Protocol) (failed : List FailedCase) (r : Refused) : Type 0 where
+pub record IsRejection (p : Protocol) (failed : List FailedCase) (r : Rejected) : Type 0 where
   -- it has so many cases, and so many of them fail
   pub has_cases : r.cases ≡ length (cases p)
   pub has_failed : r.failed ≡ length failed
@@ -44,12 +44,12 @@ pub record IsRefusal (p : Protocol) (failed : List FailedCase) (r : Refused) : T
 -- Whether a table is told to be accepted.
 abbrev pub is_accepted : Explanation → Bool
 is_accepted (told.Accepted cases) = true
-is_accepted (told.Refused r) = false
+is_accepted (told.Rejected r) = false
 
 -- What is told of p, accepted or rejected.
 abbrev pub Tells : Protocol → Explanation → Type 0
 Tells p (told.Accepted n) = n ≡ length (cases p)
-Tells p (told.Refused r) = IsRefusal p (failed_cases p) r
+Tells p (told.Rejected r) = IsRejection p (failed_cases p) r
 
 -- An explanation of p: it tells that p is accepted exactly where p is covered.
 pub record IsExplained (p : Protocol) (e : Explanation) : Type 0 where
@@ -59,4 +59,4 @@ pub record IsExplained (p : Protocol) (e : Explanation) : Type 0 where
 -- The run of the cause of a number, from 1, if there is such a cause and it has one.
 abbrev pub run_at : ℕ → Explanation → Option Run
 run_at n (told.Accepted cases) = None
-run_at n (told.Refused r) = if n == 0 then None else option_and_then (λ e. e.run) (slice_get r.causes.items (n - 1))
+run_at n (told.Rejected r) = if n == 0 then None else option_and_then (λ e. e.run) (slice_get r.causes.items (n - 1))

@@ -6,13 +6,13 @@ use Rattle.kr_explanation.specs.declared.explanation.Explanation.TheVariants as 
 use Rattle.kr_explanation.specs.Lines.{IsLineOf}
 
 -- The words that the text of a rejected table begins with.
-abbrev pub refused_words : ℕ → ℕ → List ℕ
-refused_words failed cases = codes "refused: " ++ (decimal failed ++ (codes " of " ++ (decimal cases ++ codes " cases fail, by ")))
+abbrev pub rejected_words : ℕ → ℕ → List ℕ
+rejected_words failed cases = codes "refused: " ++ (decimal failed ++ (codes " of " ++ (decimal cases ++ codes " cases fail, by ")))
 
 -- The words that a text begins with: the verdict, and how many cases hold or fail.
 abbrev pub verdict_words : Explanation → List ℕ
 verdict_words (told.Accepted n) = codes "accepted: all " ++ (decimal n ++ codes " cases hold.")
-verdict_words (told.Refused r) = refused_words r.failed r.cases
+verdict_words (told.Rejected r) = rejected_words r.failed r.cases
 
 -- A text of an explanation: it begins with the verdict, and ends with a line feed.
 abbrev pub IsText : Explanation → List ℕ → Type 0

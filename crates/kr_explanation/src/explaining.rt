@@ -1,11 +1,11 @@
 //! Explaining a table.
 ghost use Rattle.std.specs.Prelude.{IfOk, ◌≡◌, All};
-ghost use Rattle.kr_explanation.specs.Explained.{IsExplained, IsRefusal, IsTold, causes_of};
+ghost use Rattle.kr_explanation.specs.Explained.{IsExplained, IsRejection, IsTold, causes_of};
 
 use crate::effort::{Effort, MOST_MENDED};
-use crate::explanation::{Explained, Explanation, Refused};
+use crate::explanation::{Explained, Explanation, Rejected};
 use crate::told_run::told_run;
-use kr_cases::{Cause as Refusal, Memory, cases, check};
+use kr_cases::{Cause as Rejection, Memory, cases, check};
 use kr_causes::{Blame, Cause, causes, mends};
 use kr_counterexample::Closure;
 use kr_model::FailedCase;
@@ -23,25 +23,25 @@ pub fn explain<P: Protocol>(alloc: Global, protocol: &P) -> Result<Explanation, 
             cases: cases(protocol.count(), protocol.updates()),
         }),
         Err(rejected) => match rejected.cause {
-            Refusal::Failed(failed) => {
-                Ok(Explanation::Refused(refusal(alloc, protocol, &failed)?))
+            Rejection::Failed(failed) => {
+                Ok(Explanation::Rejected(rejection(alloc, protocol, &failed)?))
             }
-            Refusal::Memory => Err(AllocError),
+            Rejection::Memory => Err(AllocError),
         },
     }
 }
 
 /// Why a table is rejected of which these cases fail.
 #[tactic(auto, using(crate::proofs::ToldCauses::same_shared))]
-fn refusal<P: Protocol>(
+fn rejection<P: Protocol>(
     alloc: Global,
     protocol: &P,
     failed: &[FailedCase],
-) -> Result<Refused, Memory>
-    ensures { IfOk result (IsRefusal (P.table protocol.now) failed.now) }
+) -> Result<Rejected, Memory>
+    ensures { IfOk result (IsRejection (P.table protocol.now) failed.now) }
 {
     let causes = causes(alloc, protocol, failed)?;
-    Ok(Refused {
+    Ok(Rejected {
         cases: cases(protocol.count(), protocol.updates()),
         failed: failed.len(),
         causes: explained(alloc, protocol, failed, causes)?,

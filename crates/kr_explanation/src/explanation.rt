@@ -11,7 +11,7 @@ pub enum Explanation {
     /// The table is covered, and has so many cases.
     Accepted { cases: usize },
     /// Some case fails.
-    Refused(Refused),
+    Rejected(Rejected),
 }
 
 impl Explanation {
@@ -21,14 +21,14 @@ impl Explanation {
     {
         match self {
             Explanation::Accepted { .. } => true,
-            Explanation::Refused(_) => false,
+            Explanation::Rejected(_) => false,
         }
     }
 }
 
 /// Why a table is rejected.
 #[derive(Drop)]
-pub struct Refused {
+pub struct Rejected {
     /// How many cases the table has.
     pub cases: usize,
     /// How many of them fail.

@@ -24,6 +24,6 @@ mod words;
 mod wrap;
 
 pub use explaining::explain;
-pub use explanation::{Explained, Explanation, Refused};
+pub use explanation::{Explained, Explanation, Rejected};
 pub use kr_cases::Memory;
 pub use run::Run;

@@ -18,13 +18,13 @@ impl Explanation {
     pub fn script(&self, alloc: Global, number: usize) -> Result<Option<String>, Memory>
         ensures { IfOk result (λ line. IsScriptOf (run_at number self.now) (option_map string_bytes line)) }
     {
-        let Explanation::Refused(refused) = self else {
+        let Explanation::Rejected(rejected) = self else {
             return Ok(None);
         };
         if number == 0 {
             return Ok(None);
         }
-        let Some(explained) = refused.causes.get(number - 1) else {
+        let Some(explained) = rejected.causes.get(number - 1) else {
             return Ok(None);
         };
         match &explained.run {

@@ -1,10 +1,10 @@
 //! The text of an explanation.
 ghost use Rattle.std.specs.Prelude.{◌≡◌, IfOk, string_bytes};
-ghost use Rattle.kr_explanation.specs.Told.{IsText, refused_words, verdict_words};
+ghost use Rattle.kr_explanation.specs.Told.{IsText, rejected_words, verdict_words};
 
 use crate::body::body;
 use crate::effort::MOST_MENDED;
-use crate::explanation::{Explained, Explanation, Refused};
+use crate::explanation::{Explained, Explanation, Rejected};
 use crate::mending::mend_sentence;
 use crate::run::Run;
 use crate::seen::seen;
@@ -39,7 +39,7 @@ impl Explanation {
                 alloc,
                 " Every run under this table is serial in commit order.",
             )?,
-            Explanation::Refused(refused) => refusal_text(alloc, protocol, refused, word)?,
+            Explanation::Rejected(rejected) => rejection_text(alloc, protocol, rejected, word)?,
         };
         let mut out = self.verdict_text(alloc)?;
         out.push_str(telling.as_str())?;
@@ -55,35 +55,39 @@ impl Explanation {
             Explanation::Accepted { cases } => {
                 format!(in alloc; "accepted: all {cases} cases hold.")
             }
-            Explanation::Refused(refused) => refused_words(alloc, refused.failed, refused.cases),
+            Explanation::Rejected(rejected) => rejected_words(
+                alloc,
+                rejected.failed,
+                rejected.cases,
+            ),
         }
     }
 }
 
 /// The words that the text of a table begins with of which so many cases fail.
-fn refused_words(alloc: Global, failed: usize, cases: usize) -> Result<String, Memory>
-    ensures { IfOk result (λ text. string_bytes text ≡ refused_words failed cases) }
+fn rejected_words(alloc: Global, failed: usize, cases: usize) -> Result<String, Memory>
+    ensures { IfOk result (λ text. string_bytes text ≡ rejected_words failed cases) }
 {
     format!(in alloc; "refused: {failed} of {cases} cases fail, by ")
 }
 
-/// The text of a refusal behind the numbers of its cases, without its last line feed.
-fn refusal_text<P: Protocol>(
+/// The text of a rejection behind the numbers of its cases, without its last line feed.
+fn rejection_text<P: Protocol>(
     alloc: Global,
     protocol: &P,
-    refused: &Refused,
+    rejected: &Rejected,
     word: &str,
 ) -> Result<String, Memory> {
-    let count = refused.causes.len();
+    let count = rejected.causes.len();
     let mut out = if count == 1 {
         String::from_str(alloc, "one cause\n")?
     } else {
         format!(in alloc; "{count} causes\n")?
     };
-    for (at, explained) in refused.causes.iter().enumerate() {
+    for (at, explained) in rejected.causes.iter().enumerate() {
         write_cause(alloc, protocol, &mut out, at, explained)?;
     }
-    if refused
+    if rejected
         .causes
         .iter()
         .any(|explained| explained.run.is_some())

@@ -1,7 +1,6 @@
-use self::covered::serial_under_each;
-use self::pairs::agree_under_each;
 use kr_program::{FileFault, Files, execute};
 use kr_script::Io;
+use kr_table::bundled::{IM, KVL, KVL_UPDATE, RANGE_KEY};
 use std::alloc::{AllocError, Global};
 use std::process::Abort;
 use std::sync::Wait;
@@ -17,6 +16,7 @@ mod faults;
 mod inserts;
 mod pairs;
 mod scans;
+mod stories;
 mod tables;
 mod threads;
 mod updates;
@@ -52,8 +52,6 @@ impl Files for Texts<'_> {
         }
     }
 }
-
-const OPENING: &str = "[[10,1],[20,2],[30,3]]";
 
 /// A script that reads a gap and then inserts into it, by two transactions.
 const PHANTOM: &str =
@@ -92,7 +90,31 @@ const NO_TABLE: Table = Table {
 /// The table that asks for nothing.
 const PLAIN_TABLE: Table = Table {
     text: PLAIN,
-    changes: &[],
+    ..NO_TABLE
+};
+
+/// The file of key-value locking.
+const KVL_TABLE: Table = Table {
+    text: KVL,
+    ..NO_TABLE
+};
+
+/// The file of key-value locking with updates.
+const KVL_UPDATE_TABLE: Table = Table {
+    text: KVL_UPDATE,
+    ..NO_TABLE
+};
+
+/// The file of index-specific locking.
+const IM_TABLE: Table = Table {
+    text: IM,
+    ..NO_TABLE
+};
+
+/// The file of key-range locking by parts.
+const RANGE_KEY_TABLE: Table = Table {
+    text: RANGE_KEY,
+    ..NO_TABLE
 };
 
 fn changed(alloc: Global, text: &str, change: Change) -> Result<String, Fail> {
@@ -116,7 +138,8 @@ fn table_text(alloc: Global, table: Table) -> Result<String, Fail> {
     Ok(text)
 }
 
-/// A run of the program: its words, its files, and what it leaves on its two streams, with its status.
+/// A run of the program: its words, its files, its status, and the lines that it leaves on its two streams, without the line feed
+/// that ends the last of them.
 #[derive(Clone, Copy)]
 struct Row<'a> {
     name: &'a str,
@@ -127,6 +150,23 @@ struct Row<'a> {
     out: &'a str,
     err: &'a str,
 }
+
+/// A run of the script under key-value locking.
+const RUN: Row = Row {
+    name: "",
+    words: &["run", "@kvl", "s"],
+    table: NO_TABLE,
+    script: "",
+    status: 0,
+    out: "",
+    err: "",
+};
+
+/// A run of the script under the table in the file.
+const RUN_TABLE: Row = Row {
+    words: &["run", "table", "s"],
+    ..RUN
+};
 
 /// What a run of the program left.
 #[derive(Drop)]
@@ -165,6 +205,15 @@ where
     })
 }
 
+/// These lines, each with the line feed that ends it.
+fn with_line_feed(alloc: Global, lines: &str) -> Result<String, AllocError> {
+    let mut text = String::from_str(alloc, lines)?;
+    if !lines.is_empty() {
+        text.push('\n')?;
+    }
+    Ok(text)
+}
+
 /// Runs the program as a row says, and compares what it leaves.
 fn leaves<R: std::rt::Files + AllocGlobal + Threads + Wait + Sync + Abort>(
     rt: &R,
@@ -174,16 +223,19 @@ where
     R::File: Send + Sync,
     R::Dir: Send + Sync,
 {
-    let table = table_text(rt.alloc(), row.table)?;
+    let alloc = rt.alloc();
+    let table = table_text(alloc, row.table)?;
     let files = Texts {
         table: table.as_str(),
         script: row.script,
     };
     let ran = run_program(rt, row.words, &files)?;
+    let out = with_line_feed(alloc, row.out)?;
+    let err = with_line_feed(alloc, row.err)?;
     let name = row.name;
     assert_eq!(rt; ran.status, row.status, "{name}");
-    assert_eq!(rt; ran.out.as_slice(), row.out.as_bytes(), "{name}");
-    assert_eq!(rt; ran.err.as_slice(), row.err.as_bytes(), "{name}");
+    assert_eq!(rt; ran.out.as_slice(), out.as_str().as_bytes(), "{name}");
+    assert_eq!(rt; ran.err.as_slice(), err.as_str().as_bytes(), "{name}");
     Ok(())
 }
 
@@ -198,119 +250,6 @@ where
 {
     for row in rows {
         leaves(rt, row)?;
-    }
-    Ok(())
-}
-
-/// The same of rows whose scripts are serial under each bundled table, with the same replies at each index with each lock
-/// table.
-fn each_reports<R: std::rt::Files + AllocGlobal + Threads + Wait + Sync + Abort>(
-    rt: &R,
-    rows: &[Row],
-) -> Result<(), Fail>
-where
-    R::File: Send + Sync,
-    R::Dir: Send + Sync,
-{
-    for row in rows {
-        serial_under_each(rt, row.script)?;
-        agree_under_each(rt, row.script)?;
-        leaves(rt, row)?;
-    }
-    Ok(())
-}
-
-/// What a script leaves under each of the bundled tables, where only the modes of the locks differ.
-#[derive(Clone, Copy)]
-struct Expected<'a> {
-    name: &'a str,
-    opening: &'a str,
-    steps: &'a str,
-    index: &'a str,
-    /// Under key-value locking (with updates too), index-specific locking, and key-range locking by parts.
-    locks: [&'a str; 3],
-    replies: &'a str,
-    unfinished: &'a str,
-}
-
-/// Runs a script under a bundled table, and compares the report, with these locks.
-fn reports_locks<R: std::rt::Files + AllocGlobal + Threads + Wait + Sync + Abort>(
-    rt: &R,
-    expected: &Expected,
-    table: &str,
-    script: &str,
-    locks: &str,
-) -> Result<(), Fail>
-where
-    R::File: Send + Sync,
-    R::Dir: Send + Sync,
-{
-    let Expected {
-        name,
-        opening: _,
-        steps: _,
-        index,
-        locks: _,
-        replies,
-        unfinished,
-    } = *expected;
-    let report = format!(in rt.alloc();
-        "{{\"index\":{index},\"locks\":{locks},\"replies\":{replies},\"unfinished\":{unfinished},\"verdict\":[\"serial\"]}}\n"
-    )?;
-    let words = ["run", table, "s"];
-    let row = Row {
-        name,
-        words: words.as_slice(),
-        table: NO_TABLE,
-        script,
-        status: 0,
-        out: report.as_str(),
-        err: "",
-    };
-    leaves(rt, &row)
-}
-
-/// The text of a script.
-fn script_of(alloc: Global, opening: &str, steps: &str) -> Result<String, AllocError> {
-    format!(in alloc; "{{\"format\":1,\"opening\":{opening},\"steps\":{steps}}}")
-}
-
-/// Runs steps under each of the bundled tables, and compares the reports; they are serial under each, with the same replies at
-/// each index with each lock table.
-fn under_each<R: std::rt::Files + AllocGlobal + Threads + Wait + Sync + Abort>(
-    rt: &R,
-    expected: &Expected,
-) -> Result<(), Fail>
-where
-    R::File: Send + Sync,
-    R::Dir: Send + Sync,
-{
-    let script = script_of(rt.alloc(), expected.opening, expected.steps)?;
-    serial_under_each(rt, script.as_str())?;
-    agree_under_each(rt, script.as_str())?;
-    let [kvl, im, range_key] = expected.locks;
-    for (table, locks) in [
-        ("@kvl", kvl),
-        ("@kvl-update", kvl),
-        ("@im", im),
-        ("@range-key", range_key),
-    ] {
-        reports_locks(rt, expected, table, script.as_str(), locks)?;
-    }
-    Ok(())
-}
-
-/// The same of several scripts.
-fn all_under_each<R: std::rt::Files + AllocGlobal + Threads + Wait + Sync + Abort>(
-    rt: &R,
-    all: &[Expected],
-) -> Result<(), Fail>
-where
-    R::File: Send + Sync,
-    R::Dir: Send + Sync,
-{
-    for expected in all {
-        under_each(rt, expected)?;
     }
     Ok(())
 }

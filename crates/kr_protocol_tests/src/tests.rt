@@ -4,6 +4,7 @@ ghost use Rattle.kr_model.specs.Covers.{IsCovered};
 
 use kr_protocol::{Covered, Im, Kvl, KvlUpdate, Mode, Protocol, RangeKey, Row, Side, Span};
 use std::alloc::{AllocError, Global};
+use std::process::Abort;
 use std::test::Fail;
 
 /// A line for each mode requested, from none on: `+` where it may stand beside the mode held.
@@ -177,17 +178,102 @@ X-N X-N X-N X-N X-N X-N X-N X-N X-N X-N X-N X-N
 - - - - - - - - - - - -
 ";
 
+const IM_COMPATIBILITY: &str = "\
++++
+++.
++..
+";
+
+const IM_CONVERSION: &str = "\
+none S X
+S S X
+X X X
+";
+
+const IM_RULES: &str = "\
+S S S
+- - -
+- - -
+S S S
+S S S
+- - -
+- - -
+S S S
+X X X
+X! X! X!
+X! X! X!
+X X X
+- - -
+- - -
+";
+
+/// A protocol, drawn by hand.
+#[derive(Clone, Copy)]
+struct Drawing<'a> {
+    count: Mode,
+    compatibility: &'a str,
+    conversion: &'a str,
+    rules: &'a str,
+}
+
+#[rattlefmt::skip]
+const KVL: Drawing = Drawing { count: 5, compatibility: KVL_COMPATIBILITY, conversion: KVL_CONVERSION, rules: KVL_RULES };
+
+#[rattlefmt::skip]
+const KVL_UPDATE: Drawing = Drawing { rules: KVL_UPDATE_RULES, ..KVL };
+
+#[rattlefmt::skip]
+const IM: Drawing = Drawing { count: 2, compatibility: IM_COMPATIBILITY, conversion: IM_CONVERSION, rules: IM_RULES };
+
+#[rattlefmt::skip]
+const RANGE_KEY: Drawing = Drawing { count: 11, compatibility: RANGE_KEY_COMPATIBILITY, conversion: RANGE_KEY_CONVERSION, rules: RANGE_KEY_RULES };
+
+/// Compares a protocol with its drawing.
+fn is_drawn<P: Covered>(
+    rt: &impl Abort,
+    alloc: Global,
+    protocol: &P,
+    drawing: Drawing,
+) -> Result<(), Fail> {
+    let Drawing {
+        count,
+        compatibility,
+        conversion,
+        rules,
+    } = drawing;
+    assert_eq!(rt; covered_count(protocol), count);
+    assert_eq!(rt;
+        drawn_compatibility(alloc, protocol)?.as_str(),
+        compatibility
+    );
+    assert_eq!(rt; drawn_conversion(alloc, protocol)?.as_str(), conversion);
+    assert_eq!(rt; drawn_rules(alloc, protocol)?.as_str(), rules);
+    Ok(())
+}
+
 #[test]
 fn key_value_locking(rt: HostRuntime) -> Result<(), Fail> {
-    let alloc = rt.alloc();
-    assert_eq!(rt; covered_count(&Kvl), 5);
-    assert_eq!(rt;
-        drawn_compatibility(alloc, &Kvl)?.as_str(),
-        KVL_COMPATIBILITY
-    );
-    assert_eq!(rt; drawn_conversion(alloc, &Kvl)?.as_str(), KVL_CONVERSION);
-    assert_eq!(rt; drawn_rules(alloc, &Kvl)?.as_str(), KVL_RULES);
-    Ok(())
+    is_drawn(&rt, rt.alloc(), &Kvl, KVL)
+}
+
+#[test]
+fn key_value_locking_with_updates(rt: HostRuntime) -> Result<(), Fail> {
+    is_drawn(&rt, rt.alloc(), &KvlUpdate, KVL_UPDATE)
+}
+
+#[test]
+fn index_specific_locking(rt: HostRuntime) -> Result<(), Fail> {
+    is_drawn(&rt, rt.alloc(), &Im, IM)
+}
+
+#[test]
+fn range_key_locking(rt: HostRuntime) -> Result<(), Fail> {
+    is_drawn(&rt, rt.alloc(), &RangeKey, RANGE_KEY)
+}
+
+#[test]
+fn a_reference_is_its_protocol(rt: HostRuntime) -> Result<(), Fail> {
+    is_drawn(&rt, rt.alloc(), &&Kvl, KVL)
 }
 
 #[test]
@@ -201,75 +287,11 @@ fn rows_of_key_value_locking(rt: HostRuntime) -> Result<(), Fail> {
 }
 
 #[test]
-fn key_value_locking_with_updates(rt: HostRuntime) -> Result<(), Fail> {
-    let alloc = rt.alloc();
-    assert_eq!(rt; covered_count(&KvlUpdate), 5);
-    assert_eq!(rt;
-        drawn_compatibility(alloc, &KvlUpdate)?.as_str(),
-        KVL_COMPATIBILITY
-    );
-    assert_eq!(rt;
-        drawn_conversion(alloc, &KvlUpdate)?.as_str(),
-        KVL_CONVERSION
-    );
-    assert_eq!(rt; drawn_rules(alloc, &KvlUpdate)?.as_str(), KVL_UPDATE_RULES);
-    Ok(())
-}
-
-#[test]
 fn updates_are_offered_by_one(rt: HostRuntime) -> Result<(), Fail> {
     assert!(rt; KvlUpdate.updates());
     assert!(rt; (&KvlUpdate).updates());
     assert!(rt; !Kvl.updates());
     assert!(rt; !Im.updates());
     assert!(rt; !RangeKey.updates());
-    Ok(())
-}
-
-#[test]
-fn index_specific_locking(rt: HostRuntime) -> Result<(), Fail> {
-    let alloc = rt.alloc();
-    assert_eq!(rt; covered_count(&Im), 2);
-    assert_eq!(rt;
-        drawn_compatibility(alloc, &Im)?.as_str(),
-        "+++\n++.\n+..\n"
-    );
-    assert_eq!(rt;
-        drawn_conversion(alloc, &Im)?.as_str(),
-        "none S X\nS S X\nX X X\n"
-    );
-    assert_eq!(rt;
-        drawn_rules(alloc, &Im)?.as_str(),
-        "S S S\n- - -\n- - -\nS S S\nS S S\n- - -\n- - -\nS S S\nX X X\nX! X! X!\nX! X! X!\nX X X\n- - -\n- - -\n"
-    );
-    Ok(())
-}
-
-#[test]
-fn range_key_locking(rt: HostRuntime) -> Result<(), Fail> {
-    let alloc = rt.alloc();
-    assert_eq!(rt; covered_count(&RangeKey), 11);
-    assert_eq!(rt;
-        drawn_compatibility(alloc, &RangeKey)?.as_str(),
-        RANGE_KEY_COMPATIBILITY
-    );
-    assert_eq!(rt;
-        drawn_conversion(alloc, &RangeKey)?.as_str(),
-        RANGE_KEY_CONVERSION
-    );
-    assert_eq!(rt; drawn_rules(alloc, &RangeKey)?.as_str(), RANGE_KEY_RULES);
-    Ok(())
-}
-
-#[test]
-fn a_reference_is_its_protocol(rt: HostRuntime) -> Result<(), Fail> {
-    let alloc = rt.alloc();
-    assert_eq!(rt; covered_count(&&Kvl), 5);
-    assert_eq!(rt;
-        drawn_compatibility(alloc, &&Kvl)?.as_str(),
-        KVL_COMPATIBILITY
-    );
-    assert_eq!(rt; drawn_conversion(alloc, &&Kvl)?.as_str(), KVL_CONVERSION);
-    assert_eq!(rt; drawn_rules(alloc, &&Kvl)?.as_str(), KVL_RULES);
     Ok(())
 }

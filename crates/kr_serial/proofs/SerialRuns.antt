@@ -7,7 +7,7 @@ use Rattle.kr_model.specs.Covers.{IsCovered}
 use Rattle.kr_model.specs.State.{start}
 use Rattle.kr_model.specs.Run.{Program, run, programs}
 use Rattle.kr_model.specs.Serial.{AreSerial, IsSerialRun}
-use Rattle.kr_headline.proofs.Runs.{runs_are_serial}
+use Rattle.kr_headline.proofs.run.Runs.{runs_are_serial}
 use Rattle.kr_serial.specs.declared.ran.Ran.{Ran}
 
 -- What holds holds where there is a result.

@@ -2,7 +2,7 @@
 use Rattle.std.proofs.Common.{◌≡◌, ◌≢◌, ℕ, ◌+◌, ◌-◌, ◌*◌, ◌<◌, ◌≤◌, ◌&&◌, ◌||◌, ◌==◌, List, [], ◌∷◌, ◌++◌, length, Bool, true, false, not, Option, Some, None, is_some, refl, subst, arith, slice_index_or, nat_lt, nat_le, suc, zero}
 use Rattle.std.specs.Prelude.{bytes_eq, All, AllPairs, unwrap_or}
 use Rattle.kr_model.specs.ModeNames.{AreModeNames, IsModeName, none_name}
-use Rattle.kr_table.specs.Testing.{is_good, is_mode, is_printable}
+use Rattle.kr_table.specs.DocumentFaults.{is_good, is_mode, is_printable}
 use Rattle.kr_table.proofs.Puts.{equal_itself}
 use Rattle.kr_table.proofs.ReadBack.{Apart, Distinct, distinct_from}
 use Rattle.std.specs.List.{list_all}

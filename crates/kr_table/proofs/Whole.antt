@@ -9,7 +9,7 @@ use Rattle.kr_table.specs.declared.table.Parts.{Parts}
 use Rattle.kr_table.specs.Shown.{data_of}
 use Rattle.kr_table.specs.Faults.{Fault, first, Tells, fault_of}
 use Rattle.kr_table.specs.Members.{modes_in, names_of, items_len, integer_in, members_of, list_in, data_in}
-use Rattle.kr_table.specs.Testing.{mode_faults, count_faults, content_faults, format_faults, name_faults, faults, updates_in}
+use Rattle.kr_table.specs.DocumentFaults.{mode_faults, count_faults, content_faults, format_faults, name_faults, faults, updates_in}
 use Rattle.kr_table.specs.Tables.{IsTable, TableData}
 use Rattle.kr_table.specs.Reading.{matrix_in, table_of_parts, judged, table_of, unless_faulty}
 use Rattle.kr_table.proofs.Sound.{sound}

@@ -5,7 +5,7 @@ use Rattle.std.specs.Ordering.{match_ordering}
 use Rattle.std.specs.Cmp.Lexicographic.{slice_cmp}
 use Rattle.std.proofs.lemmas.Bool.{and_parts}
 use Rattle.toml.specs.Data.{Data, string, integer, array, table, Items, Members, no_members, member, depth, members_depth, items_depth, has_valid_dates, members_have_valid_dates, items_have_valid_dates}
-use Rattle.kr_table.specs.Testing.{content_faults, row_faults, count_faults, format_faults, name_faults, updates_in}
+use Rattle.kr_table.specs.DocumentFaults.{content_faults, row_faults, count_faults, format_faults, name_faults, updates_in}
 use Rattle.kr_table.specs.Members.{items_len, integer_in, list_in}
 use Rattle.kr_table.specs.Tables.{Request, TableData, IsAsked, IsTable, asks_mode}
 use Rattle.kr_table.specs.Reading.{square, stands, converts, asked, asked_each, asked_update, clauses_of, table_of_parts, judged}

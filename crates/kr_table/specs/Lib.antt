@@ -1,6 +1,6 @@
 pub mod Faults
 pub mod Members
-pub mod Testing
+pub mod DocumentFaults
 pub mod Tables
 pub mod Reading
 pub mod Shown

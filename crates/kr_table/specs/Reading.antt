@@ -8,7 +8,7 @@ use Rattle.kr_model.specs.declared.Span.TheVariants.{Instant, Commit}
 use Rattle.kr_modes.specs.Matrix.{Matrix}
 use Rattle.kr_table.specs.Faults.{Fault, too_long, not_toml, first}
 use Rattle.kr_table.specs.Members.{names_of, modes_in, items_in, items_within, data_in, text_in, pair_in}
-use Rattle.kr_table.specs.Testing.{is_mode, faults, updates_in}
+use Rattle.kr_table.specs.DocumentFaults.{is_mode, faults, updates_in}
 use Rattle.kr_table.specs.Tables.{Request, TableData}
 
 -- The modes --

@@ -3,7 +3,7 @@ ghost use Rattle.std.specs.Prelude.{◌≡◌, ◌≤◌, ◌++◌, ◌∷◌, I
 ghost use Rattle.toml.specs.View.{view, items_view};
 ghost use Rattle.kr_modes.specs.Matrix.{IsMatrix};
 ghost use Rattle.kr_table.specs.Members.{names_of, items_in, text_in, pair_in};
-ghost use Rattle.kr_table.specs.Testing.{is_mode};
+ghost use Rattle.kr_table.specs.DocumentFaults.{is_mode};
 ghost use Rattle.kr_table.specs.Reading as spec;
 ghost use Rattle.kr_table.specs.Shown.{data_of};
 

@@ -9,9 +9,7 @@ ghost use Rattle.kr_table.specs.Answer.{Gives};
 use crate::faults::TableFault;
 use crate::making::parts_of;
 use crate::table::Table;
-use crate::testing::{
-    list_at, modes_of, table_at, test_content, test_count, test_format, test_names,
-};
+use crate::walk::{list_at, modes_of, table_at, test_content, test_count, test_format, test_names};
 use std::alloc::Global;
 use toml::Value;
 
@@ -27,14 +25,14 @@ pub fn read(alloc: Global, bytes: &[u8]) -> Result<Table, TableFault>
         return Err(TableFault::TooLong);
     }
     match toml::table_from_slice(alloc, bytes) {
-        Ok(table) => judge(alloc, &Value::Table(table)),
+        Ok(table) => table_of(alloc, &Value::Table(table)),
         Err(e) if e.is_memory() => Err(TableFault::Memory),
         Err(_) => Err(TableFault::NotToml),
     }
 }
 
 /// The table that a document is, or the first of its faults.
-fn judge(alloc: Global, value: &Value) -> Result<Table, TableFault>
+fn table_of(alloc: Global, value: &Value) -> Result<Table, TableFault>
     requires { is_some (as_table (view value.now)) ≡ true }
     ensures { Gives result (spec.judged (view value.now)) }
 {

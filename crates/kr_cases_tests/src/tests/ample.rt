@@ -1,4 +1,4 @@
-//! Checks with ample memory, none of which answers want of memory: accepted and refused, each again and again, by reference,
+//! Checks with ample memory, none of which answers want of memory: accepted and rejected, each again and again, by reference,
 //! and once more when accepted.
 use super::{DeletesNextInstant, HOLDS_NOTHING, InsertAlwaysIx, UpdateUnderIx, open_key};
 use kr_cases::{Cause, FailedCase, Rejected, check};
@@ -45,13 +45,13 @@ fn accepted_again_and_again(rt: HostRuntime) {
         assert_eq!(rt; failed(&rt, alloc, RangeKey), (0, None));
         match check(alloc, Kvl) {
             Ok(checked) => assert_eq!(rt; failed(&rt, alloc, checked), (0, None)),
-            Err(_) => panic!(rt; "refused"),
+            Err(_) => panic!(rt; "rejected"),
         }
     }
 }
 
 #[test]
-fn refused_again_and_again(rt: HostRuntime) {
+fn rejected_again_and_again(rt: HostRuntime) {
     let alloc = rt.alloc();
     let split = first(
         Rule::Split,

@@ -2,7 +2,7 @@
 
 use super::tables::{Table, failed, table_of};
 use kr_counterexample::{Closure, Ending};
-use kr_table::texts::KVL;
+use kr_table::bundled::KVL;
 use std::test::Fail;
 
 /// A delete keeps no lock on the next name.

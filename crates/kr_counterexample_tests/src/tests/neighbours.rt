@@ -72,7 +72,7 @@ const RANGE_KEY: &[Clause] = &[
 #[derive(Clone, Copy, Debug, Default, PartialEq, Eq)]
 struct Numbers {
     changes: usize,
-    refused: usize,
+    rejected: usize,
     shown: usize,
 }
 
@@ -103,7 +103,7 @@ fn counts<P: Protocol>(
         let cases = failed(alloc, &table)?;
         counts.changes = counts.changes.saturating_add(1);
         if !cases.is_empty() {
-            counts.refused = counts.refused.saturating_add(1);
+            counts.rejected = counts.rejected.saturating_add(1);
             if is_shown(alloc, &table, &cases)? {
                 counts.shown = counts.shown.saturating_add(1);
             }
@@ -115,8 +115,8 @@ fn counts<P: Protocol>(
 /// Compares the numbers of changes and of rejected tables; those with a script may be more than are known.
 fn are(rt: &impl Abort, found: Numbers, known: Numbers) {
     assert_eq!(rt;
-        (found.changes, found.refused),
-        (known.changes, known.refused)
+        (found.changes, found.rejected),
+        (known.changes, known.rejected)
     );
     assert!(rt; found.shown >= known.shown, "{found:?}");
 }
@@ -129,7 +129,7 @@ fn of_two_modes(rt: HostRuntime) -> Result<(), Fail> {
         found,
         Numbers {
             changes: 32,
-            refused: 24,
+            rejected: 24,
             shown: 24,
         },
     );
@@ -144,7 +144,7 @@ fn of_intention_modes(rt: HostRuntime) -> Result<(), Fail> {
         found,
         Numbers {
             changes: 183,
-            refused: 116,
+            rejected: 116,
             shown: 77,
         },
     );
@@ -159,7 +159,7 @@ fn of_intention_modes_and_updates(rt: HostRuntime) -> Result<(), Fail> {
         found,
         Numbers {
             changes: 189,
-            refused: 121,
+            rejected: 121,
             shown: 82,
         },
     );
@@ -175,7 +175,7 @@ fn of_two_parts(rt: HostRuntime) -> Result<(), Fail> {
         found,
         Numbers {
             changes: 121,
-            refused: 81,
+            rejected: 81,
             shown: 41,
         },
     );

@@ -2,7 +2,7 @@
 
 use super::tables::{ASKS_NOTHING, Table, failed, table_of};
 use kr_counterexample::Closure;
-use kr_table::texts::{KVL, KVL_UPDATE};
+use kr_table::bundled::{KVL, KVL_UPDATE};
 use std::test::Fail;
 
 /// A rejected table, and the numbers of its cases: those that fail, those of them to which some state of the closure comes,
@@ -16,66 +16,13 @@ struct Counts {
     shown: usize,
 }
 
+#[rattlefmt::skip]
 const COUNTS: &[Counts] = &[
-    Counts {
-        name: "SIX held and IX asked make IS, and nobody comes to SIX",
-        table: Table {
-            text: KVL,
-            changes: &[(
-                "SIX = { IS = \"SIX\", IX = \"SIX\",",
-                "SIX = { IS = \"SIX\", IX = \"IS\",",
-            )],
-        },
-        failed: 19,
-        reached: 12,
-        shown: 0,
-    },
-    Counts {
-        name: "S held and IX asked make IS, which lets in an intruder that is ready",
-        table: Table {
-            text: KVL,
-            changes: &[(
-                "S = { IS = \"S\", IX = \"SIX\",",
-                "S = { IS = \"S\", IX = \"IS\",",
-            )],
-        },
-        failed: 18,
-        reached: 12,
-        shown: 6,
-    },
-    Counts {
-        name: "a delete asks for no lock on its key",
-        table: Table {
-            text: KVL,
-            changes: &[("current = [{ mode = \"X\", span = \"instant\" }]\n", "")],
-        },
-        failed: 72,
-        reached: 43,
-        shown: 33,
-    },
-    Counts {
-        name: "an update keeps no lock on its key",
-        table: Table {
-            text: KVL_UPDATE,
-            changes: &[(
-                "[rules.update]\ncurrent = [{ mode = \"X\", span = \"commit\" }]",
-                "[rules.update]\ncurrent = [{ mode = \"X\", span = \"instant\" }]",
-            )],
-        },
-        failed: 3,
-        reached: 2,
-        shown: 2,
-    },
-    Counts {
-        name: "no lock is asked for",
-        table: Table {
-            text: ASKS_NOTHING,
-            changes: &[],
-        },
-        failed: 16,
-        reached: 7,
-        shown: 7,
-    },
+    Counts { name: "SIX held and IX asked make IS, and nobody comes to SIX",               failed: 19, reached: 12, shown: 0,  table: Table { text: KVL, changes: &[(r#"SIX = { IS = "SIX", IX = "SIX","#, r#"SIX = { IS = "SIX", IX = "IS","#)] } },
+    Counts { name: "S held and IX asked make IS, which lets in an intruder that is ready", failed: 18, reached: 12, shown: 6,  table: Table { text: KVL, changes: &[(r#"S = { IS = "S", IX = "SIX","#, r#"S = { IS = "S", IX = "IS","#)] } },
+    Counts { name: "a delete asks for no lock on its key",                                 failed: 72, reached: 43, shown: 33, table: Table { text: KVL, changes: &[("current = [{ mode = \"X\", span = \"instant\" }]\n", "")] } },
+    Counts { name: "an update keeps no lock on its key",                                   failed: 3,  reached: 2,  shown: 2,  table: Table { text: KVL_UPDATE, changes: &[("[rules.update]\ncurrent = [{ mode = \"X\", span = \"commit\" }]", "[rules.update]\ncurrent = [{ mode = \"X\", span = \"instant\" }]")] } },
+    Counts { name: "no lock is asked for",                                                 failed: 16, reached: 7,  shown: 7,  table: Table { text: ASKS_NOTHING, changes: &[] } },
 ];
 
 #[test]

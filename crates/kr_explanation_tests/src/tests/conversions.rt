@@ -1,7 +1,7 @@
 //! Modes that convert to too weak a one.
 
 use super::tables::{Table, Told, each_is_told};
-use kr_table::texts::{IM, KVL, RANGE_KEY};
+use kr_table::bundled::{IM, KVL, RANGE_KEY};
 use std::test::Fail;
 
 const CONVERSIONS: &[Told] = &[

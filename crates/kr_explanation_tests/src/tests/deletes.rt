@@ -1,7 +1,7 @@
 //! Locks of deletes that are not kept, or not asked for.
 
 use super::tables::{Table, Told, each_is_told};
-use kr_table::texts::{IM, KVL};
+use kr_table::bundled::{IM, KVL};
 use std::test::Fail;
 
 const DELETES: &[Told] = &[

@@ -1,7 +1,7 @@
 //! Locks of inserts that are too weak.
 
 use super::tables::{Table, Told, each_is_told};
-use kr_table::texts::{IM, KVL, RANGE_KEY};
+use kr_table::bundled::{IM, KVL, RANGE_KEY};
 use std::test::Fail;
 
 const INSERTS: &[Told] = &[

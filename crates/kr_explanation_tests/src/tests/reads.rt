@@ -1,7 +1,7 @@
 //! Locks of reads that are not kept.
 
 use super::tables::{Table, Told, each_is_told};
-use kr_table::texts::IM;
+use kr_table::bundled::IM;
 use std::test::Fail;
 
 const READS: &[Told] = &[

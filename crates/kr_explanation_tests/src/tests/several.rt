@@ -1,7 +1,7 @@
 //! Several causes.
 
 use super::tables::{ASKS_NOTHING, Table, Told, each_is_told};
-use kr_table::texts::KVL;
+use kr_table::bundled::KVL;
 use std::test::Fail;
 
 const SEVERAL: &[Told] = &[

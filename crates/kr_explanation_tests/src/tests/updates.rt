@@ -1,7 +1,7 @@
 //! Locks of updates.
 
 use super::tables::{Table, Told, each_is_told};
-use kr_table::texts::{IM, KVL_UPDATE};
+use kr_table::bundled::{IM, KVL_UPDATE};
 use std::test::Fail;
 
 const UPDATES: &[Told] = &[

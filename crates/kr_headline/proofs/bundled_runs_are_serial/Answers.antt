@@ -3,7 +3,7 @@ use Rattle.kr_model.specs.KvlUpdate.{kvl_update}
 use Rattle.kr_model.specs.Im.{im}
 use Rattle.kr_model.specs.RangeKey.{range_key}
 use Rattle.kr_model.proofs.Bundled.{kvl_lawful, kvl_covered, kvl_update_lawful, kvl_update_covered, im_lawful, im_covered, range_key_lawful, range_key_covered}
-use Rattle.kr_headline.proofs.Runs.{runs_are_serial}
+use Rattle.kr_headline.proofs.run.Runs.{runs_are_serial}
 use Rattle.kr_headline.proofs.bundled_runs_are_serial.Goals as goal
 
 pub returns-clause-kvl : goal.returns-clause-kvl

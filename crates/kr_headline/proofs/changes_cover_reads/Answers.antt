@@ -5,7 +5,7 @@ use Rattle.kr_model.specs.declared.Side.TheVariants.{Current, Next}
 use Rattle.kr_model.specs.declared.Cover.TheVariants.{ReadKey, ReadGap, InsertedKey, DeletedGap, UpdatedKey}
 use Rattle.kr_model.specs.Protocol.{Protocol}
 use Rattle.kr_model.specs.Covers.{Ask, must_conflict}
-use Rattle.kr_headline.proofs.Covers.{weaken, update_read}
+use Rattle.kr_headline.proofs.step.Covers.{weaken, update_read}
 use Rattle.kr_headline.proofs.changes_cover_reads.Goals as goal
 
 -- What is listed only where updates are offered.

@@ -1,4 +1,4 @@
-use Rattle.kr_headline.proofs.Needed.{each_rule_is_needed}
+use Rattle.kr_headline.proofs.run.Needed.{each_rule_is_needed}
 use Rattle.kr_headline.proofs.each_rule_is_needed.Goals as goal
 
 pub returns : goal.returns

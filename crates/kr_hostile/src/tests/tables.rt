@@ -3,14 +3,14 @@
 use kr_cases::{Cause, FailedCase, Rejected, check};
 use kr_protocol::{Im, Kvl, KvlUpdate, Protocol, RangeKey};
 use kr_script::report_check;
-use kr_table::texts::{KVL, KVL_UPDATE};
+use kr_table::bundled::{KVL, KVL_UPDATE};
 use kr_table::{Table, TableFault, WriteFault, read, write};
 use std::alloc::Global;
 use std::process::Abort;
 use std::test::Fail;
 
 /// Index-specific locking whose delete gives up its lock on the next key at once.
-const REFUSED: &str = r#"format = 1
+const REJECTED: &str = r#"format = 1
 modes = ["S", "X"]
 compatible = { S = ["S"], X = [] }
 convert = { S = { S = "S", X = "X" }, X = { S = "X", X = "X" } }
@@ -119,9 +119,9 @@ fn told(alloc: Global, table: &Table, failed: &[FailedCase]) -> Result<String, F
 }
 
 #[test]
-fn refused_table_is_given_back(rt: HostRuntime) -> Result<(), Fail> {
+fn rejected_table_is_given_back(rt: HostRuntime) -> Result<(), Fail> {
     let alloc = rt.alloc();
-    let table = table_of(&rt, alloc, REFUSED)?;
+    let table = table_of(&rt, alloc, REJECTED)?;
     let Rejected { protocol, cause } = rejected(alloc, table).ok_or("accepted")?;
     match cause {
         Cause::Failed(failed) => {

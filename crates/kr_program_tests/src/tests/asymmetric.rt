@@ -1,5 +1,6 @@
 //! A table that tells which way it is read: U may be asked for beside a held S, and S not beside a held U; S with U gives U, and U with S gives X.
-use super::{Change, Row, Table, each_leaves};
+use super::Change::Put;
+use super::{NO_TABLE, RUN_TABLE, Row, Table, each_leaves};
 use std::test::Fail;
 
 /// A fetch asks for S on what it finds, and a scan for U on what it reads.
@@ -39,61 +40,26 @@ current = [{ mode = "X", span = "instant" }]
 
 const ASYMMETRIC_TABLE: Table = Table {
     text: ASYMMETRIC,
-    changes: &[],
+    ..NO_TABLE
 };
 
 /// What fails where who asks for S holds S after it, whatever it held, and a delete asks for S on the next name.
 const GIVEN_UP: &str =
-    "{\"accepted\":false,\"cases\":108,\"failed\":[{\"case\":\"G1\",\"cover\":\"IK\",\"from\":[\"U\",\"S\"],\"mode\":\"S\",\"open\":[\"fetch-hit\",\"current\",\"none\",\"none\"]},{\"case\":\"G1\",\"cover\":\"IK\",\"from\":[\"X\",\"S\"],\"mode\":\"S\",\"open\":[\"fetch-hit\",\"current\",\"none\",\"none\"]},{\"case\":\"G1\",\"cover\":\"DG\",\"from\":[\"U\",\"S\"],\"mode\":\"S\",\"open\":[\"fetch-miss\",\"next\",\"none\",\"none\"]},{\"case\":\"G1\",\"cover\":\"DG\",\"from\":[\"X\",\"S\"],\"mode\":\"S\",\"open\":[\"fetch-miss\",\"next\",\"none\",\"none\"]},{\"case\":\"G8\",\"cover\":\"DG\",\"from\":[\"none\"],\"mode\":\"S\",\"open\":[\"fetch-miss\",\"next\",\"none\",\"none\"]},{\"case\":\"G8\",\"cover\":\"DG\",\"from\":[\"S\"],\"mode\":\"S\",\"open\":[\"fetch-miss\",\"next\",\"none\",\"none\"]},{\"case\":\"G8\",\"cover\":\"DG\",\"from\":[\"U\"],\"mode\":\"S\",\"open\":[\"fetch-miss\",\"next\",\"none\",\"none\"]},{\"case\":\"G8\",\"cover\":\"DG\",\"from\":[\"X\"],\"mode\":\"S\",\"open\":[\"fetch-miss\",\"next\",\"none\",\"none\"]}],\"modes\":3}\n";
+    r#"{"accepted":false,"cases":108,"failed":[{"case":"G1","cover":"IK","from":["U","S"],"mode":"S","open":["fetch-hit","current","none","none"]},{"case":"G1","cover":"IK","from":["X","S"],"mode":"S","open":["fetch-hit","current","none","none"]},{"case":"G1","cover":"DG","from":["U","S"],"mode":"S","open":["fetch-miss","next","none","none"]},{"case":"G1","cover":"DG","from":["X","S"],"mode":"S","open":["fetch-miss","next","none","none"]},{"case":"G8","cover":"DG","from":["none"],"mode":"S","open":["fetch-miss","next","none","none"]},{"case":"G8","cover":"DG","from":["S"],"mode":"S","open":["fetch-miss","next","none","none"]},{"case":"G8","cover":"DG","from":["U"],"mode":"S","open":["fetch-miss","next","none","none"]},{"case":"G8","cover":"DG","from":["X"],"mode":"S","open":["fetch-miss","next","none","none"]}],"modes":3}"#;
+
+/// A run under that table.
+const RUN_ASYMMETRIC: Row = Row {
+    table: ASYMMETRIC_TABLE,
+    ..RUN_TABLE
+};
 
 /// Runs and checks under that table.
+#[rattlefmt::skip]
 const ROWS: &[Row] = &[
-    Row {
-        name: "both ways",
-        words: &["run", "table", "s"],
-        table: ASYMMETRIC_TABLE,
-        script: r#"{"format":1,"opening":[[10,1],[20,2]],"steps":[[1,"fetch",10],[2,"scan",10,10],[3,"fetch",10],[4,"scan",20,20],[5,"fetch",20],[2,"fetch",10],[1,"commit"],[2,"fetch",10]]}"#,
-        status: 0,
-        out: "{\"index\":[[10,1],[20,2]],\"locks\":[[10,2,\"X\"],[20,4,\"U\"]],\"replies\":[[\"found\",1],[\"rows\",[[10,1]]],[\"blocked\",[2]],[\"rows\",[[20,2]]],[\"blocked\",[4]],[\"blocked\",[1]],[\"committed\"],[\"found\",1]],\"unfinished\":[2,4],\"verdict\":[\"serial\"]}\n",
-        err: "",
-    },
-    Row {
-        name: "s with u",
-        words: &["run", "table", "s"],
-        table: ASYMMETRIC_TABLE,
-        script: r#"{"format":1,"opening":[[10,1],[20,2]],"steps":[[1,"fetch",10],[2,"fetch",10],[1,"scan",10,10],[3,"fetch",10]]}"#,
-        status: 0,
-        out: "{\"index\":[[10,1],[20,2]],\"locks\":[[10,1,\"U\"],[10,2,\"S\"]],\"replies\":[[\"found\",1],[\"found\",1],[\"rows\",[[10,1]]],[\"blocked\",[1]]],\"unfinished\":[1,2],\"verdict\":[\"serial\"]}\n",
-        err: "",
-    },
-    Row {
-        name: "accepted",
-        words: &["check", "table"],
-        table: ASYMMETRIC_TABLE,
-        script: "",
-        status: 0,
-        out: "{\"accepted\":true,\"cases\":108,\"modes\":3}\n",
-        err: "",
-    },
-    Row {
-        name: "gives up",
-        words: &["check", "table"],
-        table: Table {
-            text: ASYMMETRIC,
-            changes: &[
-                Change::Put(r#"U = { S = "X""#, r#"U = { S = "S""#),
-                Change::Put(r#"X = { S = "X""#, r#"X = { S = "S""#),
-                Change::Put(
-                    r#"next = [{ mode = "X", span = "commit" }]"#,
-                    r#"next = [{ mode = "S", span = "commit" }]"#,
-                ),
-            ],
-        },
-        script: "",
-        status: 1,
-        out: GIVEN_UP,
-        err: "",
-    },
+    Row { name: "both ways", script: r#"{"format":1,"opening":[[10,1],[20,2]],"steps":[[1,"fetch",10],[2,"scan",10,10],[3,"fetch",10],[4,"scan",20,20],[5,"fetch",20],[2,"fetch",10],[1,"commit"],[2,"fetch",10]]}"#, out: r#"{"index":[[10,1],[20,2]],"locks":[[10,2,"X"],[20,4,"U"]],"replies":[["found",1],["rows",[[10,1]]],["blocked",[2]],["rows",[[20,2]]],["blocked",[4]],["blocked",[1]],["committed"],["found",1]],"unfinished":[2,4],"verdict":["serial"]}"#, ..RUN_ASYMMETRIC },
+    Row { name: "s with u",  script: r#"{"format":1,"opening":[[10,1],[20,2]],"steps":[[1,"fetch",10],[2,"fetch",10],[1,"scan",10,10],[3,"fetch",10]]}"#, out: r#"{"index":[[10,1],[20,2]],"locks":[[10,1,"U"],[10,2,"S"]],"replies":[["found",1],["found",1],["rows",[[10,1]]],["blocked",[1]]],"unfinished":[1,2],"verdict":["serial"]}"#, ..RUN_ASYMMETRIC },
+    Row { name: "accepted",  words: &["check", "table"], out: r#"{"accepted":true,"cases":108,"modes":3}"#, ..RUN_ASYMMETRIC },
+    Row { name: "gives up",  words: &["check", "table"], table: Table { changes: &[Put(r#"U = { S = "X""#, r#"U = { S = "S""#), Put(r#"X = { S = "X""#, r#"X = { S = "S""#), Put(r#"next = [{ mode = "X", span = "commit" }]"#, r#"next = [{ mode = "S", span = "commit" }]"#)], ..ASYMMETRIC_TABLE }, status: 1, out: GIVEN_UP, ..RUN_ASYMMETRIC },
 ];
 
 #[test]

@@ -3,7 +3,7 @@ use kr_cases::check;
 use kr_protocol::{Covered, Im, Kvl, KvlUpdate, RangeKey};
 use kr_script::{Script, read_script};
 use kr_serial::{judge, run};
-use kr_table::texts::{IM, KVL, KVL_UPDATE, RANGE_KEY};
+use kr_table::bundled::{IM, KVL, KVL_UPDATE, RANGE_KEY};
 use std::process::Abort;
 use std::test::Fail;
 

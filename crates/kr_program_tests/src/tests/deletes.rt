@@ -1,5 +1,5 @@
 //! Deletes and aborts.
-use super::{Expected, OPENING, all_under_each};
+use super::stories::{Expected, OPENING, all_under_each};
 use std::test::Fail;
 
 const DELETES: &[Expected] = &[

@@ -1,5 +1,5 @@
 //! Faults of scripts and of output, and the lines that tell them.
-use super::{NO_TABLE, PHANTOM, Row, Texts, each_leaves, leaves, owned};
+use super::{PHANTOM, RUN, Row, Texts, each_leaves, leaves, owned};
 use kr_program::execute;
 use kr_script::{Failed, Io, Sink};
 use std::process::Abort;
@@ -7,134 +7,32 @@ use std::sync::Wait;
 use std::test::Fail;
 use std::thread::Threads;
 
+/// A fault of a script under key-value locking.
+const FAULT: Row = Row { status: 2, ..RUN };
+
+/// The same under key-value locking with updates.
+const FAULT_OF_UPDATES: Row = Row {
+    words: &["run", "@kvl-update", "s"],
+    ..FAULT
+};
+
 /// Scripts that have a fault.
+#[rattlefmt::skip]
 const FAULTS: &[Row] = &[
-    Row {
-        name: "no object",
-        words: &["run", "@kvl", "s"],
-        table: NO_TABLE,
-        script: "[]",
-        status: 2,
-        out: "",
-        err: "kr: s: fault 4 Field at \n",
-    },
-    Row {
-        name: "a key twice",
-        words: &["run", "@kvl", "s"],
-        table: NO_TABLE,
-        script: r#"{"format":1,"opening":[[5,1],[5,2]],"steps":[]}"#,
-        status: 2,
-        out: "",
-        err: "kr: s: fault 5 Opening at 1\n",
-    },
-    Row {
-        name: "a number of a transaction past all",
-        words: &["run", "@kvl", "s"],
-        table: NO_TABLE,
-        script: r#"{"format":1,"opening":[[10,1],[20,2],[30,3]],"steps":[[4294967296,"go"]]}"#,
-        status: 2,
-        out: "",
-        err: "kr: s: fault 6 Step at 0\n",
-    },
-    Row {
-        name: "a key below 0",
-        words: &["run", "@kvl", "s"],
-        table: NO_TABLE,
-        script: r#"{"format":1,"opening":[[10,1],[20,2],[30,3]],"steps":[[1,"fetch",-1]]}"#,
-        status: 2,
-        out: "",
-        err: "kr: s: fault 6 Step at 0\n",
-    },
-    Row {
-        name: "a fetch of no key",
-        words: &["run", "@kvl", "s"],
-        table: NO_TABLE,
-        script: r#"{"format":1,"opening":[[10,1],[20,2],[30,3]],"steps":[[1,"fetch"]]}"#,
-        status: 2,
-        out: "",
-        err: "kr: s: fault 6 Step at 0\n",
-    },
-    Row {
-        name: "an update in format 1",
-        words: &["run", "@kvl-update", "s"],
-        table: NO_TABLE,
-        script: r#"{"format":1,"opening":[],"steps":[[1,"go"],[1,"update",20,9]]}"#,
-        status: 2,
-        out: "",
-        err: "kr: s: fault 6 Step at 1\n",
-    },
-    Row {
-        name: "a change back in format 1",
-        words: &["run", "@kvl-update", "s"],
-        table: NO_TABLE,
-        script: r#"{"format":1,"opening":[],"steps":[[1,"go"],[1,"back"]]}"#,
-        status: 2,
-        out: "",
-        err: "kr: s: fault 6 Step at 1\n",
-    },
-    Row {
-        name: "an update to no value",
-        words: &["run", "@kvl-update", "s"],
-        table: NO_TABLE,
-        script: r#"{"format":2,"opening":[[10,1],[20,2],[30,3]],"steps":[[1,"update",20]]}"#,
-        status: 2,
-        out: "",
-        err: "kr: s: fault 6 Step at 0\n",
-    },
-    Row {
-        name: "an update to a value below 0",
-        words: &["run", "@kvl-update", "s"],
-        table: NO_TABLE,
-        script: r#"{"format":2,"opening":[[10,1],[20,2],[30,3]],"steps":[[1,"update",20,-1]]}"#,
-        status: 2,
-        out: "",
-        err: "kr: s: fault 6 Step at 0\n",
-    },
-    Row {
-        name: "an update to two values",
-        words: &["run", "@kvl-update", "s"],
-        table: NO_TABLE,
-        script: r#"{"format":2,"opening":[[10,1],[20,2],[30,3]],"steps":[[1,"update",20,9,9]]}"#,
-        status: 2,
-        out: "",
-        err: "kr: s: fault 6 Step at 0\n",
-    },
-    Row {
-        name: "a change back with a key",
-        words: &["run", "@kvl-update", "s"],
-        table: NO_TABLE,
-        script: r#"{"format":2,"opening":[[10,1],[20,2],[30,3]],"steps":[[1,"back",20]]}"#,
-        status: 2,
-        out: "",
-        err: "kr: s: fault 6 Step at 0\n",
-    },
-    Row {
-        name: "a change back by a number past all",
-        words: &["run", "@kvl-update", "s"],
-        table: NO_TABLE,
-        script: r#"{"format":2,"opening":[[10,1],[20,2],[30,3]],"steps":[[4294967296,"back"]]}"#,
-        status: 2,
-        out: "",
-        err: "kr: s: fault 6 Step at 0\n",
-    },
-    Row {
-        name: "a capital letter",
-        words: &["run", "@kvl-update", "s"],
-        table: NO_TABLE,
-        script: r#"{"format":2,"opening":[[10,1],[20,2],[30,3]],"steps":[[1,"Back"]]}"#,
-        status: 2,
-        out: "",
-        err: "kr: s: fault 6 Step at 0\n",
-    },
-    Row {
-        name: "format 3",
-        words: &["run", "@kvl-update", "s"],
-        table: NO_TABLE,
-        script: r#"{"format":3,"opening":[],"steps":[[1,"back"]]}"#,
-        status: 2,
-        out: "",
-        err: "kr: s: fault 3 Format\n",
-    },
+    Row { name: "no object",                          script: "[]",                                                                             err: "kr: s: fault 4 Field at ",    ..FAULT },
+    Row { name: "a key twice",                        script: r#"{"format":1,"opening":[[5,1],[5,2]],"steps":[]}"#,                             err: "kr: s: fault 5 Opening at 1", ..FAULT },
+    Row { name: "a number of a transaction past all", script: r#"{"format":1,"opening":[[10,1],[20,2],[30,3]],"steps":[[4294967296,"go"]]}"#,   err: "kr: s: fault 6 Step at 0",    ..FAULT },
+    Row { name: "a key below 0",                      script: r#"{"format":1,"opening":[[10,1],[20,2],[30,3]],"steps":[[1,"fetch",-1]]}"#,      err: "kr: s: fault 6 Step at 0",    ..FAULT },
+    Row { name: "a fetch of no key",                  script: r#"{"format":1,"opening":[[10,1],[20,2],[30,3]],"steps":[[1,"fetch"]]}"#,         err: "kr: s: fault 6 Step at 0",    ..FAULT },
+    Row { name: "an update in format 1",              script: r#"{"format":1,"opening":[],"steps":[[1,"go"],[1,"update",20,9]]}"#,              err: "kr: s: fault 6 Step at 1",    ..FAULT_OF_UPDATES },
+    Row { name: "a change back in format 1",          script: r#"{"format":1,"opening":[],"steps":[[1,"go"],[1,"back"]]}"#,                     err: "kr: s: fault 6 Step at 1",    ..FAULT_OF_UPDATES },
+    Row { name: "an update to no value",              script: r#"{"format":2,"opening":[[10,1],[20,2],[30,3]],"steps":[[1,"update",20]]}"#,     err: "kr: s: fault 6 Step at 0",    ..FAULT_OF_UPDATES },
+    Row { name: "an update to a value below 0",       script: r#"{"format":2,"opening":[[10,1],[20,2],[30,3]],"steps":[[1,"update",20,-1]]}"#,  err: "kr: s: fault 6 Step at 0",    ..FAULT_OF_UPDATES },
+    Row { name: "an update to two values",            script: r#"{"format":2,"opening":[[10,1],[20,2],[30,3]],"steps":[[1,"update",20,9,9]]}"#, err: "kr: s: fault 6 Step at 0",    ..FAULT_OF_UPDATES },
+    Row { name: "a change back with a key",           script: r#"{"format":2,"opening":[[10,1],[20,2],[30,3]],"steps":[[1,"back",20]]}"#,       err: "kr: s: fault 6 Step at 0",    ..FAULT_OF_UPDATES },
+    Row { name: "a change back by a number past all", script: r#"{"format":2,"opening":[[10,1],[20,2],[30,3]],"steps":[[4294967296,"back"]]}"#, err: "kr: s: fault 6 Step at 0",    ..FAULT_OF_UPDATES },
+    Row { name: "a capital letter",                   script: r#"{"format":2,"opening":[[10,1],[20,2],[30,3]],"steps":[[1,"Back"]]}"#,          err: "kr: s: fault 6 Step at 0",    ..FAULT_OF_UPDATES },
+    Row { name: "format 3",                           script: r#"{"format":3,"opening":[],"steps":[[1,"back"]]}"#,                              err: "kr: s: fault 3 Format",       ..FAULT_OF_UPDATES },
 ];
 
 #[test]
@@ -154,17 +52,14 @@ where
 {
     let row = Row {
         name: line,
-        words: &["run", "@kvl", "s"],
-        table: NO_TABLE,
         script,
-        status: 2,
-        out: "",
         err: line,
+        ..FAULT
     };
     leaves(rt, &row)
 }
 
-const NOT_JSON: &str = "kr: s: fault 2 NotJson\n";
+const NOT_JSON: &str = "kr: s: fault 2 NotJson";
 
 #[test]
 fn fronts_of_a_script(rt: HostRuntime) -> Result<(), Fail> {
@@ -193,7 +88,7 @@ fn too_many_steps(rt: HostRuntime) -> Result<(), Fail> {
         script.push_str(r#",[1,"go"]"#)?;
     }
     script.push_str("]}")?;
-    faulty(&rt, script.as_str(), "kr: s: fault 7 TooMany at steps\n")
+    faulty(&rt, script.as_str(), "kr: s: fault 7 TooMany at steps")
 }
 
 /// Output that can't be written, of which more puts have failed than are counted.

@@ -1,5 +1,5 @@
 //! Fetches, inserts and commits.
-use super::{NO_TABLE, OPENING, Row, each_reports};
+use super::stories::{STORY, Story, each_reports};
 use std::alloc::{AllocError, Global};
 use std::process::Abort;
 use std::sync::Wait;
@@ -7,79 +7,24 @@ use std::test::Fail;
 use std::thread::Threads;
 
 /// Short runs under bundled tables.
-const STORIES: &[Row] = &[
-    Row {
-        name: "first report",
-        words: &["run", "@kvl", "s"],
-        table: NO_TABLE,
-        script: r#"{"format":1,"opening":[[10,1],[20,2],[30,3]],"steps":[[1,"fetch",15],[2,"insert",17,5]]}"#,
-        status: 0,
-        out: "{\"index\":[[10,1],[20,2],[30,3]],\"locks\":[[20,1,\"S\"]],\"replies\":[[\"none\"],[\"blocked\",[1]]],\"unfinished\":[1],\"verdict\":[\"serial\"]}\n",
-        err: "",
-    },
-    Row {
-        name: "ended number",
-        words: &["run", "@kvl", "s"],
-        table: NO_TABLE,
-        script: r#"{"format":1,"opening":[],"steps":[[1,"insert",5,1],[1,"commit"],[1,"fetch",5]]}"#,
-        status: 0,
-        out: "{\"index\":[[5,1]],\"locks\":[],\"replies\":[[\"done\"],[\"committed\"],[\"refused\",1,\"Ended\"]],\"unfinished\":[],\"verdict\":[\"serial\"]}\n",
-        err: "",
-    },
-    Row {
-        name: "shared duplicates",
-        words: &["run", "@kvl", "s"],
-        table: NO_TABLE,
-        script: r#"{"format":1,"opening":[[10,1],[20,2],[30,3]],"steps":[[1,"insert",10,5],[2,"insert",10,6],[2,"insert",40,1]]}"#,
-        status: 0,
-        out: "{\"index\":[[10,1],[20,2],[30,3],[40,1]],\"locks\":[[10,1,\"S\"],[10,2,\"S\"],[40,2,\"IX\"]],\"replies\":[[\"duplicate\"],[\"duplicate\"],[\"done\"]],\"unfinished\":[1,2],\"verdict\":[\"serial\"]}\n",
-        err: "",
-    },
-    Row {
-        name: "the own split",
-        words: &["run", "@kvl", "s"],
-        table: NO_TABLE,
-        script: r#"{"format":1,"opening":[[10,1],[20,2],[30,3]],"steps":[[1,"fetch",12],[1,"insert",15,5],[2,"insert",12,7]]}"#,
-        status: 0,
-        out: "{\"index\":[[10,1],[15,5],[20,2],[30,3]],\"locks\":[[15,1,\"X\"],[20,1,\"S\"]],\"replies\":[[\"none\"],[\"done\"],[\"blocked\",[1]]],\"unfinished\":[1],\"verdict\":[\"serial\"]}\n",
-        err: "",
-    },
-    Row {
-        name: "two inserts in one gap kvl",
-        words: &["run", "@kvl", "s"],
-        table: NO_TABLE,
-        script: r#"{"format":1,"opening":[[10,1],[20,2],[30,3]],"steps":[[1,"insert",15,5],[2,"insert",12,7]]}"#,
-        status: 0,
-        out: "{\"index\":[[10,1],[12,7],[15,5],[20,2],[30,3]],\"locks\":[[12,2,\"IX\"],[15,1,\"IX\"]],\"replies\":[[\"done\"],[\"done\"]],\"unfinished\":[1,2],\"verdict\":[\"serial\"]}\n",
-        err: "",
-    },
-    Row {
-        name: "two inserts in one gap im",
-        words: &["run", "@im", "s"],
-        table: NO_TABLE,
-        script: r#"{"format":1,"opening":[[10,1],[20,2],[30,3]],"steps":[[1,"insert",15,5],[2,"insert",12,7]]}"#,
-        status: 0,
-        out: "{\"index\":[[10,1],[15,5],[20,2],[30,3]],\"locks\":[[15,1,\"X\"]],\"replies\":[[\"done\"],[\"blocked\",[1]]],\"unfinished\":[1],\"verdict\":[\"serial\"]}\n",
-        err: "",
-    },
-    Row {
-        name: "two inserts in one gap range-key",
-        words: &["run", "@range-key", "s"],
-        table: NO_TABLE,
-        script: r#"{"format":1,"opening":[[10,1],[20,2],[30,3]],"steps":[[1,"insert",15,5],[2,"insert",12,7]]}"#,
-        status: 0,
-        out: "{\"index\":[[10,1],[12,7],[15,5],[20,2],[30,3]],\"locks\":[[12,2,\"I-X\"],[15,1,\"I-X\"]],\"replies\":[[\"done\"],[\"done\"]],\"unfinished\":[1,2],\"verdict\":[\"serial\"]}\n",
-        err: "",
-    },
-    Row {
-        name: "the split under kvl",
-        words: &["run", "@kvl", "s"],
-        table: NO_TABLE,
-        script: r#"{"format":1,"opening":[[10,1],[20,2],[30,3]],"steps":[[1,"fetch",12],[1,"insert",15,5],[2,"insert",12,7],[2,"commit"],[1,"commit"]]}"#,
-        status: 0,
-        out: "{\"index\":[[10,1],[15,5],[20,2],[30,3]],\"locks\":[],\"replies\":[[\"none\"],[\"done\"],[\"blocked\",[1]],[\"committed\"],[\"committed\"]],\"unfinished\":[],\"verdict\":[\"serial\"]}\n",
-        err: "",
-    },
+#[rattlefmt::skip]
+const STORIES: &[Story] = &[
+    Story { name: "first report", steps: r#"[[1,"fetch",15],[2,"insert",17,5]]"#,
+        replies: r#"[["none"],["blocked",[1]]]"#, locks: r#"[[20,1,"S"]]"#, unfinished: "[1]", ..STORY },
+    Story { name: "ended number", opening: "[]", steps: r#"[[1,"insert",5,1],[1,"commit"],[1,"fetch",5]]"#,
+        replies: r#"[["done"],["committed"],["refused",1,"Ended"]]"#, index: "[[5,1]]", ..STORY },
+    Story { name: "shared duplicates", steps: r#"[[1,"insert",10,5],[2,"insert",10,6],[2,"insert",40,1]]"#,
+        replies: r#"[["duplicate"],["duplicate"],["done"]]"#, index: "[[10,1],[20,2],[30,3],[40,1]]", locks: r#"[[10,1,"S"],[10,2,"S"],[40,2,"IX"]]"#, unfinished: "[1,2]", ..STORY },
+    Story { name: "the own split", steps: r#"[[1,"fetch",12],[1,"insert",15,5],[2,"insert",12,7]]"#,
+        replies: r#"[["none"],["done"],["blocked",[1]]]"#, index: "[[10,1],[15,5],[20,2],[30,3]]", locks: r#"[[15,1,"X"],[20,1,"S"]]"#, unfinished: "[1]", ..STORY },
+    Story { name: "two inserts in one gap kvl", steps: r#"[[1,"insert",15,5],[2,"insert",12,7]]"#,
+        replies: r#"[["done"],["done"]]"#, index: "[[10,1],[12,7],[15,5],[20,2],[30,3]]", locks: r#"[[12,2,"IX"],[15,1,"IX"]]"#, unfinished: "[1,2]", ..STORY },
+    Story { name: "two inserts in one gap im", under: "@im", steps: r#"[[1,"insert",15,5],[2,"insert",12,7]]"#,
+        replies: r#"[["done"],["blocked",[1]]]"#, index: "[[10,1],[15,5],[20,2],[30,3]]", locks: r#"[[15,1,"X"]]"#, unfinished: "[1]", ..STORY },
+    Story { name: "two inserts in one gap range-key", under: "@range-key", steps: r#"[[1,"insert",15,5],[2,"insert",12,7]]"#,
+        replies: r#"[["done"],["done"]]"#, index: "[[10,1],[12,7],[15,5],[20,2],[30,3]]", locks: r#"[[12,2,"I-X"],[15,1,"I-X"]]"#, unfinished: "[1,2]", ..STORY },
+    Story { name: "the split under kvl", steps: r#"[[1,"fetch",12],[1,"insert",15,5],[2,"insert",12,7],[2,"commit"],[1,"commit"]]"#,
+        replies: r#"[["none"],["done"],["blocked",[1]],["committed"],["committed"]]"#, index: "[[10,1],[15,5],[20,2],[30,3]]", ..STORY },
 ];
 
 #[test]
@@ -118,71 +63,54 @@ fn fetched_by_64(alloc: Global, first: u8) -> Result<Fetched, AllocError> {
     })
 }
 
-/// A script in which 64 transactions fetch 10 and a further one is refused, and the report of its run.
-#[derive(Drop)]
-struct Filled {
-    script: String,
-    report: String,
-}
-
-/// The 64 are numbered from the first on, with these steps and replies before them and after them.
-fn fill(
-    alloc: Global,
+/// Compares the report of 64 transactions that fetch 10, numbered from the first on, with these steps and replies before them and
+/// after them; one more is refused.
+fn one_too_many<R: std::rt::Files + AllocGlobal + Threads + Wait + Sync + Abort>(
+    rt: &R,
+    name: &str,
     first: u8,
     steps: [&str; 2],
     replies: [&str; 2],
-) -> Result<Filled, AllocError> {
-    let all = fetched_by_64(alloc, first)?;
-    let [before, after] = steps;
-    let script = format!(in alloc;
-        "{{\"format\":1,\"opening\":{OPENING},\"steps\":[{before}{}{after}]}}",
-        all.steps
-    )?;
-    let [before, after] = replies;
-    let report = format!(in alloc;
-        "{{\"index\":{OPENING},\"locks\":[{}],\"replies\":[{before}{}{after}],\"unfinished\":[{}],\"verdict\":[\"serial\"]}}\n",
-        all.locks, all.replies, all.unfinished
-    )?;
-    Ok(Filled { script, report })
-}
-
-/// Compares the report of the 64 and the one too many.
-fn one_too_many<'a, R: std::rt::Files + AllocGlobal + Threads + Wait + Sync + Abort>(
-    rt: &R,
-    name: &'a str,
-    filled: &'a Filled,
 ) -> Result<(), Fail>
 where
     R::File: Send + Sync,
     R::Dir: Send + Sync,
 {
-    let row = Row {
+    let alloc = rt.alloc();
+    let all = fetched_by_64(alloc, first)?;
+    let [before, after] = steps;
+    let steps = format!(in alloc; "[{before}{}{after}]", all.steps)?;
+    let [before, after] = replies;
+    let replies = format!(in alloc; "[{before}{}{after}]", all.replies)?;
+    let locks = format!(in alloc; "[{}]", all.locks)?;
+    let unfinished = format!(in alloc; "[{}]", all.unfinished)?;
+    let story = Story {
         name,
-        words: &["run", "@kvl", "s"],
-        table: NO_TABLE,
-        script: filled.script.as_str(),
-        status: 0,
-        out: filled.report.as_str(),
-        err: "",
+        steps: steps.as_str(),
+        replies: replies.as_str(),
+        locks: locks.as_str(),
+        unfinished: unfinished.as_str(),
+        ..STORY
     };
-    each_reports(rt, [row].as_slice())
+    each_reports(rt, [story].as_slice())
 }
 
 #[test]
 fn the_65th_transaction(rt: HostRuntime) -> Result<(), Fail> {
-    let filled = fill(
-        rt.alloc(),
+    one_too_many(
+        &rt,
+        "the 65th transaction",
         1,
         ["", r#",[65,"fetch",10]"#],
         ["", r#",["refused",5,"Full"]"#],
-    )?;
-    one_too_many(&rt, "the 65th transaction", &filled)
+    )
 }
 
 #[test]
 fn ended_before_full(rt: HostRuntime) -> Result<(), Fail> {
-    let filled = fill(
-        rt.alloc(),
+    one_too_many(
+        &rt,
+        "ended before full",
         2,
         [
             r#"[1,"fetch",10],[1,"commit"],"#,
@@ -192,6 +120,5 @@ fn ended_before_full(rt: HostRuntime) -> Result<(), Fail> {
             r#"["found",1],["committed"],"#,
             r#",["refused",1,"Ended"],["refused",5,"Full"]"#,
         ],
-    )?;
-    one_too_many(&rt, "ended before full", &filled)
+    )
 }

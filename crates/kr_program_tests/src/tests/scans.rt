@@ -1,5 +1,5 @@
 //! Scans, a name at a step.
-use super::{Expected, OPENING, all_under_each};
+use super::stories::{Expected, OPENING, all_under_each};
 use std::test::Fail;
 
 const SCANS: &[Expected] = &[

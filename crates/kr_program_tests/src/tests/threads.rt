@@ -1,7 +1,7 @@
 //! Runs of scripts by several threads.
 use super::checks::{DELETES_NEXT_INSTANT, DELETES_NEXT_INSTANT_TABLE};
-use super::{NO_TABLE, Row, Table, Texts, each_leaves, run_program};
-use kr_table::texts::{KVL, KVL_UPDATE};
+use super::{KVL_TABLE, RUN, Row, Texts, each_leaves, run_program};
+use kr_table::bundled::KVL_UPDATE;
 use std::alloc::{AllocError, Global};
 use std::process::Abort;
 use std::sync::Wait;
@@ -13,14 +13,14 @@ pub const ONE: &str =
     r#"{"format":1,"opening":[[10,1],[20,2],[30,3]],"steps":[[1,"insert",15,5],[1,"commit"]]}"#;
 
 const ONE_REPORT: &str =
-    "{\"faults\":[],\"history\":[[[1,\"insert\",15,5],[\"done\"]],[[1,\"commit\"],[\"committed\"]]],\"index\":[[10,1],[15,5],[20,2],[30,3]],\"unfinished\":[],\"verdict\":[\"serial\"]}\n";
+    r#"{"faults":[],"history":[[[1,"insert",15,5],["done"]],[[1,"commit"],["committed"]]],"index":[[10,1],[15,5],[20,2],[30,3]],"unfinished":[],"verdict":["serial"]}"#;
 
 /// A step that is refused, one that ends its transaction, a further one, and a transaction that nothing ends.
 const LEFT_OUT: &str =
     r#"{"format":1,"opening":[[10,1]],"steps":[[1,"go"],[1,"delete",10],[1,"commit"],[1,"fetch",10],[2,"fetch",10]]}"#;
 
 const LEFT_OUT_REPORT: &str =
-    "{\"faults\":[[1,1,[\"refused\",3,\"NoScan\"]],[1,4,[\"refused\",1,\"Ended\"]]],\"history\":[[[1,\"delete\",10],[\"deleted\",1]],[[1,\"commit\"],[\"committed\"]],[[2,\"fetch\",10],[\"none\"]],[[2,\"abort\"],[\"aborted\"]]],\"index\":[],\"unfinished\":[],\"verdict\":[\"serial\"]}\n";
+    r#"{"faults":[[1,1,["refused",3,"NoScan"]],[1,4,["refused",1,"Ended"]]],"history":[[[1,"delete",10],["deleted",1]],[[1,"commit"],["committed"]],[[2,"fetch",10],["none"]],[[2,"abort"],["aborted"]]],"index":[],"unfinished":[],"verdict":["serial"]}"#;
 
 /// Changes that are taken back one at a time, and a commit after that; an update that commits; a transaction that has nothing
 /// to take back, and one that nothing ends after its update.
@@ -28,214 +28,52 @@ const BACK: &str =
     r#"{"format":2,"opening":[[10,1],[20,2],[30,3]],"steps":[[1,"update",20,9],[1,"insert",25,5],[2,"fetch",20],[1,"back"],[1,"commit"],[3,"update",10,7],[1,"back"],[1,"back"],[1,"abort"],[2,"commit"],[3,"commit"],[4,"back"],[4,"update",30,8]]}"#;
 
 const BACK_REPORT: &str =
-    "{\"faults\":[[1,4,[\"refused\",8,\"RollingBack\"]],[1,6,[\"refused\",9,\"NothingLeft\"]],[4,1,[\"refused\",9,\"NothingLeft\"]]],\"history\":[[[1,\"update\",20,9],[\"updated\",2]],[[1,\"insert\",25,5],[\"done\"]],[[1,\"back\"],[\"undone\",1]],[[1,\"back\"],[\"undone\",0]],[[1,\"abort\"],[\"aborted\"]],[[2,\"fetch\",20],[\"found\",2]],[[2,\"commit\"],[\"committed\"]],[[3,\"update\",10,7],[\"updated\",1]],[[3,\"commit\"],[\"committed\"]],[[4,\"update\",30,8],[\"updated\",3]],[[4,\"abort\"],[\"aborted\"]]],\"index\":[[10,7],[20,2],[30,3]],\"unfinished\":[],\"verdict\":[\"serial\"]}\n";
+    r#"{"faults":[[1,4,["refused",8,"RollingBack"]],[1,6,["refused",9,"NothingLeft"]],[4,1,["refused",9,"NothingLeft"]]],"history":[[[1,"update",20,9],["updated",2]],[[1,"insert",25,5],["done"]],[[1,"back"],["undone",1]],[[1,"back"],["undone",0]],[[1,"abort"],["aborted"]],[[2,"fetch",20],["found",2]],[[2,"commit"],["committed"]],[[3,"update",10,7],["updated",1]],[[3,"commit"],["committed"]],[[4,"update",30,8],["updated",3]],[[4,"abort"],["aborted"]]],"index":[[10,7],[20,2],[30,3]],"unfinished":[],"verdict":["serial"]}"#;
 
 /// An update under a table that offers none, and a transaction that ends in the midst of its rollback.
 const NO_UPDATE: &str =
     r#"{"format":2,"opening":[[10,1]],"steps":[[1,"update",10,9],[1,"delete",10],[1,"insert",10,7],[1,"back"]]}"#;
 
 const NO_UPDATE_REPORT: &str =
-    "{\"faults\":[[1,1,[\"refused\",7,\"NoUpdate\"]]],\"history\":[[[1,\"delete\",10],[\"deleted\",1]],[[1,\"insert\",10,7],[\"done\"]],[[1,\"back\"],[\"undone\",1]],[[1,\"abort\"],[\"aborted\"]]],\"index\":[[10,1]],\"unfinished\":[],\"verdict\":[\"serial\"]}\n";
+    r#"{"faults":[[1,1,["refused",7,"NoUpdate"]]],"history":[[[1,"delete",10],["deleted",1]],[[1,"insert",10,7],["done"]],[[1,"back"],["undone",1]],[[1,"abort"],["aborted"]]],"index":[[10,1]],"unfinished":[],"verdict":["serial"]}"#;
 
 /// Runs whose history is the same whatever order the threads find.
+#[rattlefmt::skip]
 const HISTORIES: &[Row] = &[
-    Row {
-        name: "one transaction under kvl",
-        words: &["threads", "@kvl", "s", "--workers", "1"],
-        table: NO_TABLE,
-        script: ONE,
-        status: 0,
-        out: ONE_REPORT,
-        err: "",
-    },
-    Row {
-        name: "one transaction under kvl-update",
-        words: &["threads", "@kvl-update", "s", "--workers", "1"],
-        table: NO_TABLE,
-        script: ONE,
-        status: 0,
-        out: ONE_REPORT,
-        err: "",
-    },
-    Row {
-        name: "one transaction under im",
-        words: &["threads", "@im", "s", "--workers", "1"],
-        table: NO_TABLE,
-        script: ONE,
-        status: 0,
-        out: ONE_REPORT,
-        err: "",
-    },
-    Row {
-        name: "one transaction under range-key",
-        words: &["threads", "@range-key", "s", "--workers", "1"],
-        table: NO_TABLE,
-        script: ONE,
-        status: 0,
-        out: ONE_REPORT,
-        err: "",
-    },
-    Row {
-        name: "one transaction by 64 workers",
-        words: &["threads", "@kvl", "s", "--workers", "64"],
-        table: NO_TABLE,
-        script: ONE,
-        status: 0,
-        out: ONE_REPORT,
-        err: "",
-    },
-    Row {
-        name: "one transaction by as many as are told by no word",
-        words: &["threads", "@kvl", "s"],
-        table: NO_TABLE,
-        script: ONE,
-        status: 0,
-        out: ONE_REPORT,
-        err: "",
-    },
-    Row {
-        name: "steps left out",
-        words: &["threads", "@kvl", "s", "--workers", "1"],
-        table: NO_TABLE,
-        script: LEFT_OUT,
-        status: 0,
-        out: LEFT_OUT_REPORT,
-        err: "",
-    },
-    Row {
-        name: "updates and backs",
-        words: &["threads", "@kvl-update", "s", "--workers", "1"],
-        table: NO_TABLE,
-        script: BACK,
-        status: 0,
-        out: BACK_REPORT,
-        err: "",
-    },
-    Row {
-        name: "no update is offered by kvl, 1 worker",
-        words: &["threads", "@kvl", "s", "--workers", "1"],
-        table: NO_TABLE,
-        script: NO_UPDATE,
-        status: 0,
-        out: NO_UPDATE_REPORT,
-        err: "",
-    },
-    Row {
-        name: "no update is offered by kvl, 4 workers",
-        words: &["threads", "@kvl", "s", "--workers", "4"],
-        table: NO_TABLE,
-        script: NO_UPDATE,
-        status: 0,
-        out: NO_UPDATE_REPORT,
-        err: "",
-    },
-    Row {
-        name: "no update is offered by im, 1 worker",
-        words: &["threads", "@im", "s", "--workers", "1"],
-        table: NO_TABLE,
-        script: NO_UPDATE,
-        status: 0,
-        out: NO_UPDATE_REPORT,
-        err: "",
-    },
-    Row {
-        name: "no update is offered by im, 4 workers",
-        words: &["threads", "@im", "s", "--workers", "4"],
-        table: NO_TABLE,
-        script: NO_UPDATE,
-        status: 0,
-        out: NO_UPDATE_REPORT,
-        err: "",
-    },
-    Row {
-        name: "no update is offered by range-key, 1 worker",
-        words: &["threads", "@range-key", "s", "--workers", "1"],
-        table: NO_TABLE,
-        script: NO_UPDATE,
-        status: 0,
-        out: NO_UPDATE_REPORT,
-        err: "",
-    },
-    Row {
-        name: "no update is offered by range-key, 4 workers",
-        words: &["threads", "@range-key", "s", "--workers", "4"],
-        table: NO_TABLE,
-        script: NO_UPDATE,
-        status: 0,
-        out: NO_UPDATE_REPORT,
-        err: "",
-    },
-    Row {
-        name: "a table in a file",
-        words: &["threads", "table", "s", "--workers", "2"],
-        table: Table {
-            text: KVL,
-            changes: &[],
-        },
-        script: ONE,
-        status: 0,
-        out: ONE_REPORT,
-        err: "",
-    },
+    Row { name: "one transaction under kvl",                         words: &["threads", "@kvl", "s", "--workers", "1"],        script: ONE,                       out: ONE_REPORT,       ..RUN },
+    Row { name: "one transaction under kvl-update",                  words: &["threads", "@kvl-update", "s", "--workers", "1"], script: ONE,                       out: ONE_REPORT,       ..RUN },
+    Row { name: "one transaction under im",                          words: &["threads", "@im", "s", "--workers", "1"],         script: ONE,                       out: ONE_REPORT,       ..RUN },
+    Row { name: "one transaction under range-key",                   words: &["threads", "@range-key", "s", "--workers", "1"],  script: ONE,                       out: ONE_REPORT,       ..RUN },
+    Row { name: "one transaction by 64 workers",                     words: &["threads", "@kvl", "s", "--workers", "64"],       script: ONE,                       out: ONE_REPORT,       ..RUN },
+    Row { name: "one transaction by as many as are told by no word", words: &["threads", "@kvl", "s"],                          script: ONE,                       out: ONE_REPORT,       ..RUN },
+    Row { name: "steps left out",                                    words: &["threads", "@kvl", "s", "--workers", "1"],        script: LEFT_OUT,                  out: LEFT_OUT_REPORT,  ..RUN },
+    Row { name: "updates and backs",                                 words: &["threads", "@kvl-update", "s", "--workers", "1"], script: BACK,                      out: BACK_REPORT,      ..RUN },
+    Row { name: "no update is offered by kvl, 1 worker",             words: &["threads", "@kvl", "s", "--workers", "1"],        script: NO_UPDATE,                 out: NO_UPDATE_REPORT, ..RUN },
+    Row { name: "no update is offered by kvl, 4 workers",            words: &["threads", "@kvl", "s", "--workers", "4"],        script: NO_UPDATE,                 out: NO_UPDATE_REPORT, ..RUN },
+    Row { name: "no update is offered by im, 1 worker",              words: &["threads", "@im", "s", "--workers", "1"],         script: NO_UPDATE,                 out: NO_UPDATE_REPORT, ..RUN },
+    Row { name: "no update is offered by im, 4 workers",             words: &["threads", "@im", "s", "--workers", "4"],         script: NO_UPDATE,                 out: NO_UPDATE_REPORT, ..RUN },
+    Row { name: "no update is offered by range-key, 1 worker",       words: &["threads", "@range-key", "s", "--workers", "1"],  script: NO_UPDATE,                 out: NO_UPDATE_REPORT, ..RUN },
+    Row { name: "no update is offered by range-key, 4 workers",      words: &["threads", "@range-key", "s", "--workers", "4"],  script: NO_UPDATE,                 out: NO_UPDATE_REPORT, ..RUN },
+    Row { name: "a table in a file",                                 words: &["threads", "table", "s", "--workers", "2"],       table: KVL_TABLE,                  script: ONE,           out: ONE_REPORT,           ..RUN },
     // The script isn't there, and isn't read.
-    Row {
-        name: "a refused table",
-        words: &["threads", "table", "missing"],
-        table: DELETES_NEXT_INSTANT_TABLE,
-        script: "",
-        status: 1,
-        out: DELETES_NEXT_INSTANT,
-        err: "",
-    },
+    Row { name: "a rejected table",                                  words: &["threads", "table", "missing"],                   table: DELETES_NEXT_INSTANT_TABLE, status: 1,             out: DELETES_NEXT_INSTANT, ..RUN },
 ];
 
+/// A fault that is told before the script is looked at.
+const FAULT: Row = Row {
+    script: "{",
+    status: 2,
+    ..RUN
+};
+
 /// Scripts and tables that are not read.
+#[rattlefmt::skip]
 const FAULTS: &[Row] = &[
-    Row {
-        name: "script t",
-        words: &["threads", "@kvl", "t"],
-        table: NO_TABLE,
-        script: "{",
-        status: 2,
-        out: "",
-        err: "kr: t: cannot be read\n",
-    },
-    Row {
-        name: "script @kvl",
-        words: &["threads", "@kvl", "@kvl"],
-        table: NO_TABLE,
-        script: "{",
-        status: 2,
-        out: "",
-        err: "kr: @kvl: cannot be read\n",
-    },
-    Row {
-        name: "script s",
-        words: &["threads", "@kvl", "s"],
-        table: NO_TABLE,
-        script: "{",
-        status: 2,
-        out: "",
-        err: "kr: s: fault 2 NotJson\n",
-    },
-    Row {
-        name: "script big",
-        words: &["threads", "@kvl", "big"],
-        table: NO_TABLE,
-        script: "{",
-        status: 2,
-        out: "",
-        err: "kr: out of memory\n",
-    },
-    Row {
-        name: "no such table",
-        words: &["threads", "@kvl2", "s"],
-        table: NO_TABLE,
-        script: ONE,
-        status: 2,
-        out: "",
-        err: "kr: @kvl2: cannot be read\n",
-    },
+    Row { name: "script t",      words: &["threads", "@kvl", "t"],    err: "kr: t: cannot be read",    ..FAULT },
+    Row { name: "script @kvl",   words: &["threads", "@kvl", "@kvl"], err: "kr: @kvl: cannot be read", ..FAULT },
+    Row { name: "script s",      words: &["threads", "@kvl", "s"],    err: "kr: s: fault 2 NotJson",   ..FAULT },
+    Row { name: "script big",    words: &["threads", "@kvl", "big"],  err: "kr: out of memory",        ..FAULT },
+    Row { name: "no such table", words: &["threads", "@kvl2", "s"],   script: ONE,                     err: "kr: @kvl2: cannot be read", ..FAULT },
 ];
 
 #[test]

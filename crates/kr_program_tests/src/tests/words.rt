@@ -1,112 +1,28 @@
 //! Words that are not read, and words of no form.
 use super::threads::ONE;
-use super::{NO_TABLE, Row, each_leaves, leaves};
+use super::{RUN, Row, each_leaves, leaves};
 use std::process::Abort;
 use std::sync::Wait;
 use std::test::Fail;
 use std::thread::Threads;
 
+/// A word that isn't read.
+const UNREAD_WORD: Row = Row { status: 2, ..RUN };
+
 /// Words that name no file that can be read.
+#[rattlefmt::skip]
 const UNREAD: &[Row] = &[
-    Row {
-        name: "the word t",
-        words: &["run", "@kvl", "t"],
-        table: NO_TABLE,
-        script: "",
-        status: 2,
-        out: "",
-        err: "kr: t: cannot be read\n",
-    },
-    Row {
-        name: "the word @kvl",
-        words: &["run", "@kvl", "@kvl"],
-        table: NO_TABLE,
-        script: "",
-        status: 2,
-        out: "",
-        err: "kr: @kvl: cannot be read\n",
-    },
-    Row {
-        name: "the word @kvl-update",
-        words: &["run", "@kvl", "@kvl-update"],
-        table: NO_TABLE,
-        script: "",
-        status: 2,
-        out: "",
-        err: "kr: @kvl-update: cannot be read\n",
-    },
-    Row {
-        name: "the word kvl",
-        words: &["run", "kvl", "s"],
-        table: NO_TABLE,
-        script: "",
-        status: 2,
-        out: "",
-        err: "kr: kvl: cannot be read\n",
-    },
-    Row {
-        name: "the word @kvl2",
-        words: &["run", "@kvl2", "s"],
-        table: NO_TABLE,
-        script: "",
-        status: 2,
-        out: "",
-        err: "kr: @kvl2: cannot be read\n",
-    },
-    Row {
-        name: "the word kvl-update",
-        words: &["run", "kvl-update", "s"],
-        table: NO_TABLE,
-        script: "",
-        status: 2,
-        out: "",
-        err: "kr: kvl-update: cannot be read\n",
-    },
-    Row {
-        name: "the word @kvl_update",
-        words: &["run", "@kvl_update", "s"],
-        table: NO_TABLE,
-        script: "",
-        status: 2,
-        out: "",
-        err: "kr: @kvl_update: cannot be read\n",
-    },
-    Row {
-        name: "the word @kvl-updates",
-        words: &["run", "@kvl-updates", "s"],
-        table: NO_TABLE,
-        script: "",
-        status: 2,
-        out: "",
-        err: "kr: @kvl-updates: cannot be read\n",
-    },
-    Row {
-        name: "the word of two lines",
-        words: &["run", "@kvl", "a\nb"],
-        table: NO_TABLE,
-        script: "",
-        status: 2,
-        out: "",
-        err: "kr: a\\u{a}b: cannot be read\n",
-    },
-    Row {
-        name: "the word with a control character",
-        words: &["run", "\u{1b}[1m", "s"],
-        table: NO_TABLE,
-        script: "",
-        status: 2,
-        out: "",
-        err: "kr: \\u{1b}[1m: cannot be read\n",
-    },
-    Row {
-        name: "the word big",
-        words: &["run", "@kvl", "big"],
-        table: NO_TABLE,
-        script: "",
-        status: 2,
-        out: "",
-        err: "kr: out of memory\n",
-    },
+    Row { name: "the word t",                        words: &["run", "@kvl", "t"],           err: "kr: t: cannot be read",            ..UNREAD_WORD },
+    Row { name: "the word @kvl",                     words: &["run", "@kvl", "@kvl"],        err: "kr: @kvl: cannot be read",         ..UNREAD_WORD },
+    Row { name: "the word @kvl-update",              words: &["run", "@kvl", "@kvl-update"], err: "kr: @kvl-update: cannot be read",  ..UNREAD_WORD },
+    Row { name: "the word kvl",                      words: &["run", "kvl", "s"],            err: "kr: kvl: cannot be read",          ..UNREAD_WORD },
+    Row { name: "the word @kvl2",                    words: &["run", "@kvl2", "s"],          err: "kr: @kvl2: cannot be read",        ..UNREAD_WORD },
+    Row { name: "the word kvl-update",               words: &["run", "kvl-update", "s"],     err: "kr: kvl-update: cannot be read",   ..UNREAD_WORD },
+    Row { name: "the word @kvl_update",              words: &["run", "@kvl_update", "s"],    err: "kr: @kvl_update: cannot be read",  ..UNREAD_WORD },
+    Row { name: "the word @kvl-updates",             words: &["run", "@kvl-updates", "s"],   err: "kr: @kvl-updates: cannot be read", ..UNREAD_WORD },
+    Row { name: "the word of two lines",             words: &["run", "@kvl", "a\nb"],        err: "kr: a\\u{a}b: cannot be read",     ..UNREAD_WORD },
+    Row { name: "the word with a control character", words: &["run", "\u{1b}[1m", "s"],      err: "kr: \\u{1b}[1m: cannot be read",   ..UNREAD_WORD },
+    Row { name: "the word big",                      words: &["run", "@kvl", "big"],         err: "kr: out of memory",                ..UNREAD_WORD },
 ];
 
 /// Words of no form.
@@ -164,11 +80,10 @@ where
     let row = Row {
         name: "words of no form",
         words,
-        table: NO_TABLE,
         script,
         status: 2,
-        out: "",
-        err: "kr: words not understood\n",
+        err: "kr: words not understood",
+        ..RUN
     };
     leaves(rt, &row)
 }

@@ -5,53 +5,6 @@ use kr_script::report_check;
 use std::alloc::{AllocError, Global};
 use std::process::Abort;
 
-/// Compares the report of a check that found these failed cases of a protocol.
-fn reports<P: Protocol>(
-    rt: &impl Abort,
-    alloc: Global,
-    protocol: &P,
-    failed: &[FailedCase],
-    report: &str,
-) -> Result<(), AllocError> {
-    let text = report_check(alloc, protocol, failed)?;
-    assert_eq!(rt; text.as_str(), report);
-    Ok(())
-}
-
-/// Compares the report of a protocol that is accepted.
-fn accepts<P: Protocol>(
-    rt: &impl Abort,
-    alloc: Global,
-    protocol: &P,
-    report: &str,
-) -> Result<(), AllocError> {
-    reports(rt, alloc, protocol, &[], report)
-}
-
-#[test]
-fn reports_accepted_tables(rt: HostRuntime) -> Result<(), AllocError> {
-    let alloc = rt.alloc();
-    accepts(
-        &rt,
-        alloc,
-        &Kvl,
-        r#"{"accepted":true,"cases":244,"modes":5}"#,
-    )?;
-    accepts(&rt, alloc, &Im, r#"{"accepted":true,"cases":61,"modes":2}"#)?;
-    accepts(
-        &rt,
-        alloc,
-        &RangeKey,
-        r#"{"accepted":true,"cases":988,"modes":11}"#,
-    )?;
-    accepts(
-        &rt,
-        alloc,
-        &KvlUpdate,
-        r#"{"accepted":true,"cases":275,"modes":5}"#,
-    )
-}
-
 const A_SPLIT: FailedCase = FailedCase {
     case: Rule::Split,
     cover: Cover::ReadGap,
@@ -68,17 +21,6 @@ const A_SPLIT: FailedCase = FailedCase {
     },
 };
 
-#[test]
-fn reports_a_split(rt: HostRuntime) -> Result<(), AllocError> {
-    reports(
-        &rt,
-        rt.alloc(),
-        &Kvl,
-        &[A_SPLIT],
-        r#"{"accepted":false,"cases":244,"failed":[{"case":"G7","cover":"RG","from":["S","none"],"mode":"IX","open":["insert","next","none","none"]}],"modes":5}"#,
-    )
-}
-
 const A_FETCHED_KEY: FailedCase = FailedCase {
     case: Rule::FetchHit,
     cover: Cover::ReadKey,
@@ -91,17 +33,6 @@ const A_FETCHED_KEY: FailedCase = FailedCase {
         own_next: 5,
     },
 };
-
-#[test]
-fn reports_a_fetched_key(rt: HostRuntime) -> Result<(), AllocError> {
-    reports(
-        &rt,
-        rt.alloc(),
-        &Kvl,
-        &[A_FETCHED_KEY],
-        r#"{"accepted":false,"cases":244,"failed":[{"case":"G2","cover":"RK","from":["SIX"],"mode":"SIX","open":["delete","current","IS","X"]}],"modes":5}"#,
-    )
-}
 
 const AN_UPDATE: FailedCase = FailedCase {
     case: Rule::Update,
@@ -116,13 +47,56 @@ const AN_UPDATE: FailedCase = FailedCase {
     },
 };
 
+/// A check that found these failed cases, and its report.
+#[derive(Clone, Copy)]
+struct Found<'a> {
+    name: &'a str,
+    failed: &'a [FailedCase],
+    report: &'a str,
+}
+
+#[rattlefmt::skip]
+const OF_KVL: &[Found] = &[
+    Found { name: "accepted",      failed: &[],              report: r#"{"accepted":true,"cases":244,"modes":5}"# },
+    Found { name: "a split",       failed: &[A_SPLIT],       report: r#"{"accepted":false,"cases":244,"failed":[{"case":"G7","cover":"RG","from":["S","none"],"mode":"IX","open":["insert","next","none","none"]}],"modes":5}"# },
+    Found { name: "a fetched key", failed: &[A_FETCHED_KEY], report: r#"{"accepted":false,"cases":244,"failed":[{"case":"G2","cover":"RK","from":["SIX"],"mode":"SIX","open":["delete","current","IS","X"]}],"modes":5}"# },
+];
+
+#[rattlefmt::skip]
+const OF_KVL_UPDATE: &[Found] = &[
+    Found { name: "accepted",  failed: &[],          report: r#"{"accepted":true,"cases":275,"modes":5}"# },
+    Found { name: "an update", failed: &[AN_UPDATE], report: r#"{"accepted":false,"cases":275,"failed":[{"case":"G9","cover":"UK","from":["none"],"mode":"IX","open":["update","current","none","none"]}],"modes":5}"# },
+];
+
+#[rattlefmt::skip]
+const OF_IM: &[Found] = &[
+    Found { name: "accepted", failed: &[], report: r#"{"accepted":true,"cases":61,"modes":2}"# },
+];
+
+#[rattlefmt::skip]
+const OF_RANGE_KEY: &[Found] = &[
+    Found { name: "accepted", failed: &[], report: r#"{"accepted":true,"cases":988,"modes":11}"# },
+];
+
+/// Compares the report of each check of a protocol.
+fn each_is_reported<P: Protocol>(
+    rt: &impl Abort,
+    alloc: Global,
+    protocol: &P,
+    rows: &[Found],
+) -> Result<(), AllocError> {
+    for row in rows {
+        let report = report_check(alloc, protocol, row.failed)?;
+        assert_eq!(rt; report.as_str(), row.report, "{}", row.name);
+    }
+    Ok(())
+}
+
 #[test]
-fn reports_an_update(rt: HostRuntime) -> Result<(), AllocError> {
-    reports(
-        &rt,
-        rt.alloc(),
-        &KvlUpdate,
-        &[AN_UPDATE],
-        r#"{"accepted":false,"cases":275,"failed":[{"case":"G9","cover":"UK","from":["none"],"mode":"IX","open":["update","current","none","none"]}],"modes":5}"#,
-    )
+fn checks_are_reported(rt: HostRuntime) -> Result<(), AllocError> {
+    let alloc = rt.alloc();
+    each_is_reported(&rt, alloc, &Kvl, OF_KVL)?;
+    each_is_reported(&rt, alloc, &KvlUpdate, OF_KVL_UPDATE)?;
+    each_is_reported(&rt, alloc, &Im, OF_IM)?;
+    each_is_reported(&rt, alloc, &RangeKey, OF_RANGE_KEY)
 }

@@ -3,8 +3,8 @@
 use super::likeness::SIDES;
 use super::lines::PLAIN;
 use kr_protocol::{Mode, Protocol};
+use kr_table::bundled::RANGE_KEY;
 use kr_table::read;
-use kr_table::texts::RANGE_KEY;
 use std::process::Abort;
 use std::test::Fail;
 

@@ -3,7 +3,7 @@
 use super::likeness::{are_alike, ask_alike};
 use super::lines::{PLAIN, Table};
 use kr_protocol::{Im, Kvl, KvlUpdate, Protocol, RangeKey};
-use kr_table::texts::{IM, KVL, KVL_UPDATE, RANGE_KEY};
+use kr_table::bundled::{IM, KVL, KVL_UPDATE, RANGE_KEY};
 use kr_table::{read, write};
 use std::alloc::Global;
 use std::process::Abort;

@@ -3,8 +3,8 @@
 use super::bundled::is_read_back;
 use super::lines::{PLAIN, Table};
 use kr_protocol::{Mode, Protocol, Row, Side, Span};
+use kr_table::bundled::KVL_UPDATE;
 use kr_table::read;
-use kr_table::texts::KVL_UPDATE;
 use std::alloc::Global;
 use std::process::Abort;
 use std::test::Fail;

@@ -32,28 +32,11 @@ impl Deep<'_> {
 }
 
 /// 100,000 arrays in one another, closed and not, and as many members; the program has no more stack than this.
+#[rattlefmt::skip]
 const DEEP_SCRIPTS: &[Deep] = &[
-    Deep {
-        before: "",
-        part: "[",
-        middle: "",
-        other: "]",
-        count: 100_000,
-    },
-    Deep {
-        before: "",
-        part: "[",
-        middle: "",
-        other: "",
-        count: 100_000,
-    },
-    Deep {
-        before: "",
-        part: "{\"a\":",
-        middle: "1",
-        other: "}",
-        count: 100_000,
-    },
+    Deep { before: "", part: "[",       middle: "",  other: "]", count: 100_000 },
+    Deep { before: "", part: "[",       middle: "",  other: "",  count: 100_000 },
+    Deep { before: "", part: "{\"a\":", middle: "1", other: "}", count: 100_000 },
 ];
 
 #[test]
@@ -67,49 +50,14 @@ fn deep_scripts(rt: HostRuntime) -> Result<(), AllocError> {
 }
 
 /// Arrays, tables and names in one another, as deep as a table's bytes go.
+#[rattlefmt::skip]
 const DEEP_TABLES: &[Deep] = &[
-    Deep {
-        before: "modes = ",
-        part: "[",
-        middle: "",
-        other: "]",
-        count: 32_000,
-    },
-    Deep {
-        before: "modes = ",
-        part: "[",
-        middle: "",
-        other: "",
-        count: 65_000,
-    },
-    Deep {
-        before: "modes = ",
-        part: "{a=",
-        middle: "1",
-        other: "}",
-        count: 16_000,
-    },
-    Deep {
-        before: "a",
-        part: ".a",
-        middle: " = 1",
-        other: "",
-        count: 32_000,
-    },
-    Deep {
-        before: "[a",
-        part: ".a",
-        middle: "]",
-        other: "",
-        count: 32_000,
-    },
-    Deep {
-        before: "[[a",
-        part: ".a",
-        middle: "]]",
-        other: "",
-        count: 32_000,
-    },
+    Deep { before: "modes = ", part: "[",   middle: "",     other: "]", count: 32_000 },
+    Deep { before: "modes = ", part: "[",   middle: "",     other: "",  count: 65_000 },
+    Deep { before: "modes = ", part: "{a=", middle: "1",    other: "}", count: 16_000 },
+    Deep { before: "a",        part: ".a",  middle: " = 1", other: "",  count: 32_000 },
+    Deep { before: "[a",       part: ".a",  middle: "]",    other: "",  count: 32_000 },
+    Deep { before: "[[a",      part: ".a",  middle: "]]",   other: "",  count: 32_000 },
 ];
 
 #[test]

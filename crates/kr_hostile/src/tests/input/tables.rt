@@ -1,7 +1,7 @@
 //! Odd tables, and tables that are cut.
 
 use super::{Kind, fault_of, tells};
-use kr_table::texts::KVL;
+use kr_table::bundled::KVL;
 use std::alloc::AllocError;
 use std::test::Fail;
 

@@ -1,6 +1,6 @@
 use Rattle.kr_model.specs.State.{start}
 use Rattle.kr_model.specs.Run as model
-use Rattle.kr_headline.proofs.Runs.{runs_are_serial}
+use Rattle.kr_headline.proofs.run.Runs.{runs_are_serial}
 use Rattle.kr_serial.proofs.SerialRuns.{on_ok, shows_serial, covered_programs}
 use Rattle.kr_serial.proofs.runs.run_any.Goals as goal
 

@@ -1,6 +1,6 @@
 use Rattle.std.proofs.Common.{◌≡◌, drop}
 use Rattle.toml.specs.View.{items_view}
-use Rattle.kr_table.specs.Testing.{is_mode}
+use Rattle.kr_table.specs.DocumentFaults.{is_mode}
 use Rattle.kr_table.specs.Members.{names_of}
 use Rattle.kr_table.proofs.making.contains.Given as goal
 

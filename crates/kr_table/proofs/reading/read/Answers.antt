@@ -10,7 +10,7 @@ use Rattle.kr_table.proofs.reading.read.Goals as goal
 pub returns-in-Ok-clause-reads : goal.returns-in-Ok-clause-reads
 returns-in-Ok-clause-reads c =
     let short : nat_lt 65536 (length c.args.bytes.now) ≡ false = grind (arith, nat_tests) in
-    let seen = subst (λ d. Gives c.judge.result (judged d)) (view-Table c.in-Ok.table) c.judge.ensures in
+    let seen = subst (λ d. Gives c.table_of.result (judged d)) (view-Table c.in-Ok.table) c.table_of.ensures in
     rw (short, is_utf8-from_IsUtf8 _ c.in-Ok.ensures.ok.0, c.in-Ok.ensures.ok.1) seen
 
 pub returns-in-Err-2-clause-reads : goal.returns-in-Err-2-clause-reads

@@ -1,7 +1,7 @@
 //! Texts that are no tables as a whole: cut, too long, or no text.
 
 use super::{tells, told};
-use kr_table::texts::{IM, KVL, KVL_UPDATE, RANGE_KEY};
+use kr_table::bundled::{IM, KVL, KVL_UPDATE, RANGE_KEY};
 use std::alloc::{AllocError, Global};
 use std::process::Abort;
 use std::test::Fail;

@@ -1,7 +1,0 @@
-use Rattle.std.proofs.Common.{◌≡◌, map, drop, string_bytes}
-use Rattle.toml.specs.View.{view}
-use Rattle.kr_table.specs.Testing.{missing_faults}
-use Rattle.kr_table.proofs.testing.matrices.test_missing.Given as goal
-
-abbrev pub invariant-loop-mode : goal.invariant-loop-mode
-invariant-loop-mode l = missing_faults (map string_bytes l.modes) (view l.entries) ≡ missing_faults (map string_bytes (drop l.mode-index l.modes)) (view l.entries)

@@ -1,6 +1,0 @@
-use Rattle.std.proofs.Common.{◌≡◌, drop}
-use Rattle.kr_table.specs.Testing.{is_printable}
-use Rattle.kr_table.proofs.testing.modes.is_printable.Given as goal
-
-abbrev pub invariant-loop-byte : goal.invariant-loop-byte
-invariant-loop-byte l = is_printable l.name ≡ is_printable (drop l.byte-index l.name)

@@ -1,7 +1,0 @@
-use Rattle.std.proofs.Common.{◌≡◌, map, string_bytes}
-use Rattle.toml.specs.View.{members_view}
-use Rattle.kr_table.specs.Testing.{side_faults}
-use Rattle.kr_table.proofs.testing.rules.test_sides.Given as goal
-
-abbrev pub invariant-loop-side : goal.invariant-loop-side
-invariant-loop-side l = side_faults l.fn.updates (map string_bytes l.fn.modes) l.fn.row (members_view l.fn.sides.entries) ≡ side_faults l.fn.updates (map string_bytes l.fn.modes) l.fn.row (members_view l.side-iterator)

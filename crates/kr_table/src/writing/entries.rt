@@ -1,0 +1,133 @@
+//! The members of a written document but for its rules: names, which modes stand together, and conversions.
+ghost use Rattle.std.specs.Prelude.{◌≡◌, ◌*◌, IfOk, OnOk, length, map, string_bytes};
+ghost use Rattle.toml.specs.View.{view, members_view};
+ghost use Rattle.toml.specs.Data.{array, string as a_text, no_members};
+ghost use Rattle.kr_model.specs.ModeNames.{name_of};
+ghost use Rattle.kr_table.specs.Writing as spec;
+
+use kr_modes::Mode;
+use std::alloc::{AllocError, Global};
+use toml::{Table as Document, Value};
+
+/// Puts a value at a name.
+pub fn put_in(
+    alloc: Global,
+    table: &mut Document,
+    name: &str,
+    value: Value,
+) -> Result<(), AllocError>
+    ensures { OnOk result (members_view table.new.entries ≡ spec.put name.now (view value) (members_view table.old.entries)) }
+{
+    table.insert(String::from_str(alloc, name)?, value)?;
+    Ok(())
+}
+
+/// The names, as an array of texts.
+pub fn texts_of(alloc: Global, names: &[String]) -> Result<Value, AllocError>
+    ensures { IfOk result (λ v. view v ≡ array (spec.strings (map string_bytes names.now))) }
+{
+    let mut texts = Vec::new(alloc);
+    for name in names {
+        texts.push(Value::String(name.clone()?))?;
+    }
+    Ok(Value::Array(texts))
+}
+
+/// The names at which the line says yes, as an array of texts.
+fn chosen(alloc: Global, names: &[String], line: &[bool]) -> Result<Value, AllocError>
+    requires { length line.now ≡ length names.now }
+    ensures { IfOk result (λ v. view v ≡ array (spec.strings (spec.chosen (map string_bytes names.now) line.now))) }
+{
+    let mut texts = Vec::new(alloc);
+    for (i, name) in names.iter().enumerate() {
+        if line[i] {
+            texts.push(Value::String(name.clone()?))?;
+        }
+    }
+    Ok(Value::Array(texts))
+}
+
+/// An entry for each requested mode: the modes that it may stand beside.
+pub fn compatible_entries(
+    alloc: Global,
+    names: &[String],
+    compatible: &[bool],
+) -> Result<Document, AllocError>
+    requires { length compatible.now ≡ length names.now * length names.now }
+    ensures { IfOk result (λ t. members_view t.entries ≡ spec.with_compatible (map string_bytes names.now) (map string_bytes names.now) compatible.now no_members) }
+{
+    let mut entries = Document::new(alloc);
+    let mut rest = compatible;
+    for requested in names {
+        let line = &rest[..names.len()];
+        put_in(
+            alloc,
+            &mut entries,
+            requested.as_str(),
+            chosen(alloc, names, line)?,
+        )?;
+        rest = &rest[names.len()..];
+    }
+    Ok(entries)
+}
+
+/// The name of a mode.
+pub fn name_at(names: &[String], mode: Mode) -> &str
+    ensures { result.now ≡ name_of (map string_bytes names.now) mode }
+{
+    if mode == 0 {
+        return "none";
+    }
+    match names.get(mode as usize - 1) {
+        Some(name) => name.as_str(),
+        None => "",
+    }
+}
+
+/// A text.
+pub fn text(alloc: Global, bytes: &str) -> Result<Value, AllocError>
+    ensures { IfOk result (λ v. view v ≡ a_text bytes.now) }
+{
+    Ok(Value::String(String::from_str(alloc, bytes)?))
+}
+
+/// A pair for each requested mode: the name of the mode in the line.
+fn pairs(alloc: Global, names: &[String], line: &[Mode]) -> Result<Document, AllocError>
+    requires { length line.now ≡ length names.now }
+    ensures { IfOk result (λ t. members_view t.entries ≡ spec.with_pairs (map string_bytes names.now) (map string_bytes names.now) line.now no_members) }
+{
+    let mut entries = Document::new(alloc);
+    for (i, requested) in names.iter().enumerate() {
+        put_in(
+            alloc,
+            &mut entries,
+            requested.as_str(),
+            text(alloc, name_at(names, line[i]))?,
+        )?;
+    }
+    Ok(entries)
+}
+
+/// An entry for each held mode, with its pairs.
+pub fn conversion_entries(
+    alloc: Global,
+    names: &[String],
+    conversion: &[Mode],
+) -> Result<Document, AllocError>
+    requires { length conversion.now ≡ length names.now * length names.now }
+    ensures { IfOk result (λ t. members_view t.entries ≡ spec.with_conversion (map string_bytes names.now) (map string_bytes names.now) conversion.now no_members) }
+{
+    let mut entries = Document::new(alloc);
+    let mut rest = conversion;
+    for held in names {
+        let line = &rest[..names.len()];
+        put_in(
+            alloc,
+            &mut entries,
+            held.as_str(),
+            Value::Table(pairs(alloc, names, line)?),
+        )?;
+        rest = &rest[names.len()..];
+    }
+    Ok(entries)
+}
