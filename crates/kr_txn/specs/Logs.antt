@@ -20,6 +20,14 @@ pub record LogWithRoom : Type 0 where
   pub log : Log
   pub ready : Option ℕ
 
+-- The number of an unfinished transaction.
+abbrev pub number_of : Unfinished → ℕ
+number_of u = u.txn
+
+-- Its operations so far, with their answers.
+abbrev pub operations_of : Unfinished → List Answered
+operations_of u = u.operations.items
+
 -- The number of an unfinished transaction, and its operations so far.
 abbrev pub entry : Unfinished → ℕ × List Answered
 entry u = (u.txn, u.operations.items)

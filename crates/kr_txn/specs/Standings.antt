@@ -15,6 +15,10 @@ scan_of s = record { lo = s.lo; hi = s.hi; rows = s.rows.items }
 abbrev pub active_of : Standing → state.Active
 active_of s = record { scan = option_map scan_of s.scan; changes = reverse s.changes.items; rolling = s.rolling }
 
+-- The number of an active transaction.
+abbrev pub number_of : Standing → ℕ
+number_of s = s.txn
+
 -- The number of an active transaction, and how it stands.
 abbrev pub entry : Standing → ℕ × state.Active
 entry s = (s.txn, active_of s)
