@@ -7,7 +7,7 @@ ghost use Rattle.kr_model.specs.declared.Op.TheVariants as op_is;
 ghost use Rattle.kr_machine.specs.Pending.{IsAttempt, IsEnd};
 
 use crate::pending::{Pending, Ready};
-use crate::{change, holds, reserve, room};
+use crate::{change, holds, refusals, replies, reserve, room};
 use kr_index::Ordered;
 use kr_locks::{Holdings, Memory};
 use kr_model::{Event, Mode, Name, Op, Pairs, Refusal, Reply, Txn, Txns};
@@ -139,7 +139,13 @@ impl<P: Protocol, I: Ordered, L: Holdings> Stepper<P, I, L> {
         ensures not_granted { IfErr result (λ r. is_granted r ≡ false) }
         ensures err { OnErr result (self.new ≡ self.old) }
     {
-        if let Some(refusal) = room::refusal(&self.protocol, &self.ended, &self.active, txn, op) {
+        if let Some(refusal) = refusals::refusal(
+            &self.protocol,
+            &self.ended,
+            &self.active,
+            txn,
+            op,
+        ) {
             return Err(Reply::Refused(refusal));
         }
         match op {
@@ -180,7 +186,7 @@ impl<P: Protocol, I: Ordered, L: Holdings> Stepper<P, I, L> {
                 self.pending = Some(pending);
                 Ok(Ready {
                     event: Event { txn, op },
-                    reply: change::end_reply(op),
+                    reply: replies::end_reply(op),
                 })
             }
             Err(_) => Err(Reply::Refused(Refusal::Memory)),
@@ -230,7 +236,7 @@ impl<P: Protocol, I: Ordered, L: Holdings> Stepper<P, I, L> {
         ensures err { OnErr result (self.new ≡ self.old) }
     {
         let scan = room::scan_of(&self.active, txn);
-        let attempt = change::attempt_of(&self.index, scan, op);
+        let attempt = replies::attempt_of(&self.index, scan, op);
         let plan = kr_plan::plan(&self.protocol, &self.index, &self.locks, txn, attempt);
         let alloc = *self.active.allocator();
         if !kr_plan::granted(&self.protocol, &self.locks, txn, &plan) {
@@ -239,7 +245,7 @@ impl<P: Protocol, I: Ordered, L: Holdings> Stepper<P, I, L> {
                 Err(_) => return Err(Reply::Refused(Refusal::Memory)),
             }
         }
-        let reply = match change::reply_to(alloc, &self.index, scan, op, attempt, plan.row) {
+        let reply = match replies::reply_to(alloc, &self.index, scan, op, attempt, plan.row) {
             Ok(reply) => reply,
             Err(_) => return Err(Reply::Refused(Refusal::Memory)),
         };
@@ -280,7 +286,7 @@ impl<P: Protocol, I: Ordered, L: Holdings> Stepper<P, I, L> {
                 was_active,
                 first_rows: _,
             } = pending;
-            change::give_up(&mut self.index, event.op, plan.row);
+            change::unpin_change(&mut self.index, event.op, plan.row);
             holds::give_back(&mut self.locks, event.txn, plan.next, next_was);
             holds::give_back(&mut self.locks, event.txn, plan.current, current_was);
             room::put_down(&mut self.active, event.txn, standing, was_active);
