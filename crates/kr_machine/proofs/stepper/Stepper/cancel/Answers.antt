@@ -17,7 +17,7 @@ invariant_of-self g c =
     let inv = c.self.invariant in
     let was = sym c.take.ensures.value ∙ c.in-Some.is in
     let now = reserved_now (g.P.Protocol.table c.self.inside.protocol) (g.I.Ordered.map c.self.inside.index) (g.I.Ordered.pins c.self.inside.index) (g.L.Holdings.locks c.self.inside.locks) c.self.inside.ended c.self.inside.active c.self.inside.pending c.in-Some.pending was inv.reserved in
-    let same : c.in-Some.pending.event ≡ c.ready.inside.event = event_of_pending c.self.inside.pending c.in-Some.pending c.ready.inside.event (ap (λ m. m.1.1) c.self.view_is ∙ c.requires ∙ ap (λ (d : Due). Some d.event) (sym c.ready.view_is)) was in
+    let same : c.in-Some.pending.event ≡ c.ready.inside.event = event_of_pending c.self.inside.pending c.in-Some.pending c.ready.inside.event (ap (λ m. m.pending) c.self.view_is ∙ c.requires ∙ ap (λ (d : Due). Some d.event) (sym c.ready.view_is)) was in
     let back : g.L.Holdings.locks c.give_back-in-Some.new.locks ≡ shown_locks (Some c.in-Some.pending) (g.L.Holdings.locks c.self.inside.locks) =
     c.give_back-in-Some.ensures ∙ ap (λ (l : Locks). put_back l c.ready.inside.event.txn c.in-Some.pending.plan.current c.in-Some.pending.current_was) c.give_back.ensures
     ∙ ap (λ e. put_back (put_back (g.L.Holdings.locks c.self.inside.locks) e.txn c.in-Some.pending.plan.next c.in-Some.pending.next_was) e.txn c.in-Some.pending.plan.current c.in-Some.pending.current_was) (sym same) in
