@@ -14,21 +14,11 @@ fn scan_refusal(updates: bool, is_scanning: bool, is_unchanged: bool, op: Op) ->
     ensures { result ≡ scan_refusal updates is_scanning is_unchanged op }
 {
     match op {
-        Op::Go => {
-            if is_scanning {
-                None
-            } else {
-                Some(Refusal::NoScan)
-            }
-        }
+        Op::Go if is_scanning => None,
+        Op::Go => Some(Refusal::NoScan),
         Op::Abort => None,
-        Op::Back => {
-            if is_unchanged {
-                Some(Refusal::NothingLeft)
-            } else {
-                None
-            }
-        }
+        Op::Back if is_unchanged => Some(Refusal::NothingLeft),
+        Op::Back => None,
         Op::Scan(lo, hi) => {
             if is_scanning {
                 Some(Refusal::Busy)
