@@ -61,12 +61,6 @@ tied_key q t e = grind (arith, nat_tests)
 untied_key : (q t : ℕ) → eq_by_cmp nat_cmp q t ≡ false → (q == t) ≡ false
 untied_key q t e = grind (arith, nat_tests)
 
-tests_differ : (q t : ℕ) → eq_by_cmp nat_cmp q t ≡ true → (q == t) ≡ false → ⊥
-tests_differ q t e f = grind (arith, nat_tests)
-
-tests_differ_too : (q t : ℕ) → eq_by_cmp nat_cmp q t ≡ false → (q == t) ≡ true → ⊥
-tests_differ_too q t e f = grind (arith, nat_tests)
-
 cmp_less : (t k : ℕ) → t < k → nat_cmp t k ≡ Less
 cmp_less t k h = grind (arith, nat_tests)
 
@@ -106,19 +100,6 @@ module _ {V : Type 0} (t : ℕ) (es : List (ℕ × V)) (s : IsTrue (is_sorted na
   put_back a h = same_entries nat_cmp nat_cmp_total exact_unsigned (put nat_cmp t a (without_txn t es)) es (is_sorted-put nat_cmp nat_cmp_total t a (without_txn t es) sorted-without) sorted (λ q.
       find-put nat_cmp nat_cmp_total q t a (without_txn t es) ∙ ap (λ x. cond (eq_by_cmp nat_cmp q t) (Some a) x) (find-rest q)
       ∙ back_at a q (eq_by_cmp nat_cmp q t) (q == t) refl refl h)
-
-  apart_at : (a : V) (q : ℕ) (b c : Bool) → eq_by_cmp nat_cmp q t ≡ b → (q == t) ≡ c → find nat_cmp t es ≡ None → cond (not c) (cond b (Some a) (find nat_cmp q es)) None ≡ find nat_cmp q es
-  apart_at a q true true e f h = sym h ∙ ap (λ k. find nat_cmp k es) (sym (tied_key q t e))
-  apart_at a q true false e f h = absurd (tests_differ q t e f)
-  apart_at a q false true e f h = absurd (tests_differ_too q t e f)
-  apart_at a q false false e f h = refl
-
-  -- Put in and taken out, the list is the same.
-  pub without-put : (a : V) → find nat_cmp t es ≡ None → without_txn t (put nat_cmp t a es) ≡ es
-  without-put a h = same_entries nat_cmp nat_cmp_total exact_unsigned (without_txn t (put nat_cmp t a es)) es (is_sorted-where_key nat_cmp (λ k. not (k == t)) (put nat_cmp t a es) (is_sorted-put nat_cmp nat_cmp_total t a es sorted)) sorted (λ q.
-      find-where_key nat_cmp (λ k. not (k == t)) q (λ x e. ap (λ y. not (y == t)) (sym (exact_unsigned q x e))) (put nat_cmp t a es)
-      ∙ ap (λ x. cond (not (q == t)) x None) (find-put nat_cmp nat_cmp_total q t a es)
-      ∙ apart_at a q (eq_by_cmp nat_cmp q t) (q == t) refl refl h)
 
   over_at : (a b : V) (o : Option V) (c : Bool) → cond c (Some b) (cond c (Some a) o) ≡ cond c (Some b) o
   over_at a b o true = refl
