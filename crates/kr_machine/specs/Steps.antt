@@ -1,4 +1,4 @@
--- What contracts see of that which does the steps of a machine.
+-- A machine without its log, as contracts see it.
 use Rattle.std.specs.Prelude.{Option}
 use Rattle.kr_model.specs.declared.Event.{Event}
 use Rattle.kr_model.specs.State.{State}
