@@ -58,18 +58,27 @@ without t es = filter (λ e. not (e.txn == t)) es
 
 -- What always holds under the lock, for an engine with this table, this opening map and this row of places; own is the table of the machine's protocol.
 pub record IsCore (p : Protocol) (opening : Map) (places : List ℕ) (own : Protocol) (pending : Option Event) (s : State) (log : Log) (es : List Entry) (numbers : List Number) (seats : List SeatNote) (kept : ℕ) : Type 0 where
+  -- the machine goes by the engine's table
   pub table : own ≡ p
+  -- no step is ready
   pub at_rest : pending ≡ None
+  -- the keys of the opening map rise
   pub is_map : IsMap opening
+  -- the entries are a run from the opening map to the state
   pub history : IsHistory p opening es s
   -- the machine's log is that of the entries
   pub log_is : log ≡ log_after no_log (events_with_replies es)
+  -- each seat's count is the number of its entries
   pub counts : CountsAre seats es
+  -- the number that a seat began last was begun by it
   pub last_own : LastAreOwn (begun_by numbers) seats
   -- each entry's transaction was begun by the entry's seat
   pub begun : All (λ e. is_begun (begun_by numbers) e.event.txn e.seat ≡ true) es
   -- a transaction that has ended was begun
   pub ended : (t : ℕ) → has_ended s t ≡ true → was_begun (begun_by numbers) t ≡ true
+  -- each number has the memory of its end's entry exactly where its transaction hasn't ended
   pub ends : HaveEnds s numbers
+  -- a place is kept for each of these ends
   pub kept_is : kept ≡ ends_kept numbers
+  -- the row has the places of the entries and the kept ones
   pub room : length es + kept ≤ length places

@@ -10,7 +10,7 @@ use Rattle.std.specs.FinMap.{find, put, is_sorted}
 use Rattle.std.specs.FinMap.Entries.{by_order}
 use Rattle.kr_model.specs.Map.{Map, Changes, restore, restore_all}
 use Rattle.kr_model.specs.State.{Active}
-use Rattle.kr_txn.specs.Standings.{without_txn}
+use Rattle.kr_txn.specs.Numbered.{without_txn}
 use Rattle.kr_txn.proofs.Lists.{find-without, put_back}
 use Rattle.kr_machine.specs.Pending.{map_back, changes_back}
 use Rattle.kr_machine.specs.Pins.{changes_of, all_changes_of}

@@ -36,8 +36,11 @@ IsDue p s l due e = (due ≡ Some (twice (step p s e.txn e.op).0)) × MayNote l 
 
 -- What always holds of a machine: its state is well formed, its log has the programs of exactly the active transactions, and is ready where a step is.
 pub record IsLogged (p : Protocol) (s : State) (pending : Option Event) (l : LogWithRoom) (due : Option DueReply) : Type 0 where
+  -- the state is well formed
   pub well_formed : IsState p s
+  -- the log has a program of a transaction exactly where it is active
   pub same : (t : ℕ) → is_some (find nat_cmp t l.log.unfinished) ≡ is_some (active_of s t)
+  -- where a step is ready, its reply is kept, and the log may note it
   pub noted : IfSome pending (IsDue p s l due)
 
 -- This reply to an operation may be kept for the log: one that ends an active transaction needs no room, nor does a change taken back.

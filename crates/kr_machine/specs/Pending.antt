@@ -188,18 +188,31 @@ HasRoom active s rows o = (vec_len active < vec_capacity active) × (HasRoomIn s
 
 -- A pending step is granted, and has all its memory.
 pub record IsReserved (p : Protocol) (m : Map) (pins : ℕ → ℕ) (real : Locks) (ended : EndedNumbers) (active : Vec Standing Global) (d : Pending) : Type 0 where
+  -- the state that finish makes of the parts is that after the step
   pub stepped : ◌≡◌ {A = State} (let o = step p (shown (Some d) m real ended.numbers (entries active.items)) d.event.txn d.event.op in o.1) (after_op m real ended.numbers (entries active.items) d.event.txn (active_of d.standing) d.event.op)
+  -- the transaction that was taken out is that of the event
   pub itself : d.standing.txn ≡ d.event.txn
+  -- the plan's row is that of the index
   pub row : IsRowOf m d.event.op d.plan.row
+  -- the transaction isn't in the list meanwhile
   pub apart : find nat_cmp d.event.txn (entries active.items) ≡ None
+  -- the lock that the step keeps on the next name, if it keeps one, is held
   pub next_held : HoldsSide real d.event.txn d.plan.next
+  -- and so is that on the current name
   pub current_held : HoldsSide (put_back real d.event.txn d.plan.next d.next_was) d.event.txn d.plan.current
+  -- the modes of the locks before the step are at most the protocol's count
   pub within : AreWithin p.count (shown_locks (Some d) real)
+  -- and above 0
   pub no_none : HasNoNone (shown_locks (Some d) real)
+  -- those locks are in order, by name and then by transaction
   pub in_order : IsLocks (shown_locks (Some d) real)
+  -- the changes before the step are those of the list and the transaction's own
   pub noted : (q : ℕ) → all_changes_of (shown_active (Some d) (entries active.items)) q ≡ all_changes_of (entries active.items) q + changes_of (active_of d.standing).changes q
+  -- when it ends, the transaction has room among the ended ones, beside each of the list
   pub room_ended : vec_len active + 1 ≤ ended.room
+  -- cancel has room to put it back in the list
   pub room_back : IsTrue d.was_active → vec_len active < vec_capacity active
+  -- finish has room for what the step adds
   pub room : HasRoom active d.standing d.first_rows d.event.op
 
 -- Each change of an active transaction has a pin of its key, and a pending step has one of the key that it may change.
@@ -209,10 +222,17 @@ HasPins (Some p) pins es = (q : ℕ) → pins q ≡ all_changes_of es q + change
 
 -- What always holds of a machine's parts.
 pub record IsMachine (p : Protocol) (m : Map) (pins : ℕ → ℕ) (real : Locks) (ended : EndedNumbers) (active : Vec Standing Global) (pending : Option Pending) : Type 0 where
+  -- the locks are in order, by name and then by transaction
   pub in_order : IsLocks real
+  -- their modes are at most the protocol's count
   pub within : AreWithin p.count real
+  -- and above 0
   pub no_none : HasNoNone real
+  -- the active transactions rise by number
   pub standing : IsInOrder active.items
+  -- each of them has room among the ended ones
   pub room : vec_len active ≤ ended.room
+  -- each change has its pin, and so has the key that a pending step may change
   pub has_pins : HasPins pending pins (entries active.items)
+  -- a pending step is granted, and has all its memory
   pub reserved : IfSome pending (IsReserved p m pins real ended active)

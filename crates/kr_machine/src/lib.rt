@@ -8,6 +8,8 @@ mod change;
 mod holds;
 mod machine;
 mod pending;
+mod refusals;
+mod replies;
 mod reserve;
 mod room;
 mod scans;

@@ -41,9 +41,9 @@ impl<P: Protocol, I: Ordered, L: Holdings> Model for Machine<P, I, L> {
 
     ghost Value = { Seen P };
 
-    ghost view = { λ m. record { protocol = m.stepper.0; state = m.stepper.1.0; log = m.log.log; pending = m.stepper.1.1 } };
+    ghost view = { λ m. record { protocol = m.stepper.protocol; state = m.stepper.state; log = m.log.log; pending = m.stepper.pending } };
 
-    ghost invariant = { λ m. IsLogged (P.table m.stepper.0) m.stepper.1.0 m.stepper.1.1 m.log m.due };
+    ghost invariant = { λ m. IsLogged (P.table m.stepper.protocol) m.stepper.state m.stepper.pending m.log m.due };
 }
 
 impl<P: Protocol, I: Ordered, L: Holdings> Machine<P, I, L> {

@@ -51,7 +51,7 @@ pub(crate) fn reserve<P: Protocol, I: Ordered, L: Holdings>(
     room::make_room(ended, active)?;
     let first_rows = scans::first_rows(*active.allocator(), op)?;
     let (standing, was_active) = room::stand(active, txn, op)?;
-    if let Err(refused) = change::reserve(index, op, plan.row) {
+    if let Err(refused) = change::pin_change(index, op, plan.row) {
         room::put_down(active, txn, standing, was_active);
         return Err(refused);
     }
@@ -66,7 +66,7 @@ pub(crate) fn reserve<P: Protocol, I: Ordered, L: Holdings>(
             first_rows,
         }),
         Err(refused) => {
-            change::give_up(index, op, plan.row);
+            change::unpin_change(index, op, plan.row);
             room::put_down(active, txn, standing, was_active);
             Err(refused)
         }

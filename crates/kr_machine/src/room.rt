@@ -1,122 +1,16 @@
 //! The lists of ended and active transactions, and room in them.
-ghost use Rattle.std.specs.Prelude.{◌≡◌, ◌≢◌, ℕ, ◌+◌, ◌<◌, ◌≤◌, None, Some, OnOk, OnErr, IfOk, IfErr, IsOk, IsTrue, length, vec_len, vec_capacity, if◌then◌else◌, unwrap_or, [], false, option_map, option_copied};
+ghost use Rattle.std.specs.Prelude.{◌≡◌, ℕ, ◌+◌, ◌<◌, ◌≤◌, None, OnOk, OnErr, IfOk, IsTrue, vec_len, vec_capacity, if◌then◌else◌, unwrap_or, false, option_map, option_copied};
 ghost use Rattle.std.specs.Ordering.{nat_cmp};
 ghost use Rattle.std.specs.FinMap.{find, put};
 ghost use Rattle.kr_model.specs.Locks.{add_once, release};
-ghost use Rattle.kr_model.specs.State.{State, idle, Active};
-ghost use Rattle.kr_model.specs.Step.{refusal_of};
-ghost use Rattle.kr_txn.specs.Standings.{active_of, scan_of, entries, IsInOrder, without_txn};
-ghost use Rattle.kr_machine.specs.Pending.{HasRoomIn, scan_refusal, refusal_in, shown};
+ghost use Rattle.kr_model.specs.State.{idle, Active};
+ghost use Rattle.kr_txn.specs.Standings.{active_of, scan_of, entries, IsInOrder};
+ghost use Rattle.kr_machine.specs.Pending.{HasRoomIn};
 ghost use Rattle.kr_machine.specs.Pins.{changes_of, all_changes_of};
 
 use kr_locks::Holdings;
-use kr_model::{Op, Refusal, Txn};
-use kr_protocol::Protocol;
+use kr_model::{Op, Txn};
 use kr_txn::{Ended, Memory, Scan, Standing, position, put_in, take_out};
-
-/// The refusal of an operation by whether updates are offered, and whether its transaction has a scan in progress, and has
-/// changes left.
-fn scan_refusal(updates: bool, is_scanning: bool, is_unchanged: bool, op: Op) -> Option<Refusal>
-    ensures { result ≡ scan_refusal updates is_scanning is_unchanged op }
-{
-    match op {
-        Op::Go => {
-            if is_scanning {
-                None
-            } else {
-                Some(Refusal::NoScan)
-            }
-        }
-        Op::Abort => None,
-        Op::Back => {
-            if is_unchanged {
-                Some(Refusal::NothingLeft)
-            } else {
-                None
-            }
-        }
-        Op::Scan(lo, hi) => {
-            if is_scanning {
-                Some(Refusal::Busy)
-            } else if hi < lo {
-                Some(Refusal::BadRange)
-            } else {
-                None
-            }
-        }
-        Op::Update(_, _) => {
-            if is_scanning {
-                Some(Refusal::Busy)
-            } else if !updates {
-                Some(Refusal::NoUpdate)
-            } else {
-                None
-            }
-        }
-        Op::Fetch(_) | Op::Insert(_, _) | Op::Delete(_) | Op::Commit => {
-            if is_scanning {
-                Some(Refusal::Busy)
-            } else {
-                None
-            }
-        }
-    }
-}
-
-/// The same, by whether the transaction rolls back too: then only its changes may be taken back.
-fn standing_refusal(
-    updates: bool,
-    is_rolling: bool,
-    is_scanning: bool,
-    is_unchanged: bool,
-    op: Op,
-) -> Option<Refusal>
-    ensures { result ≡ refusal_in updates is_rolling is_scanning is_unchanged op }
-{
-    if !is_rolling {
-        return scan_refusal(updates, is_scanning, is_unchanged, op);
-    }
-    match op {
-        Op::Back | Op::Abort => scan_refusal(updates, is_scanning, is_unchanged, op),
-        Op::Fetch(_)
-        | Op::Scan(_, _)
-        | Op::Go
-        | Op::Insert(_, _)
-        | Op::Delete(_)
-        | Op::Update(_, _)
-        | Op::Commit => Some(Refusal::RollingBack),
-    }
-}
-
-/// The first refusal that applies, want of memory aside.
-pub(crate) fn refusal<P: Protocol>(
-    protocol: &P,
-    ended: &Ended,
-    active: &[Standing],
-    txn: Txn,
-    op: Op,
-) -> Option<Refusal>
-    ensures { result ≡ refusal_of (P.table protocol.now) (shown None [] [] ended.now.numbers (entries active.now)) txn op }
-{
-    let updates = protocol.updates();
-    if ended.has(txn) {
-        return Some(Refusal::Ended);
-    }
-    match position(active, txn) {
-        None => {
-            if active.len() >= 64 {
-                return Some(Refusal::Full);
-            }
-            scan_refusal(updates, false, true, op)
-        }
-        Some(i) => {
-            let standing = &active[i];
-            let is_scanning = standing.scan.is_some();
-            let is_unchanged = standing.changes.is_empty();
-            standing_refusal(updates, standing.rolling, is_scanning, is_unchanged, op)
-        }
-    }
-}
 
 /// The scan in progress of a transaction, if there is one.
 pub(crate) fn scan_of(active: &[Standing], txn: Txn) -> Option<&Scan>

@@ -1,13 +1,13 @@
 //! What does the steps of a machine.
 ghost use Rattle.std.specs.Prelude.{All, map, ◌≡◌, ◌≢◌, ℕ, ◌<◌, ◌≤◌, ◌⊎◌, [], None, Some, IfOk, IfErr, OnOk, OnErr, IsTrue, IsOk, true, false, is_some, ◌&&◌};
-ghost use Rattle.kr_model.specs.State.{State, start, active_of};
+ghost use Rattle.kr_model.specs.State.{start, active_of};
 ghost use Rattle.kr_model.specs.Step.{step, IsStep, takes_no_memory, refusal_of};
 ghost use Rattle.kr_model.specs.Run.{is_granted};
 ghost use Rattle.kr_model.specs.declared.Op.TheVariants as op_is;
 ghost use Rattle.kr_machine.specs.Pending.{IsAttempt, IsEnd};
 
 use crate::pending::{Pending, Ready};
-use crate::{change, holds, reserve, room};
+use crate::{change, holds, refusals, replies, reserve, room};
 use kr_index::Ordered;
 use kr_locks::{Holdings, Memory};
 use kr_model::{Event, Mode, Name, Op, Pairs, Refusal, Reply, Txn, Txns};
@@ -37,16 +37,14 @@ pub(crate) struct Stepper<P: Protocol, I: Ordered, L: Holdings> {
 }
 
 impl<P: Protocol, I: Ordered, L: Holdings> Model for Stepper<P, I, L> {
-    ghost use Rattle.std.specs.Prelude.{Option};
     ghost use Rattle.std.specs.Option.{option_map};
-    ghost use Rattle.kr_model.specs.State.{State};
-    ghost use Rattle.kr_model.specs.declared.Event.{Event};
     ghost use Rattle.kr_txn.specs.Standings.{entries};
     ghost use Rattle.kr_machine.specs.Pending.{shown, IsMachine};
+    ghost use Rattle.kr_machine.specs.Steps.{Steps};
 
-    ghost Value = { P × (State × Option Event) };
+    ghost Value = { Steps P };
 
-    ghost view = { λ m. (m.protocol, (shown m.pending (I.map m.index) (L.locks m.locks) m.ended.numbers (entries m.active.items), option_map (λ p. p.event) m.pending)) };
+    ghost view = { λ m. record { protocol = m.protocol; state = shown m.pending (I.map m.index) (L.locks m.locks) m.ended.numbers (entries m.active.items); pending = option_map (λ p. p.event) m.pending } };
 
     ghost invariant = { λ m. IsMachine (P.table m.protocol) (I.map m.index) (I.pins m.index) (L.locks m.locks) m.ended m.active m.pending };
 }
@@ -56,7 +54,7 @@ impl<P: Protocol, I: Ordered, L: Holdings> Stepper<P, I, L> {
     pub fn new(alloc: Global, protocol: P, index: I, locks: L) -> Self
         requires no_pins { (q : ℕ) → I.pins index q ≡ 0 }
         requires no_locks { L.locks locks ≡ [] }
-        ensures { result ≡ (protocol, (start (I.map index), None)) }
+        ensures { result ≡ record { protocol = protocol; state = start (I.map index); pending = None } }
     {
         Stepper {
             protocol,
@@ -75,8 +73,8 @@ impl<P: Protocol, I: Ordered, L: Holdings> Stepper<P, I, L> {
 
     /// Whether a transaction is active: some step of it was granted, and it has neither committed nor aborted.
     pub fn active(&self, txn: Txn) -> bool
-        requires { self.now.1.1 ≡ None }
-        ensures { result ≡ is_some (active_of self.now.1.0 txn) }
+        requires { self.now.pending ≡ None }
+        ensures { result ≡ is_some (active_of self.now.state txn) }
     {
         match kr_txn::position(&self.active, txn) {
             Some(_) => true,
@@ -86,8 +84,8 @@ impl<P: Protocol, I: Ordered, L: Holdings> Stepper<P, I, L> {
 
     /// Whether a step takes no memory: it is of an active transaction, and ends it or takes a change back.
     pub fn takes_no_memory(&self, txn: Txn, op: Op) -> bool
-        requires { self.now.1.1 ≡ None }
-        ensures { result ≡ (takes_no_memory op && is_some (active_of self.now.1.0 txn)) }
+        requires { self.now.pending ≡ None }
+        ensures { result ≡ (takes_no_memory op && is_some (active_of self.now.state txn)) }
     {
         match op {
             Op::Commit | Op::Abort | Op::Back => self.active(txn),
@@ -102,8 +100,8 @@ impl<P: Protocol, I: Ordered, L: Holdings> Stepper<P, I, L> {
 
     /// A copy of the pairs of the index, keys rising, or `Memory` where a growth is refused.
     pub fn index(&self) -> Result<Pairs, Memory>
-        requires { self.now.1.1 ≡ None }
-        ensures { IfOk result (λ pairs. pairs ≡ self.now.1.0.map) }
+        requires { self.now.pending ≡ None }
+        ensures { IfOk result (λ pairs. pairs ≡ self.now.state.map) }
     {
         self.index.copy(*self.active.allocator())
     }
@@ -111,17 +109,17 @@ impl<P: Protocol, I: Ordered, L: Holdings> Stepper<P, I, L> {
     /// A copy of the locks that are held, each with its mode, by name, the end last, and then by transaction; or `Memory`
     /// where a growth is refused.
     pub fn locks(&self) -> Result<Vec<((Name, Txn), Mode)>, Memory>
-        requires { self.now.1.1 ≡ None }
-        ensures locks { IfOk result (λ list. list.items ≡ self.now.1.0.locks) }
-        ensures modes { IfOk result (λ list. All (λ l. l.1 ≤ (P.table self.now.0).count) list.items) }
+        requires { self.now.pending ≡ None }
+        ensures locks { IfOk result (λ list. list.items ≡ self.now.state.locks) }
+        ensures modes { IfOk result (λ list. All (λ l. l.1 ≤ (P.table self.now.protocol).count) list.items) }
     {
         self.locks.copy(*self.active.allocator())
     }
 
     /// The numbers of the active transactions, rising, or `Memory` where a growth is refused.
     pub fn unfinished(&self) -> Result<Txns, Memory>
-        requires { self.now.1.1 ≡ None }
-        ensures { IfOk result (λ txns. txns ≡ map (λ a. a.0) self.now.1.0.active) }
+        requires { self.now.pending ≡ None }
+        ensures { IfOk result (λ txns. txns ≡ map (λ a. a.0) self.now.state.active) }
     {
         kr_txn::numbers(*self.active.allocator(), &self.active)
     }
@@ -129,17 +127,23 @@ impl<P: Protocol, I: Ordered, L: Holdings> Stepper<P, I, L> {
     /// Takes all memory of a step, and tells its reply without doing it; at `Err` the step is refused or blocked, and
     /// nothing has changed.
     pub fn ready(&mut self, txn: Txn, op: Op) -> Result<Ready, Reply>
-        requires at_rest { self.old.1.1 ≡ None }
+        requires at_rest { self.old.pending ≡ None }
         ensures event { IfOk result (λ r. r.event ≡ record { txn = txn; op = op }) }
-        ensures reply { IfOk result (λ r. r.reply ≡ (step (P.table self.old.0) self.old.1.0 txn op).0) }
+        ensures reply { IfOk result (λ r. r.reply ≡ (step (P.table self.old.protocol) self.old.state txn op).0) }
         ensures granted { IfOk result (λ r. is_granted r.reply ≡ true) }
-        ensures waits { OnOk result (self.new ≡ (self.old.0, (self.old.1.0, Some (record { txn = txn; op = op })))) }
-        ensures allowed { OnOk result (refusal_of (P.table self.old.0) self.old.1.0 txn op ≡ None) }
-        ensures refusal { IfErr result (λ r. IsStep (P.table self.old.0) self.old.1.0 txn op r self.old.1.0) }
+        ensures waits { OnOk result (self.new ≡ record { protocol = self.old.protocol; state = self.old.state; pending = Some (record { txn = txn; op = op }) }) }
+        ensures allowed { OnOk result (refusal_of (P.table self.old.protocol) self.old.state txn op ≡ None) }
+        ensures refusal { IfErr result (λ r. IsStep (P.table self.old.protocol) self.old.state txn op r self.old.state) }
         ensures not_granted { IfErr result (λ r. is_granted r ≡ false) }
         ensures err { OnErr result (self.new ≡ self.old) }
     {
-        if let Some(refusal) = room::refusal(&self.protocol, &self.ended, &self.active, txn, op) {
+        if let Some(refusal) = refusals::refusal(
+            &self.protocol,
+            &self.ended,
+            &self.active,
+            txn,
+            op,
+        ) {
             return Err(Reply::Refused(refusal));
         }
         match op {
@@ -157,13 +161,13 @@ impl<P: Protocol, I: Ordered, L: Holdings> Stepper<P, I, L> {
     /// The same for an operation that ends its transaction, where no refusal applies.
     fn end(&mut self, txn: Txn, op: Op) -> Result<Ready, Reply>
         requires end { IsEnd op }
-        requires at_rest { self.old.1.1 ≡ None }
-        requires allowed { refusal_of (P.table self.old.0) self.old.1.0 txn op ≡ None }
+        requires at_rest { self.old.pending ≡ None }
+        requires allowed { refusal_of (P.table self.old.protocol) self.old.state txn op ≡ None }
         ensures event { IfOk result (λ r. r.event ≡ record { txn = txn; op = op }) }
-        ensures reply { IfOk result (λ r. r.reply ≡ (step (P.table self.old.0) self.old.1.0 txn op).0) }
+        ensures reply { IfOk result (λ r. r.reply ≡ (step (P.table self.old.protocol) self.old.state txn op).0) }
         ensures granted { IfOk result (λ r. is_granted r.reply ≡ true) }
-        ensures waits { OnOk result (self.new ≡ (self.old.0, (self.old.1.0, Some (record { txn = txn; op = op })))) }
-        ensures refusal { IfErr result (λ r. IsStep (P.table self.old.0) self.old.1.0 txn op r self.old.1.0) }
+        ensures waits { OnOk result (self.new ≡ record { protocol = self.old.protocol; state = self.old.state; pending = Some (record { txn = txn; op = op }) }) }
+        ensures refusal { IfErr result (λ r. IsStep (P.table self.old.protocol) self.old.state txn op r self.old.state) }
         ensures not_granted { IfErr result (λ r. is_granted r ≡ false) }
         ensures err { OnErr result (self.new ≡ self.old) }
     {
@@ -180,7 +184,7 @@ impl<P: Protocol, I: Ordered, L: Holdings> Stepper<P, I, L> {
                 self.pending = Some(pending);
                 Ok(Ready {
                     event: Event { txn, op },
-                    reply: change::end_reply(op),
+                    reply: replies::end_reply(op),
                 })
             }
             Err(_) => Err(Reply::Refused(Refusal::Memory)),
@@ -189,11 +193,11 @@ impl<P: Protocol, I: Ordered, L: Holdings> Stepper<P, I, L> {
 
     /// The same for a change taken back, where no refusal applies. Takes no memory.
     fn back(&mut self, txn: Txn) -> Result<Ready, Reply>
-        requires at_rest { self.old.1.1 ≡ None }
-        requires allowed { refusal_of (P.table self.old.0) self.old.1.0 txn op_is.Back ≡ None }
+        requires at_rest { self.old.pending ≡ None }
+        requires allowed { refusal_of (P.table self.old.protocol) self.old.state txn op_is.Back ≡ None }
         ensures event { IfOk result (λ r. r.event ≡ record { txn = txn; op = op_is.Back }) }
-        ensures reply { IfOk result (λ r. r.reply ≡ (step (P.table self.old.0) self.old.1.0 txn op_is.Back).0) }
-        ensures waits { OnOk result (self.new ≡ (self.old.0, (self.old.1.0, Some (record { txn = txn; op = op_is.Back })))) }
+        ensures reply { IfOk result (λ r. r.reply ≡ (step (P.table self.old.protocol) self.old.state txn op_is.Back).0) }
+        ensures waits { OnOk result (self.new ≡ record { protocol = self.old.protocol; state = self.old.state; pending = Some (record { txn = txn; op = op_is.Back }) }) }
         ensures ok { IsOk result }
     {
         match reserve::reserve_back(
@@ -219,18 +223,18 @@ impl<P: Protocol, I: Ordered, L: Holdings> Stepper<P, I, L> {
     /// The same for an operation that asks for locks, where no refusal applies.
     fn attempt(&mut self, txn: Txn, op: Op) -> Result<Ready, Reply>
         requires attempt { IsAttempt op }
-        requires at_rest { self.old.1.1 ≡ None }
-        requires allowed { refusal_of (P.table self.old.0) self.old.1.0 txn op ≡ None }
+        requires at_rest { self.old.pending ≡ None }
+        requires allowed { refusal_of (P.table self.old.protocol) self.old.state txn op ≡ None }
         ensures event { IfOk result (λ r. r.event ≡ record { txn = txn; op = op }) }
-        ensures reply { IfOk result (λ r. r.reply ≡ (step (P.table self.old.0) self.old.1.0 txn op).0) }
+        ensures reply { IfOk result (λ r. r.reply ≡ (step (P.table self.old.protocol) self.old.state txn op).0) }
         ensures granted { IfOk result (λ r. is_granted r.reply ≡ true) }
-        ensures waits { OnOk result (self.new ≡ (self.old.0, (self.old.1.0, Some (record { txn = txn; op = op })))) }
-        ensures refusal { IfErr result (λ r. IsStep (P.table self.old.0) self.old.1.0 txn op r self.old.1.0) }
+        ensures waits { OnOk result (self.new ≡ record { protocol = self.old.protocol; state = self.old.state; pending = Some (record { txn = txn; op = op }) }) }
+        ensures refusal { IfErr result (λ r. IsStep (P.table self.old.protocol) self.old.state txn op r self.old.state) }
         ensures not_granted { IfErr result (λ r. is_granted r ≡ false) }
         ensures err { OnErr result (self.new ≡ self.old) }
     {
         let scan = room::scan_of(&self.active, txn);
-        let attempt = change::attempt_of(&self.index, scan, op);
+        let attempt = replies::attempt_of(&self.index, scan, op);
         let plan = kr_plan::plan(&self.protocol, &self.index, &self.locks, txn, attempt);
         let alloc = *self.active.allocator();
         if !kr_plan::granted(&self.protocol, &self.locks, txn, &plan) {
@@ -239,7 +243,7 @@ impl<P: Protocol, I: Ordered, L: Holdings> Stepper<P, I, L> {
                 Err(_) => return Err(Reply::Refused(Refusal::Memory)),
             }
         }
-        let reply = match change::reply_to(alloc, &self.index, scan, op, attempt, plan.row) {
+        let reply = match replies::reply_to(alloc, &self.index, scan, op, attempt, plan.row) {
             Ok(reply) => reply,
             Err(_) => return Err(Reply::Refused(Refusal::Memory)),
         };
@@ -266,8 +270,8 @@ impl<P: Protocol, I: Ordered, L: Holdings> Stepper<P, I, L> {
 
     /// Gives up the step that is ready: the machine is as before it was. Takes no memory.
     pub fn cancel(&mut self, ready: Ready)
-        requires { self.old.1.1 ≡ Some ready.event }
-        ensures { self.new ≡ (self.old.0, (self.old.1.0, None)) }
+        requires { self.old.pending ≡ Some ready.event }
+        ensures { self.new ≡ record { protocol = self.old.protocol; state = self.old.state; pending = None } }
     {
         let Ready { event, reply: _ } = ready;
         if let Some(pending) = self.pending.take() {
@@ -280,7 +284,7 @@ impl<P: Protocol, I: Ordered, L: Holdings> Stepper<P, I, L> {
                 was_active,
                 first_rows: _,
             } = pending;
-            change::give_up(&mut self.index, event.op, plan.row);
+            change::unpin_change(&mut self.index, event.op, plan.row);
             holds::give_back(&mut self.locks, event.txn, plan.next, next_was);
             holds::give_back(&mut self.locks, event.txn, plan.current, current_was);
             room::put_down(&mut self.active, event.txn, standing, was_active);
@@ -289,8 +293,8 @@ impl<P: Protocol, I: Ordered, L: Holdings> Stepper<P, I, L> {
 
     /// Does the step of this event, which is ready. Takes no memory.
     pub fn finish(&mut self, event: Event)
-        requires { self.old.1.1 ≡ Some event }
-        ensures { self.new ≡ (self.old.0, ((step (P.table self.old.0) self.old.1.0 event.txn event.op).1, None)) }
+        requires { self.old.pending ≡ Some event }
+        ensures { self.new ≡ record { protocol = self.old.protocol; state = (step (P.table self.old.protocol) self.old.state event.txn event.op).1; pending = None } }
     {
         if let Some(pending) = self.pending.take() {
             let Pending {

@@ -1,5 +1,4 @@
 pub mod Lists
 pub mod EndedLaws
 pub mod Unions
-pub mod LogLists
 pub mod LogSteps

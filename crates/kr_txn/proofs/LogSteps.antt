@@ -14,8 +14,9 @@ use Rattle.kr_model.specs.declared.Program.{Program}
 use Rattle.kr_model.specs.Log.{Log, step_logged, with_step, last_answered}
 use Rattle.kr_model.proofs.MapLaws.{key_tie}
 use Rattle.kr_txn.specs.declared.unfinished.Ready.{Ready}
-use Rattle.kr_txn.specs.Logs.{shown, without_txn}
-use Rattle.kr_txn.proofs.LogLists.{put-put, put_back}
+use Rattle.kr_txn.specs.Numbered.{without_txn}
+use Rattle.kr_txn.specs.Logs.{shown}
+use Rattle.kr_txn.proofs.Lists.{put-put, put_back}
 
 -- The last of some operations is answered anew.
 pub last_answered_pushed : (os : List Answered) (o : Op) (a b : Reply) → last_answered b (os ++ (o, a) ∷ []) ≡ os ++ (o, b) ∷ []

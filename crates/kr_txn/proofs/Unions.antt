@@ -2,9 +2,9 @@
 use Rattle.std.specs.Prelude.{◌==◌, ◌&&◌}
 use Rattle.std.specs.List.{list_any}
 use Rattle.std.specs.List.Sorted.{IsStrictlyIncreasing}
-use Rattle.std.proofs.Common.{◌≡◌, ◌≢◌, ℕ, suc, ◌+◌, ◌-◌, ◌<◌, ◌≤◌, length, get_or, take, drop, set, Bool, true, false, List, [], ◌∷◌, ◌++◌, ◌||◌, sym, ◌∙◌, ap, refl, subst, arith, append_assoc}
+use Rattle.std.proofs.Common.{◌≡◌, ◌≢◌, ℕ, suc, ◌+◌, ◌-◌, ◌<◌, ◌≤◌, length, get_or, take, drop, set, Bool, true, false, List, [], ◌∷◌, ◌++◌, ◌||◌, sym, ◌∙◌, ap, refl, subst, arith}
 use Rattle.std.proofs.lemmas.Bool.Decides.{nat_tests}
-use Rattle.std.proofs.lemmas.List.{take_more, take_all, drop_all, append-nil, take-set-le, drop-set, take-append-drop, length-drop, length-take-le, get_or-take, get_or-drop}
+use Rattle.std.proofs.lemmas.List.{take_more, take_all, drop_all, append-nil, take-set-le, drop-set, length-drop, length-take-le, get_or-take, get_or-drop}
 use Rattle.std.specs.declared.cmp.Ordering.TheVariants.{Greater}
 use Rattle.std.specs.Ordering.{nat_cmp}
 use Rattle.std.specs.FinMap.Entries.{by_order}
@@ -106,14 +106,6 @@ ended-add t ys xs h out = record { settled_rise = h.settled_rise; recent_rise = 
         by true e = ap (λ b. b && true) (subst (λ x. list_any (λ v. v == x) ys ≡ false) (tied t u e) missing)
         by false e = h.apart u
 
--- The settled numbers with one more past them all, where there are no recent ones, are as they have to be.
-pub ended-end : (t : ℕ) (ys xs : List ℕ) → AreEnded ys xs → xs ≡ [] → AreBelow t ys (length ys) → AreEnded (ys ++ t ∷ []) xs
-ended-end t ys xs h none below = record {
-  settled_rise = subst IsStrictlyIncreasing (add_once_end t ys below) (increasing_add t ys h.settled_rise);
-  recent_rise = h.recent_rise;
-  apart = subst (AreApart (ys ++ t ∷ [])) (sym none) (λ u. and_false (list_any (λ v. v == u) (ys ++ t ∷ [])));
-}
-
 -- Merged, with no recent number left, the lists are as they have to be.
 pub ended-merged : (zs ys xs ws : List ℕ) → AreEnded ys xs → zs ≡ union xs ys → ws ≡ [] → AreEnded zs ws
 ended-merged zs ys xs ws h e none = subst (λ l. AreEnded l ws) (sym e) (subst (AreEnded (union xs ys)) (sym none) (record {
@@ -138,21 +130,6 @@ union-push (z ∷ xs) x ys = ap (add_once z) (union-push xs x ys)
 -- The numbers that are left, and those that have their place: what is between is free.
 abbrev pub placed : List ℕ → ℕ → ℕ → List ℕ
 placed zs left more = take left zs ++ drop (left + more) zs
-
--- With the last number that is left moved to the last free place, they are the same.
-pub placed-moved : (zs : List ℕ) (left more i at x : ℕ) → left ≡ i + 1 → at + 1 ≡ left + more → 0 < more → left + more ≤ length zs → x ≡ get_or zs i 0 → placed (set zs at x) i more ≡ placed zs left more
-placed-moved zs left more i at x l a some within e =
-    let back : i + more ≡ at = omega arith in
-    let front : take i (set zs at x) ≡ take i zs = take-set-le i zs at x (omega arith) in
-    let rest : drop at (set zs at x) ≡ x ∷ drop (at + 1) zs = drop-set zs at x (omega arith) in
-    let last : take (i + 1) zs ≡ take i zs ++ get_or zs i 0 ∷ [] = take_more zs i 0 (omega arith) in
-    ap (λ k. take i (set zs at x) ++ drop k (set zs at x)) back
-    ∙ ap (λ p. p ++ drop at (set zs at x)) front ∙ ap (λ q. take i zs ++ q) rest
-    ∙ ap (λ y. take i zs ++ y ∷ drop (at + 1) zs) e
-    ∙ sym (append_assoc (take i zs) (get_or zs i 0 ∷ []) (drop (at + 1) zs))
-    ∙ ap (λ p. p ++ drop (at + 1) zs) (sym last)
-    ∙ ap (λ k. take k zs ++ drop (at + 1) zs) (sym l)
-    ∙ ap (λ k. take left zs ++ drop k zs) a
 
 add_past : (t x : ℕ) (xs : List ℕ) → x < t → add_once t (x ∷ xs) ≡ x ∷ add_once t xs
 add_past t x xs lt = ap (λ o. by_order o (t ∷ x ∷ xs) (x ∷ xs) (x ∷ add_once t xs)) (greater t x lt)
@@ -189,18 +166,6 @@ placed-taken xs zs left more j at r m a within in_range e below above =
     ap (union (take j xs)) put ∙ sym (union-push (take j xs) r (placed zs left more))
     ∙ ap (λ y. union (take j xs ++ y ∷ []) (placed zs left more)) e
     ∙ ap (λ l. union l (placed zs left more)) (sym last) ∙ ap (λ k. union (take k xs) (placed zs left more)) (sym m)
-
--- Before the merge they are both lists, and after it the one that was merged.
-pub placed-none : (xs zs : List ℕ) (first : ℕ) → first + length xs ≡ length zs → union (take (length xs) xs) (placed zs first (length xs)) ≡ union xs (take first zs)
-placed-none xs zs first e =
-    let all : take (length xs) xs ≡ xs = take_all (length xs) xs (omega arith) in
-    let end : drop (first + length xs) zs ≡ [] = drop_all (first + length xs) zs (omega arith) in
-    ap (λ l. union l (placed zs first (length xs))) all ∙ ap (λ l. union xs (take first zs ++ l)) end ∙ ap (union xs) (append-nil (take first zs))
-
-pub placed-all : (xs zs : List ℕ) (left more : ℕ) → more ≡ 0 → zs ≡ union (take more xs) (placed zs left more)
-placed-all xs zs left more e =
-    let same : left + 0 ≡ left = omega arith in
-    sym (take-append-drop left zs) ∙ ap (λ k. take left zs ++ drop k zs) (sym same) ∙ ap (λ m. union (take m xs) (placed zs left m)) (sym e)
 
 -- Settled numbers of which the last one is no greater than a recent one are below it.
 pub all_below : (ys xs zs : List ℕ) (left j r : ℕ) → AreEnded ys xs → left ≤ length ys → j < length xs → r ≡ get_or xs j 0 → ((k : ℕ) → k < left → get_or zs k 0 ≡ get_or ys k 0)

@@ -1,3 +1,4 @@
+pub mod Numbered
 pub mod Standings
 pub mod EndedNumbers
 pub mod Logs

@@ -1,8 +1,8 @@
 -- The log of a run with its room, as contracts see it.
-use Rattle.std.specs.Prelude.{◌≡◌, ◌≢◌, ℕ, ◌+◌, ◌<◌, ◌≤◌, false, ◌==◌, not, List, [], ◌∷◌, ◌++◌, Option, Some, None, map, filter, length, slice_index_or, is_some, IsTrue, IfSome, Vec, ◌⊎◌, if◌then◌else◌}
+use Rattle.std.specs.Prelude.{◌≡◌, ℕ, ◌+◌, ◌<◌, ◌≤◌, false, List, [], ◌∷◌, ◌++◌, Option, Some, None, is_some, IsTrue, IfSome, Vec, ◌⊎◌, if◌then◌else◌}
 use Rattle.std.specs.Vec.{vec_len, vec_capacity}
 use Rattle.std.specs.Ordering.{nat_cmp}
-use Rattle.std.specs.FinMap.{find, put, is_sorted}
+use Rattle.std.specs.FinMap.{find, put}
 use Rattle.std.specs.declared.alloc.Global.{Global}
 use Rattle.kr_model.specs.declared.Event.{Event}
 use Rattle.kr_model.specs.declared.Program.{Program}
@@ -14,43 +14,28 @@ use Rattle.kr_txn.specs.declared.unfinished.Unfinished.{Unfinished}
 use Rattle.kr_txn.specs.declared.unfinished.Ready.{Ready}
 use Rattle.kr_txn.specs.declared.unfinished.Logging.{Logging}
 use Rattle.kr_txn.specs.declared.unfinished.Logging.TheVariants.{Operation, Committing, Aborting, Nothing}
+use Rattle.kr_txn.specs.Numbered as numbered
 
 -- A log, and the transaction whose next operation and end have their memory.
 pub record LogWithRoom : Type 0 where
   pub log : Log
   pub ready : Option ℕ
 
--- The number of an unfinished transaction, and its operations so far.
-abbrev pub entry : Unfinished → ℕ × List Answered
-entry u = (u.txn, u.operations.items)
+-- The number of an unfinished transaction.
+abbrev pub number_of : Unfinished → ℕ
+number_of u = u.txn
 
--- The unfinished transactions of a list, in its order.
+-- Its operations so far, with their answers.
+abbrev pub operations_of : Unfinished → List Answered
+operations_of u = u.operations.items
+
+-- The unfinished transactions of a list, in its order: the number of each, and its operations so far.
 abbrev pub entries : List Unfinished → List (ℕ × List Answered)
-entries us = map entry us
+entries us = numbered.entries number_of operations_of us
 
 -- The numbers rise, so each transaction stands in the list once.
 abbrev pub IsInOrder : List Unfinished → Type 0
-IsInOrder us = IsTrue (is_sorted nat_cmp (entries us))
-
--- The unfinished transactions without t.
-abbrev pub without_txn : ℕ → List (ℕ × List Answered) → List (ℕ × List Answered)
-without_txn t es = filter (λ e. not (e.0 == t)) es
-
--- No transaction before place i is t.
-abbrev pub AreOthers : ℕ → List Unfinished → ℕ → Type 0
-AreOthers t us i = (j : ℕ) (d : Unfinished) → j < i → (slice_index_or us j d).txn ≢ t
-
--- Place i is the first at which t stands.
-pub record IsPosition (t : ℕ) (us : List Unfinished) (i : ℕ) : Type 0 where
-  pub within : i < length us
-  pub others : AreOthers t us i
-  pub here : (d : Unfinished) → (slice_index_or us i d).txn ≡ t
-
--- The transactions before place i have numbers below t, and the one there has a greater one.
-pub record IsPlace (t : ℕ) (us : List Unfinished) (i : ℕ) : Type 0 where
-  pub within : i ≤ length us
-  pub below : (j : ℕ) (d : Unfinished) → j < i → (slice_index_or us j d).txn < t
-  pub above : (d : Unfinished) → i < length us → t < (slice_index_or us i d).txn
+IsInOrder us = numbered.AreInOrder (entries us)
 
 -- The unfinished transactions as contracts see them, where one that was there may be taken out.
 abbrev pub shown : Option Ready → List (ℕ × List Answered) → List (ℕ × List Answered)

@@ -6,7 +6,8 @@ ghost use Rattle.std.specs.Option.{option_map};
 ghost use Rattle.std.specs.Ordering.{nat_cmp};
 ghost use Rattle.std.specs.FinMap.{find, put};
 ghost use Rattle.kr_model.specs.State.{idle};
-ghost use Rattle.kr_txn.specs.Standings.{active_of, entries, IsInOrder, IsPosition, IsPlace, AreOthers, without_txn};
+ghost use Rattle.kr_txn.specs.Numbered.{IsPosition, IsPlace, AreOthers, without_txn};
+ghost use Rattle.kr_txn.specs.Standings.{number_of, active_of, entries, IsInOrder};
 
 mod ended;
 mod log;
@@ -59,8 +60,8 @@ impl Standing {
 
 /// The place of a transaction in the list, the first from 0, or `None` where it isn't there. Looks at one after another.
 pub fn position(list: &[Standing], txn: Txn) -> Option<usize>
-    ensures some { IfSome result (IsPosition txn list.now) }
-    ensures none { IfNone result (AreOthers txn list.now (length list.now)) }
+    ensures some { IfSome result (IsPosition number_of txn list.now) }
+    ensures none { IfNone result (AreOthers number_of txn list.now (length list.now)) }
 {
     for i in 0..list.len() {
         if list[i].txn == txn {
@@ -83,8 +84,8 @@ pub fn numbers(alloc: Global, list: &[Standing]) -> Result<Txns, Memory>
 
 /// The place of the first transaction with a greater number, or else the end of the list.
 fn place(list: &[Standing], txn: Txn) -> usize
-    requires { AreOthers txn list.now (length list.now) }
-    ensures { IsPlace txn list.now result }
+    requires { AreOthers number_of txn list.now (length list.now) }
+    ensures { IsPlace number_of txn list.now result }
 {
     for i in 0..list.len() {
         if txn < list[i].txn {

@@ -6,7 +6,8 @@ ghost use Rattle.std.specs.FinMap.{find, put};
 ghost use Rattle.kr_model.specs.declared.Event.{Event};
 ghost use Rattle.kr_model.specs.declared.Op.TheVariants as op_is;
 ghost use Rattle.kr_model.specs.Log.{Log, logged, with_step, last_answered};
-ghost use Rattle.kr_txn.specs.Logs.{entries, shown, IsApart, IsInOrder, AreOthers, IsPosition, IsPlace, without_txn, logged_as, LogWithRoom, MayNote, MayNoteAs};
+ghost use Rattle.kr_txn.specs.Numbered.{IsPosition, IsPlace, AreOthers, without_txn};
+ghost use Rattle.kr_txn.specs.Logs.{number_of, operations_of, entries, shown, IsApart, IsInOrder, logged_as, LogWithRoom, MayNote, MayNoteAs};
 
 use kr_model::{Answers, Op, Program, Reply, Txn};
 use std::alloc::{AllocError, Global};
@@ -126,8 +127,8 @@ fn answer_last(operations: Vec<(Op, Reply)>, reply: Reply) -> Vec<(Op, Reply)>
 
 /// The place of a transaction in the list, or `None` where it isn't there. Looks at one after another.
 fn position(list: &[Unfinished], txn: Txn) -> Option<usize>
-    ensures some { IfSome result (IsPosition txn list.now) }
-    ensures none { IfNone result (AreOthers txn list.now (length list.now)) }
+    ensures some { IfSome result (IsPosition number_of txn list.now) }
+    ensures none { IfNone result (AreOthers number_of txn list.now (length list.now)) }
 {
     for i in 0..list.len() {
         if list[i].txn == txn {
@@ -139,8 +140,8 @@ fn position(list: &[Unfinished], txn: Txn) -> Option<usize>
 
 /// The place of the first transaction with a greater number, or else the end of the list.
 fn place(list: &[Unfinished], txn: Txn) -> usize
-    requires { AreOthers txn list.now (length list.now) }
-    ensures { IsPlace txn list.now result }
+    requires { AreOthers number_of txn list.now (length list.now) }
+    ensures { IsPlace number_of txn list.now result }
 {
     for i in 0..list.len() {
         if txn < list[i].txn {
@@ -154,7 +155,7 @@ fn place(list: &[Unfinished], txn: Txn) -> usize
 /// others keep their order, and the list keeps its memory.
 pub fn take_out(list: &mut Vec<Unfinished>, txn: Txn) -> Option<Unfinished>
     requires { IsInOrder list.old.items }
-    ensures found { option_map (λ u. u.operations.items) result ≡ find nat_cmp txn (entries list.old.items) }
+    ensures found { option_map operations_of result ≡ find nat_cmp txn (entries list.old.items) }
     ensures txn { IfSome result (λ u. u.txn ≡ txn) }
     ensures rest { entries list.new.items ≡ without_txn txn (entries list.old.items) }
     ensures some { IfSome result (λ u. vec_len list.new + 1 ≡ vec_len list.old) }

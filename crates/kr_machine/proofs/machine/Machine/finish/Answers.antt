@@ -12,16 +12,16 @@ use Rattle.kr_machine.proofs.machine.Machine.finish.Goals as goal
 pub invariant_of-self : goal.invariant_of-self
 invariant_of-self g c =
     let old = c.self.inside.stepper in
-    let p = g.P.Protocol.table old.0 in
+    let p = g.P.Protocol.table old.protocol in
     let e = c.ready.inside.event in
-    let waits : old.1.1 ≡ Some e = ap (λ v. v.pending) c.self.view_is ∙ c.requires ∙ ap (λ (d : Due). Some d.event) (sym c.ready.view_is) in
-    let due : IsDue p old.1.0 c.self.inside.log c.self.inside.due e = subst (λ o. IfSome o (IsDue p old.1.0 c.self.inside.log c.self.inside.due)) waits c.self.invariant.noted in
-    let taken : c.unwrap-noted.result ≡ twice (step p old.1.0 e.txn e.op).0 = due_is c.take.result c.unwrap-noted.result (twice (step p old.1.0 e.txn e.op).0) (c.take.ensures.value ∙ due.0) c.unwrap-noted.ensures in
-    let noted : c.note.new.self.log ≡ logged c.self.inside.log.log (e, (step p old.1.0 e.txn e.op).0) = subst (λ (d : DueReply). c.note.new.self.log ≡ logged c.self.inside.log.log (e, d.noted)) taken c.note.ensures in
-    subst (λ n. IsLogged (g.P.Protocol.table n.0) n.1.0 n.1.1 c.note.new.self c.take.new.self) (sym c.finish.ensures) (log_of_step p (g.met.P.Protocol.lawful old.0) old.1.0 e c.self.inside.log c.note.new.self c.take.new.self c.self.invariant.well_formed c.self.invariant.same noted)
+    let waits : old.pending ≡ Some e = ap (λ v. v.pending) c.self.view_is ∙ c.requires ∙ ap (λ (d : Due). Some d.event) (sym c.ready.view_is) in
+    let due : IsDue p old.state c.self.inside.log c.self.inside.due e = subst (λ o. IfSome o (IsDue p old.state c.self.inside.log c.self.inside.due)) waits c.self.invariant.noted in
+    let taken : c.unwrap-noted.result ≡ twice (step p old.state e.txn e.op).0 = due_is c.take.result c.unwrap-noted.result (twice (step p old.state e.txn e.op).0) (c.take.ensures.value ∙ due.0) c.unwrap-noted.ensures in
+    let noted : c.note.new.self.log ≡ logged c.self.inside.log.log (e, (step p old.state e.txn e.op).0) = subst (λ (d : DueReply). c.note.new.self.log ≡ logged c.self.inside.log.log (e, d.noted)) taken c.note.ensures in
+    subst (λ n. IsLogged (g.P.Protocol.table n.protocol) n.state n.pending c.note.new.self c.take.new.self) (sym c.finish.ensures) (log_of_step p (g.met.P.Protocol.lawful old.protocol) old.state e c.self.inside.log c.note.new.self c.take.new.self c.self.invariant.well_formed c.self.invariant.same noted)
 
 pub returns-clause-well_formed : goal.returns-clause-well_formed
 returns-clause-well_formed g c =
     let old = c.self.inside.stepper in
     let e = c.ready.inside.event in
-    subst (λ n. IsState (g.P.Protocol.table n.0) n.1.0) (sym c.finish.ensures) (step_keeps_state (g.P.Protocol.table old.0) (g.met.P.Protocol.lawful old.0) old.1.0 e.txn e.op c.self.invariant.well_formed)
+    subst (λ n. IsState (g.P.Protocol.table n.protocol) n.state) (sym c.finish.ensures) (step_keeps_state (g.P.Protocol.table old.protocol) (g.met.P.Protocol.lawful old.protocol) old.state e.txn e.op c.self.invariant.well_formed)

@@ -17,11 +17,11 @@ invariant_of-self g c =
     let inv = c.self.invariant in
     let was = sym c.take.ensures.value ∙ c.in-Some.is in
     let now = reserved_now (g.P.Protocol.table c.self.inside.protocol) (g.I.Ordered.map c.self.inside.index) (g.I.Ordered.pins c.self.inside.index) (g.L.Holdings.locks c.self.inside.locks) c.self.inside.ended c.self.inside.active c.self.inside.pending c.in-Some.pending was inv.reserved in
-    let same : c.in-Some.pending.event ≡ c.ready.inside.event = event_of_pending c.self.inside.pending c.in-Some.pending c.ready.inside.event (ap (λ m. m.1.1) c.self.view_is ∙ c.requires ∙ ap (λ (d : Due). Some d.event) (sym c.ready.view_is)) was in
+    let same : c.in-Some.pending.event ≡ c.ready.inside.event = event_of_pending c.self.inside.pending c.in-Some.pending c.ready.inside.event (ap (λ m. m.pending) c.self.view_is ∙ c.requires ∙ ap (λ (d : Due). Some d.event) (sym c.ready.view_is)) was in
     let back : g.L.Holdings.locks c.give_back-in-Some.new.locks ≡ shown_locks (Some c.in-Some.pending) (g.L.Holdings.locks c.self.inside.locks) =
     c.give_back-in-Some.ensures ∙ ap (λ (l : Locks). put_back l c.ready.inside.event.txn c.in-Some.pending.plan.current c.in-Some.pending.current_was) c.give_back.ensures
     ∙ ap (λ e. put_back (put_back (g.L.Holdings.locks c.self.inside.locks) e.txn c.in-Some.pending.plan.next c.in-Some.pending.next_was) e.txn c.in-Some.pending.plan.current c.in-Some.pending.current_was) (sym same) in
-    subst (λ o. IsMachine (g.P.Protocol.table c.self.inside.protocol) (g.I.Ordered.map c.give_up.new.index) (g.I.Ordered.pins c.give_up.new.index) (g.L.Holdings.locks c.give_back-in-Some.new.locks) c.self.inside.ended c.put_down.new.active o) (sym c.take.ensures.after) (record {
+    subst (λ o. IsMachine (g.P.Protocol.table c.self.inside.protocol) (g.I.Ordered.map c.unpin_change.new.index) (g.I.Ordered.pins c.unpin_change.new.index) (g.L.Holdings.locks c.give_back-in-Some.new.locks) c.self.inside.ended c.put_down.new.active o) (sym c.take.ensures.after) (record {
       in_order = subst IsLocks (sym back) now.in_order;
       within = subst (AreWithin (g.P.Protocol.table c.self.inside.protocol).count) (sym back) now.within;
       no_none = subst HasNoNone (sym back) now.no_none;
@@ -29,7 +29,7 @@ invariant_of-self g c =
       room = omega (arith, now.room_ended, c.put_down.ensures.len);
       has_pins = λ q.
           let x = pins_now (g.I.Ordered.pins c.self.inside.index) (entries c.self.inside.active.items) c.self.inside.pending c.in-Some.pending c.ready.inside.event was same inv.has_pins q in
-          let y = c.give_up.ensures.pins q in
+          let y = c.unpin_change.ensures.pins q in
           let z = now.noted q in
           let w = ap (λ es. all_changes_of es q) (c.put_down.ensures.items ∙ ap (λ e. if c.in-Some.pending.was_active then put nat_cmp e.txn (active_of c.in-Some.pending.standing) (entries c.self.inside.active.items) else entries c.self.inside.active.items) (sym same)) in
           omega (arith, x, y, z, w);

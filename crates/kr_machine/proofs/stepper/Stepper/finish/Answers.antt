@@ -14,7 +14,7 @@ pub invariant_of-self : goal.invariant_of-self
 invariant_of-self g c =
     let inv = c.self.invariant in
     let was = sym c.take.ensures.value ∙ c.in-Some.is in
-    let same : c.in-Some.pending.event ≡ c.args.event = event_of_pending c.self.inside.pending c.in-Some.pending c.args.event (ap (λ m. m.1.1) c.self.view_is ∙ c.requires) was in
+    let same : c.in-Some.pending.event ≡ c.args.event = event_of_pending c.self.inside.pending c.in-Some.pending c.args.event (ap (λ m. m.pending) c.self.view_is ∙ c.requires) was in
     let ends : IsEnd c.args.event.op = rw c.in-Commit.is tt in
     subst (λ o. IsMachine (g.P.Protocol.table c.self.inside.protocol) (g.I.Ordered.map c.settle.new.index) (g.I.Ordered.pins c.settle.new.index) (g.L.Holdings.locks c.leave.new.locks) c.leave.new.ended c.self.inside.active o) (sym c.take.ensures.after)
     (subst (λ l. IsMachine (g.P.Protocol.table c.self.inside.protocol) (g.I.Ordered.map c.settle.new.index) (g.I.Ordered.pins c.settle.new.index) l c.leave.new.ended c.self.inside.active None) (sym c.leave.ensures.locks)
@@ -24,7 +24,7 @@ pub invariant_of-self-in-Abort-1 : goal.invariant_of-self-in-Abort-1
 invariant_of-self-in-Abort-1 g c =
     let inv = c.self.invariant in
     let was = sym c.take.ensures.value ∙ c.in-Some.is in
-    let same : c.in-Some.pending.event ≡ c.args.event = event_of_pending c.self.inside.pending c.in-Some.pending c.args.event (ap (λ m. m.1.1) c.self.view_is ∙ c.requires) was in
+    let same : c.in-Some.pending.event ≡ c.args.event = event_of_pending c.self.inside.pending c.in-Some.pending c.args.event (ap (λ m. m.pending) c.self.view_is ∙ c.requires) was in
     let ends : IsEnd c.args.event.op = rw c.in-Abort.is tt in
     subst (λ o. IsMachine (g.P.Protocol.table c.self.inside.protocol) (g.I.Ordered.map c.undo.new.index) (g.I.Ordered.pins c.undo.new.index) (g.L.Holdings.locks c.leave-in-Abort.new.locks) c.leave-in-Abort.new.ended c.self.inside.active o) (sym c.take.ensures.after)
     (subst (λ l. IsMachine (g.P.Protocol.table c.self.inside.protocol) (g.I.Ordered.map c.undo.new.index) (g.I.Ordered.pins c.undo.new.index) l c.leave-in-Abort.new.ended c.self.inside.active None) (sym c.leave-in-Abort.ensures.locks)
@@ -35,7 +35,7 @@ invariant_of-self-in-Fetch g c =
     let inv = c.self.invariant in
     let was = sym c.take.ensures.value ∙ c.in-Some.is in
     let now = reserved_now (g.P.Protocol.table c.self.inside.protocol) (g.I.Ordered.map c.self.inside.index) (g.I.Ordered.pins c.self.inside.index) (g.L.Holdings.locks c.self.inside.locks) c.self.inside.ended c.self.inside.active c.self.inside.pending c.in-Some.pending was inv.reserved in
-    let same : c.in-Some.pending.event ≡ c.args.event = event_of_pending c.self.inside.pending c.in-Some.pending c.args.event (ap (λ m. m.1.1) c.self.view_is ∙ c.requires) was in
+    let same : c.in-Some.pending.event ≡ c.args.event = event_of_pending c.self.inside.pending c.in-Some.pending c.args.event (ap (λ m. m.pending) c.self.view_is ∙ c.requires) was in
     let apart = subst (λ t. find nat_cmp t (entries c.self.inside.active.items) ≡ None) (sym (c.perform-standing.ensures.txn ∙ now.itself)) now.apart in
     subst (λ o. IsMachine (g.P.Protocol.table c.self.inside.protocol) (g.I.Ordered.map c.perform-standing.new.index) (g.I.Ordered.pins c.perform-standing.new.index) (g.L.Holdings.locks c.self.inside.locks) c.self.inside.ended c.put_in-in-Fetch.new.list o) (sym c.take.ensures.after) (record {
       in_order = inv.in_order;
@@ -57,7 +57,7 @@ invariant_of-self-in-Back-1 g c =
     let inv = c.self.invariant in
     let was = sym c.take.ensures.value ∙ c.in-Some.is in
     let now = reserved_now (g.P.Protocol.table c.self.inside.protocol) (g.I.Ordered.map c.self.inside.index) (g.I.Ordered.pins c.self.inside.index) (g.L.Holdings.locks c.self.inside.locks) c.self.inside.ended c.self.inside.active c.self.inside.pending c.in-Some.pending was inv.reserved in
-    let same : c.in-Some.pending.event ≡ c.args.event = event_of_pending c.self.inside.pending c.in-Some.pending c.args.event (ap (λ m. m.1.1) c.self.view_is ∙ c.requires) was in
+    let same : c.in-Some.pending.event ≡ c.args.event = event_of_pending c.self.inside.pending c.in-Some.pending c.args.event (ap (λ m. m.pending) c.self.view_is ∙ c.requires) was in
     let apart = subst (λ t. find nat_cmp t (entries c.self.inside.active.items) ≡ None) (sym (c.take_back-left.ensures.txn ∙ now.itself)) now.apart in
     subst (λ o. IsMachine (g.P.Protocol.table c.self.inside.protocol) (g.I.Ordered.map c.take_back-left.new.index) (g.I.Ordered.pins c.take_back-left.new.index) (g.L.Holdings.locks c.self.inside.locks) c.self.inside.ended c.put_in.new.list o) (sym c.take.ensures.after) (record {
       in_order = inv.in_order;
