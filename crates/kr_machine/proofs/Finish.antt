@@ -57,14 +57,6 @@ pins_now pins es o d e is same h q =
     let at : HasPins (Some d) pins es = subst (λ x. HasPins x pins es) is h in
     at q ∙ ap (λ (x : Event). all_changes_of es q + changes_of (active_of d.standing).changes q + taken_pins x.op d.plan.row q) same
 
--- There is a pin for each change of the transaction whose step is pending.
-pub pins_cover : (pins : ℕ → ℕ) (es : List (ℕ × Active)) (o : Option Pending) (d : Pending) → o ≡ Some d → HasPins o pins es → (q : ℕ) → changes_of (active_of d.standing).changes q ≤ pins q
-pins_cover pins es o d is h q = let e = pins_now pins es o d d.event is refl h q in omega (arith, e)
-
--- There is the pin that a pending step has taken.
-pub pins_step : (pins : ℕ → ℕ) (es : List (ℕ × Active)) (o : Option Pending) (d : Pending) (e : Event) → o ≡ Some d → d.event ≡ e → HasPins o pins es → (q : ℕ) → taken_pins e.op d.plan.row q ≤ pins q
-pins_step pins es o d e is same h q = let x = pins_now pins es o d e is same h q in omega (arith, x)
-
 -- The end of a transaction takes no pin.
 pub end_pins : (o : Op) (r : Row) → IsEnd o → (q : ℕ) → taken_pins o r q ≡ 0
 end_pins op.Commit r is q = refl

@@ -1,6 +1,6 @@
 -- A scan's step, by what the code finds.
-use Rattle.std.proofs.Common.{◌≡◌, ℕ, suc, ◌-◌, Some, None, List, [], ◌∷◌, ap, refl, length, arith, slice_get}
-use Rattle.kr_model.specs.Map.{Map, at, after}
+use Rattle.std.proofs.Common.{◌≡◌, ℕ, suc, ◌-◌, Some, List, [], ◌∷◌, ap, length, arith, slice_get}
+use Rattle.kr_model.specs.Map.{Map, after}
 use Rattle.kr_model.specs.Step.{name_after}
 
 one_less : (n : ℕ) → suc n - 1 ≡ n
@@ -11,9 +11,3 @@ pub name_after_last : (m : Map) (lo : ℕ) (rows : List (ℕ × ℕ)) (e : ℕ �
 name_after_last m lo [] e h = cc
 name_after_last m lo (x ∷ []) e h = let same : x ≡ e = cc in ap (λ (r : ℕ × ℕ). after m r.0) same
 name_after_last m lo (x ∷ y ∷ ys) e h = name_after_last m lo (y ∷ ys) e (rw (one_less (length ys)) (rw (one_less (suc (length ys))) at h))
-
--- Before the first row the next name is the first of the range.
-pub name_at_first : (m : Map) (lo : ℕ) (rows : List (ℕ × ℕ)) → slice_get rows (length rows - 1) ≡ None → name_after m lo rows ≡ at m lo
-name_at_first m lo [] h = refl
-name_at_first m lo (x ∷ []) h = cc
-name_at_first m lo (x ∷ y ∷ ys) h = name_at_first m lo (y ∷ ys) (rw (one_less (length ys)) (rw (one_less (suc (length ys))) at h))

@@ -1,18 +1,15 @@
 -- Pins counted: what the changes of transactions need as they come and go.
-use Rattle.std.proofs.Common.{◌≡◌, ℕ, ◌+◌, cond, Option, Some, None, List, [], ◌∷◌, ◌++◌, reverse, sym, ◌∙◌, ap, arith}
-use Rattle.std.specs.Prelude.{◌==◌, IsTrue, if◌then◌else◌}
-use Rattle.std.proofs.lemmas.List.{reverse-append}
+use Rattle.std.proofs.Common.{◌≡◌, ℕ, ◌+◌, cond, Option, Some, None, List, [], ◌∷◌, sym, ◌∙◌, ap, arith}
+use Rattle.std.specs.Prelude.{IsTrue}
 use Rattle.std.proofs.lemmas.List.Sums.{sum_by-cons}
 use Rattle.std.specs.declared.cmp.Ordering.{Ordering}
 use Rattle.std.specs.declared.cmp.Ordering.TheVariants.{Less, Equal, Greater}
 use Rattle.std.specs.Ordering.{nat_cmp, is_eq}
 use Rattle.std.specs.FinMap.{find, put, is_sorted}
 use Rattle.std.specs.FinMap.Entries.{by_order}
-use Rattle.kr_model.specs.Map.{Map, Changes, restore, restore_all}
 use Rattle.kr_model.specs.State.{Active}
 use Rattle.kr_txn.specs.Numbered.{without_txn}
 use Rattle.kr_txn.proofs.Lists.{find-without, put_back}
-use Rattle.kr_machine.specs.Pending.{map_back, changes_back}
 use Rattle.kr_machine.specs.Pins.{changes_of, all_changes_of}
 
 some_none : (a : Active) → ◌≡◌ {A = Option Active} (Some a) None → ⊥
@@ -36,21 +33,3 @@ noted-put t a (e ∷ es) q h = by (nat_cmp t e.0) h (λ n. noted-put t a es q n)
 pub noted-without : (t : ℕ) (es : List (ℕ × Active)) (a : Active) (q : ℕ) → IsTrue (is_sorted nat_cmp es) → find nat_cmp t es ≡ Some a → all_changes_of es q ≡ all_changes_of (without_txn t es) q + changes_of a.changes q
 noted-without t es a q sorted found =
     ap (λ xs. all_changes_of xs q) (sym (put_back t es sorted a found)) ∙ noted-put t a (without_txn t es) q (find-without t es)
-
--- A change noted last is one more of its key.
-pub changes-push : (cs : Changes) (c : ℕ × Option ℕ) (q : ℕ) → changes_of (reverse (cs ++ c ∷ [])) q ≡ changes_of (reverse cs) q + (if q == c.0 then 1 else 0)
-changes-push cs c q =
-    let e = ap (λ (xs : Changes). changes_of xs q) (reverse-append cs (c ∷ [])) in
-    let f = sum_by-cons (λ (x : ℕ × Option ℕ). cond (q == x.0) 1 0) c (reverse cs) in
-    omega (arith, e, f)
-
--- A change noted last is taken back first.
-pub restore_all-push : (m : Map) (cs : Changes) (c : ℕ × Option ℕ) → restore_all m (reverse (cs ++ c ∷ [])) ≡ restore_all (restore m c.0 c.1) (reverse cs)
-restore_all-push m cs c = ap (restore_all m) (reverse-append cs (c ∷ []))
-
--- So it is the one that is taken back alone.
-pub map_back-push : (m : Map) (cs : Changes) (c : ℕ × Option ℕ) → map_back m (reverse (cs ++ c ∷ [])) ≡ restore m c.0 c.1
-map_back-push m cs c = ap (map_back m) (reverse-append cs (c ∷ []))
-
-pub changes_back-push : (cs : Changes) (c : ℕ × Option ℕ) → changes_back (reverse (cs ++ c ∷ [])) ≡ reverse cs
-changes_back-push cs c = ap changes_back (reverse-append cs (c ∷ []))

@@ -15,21 +15,20 @@ use Rattle.kr_model.specs.declared.Refusal.TheVariants.{Ended, Full}
 use Rattle.kr_model.specs.declared.Reply.TheVariants as reply
 use Rattle.kr_model.specs.Protocol.{Protocol}
 use Rattle.kr_model.specs.declared.Plan.{Plan}
-use Rattle.kr_model.specs.Map.{Map, Changes, get, set, at, after}
-use Rattle.kr_model.specs.Locks.{Locks, Request, blockers, kept}
+use Rattle.kr_model.specs.Map.{Map, Changes, get, at, after}
+use Rattle.kr_model.specs.Locks.{Locks, Request, blockers}
 use Rattle.kr_model.specs.State.{State, Active, Scan, idle, standing, is_rolling, has_nothing_left}
 use Rattle.kr_model.specs.Covers.{is_empty}
 use Rattle.kr_model.specs.Plan.{Access, access, requests, plan_of}
 use Rattle.kr_model.specs.declared.Name.{Name}
 use Rattle.kr_model.specs.declared.Name.TheVariants.{Key, End}
-use Rattle.kr_model.specs.declared.Row.{Row}
 use Rattle.kr_model.specs.declared.Row.TheVariants as row
 use Rattle.kr_model.specs.declared.Step.{Step}
-use Rattle.kr_model.specs.Step.{Outcome, Effect, effect, changed, fetched, inserted, deleted, updated, row_read, looked, name_to_look, is_full, refusal_of, step, granted_or_blocked, attempted_scan, unless_refused, after_effect, performed, one_taken_back}
+use Rattle.kr_model.specs.Step.{Outcome, Effect, fetched, inserted, deleted, updated, row_read, looked, name_to_look, is_full, refusal_of, step, granted_or_blocked, attempted_scan, unless_refused, after_effect, performed, one_taken_back}
 use Rattle.std.specs.Option.{option_map}
 use Rattle.kr_txn.specs.declared.Scan as txn
 use Rattle.kr_txn.specs.Standings.{scan_of}
-use Rattle.kr_machine.specs.Pending.{IsAttempt, IsEnd, IsRowOf, end_reply, begun, refusal_in, look_of, attempt_of, look_effect, effect_of, map_back, changes_back, standing_back, after_op}
+use Rattle.kr_machine.specs.Pending.{IsAttempt, IsEnd, IsRowOf, begun, refusal_in, look_of, attempt_of, look_effect, effect_of, map_back, changes_back, standing_back, after_op}
 
 -- The refusal of an operation whose transaction has not ended, by whether updates are offered and how it stands.
 abbrev pub refused_by : Bool → Option Active → Bool → Op → Option Refusal
@@ -103,51 +102,6 @@ row_of_plan p m h t c op.Commit plan is = tt
 row_of_plan p m h t c op.Abort plan is = tt
 row_of_plan p m h t c op.Back plan is = tt
 
--- Where the row of an insert isn't insert, it changes nothing, and where it is, the key is absent.
-pub insert_kept : (m : Map) (a : Active) (k v : ℕ) (r : Row) → IsRowOf m (op.Insert k v) r → (r ≡ row.Insert → ⊥) → inserted m a k v (get m k) ≡ effect reply.Duplicate m a
-insert_kept m a k v r is n = by (get m k) is
-  where
-    by : (g : Option ℕ) → r ≡ cond (is_some g) row.FetchHit row.Insert → inserted m a k v g ≡ effect reply.Duplicate m a
-    by None e = absurd (n e)
-    by (Some w) e = refl
-
-pub insert_done : (m : Map) (a : Active) (k v : ℕ) → IsRowOf m (op.Insert k v) row.Insert → inserted m a k v (get m k) ≡ effect reply.Done (set m k v) (changed a k None)
-insert_done m a k v is = by (get m k) is
-  where
-    by : (g : Option ℕ) → row.Insert ≡ cond (is_some g) row.FetchHit row.Insert → inserted m a k v g ≡ effect reply.Done (set m k v) (changed a k None)
-    by None e = refl
-    by (Some w) e = absurd (cc)
-
--- Where the row of a delete isn't delete, it changes nothing.
-pub delete_kept : (m : Map) (a : Active) (k : ℕ) (r : Row) → IsRowOf m (op.Delete k) r → (r ≡ row.Delete → ⊥) → deleted m a k (get m k) ≡ effect reply.Absent m a
-delete_kept m a k r is n = by (get m k) is
-  where
-    by : (g : Option ℕ) → r ≡ cond (is_some g) row.Delete row.FetchMiss → deleted m a k g ≡ effect reply.Absent m a
-    by None e = refl
-    by (Some w) e = absurd (n e)
-
-pub delete_missed : (m : Map) (a : Active) (k : ℕ) → IsRowOf m (op.Delete k) row.FetchMiss → deleted m a k (get m k) ≡ effect reply.Absent m a
-delete_missed m a k is = delete_kept m a k row.FetchMiss is (λ e. cc)
-
--- Where the row of an update isn't update, it changes nothing.
-pub update_kept : (m : Map) (a : Active) (k v : ℕ) (r : Row) → IsRowOf m (op.Update k v) r → (r ≡ row.Update → ⊥) → updated m a k v (get m k) ≡ effect reply.Absent m a
-update_kept m a k v r is n = by (get m k) is
-  where
-    by : (g : Option ℕ) → r ≡ cond (is_some g) row.Update row.FetchMiss → updated m a k v g ≡ effect reply.Absent m a
-    by None e = refl
-    by (Some w) e = absurd (n e)
-
-pub update_missed : (m : Map) (a : Active) (k v : ℕ) → IsRowOf m (op.Update k v) row.FetchMiss → updated m a k v (get m k) ≡ effect reply.Absent m a
-update_missed m a k v is = update_kept m a k v row.FetchMiss is (λ e. cc)
-
--- A fetch whose row is fetch miss finds nothing.
-pub fetch_missed : (m : Map) (a : Active) (k : ℕ) → IsRowOf m (op.Fetch k) row.FetchMiss → fetched m a (get m k) ≡ effect reply.None m a
-fetch_missed m a k is = by (get m k) is
-  where
-    by : (g : Option ℕ) → row.FetchMiss ≡ cond (is_some g) row.FetchHit row.FetchMiss → fetched m a g ≡ effect reply.None m a
-    by None e = refl
-    by (Some w) e = absurd (cc)
-
 fetch_reply : (m : Map) (a b : Active) (g : Option ℕ) → (fetched m a g).reply ≡ (fetched m b g).reply
 fetch_reply m a b None = refl
 fetch_reply m a b (Some v) = refl
@@ -199,32 +153,6 @@ granted_reply p s t o plan b is allowed is_plan none same =
     reply_same s.map b (standing s t) o same
     ∙ sym (ap (λ (x : Outcome). x.0) (granted_step p s t o allowed is (ap (λ pl. blockers p s.locks t (requests pl)) (sym is_plan) ∙ none)))
 
-after_attempt : (m : Map) (real : Locks) (ended : List ℕ) (es : List (ℕ × Active)) (t : ℕ) (a : Active) (o : Op) → IsAttempt o → after_op m real ended es t a o ≡ record { map = let e = effect_of m a o in e.map; locks = real; ended = ended; active = put nat_cmp t (let e = effect_of m a o in e.standing) es }
-after_attempt m real ended es t a (op.Fetch k) is = refl
-after_attempt m real ended es t a (op.Insert k v) is = refl
-after_attempt m real ended es t a (op.Delete k) is = refl
-after_attempt m real ended es t a (op.Update k v) is = refl
-after_attempt m real ended es t a op.Commit is = absurd is
-after_attempt m real ended es t a op.Abort is = absurd is
-after_attempt m real ended es t a op.Back is = absurd is
-after_attempt m real ended es t a op.Go is = refl
-after_attempt m real ended es t a (op.Scan lo hi) is = refl
-
--- The state after a granted attempt, by what the machine has taken for it.
-pub stepped_attempt : (p : Protocol) (m : Map) (h real : Locks) (ended : List ℕ) (es rest : List (ℕ × Active)) (t : ℕ) (o : Op) (a : Active) (plan : Plan) → IsAttempt o
-    → refusal_of p (record { map = m; locks = h; ended = ended; active = es }) t o ≡ None
-    → plan ≡ plan_of p m h t (attempt_of m (unwrap_or (find nat_cmp t es) idle).scan o) → blockers p h t (requests plan) ≡ [] → real ≡ kept p h t (requests plan)
-    → a ≡ unwrap_or (find nat_cmp t es) idle → ((x : Active) → put nat_cmp t x rest ≡ put nat_cmp t x es)
-    → ◌≡◌ {A = State} (let o' = step p (record { map = m; locks = h; ended = ended; active = es }) t o in o'.1) (after_op m real ended rest t a o)
-stepped_attempt p m h real ended es rest t o a plan is allowed is_plan none is_real is_a put_same =
-    let s : State = record { map = m; locks = h; ended = ended; active = es } in
-    let e : Effect = effect_of m (standing s t) o in
-    ap (λ (x : Outcome). x.1) (granted_step p s t o allowed is (ap (λ pl. blockers p h t (requests pl)) (sym is_plan) ∙ none))
-    ∙ ap (λ l. record { map = e.map; locks = l; ended = ended; active = put nat_cmp t e.standing es }) (sym (is_real ∙ ap (λ pl. kept p h t (requests pl)) is_plan))
-    ∙ ap (λ ts. record { map = e.map; locks = real; ended = ended; active = ts }) (sym (put_same e.standing))
-    ∙ ap (λ b. record { map = let f = effect_of m b o in f.map; locks = real; ended = ended; active = put nat_cmp t (let f = effect_of m b o in f.standing) rest }) (sym is_a)
-    ∙ sym (after_attempt m real ended rest t a o is)
-
 -- The state after the end of a transaction, by what the machine has taken for it.
 pub stepped_end : (p : Protocol) (m : Map) (h : Locks) (ended : List ℕ) (es : List (ℕ × Active)) (t : ℕ) (a : Active) (o : Op) → IsEnd o
     → refusal_of p (record { map = m; locks = h; ended = ended; active = es }) t o ≡ None → a ≡ unwrap_or (find nat_cmp t es) idle
@@ -239,18 +167,6 @@ stepped_end p m h ended es t a (op.Update k v) is allowed is_a = absurd is
 stepped_end p m h ended es t a op.Go is allowed is_a = absurd is
 stepped_end p m h ended es t a op.Back is allowed is_a = absurd is
 stepped_end p m h ended es t a (op.Scan lo hi) is allowed is_a = absurd is
-
--- What the end of a transaction answers.
-pub end_answers : (p : Protocol) (s : State) (t : ℕ) (o : Op) → IsEnd o → refusal_of p s t o ≡ None → end_reply o ≡ (step p s t o).0
-end_answers p s t op.Commit is allowed = sym (ap (λ (x : Outcome). x.0) (performs p s t op.Commit allowed))
-end_answers p s t op.Abort is allowed = sym (ap (λ (x : Outcome). x.0) (performs p s t op.Abort allowed))
-end_answers p s t (op.Fetch k) is allowed = absurd is
-end_answers p s t (op.Insert k v) is allowed = absurd is
-end_answers p s t (op.Delete k) is allowed = absurd is
-end_answers p s t (op.Update k v) is allowed = absurd is
-end_answers p s t op.Go is allowed = absurd is
-end_answers p s t op.Back is allowed = absurd is
-end_answers p s t (op.Scan lo hi) is allowed = absurd is
 
 blocked_by : (p : Protocol) (s : State) (t : ℕ) (rs : List Request) (e : Effect) (us : List ℕ) → (us ≡ [] → ⊥) → granted_or_blocked p s t rs e us ≡ (reply.Blocked us, s)
 blocked_by p s t rs e [] h = absurd (h refl)
