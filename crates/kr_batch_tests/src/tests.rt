@@ -4,7 +4,6 @@ ghost use Rattle.kr_model.proofs.Tested.{lawful_by_test};
 
 mod ample;
 mod named;
-mod reading;
 
 use kr_batch::judge_all;
 use kr_model::{Mode, Row, Side, Span};

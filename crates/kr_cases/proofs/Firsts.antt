@@ -5,7 +5,7 @@ use Rattle.std.proofs.lemmas.List.{take-append-drop}
 use Rattle.std.proofs.lemmas.List.Elements.{filter-append}
 use Rattle.std.proofs.lemmas.Grind.{flat_map-append}
 use Rattle.kr_model.specs.Covers.{count_up}
-use Rattle.kr_cases.specs.Holes.{first}
+use Rattle.kr_model.specs.Firsts.{first}
 use Rattle.kr_cases.proofs.Counted.{before-more, before-split}
 
 -- a list with no first element is empty

@@ -1,16 +1,12 @@
 -- What a checker looks up while it goes through the cases: the first place that each mode leaves open of each cover.
-use Rattle.std.specs.Prelude.{◌≡◌, ℕ, ◌≤◌, List, [], ◌∷◌, Option, Some, None, slice_index_or}
+use Rattle.std.specs.Prelude.{◌≡◌, ℕ, ◌≤◌, List, Option, None, slice_index_or}
 use Rattle.kr_model.specs.declared.Cover.{Cover}
 use Rattle.kr_model.specs.declared.Cover.TheVariants.{ReadKey, ReadGap, InsertedKey, DeletedGap, UpdatedKey}
 use Rattle.kr_model.specs.declared.Place.{Place}
 use Rattle.kr_model.specs.Protocol.{Protocol}
 use Rattle.kr_cases.specs.declared.holes.Holes.{Holes}
 use Rattle.kr_model.specs.Covers.{open_places}
-
--- The first element of a list, if it has one.
-abbrev pub first : {A : Type 0} → List A → Option A
-first [] = None
-first (x ∷ xs) = Some x
+use Rattle.kr_model.specs.Firsts.{first}
 
 -- The first place that a lock in mode h leaves open, of those that the cover must conflict with.
 abbrev pub first_open : Protocol → Cover → ℕ → Option Place

@@ -2,7 +2,8 @@
 ghost use Rattle.std.specs.Prelude.{◌≡◌, ◌≤◌, filter, map};
 ghost use Rattle.kr_model.specs.declared.Side.TheVariants as side;
 ghost use Rattle.kr_model.specs.Covers.{must_conflict, place, places_of, modes_or_none, is_open};
-ghost use Rattle.kr_cases.specs.Holes.{first, first_open, AreFirst, AreHoles};
+ghost use Rattle.kr_model.specs.Firsts.{first};
+ghost use Rattle.kr_cases.specs.Holes.{first_open, AreFirst, AreHoles};
 
 use kr_model::{Cover, Mode, Place, Row, Side};
 use kr_protocol::Protocol;

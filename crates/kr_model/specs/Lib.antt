@@ -16,3 +16,4 @@ pub mod Run
 pub mod Log
 pub mod Serial
 pub mod Difference
+pub mod Firsts

@@ -6,7 +6,8 @@ use Rattle.std.proofs.lemmas.Str.{IsUtf8-from_is_utf8}
 use Rattle.serde_json.specs.Data.{Data}
 use Rattle.serde_json.specs.Read.{read}
 use Rattle.serde_json.proofs.OnLiterals.{serde_json_on_literals}
-use Rattle.kr_script.specs.Faults.{Fault, Tells, fault_of, first, not_json}
+use Rattle.kr_model.specs.Firsts.{first}
+use Rattle.kr_script.specs.Faults.{Fault, Tells, fault_of, not_json}
 use Rattle.kr_script.specs.Reading.{Gives, unless_faulty, reading_of, document}
 use Rattle.kr_script.specs.Script.{Script}
 use Rattle.kr_script.specs.declared.faults.ScriptFault.{ScriptFault}

@@ -9,7 +9,8 @@ use Rattle.serde_json.specs.Data.{Items, no_items, item}
 use Rattle.serde_json.specs.Events.{items_len}
 use Rattle.kr_model.specs.Map.{Map, IsMap}
 use Rattle.kr_script.specs.Steps.{event_of}
-use Rattle.kr_script.specs.Faults.{Fault, opening, unless, is_above, pair_of, pair_faults, opening_faults}
+use Rattle.kr_model.specs.Firsts.{unless}
+use Rattle.kr_script.specs.Faults.{Fault, opening, is_above, pair_of, pair_faults, opening_faults}
 use Rattle.kr_script.specs.Reading.{with_some, pairs_of, events_of}
 
 -- the keys rise strictly, from above the one before them

@@ -1,8 +1,10 @@
 -- The faults of a document, in the order in which they are told.
-use Rattle.std.specs.Prelude.{◌≡◌, ℕ, ◌+◌, ◌||◌, ◌==◌, codes, List, [], ◌∷◌, ◌++◌, Bool, true, false, nat_lt, bytes_eq, if◌then◌else◌, Option, Some, None, IfSome, is_some, option_map, option_and_then, Result, Ok, Err, string_bytes}
+use Rattle.std.specs.Prelude.{ℕ, ◌+◌, ◌||◌, ◌==◌, codes, List, [], ◌∷◌, ◌++◌, Bool, true, false, nat_lt, bytes_eq, if◌then◌else◌, Option, Some, None, is_some, option_map, option_and_then, Result, string_bytes}
 use Rattle.serde_json.specs.Data.{Data, Items, no_items, item, Members, no_members, member}
 use Rattle.serde_json.specs.Find.{as_object}
 use Rattle.serde_json.specs.Events.{items_len}
+use Rattle.kr_model.specs.Firsts as firsts
+use Rattle.kr_model.specs.Firsts.{unless}
 use Rattle.kr_script.specs.declared.faults.ScriptFault.{ScriptFault}
 use Rattle.kr_script.specs.declared.faults.ScriptFault.TheVariants as told_as
 use Rattle.kr_script.specs.Json.{length_of, number_at, both, number_in, list_in, items_in, members_in}
@@ -53,25 +55,15 @@ fault_name (told_as.Step i) = codes "Step"
 fault_name (told_as.TooMany path) = codes "TooMany"
 fault_name told_as.Memory = codes "Memory"
 
--- The first of some faults.
-abbrev pub first : List Fault → Option Fault
-first [] = None
-first (f ∷ fs) = Some f
-
 -- What is told is the first of these faults, or memory ran out.
 abbrev pub Tells : ScriptFault → List Fault → Type 0
-Tells e fs = IfSome (fault_of e) (λ f. first fs ≡ Some f)
+Tells e fs = firsts.Tells fault_of e fs
 
 -- A test passes where there are none of these faults, and else tells the first.
 abbrev pub Passes : Result (Unit {0}) ScriptFault → List Fault → Type 0
-Passes (Ok u) fs = fs ≡ []
-Passes (Err e) fs = Tells e fs
+Passes r fs = firsts.Passes fault_of r fs
 
 -- The faults of a document --
-
--- This fault, unless the test holds.
-abbrev pub unless : Bool → Fault → List Fault
-unless b f = if b then [] else f ∷ []
 
 -- The faults of the member `format`, as a whole number if it is one.
 abbrev pub format_faults : Option ℕ → List Fault

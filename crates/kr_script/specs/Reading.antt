@@ -5,11 +5,12 @@ use Rattle.serde_json.specs.Data.{Data, Items, no_items, item}
 use Rattle.serde_json.specs.Read.{read}
 use Rattle.kr_model.specs.declared.Event.{Event}
 use Rattle.kr_model.specs.Map.{Map}
+use Rattle.kr_model.specs.Firsts.{first}
 use Rattle.kr_script.specs.declared.faults.ScriptFault.{ScriptFault}
 use Rattle.kr_script.specs.Json.{items_in}
 use Rattle.kr_script.specs.Script.{Script}
 use Rattle.kr_script.specs.Steps.{event_of}
-use Rattle.kr_script.specs.Faults.{Fault, too_long, not_json, fault_of, first, faults, two_in, pair_of}
+use Rattle.kr_script.specs.Faults.{Fault, too_long, not_json, fault_of, faults, two_in, pair_of}
 
 -- A list with x in front, where there is an x.
 abbrev pub with_some : {A : Type 0} → Option A → List A → List A

@@ -2,10 +2,11 @@
 ghost use Rattle.std.specs.Prelude.{◌≡◌, ◌<◌, ◌≤◌, ◌∷◌, Err, MatchResult, None, Some, [], codes, length, nat_lt};
 ghost use Rattle.serde_json.specs.Events.{items_len};
 ghost use Rattle.serde_json.specs.View.{view, items_view, members_view};
+ghost use Rattle.kr_model.specs.Firsts.{unless};
 ghost use Rattle.kr_script.specs.declared.faults.ScriptFault.TheVariants as told_as;
 ghost use Rattle.kr_script.specs.Json.{number_in, list_in};
 ghost use Rattle.kr_script.specs.Faults as fault;
-ghost use Rattle.kr_script.specs.Faults.{Passes, Tells, format_faults, two_in, name_faults, list_faults, opening_faults, step_faults, unless};
+ghost use Rattle.kr_script.specs.Faults.{Passes, Tells, format_faults, two_in, name_faults, list_faults, opening_faults, step_faults};
 ghost use Rattle.kr_script.specs.Reading as spec;
 ghost use Rattle.kr_script.specs.Reading.{Gives, reading, reading_of};
 

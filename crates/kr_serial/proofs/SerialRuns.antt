@@ -1,14 +1,36 @@
--- What a run that is serial shows.
-use Rattle.std.proofs.Common.{◌≡◌, List, sym, subst, Result, Ok, Err, IfOk, OnOk}
+-- What a run leaves, and what one that is serial shows.
+use Rattle.std.proofs.Common.{◌≡◌, ◌≤◌, List, All, map, sym, subst, Result, Ok, Err, IfOk, OnOk}
 use Rattle.kr_model.specs.declared.Event.{Event}
 use Rattle.kr_model.specs.Map.{Map, IsMap}
 use Rattle.kr_model.specs.Protocol.{Protocol, IsLawful}
 use Rattle.kr_model.specs.Covers.{IsCovered}
 use Rattle.kr_model.specs.State.{start}
-use Rattle.kr_model.specs.Run.{Program, run, programs}
+use Rattle.kr_model.specs.Run.{Program, run, replies_of, programs}
 use Rattle.kr_model.specs.Serial.{AreSerial, IsSerialRun}
 use Rattle.kr_headline.proofs.run.Runs.{runs_are_serial}
 use Rattle.kr_serial.specs.declared.ran.Ran.{Ran}
+use Rattle.kr_serial.specs.Ran.{IsRanUnder}
+
+-- What a run leaves, put together.
+pub ran_under : {E : Type 0} (p : Protocol) (opening : Map) (events : List Event) (r : Result Ran E)
+    → IfOk r (λ ran. ran.opening ≡ opening)
+    → IfOk r (λ ran. ran.replies ≡ (let r = run p (start opening) events in replies_of r.history))
+    → IfOk r (λ ran. ran.index ≡ (let r = run p (start opening) events in r.state.map))
+    → IfOk r (λ ran. ran.locks ≡ (let r = run p (start opening) events in r.state.locks))
+    → IfOk r (λ ran. ran.programs ≡ (let r = run p (start opening) events in programs r.history))
+    → IfOk r (λ ran. All (λ l. l.1 ≤ p.count) ran.locks)
+    → IfOk r (λ ran. ran.unfinished ≡ (let r = run p (start opening) events in map (λ a. a.0) r.state.active))
+    → IfOk r (λ ran. IsRanUnder p opening events ran)
+ran_under p opening events (Ok ran) opening_is replies index locks committed modes unfinished = record {
+  opening_is = opening_is;
+  replies = replies;
+  index = index;
+  locks = locks;
+  programs = committed;
+  modes = modes;
+  unfinished = unfinished;
+}
+ran_under p opening events (Err e) opening_is replies index locks committed modes unfinished = tt
 
 -- What holds holds where there is a result.
 pub on_ok : {T E A : Type 0} (r : Result T E) → A → OnOk r A

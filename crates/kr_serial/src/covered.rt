@@ -1,9 +1,10 @@
 //! Runs under covered protocols.
-ghost use Rattle.std.specs.Prelude.{◌≡◌, ◌≤◌, IfOk, OnOk, All, map};
+ghost use Rattle.std.specs.Prelude.{IfOk, OnOk};
 ghost use Rattle.kr_model.specs.Map.{IsMap};
 ghost use Rattle.kr_model.specs.State.{start};
 ghost use Rattle.kr_model.specs.Run as model;
 ghost use Rattle.kr_model.specs.Serial.{AreSerial, IsSerialRun};
+ghost use Rattle.kr_serial.specs.Ran.{IsRanUnder};
 
 use crate::{Ran, run_any};
 use kr_index::Memory;
@@ -23,13 +24,7 @@ pub fn run<P: Covered>(
     events: &[Event],
 ) -> Result<Ran, Memory>
     requires { IsMap opening.now }
-    ensures opening { IfOk result (λ ran. ran.opening ≡ opening.now) }
-    ensures replies { IfOk result (λ ran. let r = model.run (P.table protocol.now) (start opening.now) events.now in ran.replies ≡ model.replies_of r.history) }
-    ensures index { IfOk result (λ ran. let r = model.run (P.table protocol.now) (start opening.now) events.now in ran.index ≡ r.state.map) }
-    ensures locks { IfOk result (λ ran. let r = model.run (P.table protocol.now) (start opening.now) events.now in ran.locks ≡ r.state.locks) }
-    ensures programs { IfOk result (λ ran. let r = model.run (P.table protocol.now) (start opening.now) events.now in ran.programs ≡ model.programs r.history) }
-    ensures modes { IfOk result (λ ran. All (λ l. l.1 ≤ (P.table protocol.now).count) ran.locks) }
-    ensures unfinished { IfOk result (λ ran. let r = model.run (P.table protocol.now) (start opening.now) events.now in ran.unfinished ≡ map (λ a. a.0) r.state.active) }
+    ensures ran { IfOk result (λ ran. IsRanUnder (P.table protocol.now) opening.now events.now ran) }
     ensures serial { IfOk result (λ ran. AreSerial ran.opening ran.programs) }
     ensures serial_run { OnOk result (IsSerialRun opening.now (model.run (P.table protocol.now) (start opening.now) events.now)) }
 {

@@ -5,6 +5,7 @@ ghost use Rattle.kr_model.specs.Covers.{IsCovered};
 ghost use Rattle.kr_model.specs.Serial.{AreSerial, IsSerialRun};
 ghost use Rattle.kr_model.specs.State.{start};
 ghost use Rattle.kr_model.specs.Run.{run, replies_of, programs};
+ghost use Rattle.kr_serial.specs.Ran.{IsRanUnder};
 
 use crate::{Index, Ran, Replies, Triples, replay};
 use kr_index::{Memory, Ordered, Tree};
@@ -26,20 +27,14 @@ pub fn run_any<P: Protocol>(
     events: &[Event],
 ) -> Result<Ran, Memory>
     requires { IsMap opening.now }
-    ensures opening { IfOk result (λ ran. ran.opening ≡ opening.now) }
-    ensures replies { IfOk result (λ ran. let r = run (P.table protocol.now) (start opening.now) events.now in ran.replies ≡ replies_of r.history) }
-    ensures index { IfOk result (λ ran. let r = run (P.table protocol.now) (start opening.now) events.now in ran.index ≡ r.state.map) }
-    ensures locks { IfOk result (λ ran. let r = run (P.table protocol.now) (start opening.now) events.now in ran.locks ≡ r.state.locks) }
-    ensures programs { IfOk result (λ ran. let r = run (P.table protocol.now) (start opening.now) events.now in ran.programs ≡ programs r.history) }
-    ensures modes { IfOk result (λ ran. All (λ l. l.1 ≤ (P.table protocol.now).count) ran.locks) }
-    ensures unfinished { IfOk result (λ ran. let r = run (P.table protocol.now) (start opening.now) events.now in ran.unfinished ≡ map (λ a. a.0) r.state.active) }
+    ensures ran { IfOk result (λ ran. IsRanUnder (P.table protocol.now) opening.now events.now ran) }
     ensures covered { IsCovered (P.table protocol.now) → IfOk result (λ ran. AreSerial ran.opening ran.programs) }
     ensures covered_run { IsCovered (P.table protocol.now) → OnOk result (IsSerialRun opening.now (run (P.table protocol.now) (start opening.now) events.now)) }
 {
     replayed(alloc, protocol, opening, events)
 }
 
-/// The same, without what holds where the protocol is covered.
+/// The same, clause by clause, without what holds where the protocol is covered.
 #[tactic(auto, using(crate::proofs::Replayed::programs_of_run))]
 fn replayed<P: Protocol>(
     alloc: Global,

@@ -6,7 +6,8 @@ use Rattle.std.proofs.lemmas.Str.{IsUtf8-from_is_utf8}
 use Rattle.toml.specs.View.{view, items_view}
 use Rattle.toml.specs.declared.value.Value.{Value}
 use Rattle.toml.specs.Parse.{parse_document}
-use Rattle.kr_table.specs.Faults.{Fault, Tells, fault_of, first, not_toml}
+use Rattle.kr_model.specs.Firsts.{first}
+use Rattle.kr_table.specs.Faults.{Fault, Tells, fault_of, not_toml}
 use Rattle.kr_table.specs.Members.{items_len}
 use Rattle.kr_table.specs.Reading.{reading_of, document}
 use Rattle.kr_table.specs.declared.faults.TableFault.{TableFault}

@@ -8,7 +8,8 @@ use Rattle.std.proofs.lemmas.Bool.{and_parts}
 use Rattle.std.proofs.lemmas.Bool.Decides.{nat_tests}
 use Rattle.toml.specs.Data.{Data, array, table, Items, no_items, Members, no_members, member, get_member, as_array}
 use Rattle.kr_model.specs.ModeNames.{name_of}
-use Rattle.kr_table.specs.Faults.{unless, compatible}
+use Rattle.kr_model.specs.Firsts.{unless}
+use Rattle.kr_table.specs.Faults.{compatible}
 use Rattle.kr_table.specs.DocumentFaults.{mode_faults, is_good, is_printable, is_mode, is_entry, all_modes, entry_faults, missing_faults}
 use Rattle.kr_table.specs.Members.{items_len, names_of}
 use Rattle.kr_table.specs.Tables.{are_good, in_range}

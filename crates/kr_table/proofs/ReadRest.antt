@@ -10,7 +10,8 @@ use Rattle.toml.specs.Data.{Data, string, table, Items, item, Members, no_member
 use Rattle.kr_model.specs.declared.Span.{Span}
 use Rattle.kr_model.specs.declared.Span.TheVariants.{Instant, Commit}
 use Rattle.kr_model.specs.ModeNames.{name_of}
-use Rattle.kr_table.specs.Faults.{unless, convert}
+use Rattle.kr_model.specs.Firsts.{unless}
+use Rattle.kr_table.specs.Faults.{convert}
 use Rattle.kr_table.specs.DocumentFaults.{is_mode, is_mode_text, pair_faults, held_faults, missing_of, missing_pairs, clauses_faults, is_changing, is_own_text}
 use Rattle.kr_table.specs.Members.{pair_in, members_of}
 use Rattle.kr_table.specs.Tables.{Request, in_range, asks_mode}

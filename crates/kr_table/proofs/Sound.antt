@@ -8,7 +8,8 @@ use Rattle.std.specs.Cmp.Lexicographic.{slice_cmp}
 use Rattle.std.proofs.lemmas.Bool.{and_parts}
 use Rattle.std.proofs.lemmas.Bool.Decides.{nat_tests}
 use Rattle.toml.specs.Data.{Data, string, integer, float, boolean, datetime, array, table, Items, no_items, item, Members, no_members, member, get, get_member, as_str, as_array, as_table}
-use Rattle.kr_table.specs.Faults.{Fault, unless, mode_count, mode_name, convert, rule}
+use Rattle.kr_model.specs.Firsts.{unless}
+use Rattle.kr_table.specs.Faults.{Fault, mode_count, mode_name, convert, rule}
 use Rattle.kr_table.specs.DocumentFaults.{count_faults, mode_faults, is_good_text, is_mode, is_mode_text, is_clause, are_clause_words, is_span, is_row, is_side, pair_faults, held_faults, missing_of, missing_pairs, row_faults, side_faults, clauses_faults, clause_faults, own_faults, clause_path, content_faults, entry_faults, missing_faults}
 use Rattle.kr_table.specs.Members.{items_len, names_of, with_some, pair_in, members_of, items_within, items_in, text_in}
 use Rattle.kr_table.specs.Tables.{Request, are_good, in_range, asks_mode, IsAsked, IsTable}

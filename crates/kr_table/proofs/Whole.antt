@@ -7,7 +7,8 @@ use Rattle.kr_table.proofs.Lists.{first_append}
 use Rattle.toml.specs.Data.{Data, Items, no_items, no_members, table, get, as_table}
 use Rattle.kr_table.specs.declared.table.Parts.{Parts}
 use Rattle.kr_table.specs.Shown.{data_of}
-use Rattle.kr_table.specs.Faults.{Fault, first, Tells, fault_of}
+use Rattle.kr_model.specs.Firsts.{first}
+use Rattle.kr_table.specs.Faults.{Fault, Tells, fault_of}
 use Rattle.kr_table.specs.Members.{modes_in, names_of, items_len, integer_in, members_of, list_in, data_in}
 use Rattle.kr_table.specs.DocumentFaults.{mode_faults, count_faults, content_faults, format_faults, name_faults, faults, updates_in}
 use Rattle.kr_table.specs.Tables.{IsTable, TableData}

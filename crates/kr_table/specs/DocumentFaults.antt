@@ -2,7 +2,8 @@
 use Rattle.std.specs.Prelude.{ℕ, ℤ, pos, ◌+◌, ◌&&◌, ◌||◌, codes, decimal, List, [], ◌∷◌, ◌++◌, length, Bool, true, false, not, nat_lt, bytes_eq, Option, Some, None, is_some}
 use Rattle.std.specs.Ordering.{int_eq}
 use Rattle.toml.specs.Data.{Data, Items, no_items, item, Members, no_members, member, get, as_str, as_array, as_table}
-use Rattle.kr_table.specs.Faults.{Fault, format, field, mode_count, mode_name, compatible, convert, rule, own_not_allowed, unless}
+use Rattle.kr_model.specs.Firsts.{unless}
+use Rattle.kr_table.specs.Faults.{Fault, format, field, mode_count, mode_name, compatible, convert, rule, own_not_allowed}
 use Rattle.kr_table.specs.Members.{integer_in, list_in, table_in, text_in, items_in, data_in, pair_in, members_of, items_within, items_len, with_some, modes_in}
 
 -- The document --

@@ -1,5 +1,6 @@
 -- Why bytes are no table.
-use Rattle.std.specs.Prelude.{◌≡◌, ℕ, codes, List, [], ◌∷◌, Bool, if◌then◌else◌, Option, Some, None, IfSome, Result, Ok, Err, string_bytes}
+use Rattle.std.specs.Prelude.{ℕ, codes, List, Option, Some, None, Result, string_bytes}
+use Rattle.kr_model.specs.Firsts as firsts
 use Rattle.kr_table.specs.declared.faults.TableFault.{TableFault}
 use Rattle.kr_table.specs.declared.faults.TableFault.TheVariants as told_as
 
@@ -58,20 +59,10 @@ fault_name (told_as.Rule path) = codes "Rule"
 fault_name (told_as.OwnNotAllowed path) = codes "OwnNotAllowed"
 fault_name told_as.Memory = codes "Memory"
 
--- The first of some faults.
-abbrev pub first : List Fault → Option Fault
-first [] = None
-first (f ∷ fs) = Some f
-
 -- What is told is the first of these faults, or memory ran out.
 abbrev pub Tells : TableFault → List Fault → Type 0
-Tells e fs = IfSome (fault_of e) (λ f. first fs ≡ Some f)
+Tells e fs = firsts.Tells fault_of e fs
 
 -- A test passes where there are none of these faults, and else tells the first.
 abbrev pub Passes : Result (Unit {0}) TableFault → List Fault → Type 0
-Passes (Ok u) fs = fs ≡ []
-Passes (Err e) fs = Tells e fs
-
--- This fault, unless the test holds.
-abbrev pub unless : Bool → Fault → List Fault
-unless b f = if b then [] else f ∷ []
+Passes r fs = firsts.Passes fault_of r fs

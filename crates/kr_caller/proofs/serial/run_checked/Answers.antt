@@ -13,7 +13,7 @@ use Rattle.kr_caller.proofs.serial.run_checked.Goals as goal
 pub returns-clause-replies : goal.returns-clause-replies
 returns-clause-replies c =
     let holds : TableData → Type 0 = λ t. c.in_ok-run.field-0.replies ≡ model.replies_of (model.run (protocol_of t) (start c.args.opening.now) c.args.events.now).history in
-    let of_table : holds (data_of c.in_ok-table.table.parts) = subst (λ (q : Table). holds (data_of q.parts)) c.in_ok-checked.ensures.ok c.in_ok-run.ensures.replies in
+    let of_table : holds (data_of c.in_ok-table.table.parts) = subst (λ (q : Table). holds (data_of q.parts)) c.in_ok-checked.ensures.ok c.in_ok-run.ensures.ran.replies in
     subst (λ (r : Result TableData Fault). IfOk r holds) (sym c.in_ok-table.ensures.reads) of_table
 
 pub returns-clause-serial_run : goal.returns-clause-serial_run

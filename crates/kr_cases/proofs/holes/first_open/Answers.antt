@@ -3,7 +3,7 @@ use Rattle.std.specs.List.{filter}
 use Rattle.kr_model.specs.declared.Row.TheVariants.{FetchHit}
 use Rattle.kr_model.specs.declared.Side.TheVariants.{Current}
 use Rattle.kr_model.specs.Covers.{is_open, places_of, must_conflict}
-use Rattle.kr_cases.specs.Holes.{first}
+use Rattle.kr_model.specs.Firsts.{first}
 use Rattle.kr_cases.proofs.Firsts.{listed_found}
 use Rattle.kr_cases.proofs.holes.first_open.Goals as goal
 

@@ -1,8 +1,14 @@
 use Rattle.kr_model.specs.State.{start}
 use Rattle.kr_model.specs.Run as model
 use Rattle.kr_headline.proofs.run.Runs.{runs_are_serial}
-use Rattle.kr_serial.proofs.SerialRuns.{on_ok, shows_serial, covered_programs}
+use Rattle.kr_serial.proofs.SerialRuns.{ran_under, on_ok, shows_serial, covered_programs}
 use Rattle.kr_serial.proofs.runs.run_any.Goals as goal
+
+pub returns-clause-ran : goal.returns-clause-ran
+returns-clause-ran g c =
+    let shown = c.replayed.ensures in
+    ran_under (g.P.Protocol.table c.args.protocol.now) c.args.opening.now c.args.events.now c.replayed.result
+    shown.opening shown.replies shown.index shown.locks shown.programs shown.modes shown.unfinished
 
 pub returns-clause-covered : goal.returns-clause-covered
 returns-clause-covered g c covered =
