@@ -1,6 +1,6 @@
 //! Checks with ample memory, none of which answers want of memory: accepted and rejected, each again and again, by reference,
 //! and once more when accepted.
-use super::{DeletesNextInstant, HOLDS_NOTHING, InsertAlwaysIx, UpdateUnderIx, open_key};
+use super::{ALWAYS_IX, HOLDS_NOTHING, NEXT_INSTANT, UNDER_IX, open_key, with_change};
 use kr_cases::{Cause, FailedCase, Rejected, check};
 use kr_model::{Cover, Mode, Origin, Place, Row, Rule, Side};
 use kr_protocol::{Im, Kvl, KvlUpdate, Protocol, RangeKey};
@@ -74,8 +74,11 @@ fn rejected_again_and_again(rt: HostRuntime) {
     );
     let key = open_key(Rule::Insert, Cover::InsertedKey, HOLDS_NOTHING);
     for _ in 0..20 {
-        assert_eq!(rt; failed(&rt, alloc, InsertAlwaysIx), (15, Some(split)));
-        assert_eq!(rt; failed(&rt, alloc, &UpdateUnderIx), (12, Some(key)));
-        assert_eq!(rt; failed(&rt, alloc, &DeletesNextInstant), (4, Some(gap)));
+        let always_ix = with_change(&rt, &Kvl, ALWAYS_IX);
+        let under_ix = with_change(&rt, &KvlUpdate, UNDER_IX);
+        let next_instant = with_change(&rt, &Kvl, NEXT_INSTANT);
+        assert_eq!(rt; failed(&rt, alloc, always_ix), (15, Some(split)));
+        assert_eq!(rt; failed(&rt, alloc, &under_ix), (12, Some(key)));
+        assert_eq!(rt; failed(&rt, alloc, &next_instant), (4, Some(gap)));
     }
 }
