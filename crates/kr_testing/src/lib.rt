@@ -1,0 +1,6 @@
+//! What the tests of several crates share.
+#![tactic(auto)]
+
+mod plain;
+
+pub use plain::Plain;
