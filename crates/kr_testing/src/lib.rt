@@ -2,5 +2,7 @@
 #![tactic(auto)]
 
 mod plain;
+mod scarce;
 
 pub use plain::Plain;
+pub use scarce::{Countdown, ScarceIndex, ScarceLocks};
