@@ -48,10 +48,7 @@ fn leaves<R: std::rt::Files + AllocGlobal + Abort>(
     err: &str,
 ) -> Result<(), Fail> {
     let files = [("table", table)];
-    let shelf = Shelf {
-        files: files.as_slice(),
-    };
-    let left = left_by(rt, words, &shelf)?;
+    let left = left_by(rt, words, &Shelf(files.as_slice()))?;
     assert_eq!(rt; left.out.as_slice(), out.as_bytes(), "{words:?}");
     assert_eq!(rt; left.err.as_slice(), err.as_bytes(), "{words:?}");
     assert_eq!(rt; left.status, status, "{words:?}");

@@ -17,9 +17,7 @@ const PHANTOM: &str =
     r#"{"format":1,"opening":[[10,1]],"steps":[[1,"fetch",15],[2,"insert",15,5],[2,"commit"],[1,"fetch",15],[1,"commit"]]}"#;
 
 /// A table that is named `table`, and a script that is named `s`.
-const SHELF: Shelf = Shelf {
-    files: &[("table", ASKS_NOTHING), ("s", PHANTOM)],
-};
+const SHELF: Shelf = Shelf(&[("table", ASKS_NOTHING), ("s", PHANTOM)]);
 
 /// What the program leaves, called with these words.
 fn left_by<R: std::rt::Files + AllocGlobal>(

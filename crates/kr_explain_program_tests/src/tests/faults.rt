@@ -106,9 +106,7 @@ fn faults_of_tables_are_told(rt: HostRuntime) -> Result<(), Fail> {
 }
 
 /// The short scan, which is named `table`.
-const SHELF: Shelf = Shelf {
-    files: &[("table", SHORT_SCAN)],
-};
+const SHELF: Shelf = Shelf(&[("table", SHORT_SCAN)]);
 
 #[test]
 fn output_that_fails(rt: HostRuntime) -> Result<(), Fail> {

@@ -59,9 +59,7 @@ fn faults_of_words_and_files_are_told(rt: HostRuntime) -> Result<(), Fail> {
 fn faults_of_tables_are_told(rt: HostRuntime) -> Result<(), Fail> {
     for (table, line) in TABLES {
         let files = [("table", *table), ("s", PHANTOM)];
-        let shelf = Shelf {
-            files: files.as_slice(),
-        };
+        let shelf = Shelf(files.as_slice());
         assert!(rt;
             tells(&rt, ["table", "s"].as_slice(), &shelf, *line)?,
             "{line}"
@@ -74,9 +72,7 @@ fn faults_of_tables_are_told(rt: HostRuntime) -> Result<(), Fail> {
 fn faults_of_scripts_are_told(rt: HostRuntime) -> Result<(), Fail> {
     for (script, line) in SCRIPTS {
         let files = [("table", ASKS_NOTHING), ("s", *script)];
-        let shelf = Shelf {
-            files: files.as_slice(),
-        };
+        let shelf = Shelf(files.as_slice());
         assert!(rt;
             tells(&rt, ["@kvl", "s"].as_slice(), &shelf, *line)?,
             "{line}"
