@@ -1,11 +1,12 @@
 //! Updates, and changes taken back one at a time, with what they leave worked out by hand.
 
 use super::runs::{Left, Opening, Run, Step, THREE_PAIRS, each_tells};
-use super::telling::{Answer, Did, Told};
+use super::telling::{Did, Told};
 use super::ways::{KEY_VALUE, KEY_VALUE_WITH_UPDATES};
 use kr_index::Memory;
 use kr_model::{Op, Refusal};
 use kr_serial::Name;
+use kr_testing::Answer;
 
 /// Shared, of key-value locking.
 const S: u8 = 3;
