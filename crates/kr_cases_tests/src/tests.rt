@@ -108,25 +108,44 @@ fn numbers_of_cases(rt: HostRuntime) {
     assert_eq!(rt; cases(15, true), 2005);
 }
 
+/// A case that first fails at a place for an asker that holds nothing.
+fn open_at(case: Rule, cover: Cover, from: Origin, mode: Mode, row: Row, side: Side) -> FailedCase {
+    let hole = Place {
+        row,
+        side,
+        own: 0,
+        own_next: 0,
+    };
+    FailedCase {
+        case,
+        cover,
+        from,
+        mode,
+        hole,
+    }
+}
+
+/// A split under IX of a gap that was read: one part of it is open to another insert.
+fn open_split() -> FailedCase {
+    let from = Origin::Insert {
+        own_next: 3,
+        own: 0,
+    };
+    open_at(
+        Rule::Split,
+        Cover::ReadGap,
+        from,
+        2,
+        Row::Insert,
+        Side::Next,
+    )
+}
+
 #[test]
 fn insert_always_ix(rt: HostRuntime) -> Result<(), Fail> {
     let failed = rejected(&rt, rt.alloc(), with_change(&rt, &Kvl, ALWAYS_IX))?;
     assert_eq!(rt; failed.len(), 15);
-    let first = FailedCase {
-        case: Rule::Split,
-        cover: Cover::ReadGap,
-        from: Origin::Insert {
-            own_next: 3,
-            own: 0,
-        },
-        mode: 2,
-        hole: Place {
-            row: Row::Insert,
-            side: Side::Next,
-            own: 0,
-            own_next: 0,
-        },
-    };
+    let first = open_split();
     assert_eq!(rt; failed.first(), Some(&first));
     let mut gaps: u8 = 0;
     for f in &failed {
@@ -141,18 +160,8 @@ fn insert_always_ix(rt: HostRuntime) -> Result<(), Fail> {
 
 /// A delete that leaves its gap open from an own mode on the next name, first to a row there.
 fn open_gap(own: Mode, row: Row) -> FailedCase {
-    FailedCase {
-        case: Rule::Delete,
-        cover: Cover::DeletedGap,
-        from: Origin::Own(own),
-        mode: own,
-        hole: Place {
-            row,
-            side: Side::Next,
-            own: 0,
-            own_next: 0,
-        },
-    }
+    let from = Origin::Own(own);
+    open_at(Rule::Delete, Cover::DeletedGap, from, own, row, Side::Next)
 }
 
 #[test]
@@ -179,18 +188,7 @@ const HOLDS_NOTHING: Origin = Origin::Insert {
 
 /// A case in which an update under IX leaves a key open to another update.
 fn open_key(case: Rule, cover: Cover, from: Origin) -> FailedCase {
-    FailedCase {
-        case,
-        cover,
-        from,
-        mode: 2,
-        hole: Place {
-            row: Row::Update,
-            side: Side::Current,
-            own: 0,
-            own_next: 0,
-        },
-    }
+    open_at(case, cover, from, 2, Row::Update, Side::Current)
 }
 
 #[test]

@@ -1,8 +1,10 @@
 //! Checks with ample memory, none of which answers want of memory: accepted and rejected, each again and again, by reference,
 //! and once more when accepted.
-use super::{ALWAYS_IX, HOLDS_NOTHING, NEXT_INSTANT, UNDER_IX, open_key, with_change};
+use super::{
+    ALWAYS_IX, HOLDS_NOTHING, NEXT_INSTANT, UNDER_IX, open_gap, open_key, open_split, with_change,
+};
 use kr_cases::{Cause, FailedCase, Rejected, check};
-use kr_model::{Cover, Mode, Origin, Place, Row, Rule, Side};
+use kr_model::{Cover, Row, Rule};
 use kr_protocol::{Im, Kvl, KvlUpdate, Protocol, RangeKey};
 use std::alloc::Global;
 use std::process::Abort;
@@ -15,23 +17,6 @@ fn failed<P: Protocol>(rt: &impl Abort, alloc: Global, protocol: P) -> (usize, O
             Cause::Failed(failed) => (failed.len(), failed.first().copied()),
             Cause::Memory => panic!(rt; "out of memory"),
         },
-    }
-}
-
-/// A case that fails at a place for an asker that holds nothing.
-fn first(case: Rule, cover: Cover, from: Origin, mode: Mode, row: Row, side: Side) -> FailedCase {
-    let hole = Place {
-        row,
-        side,
-        own: 0,
-        own_next: 0,
-    };
-    FailedCase {
-        case,
-        cover,
-        from,
-        mode,
-        hole,
     }
 }
 
@@ -53,25 +38,8 @@ fn accepted_again_and_again(rt: HostRuntime) {
 #[test]
 fn rejected_again_and_again(rt: HostRuntime) {
     let alloc = rt.alloc();
-    let split = first(
-        Rule::Split,
-        Cover::ReadGap,
-        Origin::Insert {
-            own_next: 3,
-            own: 0,
-        },
-        2,
-        Row::Insert,
-        Side::Next,
-    );
-    let gap = first(
-        Rule::Delete,
-        Cover::DeletedGap,
-        Origin::Own(0),
-        0,
-        Row::FetchMiss,
-        Side::Next,
-    );
+    let split = open_split();
+    let gap = open_gap(0, Row::FetchMiss);
     let key = open_key(Rule::Insert, Cover::InsertedKey, HOLDS_NOTHING);
     for _ in 0..20 {
         let always_ix = with_change(&rt, &Kvl, ALWAYS_IX);
