@@ -41,10 +41,11 @@ fn rejected_again_and_again(rt: HostRuntime) {
     let split = open_split();
     let gap = open_gap(0, Row::FetchMiss);
     let key = open_key(Rule::Insert, Cover::InsertedKey, HOLDS_NOTHING);
+    let (plain, updating) = (Kvl, KvlUpdate);
     for _ in 0..20 {
-        let always_ix = with_change(&rt, &Kvl, ALWAYS_IX);
-        let under_ix = with_change(&rt, &KvlUpdate, UNDER_IX);
-        let next_instant = with_change(&rt, &Kvl, NEXT_INSTANT);
+        let always_ix = with_change(&rt, &plain, ALWAYS_IX);
+        let under_ix = with_change(&rt, &updating, UNDER_IX);
+        let next_instant = with_change(&rt, &plain, NEXT_INSTANT);
         assert_eq!(rt; failed(&rt, alloc, always_ix), (15, Some(split)));
         assert_eq!(rt; failed(&rt, alloc, &under_ix), (12, Some(key)));
         assert_eq!(rt; failed(&rt, alloc, &next_instant), (4, Some(gap)));
