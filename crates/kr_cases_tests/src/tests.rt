@@ -29,10 +29,10 @@ fn with_change<'a, P: Protocol>(
     protocol: &'a P,
     change: Change,
 ) -> Changed<'a, P> {
-    match Changed::new(protocol, change) {
-        Some(changed) => changed,
-        None => panic!(rt; "no change of the table"),
-    }
+    let Some(changed) = Changed::new(protocol, change) else {
+        panic!(rt; "no change of the table");
+    };
+    changed
 }
 
 /// How many modes a covered protocol has: one that isn't covered can't be asked.
