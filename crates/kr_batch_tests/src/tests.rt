@@ -1,61 +1,11 @@
-ghost use Rattle.std.specs.Prelude.{max, [], ◌∷◌, None, true, codes, refl};
-ghost use Rattle.std.proofs.Common.{rules};
-ghost use Rattle.kr_model.proofs.Tested.{lawful_by_test};
-
 mod ample;
 mod named;
 
 use kr_batch::judge_all;
-use kr_model::{Mode, Row, Side, Span};
-use kr_protocol::Protocol;
 use kr_script::{read_script, report_verdict};
+use kr_testing::Plain;
 use std::alloc::AllocError;
 use std::test::Fail;
-
-// One mode, which is never asked for. Updates are offered.
-#[derive(Drop)]
-struct Plain;
-
-impl Protocol for Plain {
-    ghost table = { λ _. record { count = 1; ok = λ q h. true; convert = λ h q. max h q; ask = λ row side own. None; updates = true } };
-
-    ghost names = { λ _. codes "A" ∷ [] };
-
-    fn count(&self) -> Mode {
-        1
-    }
-
-    fn ok(&self, _requested: Mode, _held: Mode) -> bool {
-        true
-    }
-
-    fn row(&self, _requested: Mode) -> u16 {
-        0
-    }
-
-    fn convert(&self, held: Mode, requested: Mode) -> Mode {
-        held.max(requested)
-    }
-
-    fn name(&self, mode: Mode) -> &str {
-        match mode {
-            0 => "none",
-            _ => "A",
-        }
-    }
-
-    fn ask(&self, _row: Row, _side: Side, _own_next: Mode) -> Option<(Mode, Span)> {
-        None
-    }
-
-    fn updates(&self) -> bool {
-        true
-    }
-
-    ghost lawful = { λ _. lawful_by_test (record { count = 1; ok = λ q h. true; convert = λ h q. max h q; ask = λ row side own. None; updates = true }) refl };
-
-    ghost named = { λ _. Prim.search rules };
-}
 
 #[test]
 fn no_scripts(rt: HostRuntime) -> Result<(), AllocError> {

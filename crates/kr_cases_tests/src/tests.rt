@@ -1,175 +1,38 @@
 //! Checks of whole protocols, compared with lists that were worked out by hand.
 //!
 //! Modes of key-value locking: IS is 1, IX 2, S 3, SIX 4, X 5.
-ghost use Rattle.std.specs.Prelude.{refl};
-ghost use Rattle.kr_model.specs.ModeNames.{kvl_names};
-ghost use Rattle.kr_model.proofs.Bundled.{kvl_named};
-ghost use Rattle.kr_model.proofs.Tested.{lawful_by_test};
-ghost use Rattle.kr_model.proofs.WorkedCovers.{insert_always_ix, deletes_next_instant, update_under_ix};
-
 mod ample;
 
 use kr_cases::{Cause, FailedCase, Rejected, cases, check};
+use kr_causes::{Change, Changed};
 use kr_model::{Cover, Mode, Origin, Place, Row, Rule, Side, Span};
 use kr_protocol::{Covered, Im, Kvl, KvlUpdate, Protocol, RangeKey};
 use std::alloc::Global;
 use std::process::Abort;
 use std::test::Fail;
 
-/// Key-value locking whose insert takes IX on its key, whatever it holds on the next name.
-#[derive(Drop)]
-struct InsertAlwaysIx;
+/// An insert takes IX on its key, whatever it holds on the next name.
+#[rattlefmt::skip]
+const ALWAYS_IX: Change = Change::Ask { row: Row::Insert, side: Side::Current, own_next: None, mode: 2, span: Span::Commit };
 
-impl Protocol for InsertAlwaysIx {
-    ghost table = { λ _. insert_always_ix };
+/// A delete doesn't keep its lock on the next name.
+#[rattlefmt::skip]
+const NEXT_INSTANT: Change = Change::Ask { row: Row::Delete, side: Side::Next, own_next: None, mode: 5, span: Span::Instant };
 
-    ghost names = { λ _. kvl_names };
+/// An update takes IX on its key.
+#[rattlefmt::skip]
+const UNDER_IX: Change = Change::Ask { row: Row::Update, side: Side::Current, own_next: None, mode: 2, span: Span::Commit };
 
-    fn count(&self) -> Mode {
-        Kvl.count()
-    }
-
-    fn ok(&self, requested: Mode, held: Mode) -> bool {
-        Kvl.ok(requested, held)
-    }
-
-    fn row(&self, requested: Mode) -> u16 {
-        Kvl.row(requested)
-    }
-
-    fn convert(&self, held: Mode, requested: Mode) -> Mode {
-        Kvl.convert(held, requested)
-    }
-
-    fn name(&self, mode: Mode) -> &str {
-        match mode {
-            0 => "none",
-            1 => "IS",
-            2 => "IX",
-            3 => "S",
-            4 => "SIX",
-            _ => "X",
-        }
-    }
-
-    fn ask(&self, row: Row, side: Side, own_next: Mode) -> Option<(Mode, Span)> {
-        match (row, side) {
-            (Row::Insert, Side::Current) => Some((2, Span::Commit)),
-            _ => Kvl.ask(row, side, own_next),
-        }
-    }
-
-    fn updates(&self) -> bool {
-        false
-    }
-
-    ghost lawful = { λ _. lawful_by_test insert_always_ix refl };
-
-    ghost named = { λ _. kvl_named };
-}
-
-/// Key-value locking whose delete doesn't keep its lock on the next name.
-#[derive(Drop)]
-struct DeletesNextInstant;
-
-impl Protocol for DeletesNextInstant {
-    ghost table = { λ _. deletes_next_instant };
-
-    ghost names = { λ _. kvl_names };
-
-    fn count(&self) -> Mode {
-        Kvl.count()
-    }
-
-    fn ok(&self, requested: Mode, held: Mode) -> bool {
-        Kvl.ok(requested, held)
-    }
-
-    fn row(&self, requested: Mode) -> u16 {
-        Kvl.row(requested)
-    }
-
-    fn convert(&self, held: Mode, requested: Mode) -> Mode {
-        Kvl.convert(held, requested)
-    }
-
-    fn name(&self, mode: Mode) -> &str {
-        match mode {
-            0 => "none",
-            1 => "IS",
-            2 => "IX",
-            3 => "S",
-            4 => "SIX",
-            _ => "X",
-        }
-    }
-
-    fn ask(&self, row: Row, side: Side, own_next: Mode) -> Option<(Mode, Span)> {
-        match (row, side) {
-            (Row::Delete, Side::Next) => Some((5, Span::Instant)),
-            _ => Kvl.ask(row, side, own_next),
-        }
-    }
-
-    fn updates(&self) -> bool {
-        false
-    }
-
-    ghost lawful = { λ _. lawful_by_test deletes_next_instant refl };
-
-    ghost named = { λ _. kvl_named };
-}
-
-/// Key-value locking with updates whose update takes IX on its key.
-#[derive(Drop)]
-struct UpdateUnderIx;
-
-impl Protocol for UpdateUnderIx {
-    ghost table = { λ _. update_under_ix };
-
-    ghost names = { λ _. kvl_names };
-
-    fn count(&self) -> Mode {
-        KvlUpdate.count()
-    }
-
-    fn ok(&self, requested: Mode, held: Mode) -> bool {
-        KvlUpdate.ok(requested, held)
-    }
-
-    fn row(&self, requested: Mode) -> u16 {
-        KvlUpdate.row(requested)
-    }
-
-    fn convert(&self, held: Mode, requested: Mode) -> Mode {
-        KvlUpdate.convert(held, requested)
-    }
-
-    fn name(&self, mode: Mode) -> &str {
-        match mode {
-            0 => "none",
-            1 => "IS",
-            2 => "IX",
-            3 => "S",
-            4 => "SIX",
-            _ => "X",
-        }
-    }
-
-    fn ask(&self, row: Row, side: Side, own_next: Mode) -> Option<(Mode, Span)> {
-        match (row, side) {
-            (Row::Update, Side::Current) => Some((2, Span::Commit)),
-            _ => KvlUpdate.ask(row, side, own_next),
-        }
-    }
-
-    fn updates(&self) -> bool {
-        true
-    }
-
-    ghost lawful = { λ _. lawful_by_test update_under_ix refl };
-
-    ghost named = { λ _. kvl_named };
+/// A protocol with one entry changed.
+fn with_change<'a, P: Protocol>(
+    rt: &impl Abort,
+    protocol: &'a P,
+    change: Change,
+) -> Changed<'a, P> {
+    let Some(changed) = Changed::new(protocol, change) else {
+        panic!(rt; "no change of the table");
+    };
+    changed
 }
 
 /// How many modes a covered protocol has: one that isn't covered can't be asked.
@@ -245,25 +108,44 @@ fn numbers_of_cases(rt: HostRuntime) {
     assert_eq!(rt; cases(15, true), 2005);
 }
 
+/// A case that first fails at a place for an asker that holds nothing.
+fn open_at(case: Rule, cover: Cover, from: Origin, mode: Mode, row: Row, side: Side) -> FailedCase {
+    let hole = Place {
+        row,
+        side,
+        own: 0,
+        own_next: 0,
+    };
+    FailedCase {
+        case,
+        cover,
+        from,
+        mode,
+        hole,
+    }
+}
+
+/// A split under IX of a gap that was read: one part of it is open to another insert.
+fn open_split() -> FailedCase {
+    let from = Origin::Insert {
+        own_next: 3,
+        own: 0,
+    };
+    open_at(
+        Rule::Split,
+        Cover::ReadGap,
+        from,
+        2,
+        Row::Insert,
+        Side::Next,
+    )
+}
+
 #[test]
 fn insert_always_ix(rt: HostRuntime) -> Result<(), Fail> {
-    let failed = rejected(&rt, rt.alloc(), InsertAlwaysIx)?;
+    let failed = rejected(&rt, rt.alloc(), with_change(&rt, &Kvl, ALWAYS_IX))?;
     assert_eq!(rt; failed.len(), 15);
-    let first = FailedCase {
-        case: Rule::Split,
-        cover: Cover::ReadGap,
-        from: Origin::Insert {
-            own_next: 3,
-            own: 0,
-        },
-        mode: 2,
-        hole: Place {
-            row: Row::Insert,
-            side: Side::Next,
-            own: 0,
-            own_next: 0,
-        },
-    };
+    let first = open_split();
     assert_eq!(rt; failed.first(), Some(&first));
     let mut gaps: u8 = 0;
     for f in &failed {
@@ -278,23 +160,13 @@ fn insert_always_ix(rt: HostRuntime) -> Result<(), Fail> {
 
 /// A delete that leaves its gap open from an own mode on the next name, first to a row there.
 fn open_gap(own: Mode, row: Row) -> FailedCase {
-    FailedCase {
-        case: Rule::Delete,
-        cover: Cover::DeletedGap,
-        from: Origin::Own(own),
-        mode: own,
-        hole: Place {
-            row,
-            side: Side::Next,
-            own: 0,
-            own_next: 0,
-        },
-    }
+    let from = Origin::Own(own);
+    open_at(Rule::Delete, Cover::DeletedGap, from, own, row, Side::Next)
 }
 
 #[test]
 fn deletes_next_instant(rt: HostRuntime) -> Result<(), Fail> {
-    let failed = rejected(&rt, rt.alloc(), DeletesNextInstant)?;
+    let failed = rejected(&rt, rt.alloc(), with_change(&rt, &Kvl, NEXT_INSTANT))?;
     assert_eq!(rt;
         failed.as_slice(),
         [
@@ -316,23 +188,12 @@ const HOLDS_NOTHING: Origin = Origin::Insert {
 
 /// A case in which an update under IX leaves a key open to another update.
 fn open_key(case: Rule, cover: Cover, from: Origin) -> FailedCase {
-    FailedCase {
-        case,
-        cover,
-        from,
-        mode: 2,
-        hole: Place {
-            row: Row::Update,
-            side: Side::Current,
-            own: 0,
-            own_next: 0,
-        },
-    }
+    open_at(case, cover, from, 2, Row::Update, Side::Current)
 }
 
 #[test]
 fn update_under_ix(rt: HostRuntime) -> Result<(), Fail> {
-    let failed = rejected(&rt, rt.alloc(), UpdateUnderIx)?;
+    let failed = rejected(&rt, rt.alloc(), with_change(&rt, &KvlUpdate, UNDER_IX))?;
     assert_eq!(rt; failed.len(), 12);
     let first = open_key(Rule::Insert, Cover::InsertedKey, HOLDS_NOTHING);
     assert_eq!(rt; failed.first(), Some(&first));

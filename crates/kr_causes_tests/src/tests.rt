@@ -72,108 +72,44 @@ fn each_is_told<P: Protocol>(
 }
 
 /// Changes of the table with intents.
+#[rattlefmt::skip]
 const KVL_ROWS: &[Refused] = &[
     Refused {
         name: "an insert asks for too weak a lock on its key",
-        change: Change::Ask {
-            row: Row::Insert,
-            side: Side::Current,
-            own_next: None,
-            mode: 2,
-            span: Span::Commit,
-        },
-        told: Told {
-            cases: 15,
-            blame: Blame::Request {
-                row: Row::Insert,
-                side: Side::Current,
-                asked: Some((2, Span::Commit)),
-            },
-            changes: 2,
-            modes: [4, 5],
-        },
+        change: Change::Ask { row: Row::Insert, side: Side::Current, own_next: None, mode: 2, span: Span::Commit },
+        told: Told { cases: 15, blame: Blame::Request { row: Row::Insert, side: Side::Current, asked: Some((2, Span::Commit)) }, changes: 2, modes: [4, 5] },
     },
     Refused {
         name: "a delete keeps no lock on the next key",
-        change: Change::Ask {
-            row: Row::Delete,
-            side: Side::Next,
-            own_next: None,
-            mode: 5,
-            span: Span::Instant,
-        },
-        told: Told {
-            cases: 4,
-            blame: Blame::Request {
-                row: Row::Delete,
-                side: Side::Next,
-                asked: Some((5, Span::Instant)),
-            },
-            changes: 2,
-            modes: [5, 4],
-        },
+        change: Change::Ask { row: Row::Delete, side: Side::Next, own_next: None, mode: 5, span: Span::Instant },
+        told: Told { cases: 4, blame: Blame::Request { row: Row::Delete, side: Side::Next, asked: Some((5, Span::Instant)) }, changes: 2, modes: [5, 4] },
     },
     Refused {
         name: "a conversion loses what was held",
-        change: Change::Convert {
-            held: 3,
-            requested: 2,
-            mode: 1,
-        },
-        told: Told {
-            cases: 18,
-            blame: Blame::Conversion {
-                held: 3,
-                requested: 2,
-            },
-            changes: 2,
-            modes: [4, 5],
-        },
+        change: Change::Convert { held: 3, requested: 2, mode: 1 },
+        told: Told { cases: 18, blame: Blame::Conversion { held: 3, requested: 2 }, changes: 2, modes: [4, 5] },
     },
 ];
 
 /// A change of the table with intents and updates.
-const KVL_UPDATE_ROWS: &[Refused] = &[Refused {
-    name: "an update asks for too weak a lock",
-    change: Change::Ask {
-        row: Row::Update,
-        side: Side::Current,
-        own_next: None,
-        mode: 2,
-        span: Span::Commit,
+#[rattlefmt::skip]
+const KVL_UPDATE_ROWS: &[Refused] = &[
+    Refused {
+        name: "an update asks for too weak a lock",
+        change: Change::Ask { row: Row::Update, side: Side::Current, own_next: None, mode: 2, span: Span::Commit },
+        told: Told { cases: 12, blame: Blame::Pair { requested: 2, held: 2 }, changes: 1, modes: [0, 0] },
     },
-    told: Told {
-        cases: 12,
-        blame: Blame::Pair {
-            requested: 2,
-            held: 2,
-        },
-        changes: 1,
-        modes: [0, 0],
-    },
-}];
+];
 
 /// A change of the table with ranges.
-const RANGE_KEY_ROWS: &[Refused] = &[Refused {
-    name: "an insert asks for too weak a lock on its key, by some own modes",
-    change: Change::Ask {
-        row: Row::Insert,
-        side: Side::Current,
-        own_next: Some(0b0000_0001_1100_0111),
-        mode: 2,
-        span: Span::Commit,
+#[rattlefmt::skip]
+const RANGE_KEY_ROWS: &[Refused] = &[
+    Refused {
+        name: "an insert asks for too weak a lock on its key, by some own modes",
+        change: Change::Ask { row: Row::Insert, side: Side::Current, own_next: Some(0b0000_0001_1100_0111), mode: 2, span: Span::Commit },
+        told: Told { cases: 36, blame: Blame::Request { row: Row::Insert, side: Side::Current, asked: Some((2, Span::Commit)) }, changes: 2, modes: [8, 11] },
     },
-    told: Told {
-        cases: 36,
-        blame: Blame::Request {
-            row: Row::Insert,
-            side: Side::Current,
-            asked: Some((2, Span::Commit)),
-        },
-        changes: 2,
-        modes: [8, 11],
-    },
-}];
+];
 
 #[test]
 fn kvl_rows(rt: HostRuntime) -> Result<(), Fail> {

@@ -1,55 +1,13 @@
 //! Runs of the program, each by its words and a table, with what it leaves on its two streams.
 use kr_explain_program::execute;
-use kr_script::{Failed, Io, Sink};
-use kr_shell::{FileFault, Files};
-use std::alloc::{AllocError, Global};
+use kr_program_testing::{Left, Shelf, owned};
+use kr_script::Io;
+use std::alloc::AllocError;
 use std::process::Abort;
 use std::test::Fail;
 
 mod answers;
 mod faults;
-
-/// A table that is named `table`. To read `big` takes more memory than there is, and nothing else can be read.
-#[derive(Clone, Copy)]
-struct Shelf<'a> {
-    table: &'a str,
-}
-
-impl Files for Shelf<'_> {
-    ghost may_give = { λ _ _ _. Unit {0} };
-
-    fn whole<R: std::rt::Files + AllocGlobal>(
-        &self,
-        rt: &R,
-        word: &str,
-    ) -> Result<Vec<u8>, FileFault> {
-        match word {
-            "big" => Err(FileFault::Memory),
-            "table" => {
-                let bytes = self.table.as_bytes().to_vec(rt.alloc());
-                bytes.map_err(|_| FileFault::Memory)
-            }
-            _ => Err(FileFault::Unreadable),
-        }
-    }
-}
-
-/// A sink that takes nothing, of which no more failures are counted.
-#[derive(Drop)]
-struct Full;
-
-impl Sink for Full {
-    ghost use Rattle.std.specs.Prelude.{None};
-
-    ghost taken = { λ _. None };
-
-    ghost failures = { λ _. 18446744073709551615 };
-
-    fn put(&mut self, bytes: &[u8]) -> Result<usize, Failed> {
-        let _ = bytes;
-        Err(Failed)
-    }
-}
 
 /// A scan gives up the lock on each key that it finds: the table is rejected, by one cause.
 const SHORT_SCAN: &str = r#"format = 1
@@ -66,23 +24,7 @@ insert = { current = [{ mode = "X", span = "commit" }], next = [{ mode = "X", sp
 delete = { current = [{ mode = "X", span = "instant" }], next = [{ mode = "X", span = "commit" }] }
 "#;
 
-/// What the program left.
-#[derive(Drop)]
-struct Left {
-    status: u8,
-    out: Vec<u8>,
-    err: Vec<u8>,
-}
-
-/// The words, each as a text of its own.
-fn owned(alloc: Global, words: &[&str]) -> Result<Vec<String>, AllocError> {
-    let mut all = Vec::new(alloc);
-    for word in words {
-        all.push(String::from_str(alloc, *word)?)?;
-    }
-    Ok(all)
-}
-
+/// What the program leaves, called with these words.
 fn left_by<R: std::rt::Files + AllocGlobal>(
     rt: &R,
     words: &[&str],
@@ -93,14 +35,10 @@ fn left_by<R: std::rt::Files + AllocGlobal>(
     let mut out = Io::new(Vec::new(alloc));
     let mut err = Io::new(Vec::new(alloc));
     let status = execute(rt, words.as_slice(), shelf, &mut out, &mut err);
-    Ok(Left {
-        status,
-        out: out.writer().to_vec(alloc)?,
-        err: err.writer().to_vec(alloc)?,
-    })
+    Left::on(alloc, status, &out, &err)
 }
 
-/// Compares what the program leaves: its status, and what it prints on its two streams.
+/// Compares what the program leaves where this table is named `table`: its status, and what it prints on its two streams.
 fn leaves<R: std::rt::Files + AllocGlobal + Abort>(
     rt: &R,
     words: &[&str],
@@ -109,7 +47,8 @@ fn leaves<R: std::rt::Files + AllocGlobal + Abort>(
     out: &str,
     err: &str,
 ) -> Result<(), Fail> {
-    let left = left_by(rt, words, &Shelf { table })?;
+    let files = [("table", table)];
+    let left = left_by(rt, words, &Shelf(files.as_slice()))?;
     assert_eq!(rt; left.out.as_slice(), out.as_bytes(), "{words:?}");
     assert_eq!(rt; left.err.as_slice(), err.as_bytes(), "{words:?}");
     assert_eq!(rt; left.status, status, "{words:?}");

@@ -4,11 +4,10 @@ ghost use Rattle.std.specs.Prelude.{◌≡◌, ◌≤◌, []};
 ghost use Rattle.kr_model.specs.Locks.{AreWithin};
 
 mod conflicts;
-mod scarce;
 mod shared_exclusive;
 
 use kr_locks::{Buckets, Holdings, List, Memory, Mode, Name, Txn};
-use scarce::Scarce;
+use kr_testing::ScarceLocks;
 use shared_exclusive::{EXCLUSIVE, SHARED, SharedExclusive};
 use std::alloc::Global;
 use std::process::Abort;
@@ -129,29 +128,31 @@ fn buckets_change(rt: HostRuntime) -> Result<(), Fail> {
 
 #[test]
 fn scarce_answers(rt: HostRuntime) -> Result<(), Fail> {
-    answers(&rt, rt.alloc(), Scarce::new(rt.alloc()))
+    answers(&rt, rt.alloc(), ScarceLocks::new(rt.alloc()))
 }
 
 #[test]
 fn scarce_changes(rt: HostRuntime) -> Result<(), Fail> {
-    changes(&rt, rt.alloc(), Scarce::new(rt.alloc()))
+    changes(&rt, rt.alloc(), ScarceLocks::new(rt.alloc()))
 }
 
 #[test]
 fn refusals_change_nothing(rt: HostRuntime) -> Result<(), Fail> {
-    let mut locks = Scarce::new(rt.alloc());
+    let mut locks = ScarceLocks::new(rt.alloc());
     fill(&mut locks)?;
-    locks.is_out = true;
+    locks.memory.refuse_next();
     assert!(rt; locks.copy(rt.alloc()).is_err());
+    locks.memory.refuse_next();
     assert!(rt;
         locks
             .blockers(rt.alloc(), &SharedExclusive, 9, MIDDLE, EXCLUSIVE)
             .is_err()
     );
+    locks.memory.refuse_next();
     assert!(rt; locks.keep(9, MIDDLE, SHARED).is_err());
+    locks.memory.refuse_next();
     assert!(rt; locks.keep(9, MIDDLE, 0).is_ok());
     assert!(rt; locks.keep(2, LOW, EXCLUSIVE).is_ok());
-    locks.is_out = false;
     assert_eq!(rt; locks.own(9, MIDDLE), 0);
     assert_eq!(rt; locks.own(2, LOW), EXCLUSIVE);
     Ok(())

@@ -7,7 +7,6 @@ mod changes;
 mod machines;
 mod refused_memory;
 mod scans;
-mod scarce;
 mod steps;
 mod story;
 mod sweep;

@@ -1,4 +1,5 @@
 use kr_program::{FileFault, Files, execute};
+use kr_program_testing::{Left, owned};
 use kr_script::Io;
 use kr_table::bundled::{IM, KVL, KVL_UPDATE, RANGE_KEY};
 use std::alloc::{AllocError, Global};
@@ -168,27 +169,12 @@ const RUN_TABLE: Row = Row {
     ..RUN
 };
 
-/// What a run of the program left.
-#[derive(Drop)]
-struct Program {
-    status: u8,
-    out: Vec<u8>,
-    err: Vec<u8>,
-}
-
-fn owned(alloc: Global, words: &[&str]) -> Result<Vec<String>, AllocError> {
-    let mut all = Vec::new(alloc);
-    for word in words {
-        all.push(String::from_str(alloc, *word)?)?;
-    }
-    Ok(all)
-}
-
+/// What the program leaves, called with these words.
 fn run_program<R: std::rt::Files + AllocGlobal + Threads + Wait + Sync>(
     rt: &R,
     words: &[&str],
     files: &Texts,
-) -> Result<Program, AllocError>
+) -> Result<Left, AllocError>
 where
     R::File: Send + Sync,
     R::Dir: Send + Sync,
@@ -198,11 +184,7 @@ where
     let mut out = Io::new(Vec::new(alloc));
     let mut err = Io::new(Vec::new(alloc));
     let status = execute(rt, words.as_slice(), files, &mut out, &mut err);
-    Ok(Program {
-        status,
-        out: out.writer().to_vec(alloc)?,
-        err: err.writer().to_vec(alloc)?,
-    })
+    Left::on(alloc, status, &out, &err)
 }
 
 /// These lines, each with the line feed that ends it.

@@ -39,24 +39,29 @@ fn drawn_conversion<P: Protocol>(alloc: Global, protocol: &P) -> Result<String, 
     Ok(text)
 }
 
-/// A line for each row and side: what is asked for at each own mode on next, from none on; `!`
-/// stands behind a lock for an instant, and `-` where nothing is asked.
-fn drawn_rules<P: Protocol>(alloc: Global, protocol: &P) -> Result<String, AllocError> {
-    let rows = [
-        Row::FetchHit,
-        Row::FetchMiss,
-        Row::ScanKey,
-        Row::ScanStop,
-        Row::Insert,
-        Row::Delete,
-        Row::Update,
-    ];
+/// The rows of both formats.
+const ROWS: &[Row] = &[
+    Row::FetchHit,
+    Row::FetchMiss,
+    Row::ScanKey,
+    Row::ScanStop,
+    Row::Insert,
+    Row::Delete,
+];
+
+/// A line for each of these rows and each side: what is asked for at each own mode on next, from
+/// none on; `!` stands behind a lock for an instant, and `-` where nothing is asked.
+fn drawn_rules<P: Protocol>(
+    alloc: Global,
+    protocol: &P,
+    rows: &[Row],
+) -> Result<String, AllocError> {
     let mut text = String::new(alloc);
     for row in rows {
         for side in [Side::Current, Side::Next] {
             for own in 0..protocol.count() + 1 {
                 text.push_str(if own == 0 { "" } else { " " })?;
-                match protocol.ask(row, side, own) {
+                match protocol.ask(*row, side, own) {
                     Some((mode, span)) => {
                         text.push_str(protocol.name(mode))?;
                         text.push_str(if span == Span::Instant { "!" } else { "" })?;
@@ -109,24 +114,14 @@ IX IX IX X X X
 IX! IX! IX! IX! IX! IX!
 X! X! X! X! X! X!
 X X X X X X
+";
+
+const KVL_WITHOUT_UPDATES: &str = "\
 - - - - - -
 - - - - - -
 ";
 
-/// The same with updates.
-const KVL_UPDATE_RULES: &str = "\
-S S S S S S
-- - - - - -
-- - - - - -
-S S S S S S
-S S S S S S
-- - - - - -
-- - - - - -
-S S S S S S
-IX IX IX X X X
-IX! IX! IX! IX! IX! IX!
-X! X! X! X! X! X!
-X X X X X X
+const KVL_WITH_UPDATES: &str = "\
 X X X X X X
 - - - - - -
 ";
@@ -174,6 +169,9 @@ I-X I-X I-X X-X X-X X-X I-X I-X I-X X-X X-X X-X
 I-N! I-N! I-N! I-N! I-N! I-N! I-N! I-N! I-N! I-N! I-N! I-N!
 X-X! X-X! X-X! X-X! X-X! X-X! X-X! X-X! X-X! X-X! X-X! X-X!
 X-N X-N X-N X-N X-N X-N X-N X-N X-N X-N X-N X-N
+";
+
+const RANGE_KEY_WITHOUT_UPDATES: &str = "\
 - - - - - - - - - - - -
 - - - - - - - - - - - -
 ";
@@ -203,6 +201,9 @@ X X X
 X! X! X!
 X! X! X!
 X X X
+";
+
+const IM_WITHOUT_UPDATES: &str = "\
 - - -
 - - -
 ";
@@ -214,19 +215,21 @@ struct Drawing<'a> {
     compatibility: &'a str,
     conversion: &'a str,
     rules: &'a str,
+    /// What the row of updates asks for.
+    update: &'a str,
 }
 
 #[rattlefmt::skip]
-const KVL: Drawing = Drawing { count: 5, compatibility: KVL_COMPATIBILITY, conversion: KVL_CONVERSION, rules: KVL_RULES };
+const KVL: Drawing = Drawing { count: 5, compatibility: KVL_COMPATIBILITY, conversion: KVL_CONVERSION, rules: KVL_RULES, update: KVL_WITHOUT_UPDATES };
 
 #[rattlefmt::skip]
-const KVL_UPDATE: Drawing = Drawing { rules: KVL_UPDATE_RULES, ..KVL };
+const KVL_UPDATE: Drawing = Drawing { update: KVL_WITH_UPDATES, ..KVL };
 
 #[rattlefmt::skip]
-const IM: Drawing = Drawing { count: 2, compatibility: IM_COMPATIBILITY, conversion: IM_CONVERSION, rules: IM_RULES };
+const IM: Drawing = Drawing { count: 2, compatibility: IM_COMPATIBILITY, conversion: IM_CONVERSION, rules: IM_RULES, update: IM_WITHOUT_UPDATES };
 
 #[rattlefmt::skip]
-const RANGE_KEY: Drawing = Drawing { count: 11, compatibility: RANGE_KEY_COMPATIBILITY, conversion: RANGE_KEY_CONVERSION, rules: RANGE_KEY_RULES };
+const RANGE_KEY: Drawing = Drawing { count: 11, compatibility: RANGE_KEY_COMPATIBILITY, conversion: RANGE_KEY_CONVERSION, rules: RANGE_KEY_RULES, update: RANGE_KEY_WITHOUT_UPDATES };
 
 /// Compares a protocol with its drawing.
 fn is_drawn<P: Covered>(
@@ -240,6 +243,7 @@ fn is_drawn<P: Covered>(
         compatibility,
         conversion,
         rules,
+        update,
     } = drawing;
     assert_eq!(rt; covered_count(protocol), count);
     assert_eq!(rt;
@@ -247,7 +251,11 @@ fn is_drawn<P: Covered>(
         compatibility
     );
     assert_eq!(rt; drawn_conversion(alloc, protocol)?.as_str(), conversion);
-    assert_eq!(rt; drawn_rules(alloc, protocol)?.as_str(), rules);
+    assert_eq!(rt; drawn_rules(alloc, protocol, ROWS)?.as_str(), rules);
+    assert_eq!(rt;
+        drawn_rules(alloc, protocol, &[Row::Update])?.as_str(),
+        update
+    );
     Ok(())
 }
 

@@ -2,7 +2,6 @@ mod ample;
 mod changing;
 mod judging;
 mod lists;
-mod plain;
 mod runs;
 mod splitting;
 mod telling;

@@ -1,7 +1,7 @@
 //! Words on a shelf of one file, and what is had for them.
 use kr_script::{Io, ScriptFault, read_script};
 use kr_shell::{
-    AnyTable, Ending, FileFault, Files, at_fault, finish, is_plain, read_file, script_at, table_at,
+    AnyTable, Ending, FileFault, at_fault, finish, is_plain, read_file, script_at, table_at,
     unreadable, whole,
 };
 use kr_table::TableFault;
@@ -12,26 +12,6 @@ use std::test::Fail;
 mod faults;
 mod named;
 mod words;
-
-/// Bytes that are named `file`. To read `big` takes more memory than there is, and nothing else can be read.
-#[derive(Clone, Copy)]
-struct Shelf<'a>(&'a [u8]);
-
-impl Files for Shelf<'_> {
-    ghost may_give = { λ _ _ _. Unit {0} };
-
-    fn whole<R: std::rt::Files + AllocGlobal>(
-        &self,
-        rt: &R,
-        word: &str,
-    ) -> Result<Vec<u8>, FileFault> {
-        match word {
-            "big" => Err(FileFault::Memory),
-            "file" => self.0.to_vec(rt.alloc()).map_err(|_| FileFault::Memory),
-            _ => Err(FileFault::Unreadable),
-        }
-    }
-}
 
 /// A table of one mode, in which no row asks for anything.
 const TABLE: &str =

@@ -1,8 +1,10 @@
 //! Checks with ample memory, none of which answers want of memory: accepted and rejected, each again and again, by reference,
 //! and once more when accepted.
-use super::{DeletesNextInstant, HOLDS_NOTHING, InsertAlwaysIx, UpdateUnderIx, open_key};
+use super::{
+    ALWAYS_IX, HOLDS_NOTHING, NEXT_INSTANT, UNDER_IX, open_gap, open_key, open_split, with_change,
+};
 use kr_cases::{Cause, FailedCase, Rejected, check};
-use kr_model::{Cover, Mode, Origin, Place, Row, Rule, Side};
+use kr_model::{Cover, Row, Rule};
 use kr_protocol::{Im, Kvl, KvlUpdate, Protocol, RangeKey};
 use std::alloc::Global;
 use std::process::Abort;
@@ -15,23 +17,6 @@ fn failed<P: Protocol>(rt: &impl Abort, alloc: Global, protocol: P) -> (usize, O
             Cause::Failed(failed) => (failed.len(), failed.first().copied()),
             Cause::Memory => panic!(rt; "out of memory"),
         },
-    }
-}
-
-/// A case that fails at a place for an asker that holds nothing.
-fn first(case: Rule, cover: Cover, from: Origin, mode: Mode, row: Row, side: Side) -> FailedCase {
-    let hole = Place {
-        row,
-        side,
-        own: 0,
-        own_next: 0,
-    };
-    FailedCase {
-        case,
-        cover,
-        from,
-        mode,
-        hole,
     }
 }
 
@@ -53,29 +38,16 @@ fn accepted_again_and_again(rt: HostRuntime) {
 #[test]
 fn rejected_again_and_again(rt: HostRuntime) {
     let alloc = rt.alloc();
-    let split = first(
-        Rule::Split,
-        Cover::ReadGap,
-        Origin::Insert {
-            own_next: 3,
-            own: 0,
-        },
-        2,
-        Row::Insert,
-        Side::Next,
-    );
-    let gap = first(
-        Rule::Delete,
-        Cover::DeletedGap,
-        Origin::Own(0),
-        0,
-        Row::FetchMiss,
-        Side::Next,
-    );
+    let split = open_split();
+    let gap = open_gap(0, Row::FetchMiss);
     let key = open_key(Rule::Insert, Cover::InsertedKey, HOLDS_NOTHING);
+    let (plain, updating) = (Kvl, KvlUpdate);
     for _ in 0..20 {
-        assert_eq!(rt; failed(&rt, alloc, InsertAlwaysIx), (15, Some(split)));
-        assert_eq!(rt; failed(&rt, alloc, &UpdateUnderIx), (12, Some(key)));
-        assert_eq!(rt; failed(&rt, alloc, &DeletesNextInstant), (4, Some(gap)));
+        let always_ix = with_change(&rt, &plain, ALWAYS_IX);
+        let under_ix = with_change(&rt, &updating, UNDER_IX);
+        let next_instant = with_change(&rt, &plain, NEXT_INSTANT);
+        assert_eq!(rt; failed(&rt, alloc, always_ix), (15, Some(split)));
+        assert_eq!(rt; failed(&rt, alloc, &under_ix), (12, Some(key)));
+        assert_eq!(rt; failed(&rt, alloc, &next_instant), (4, Some(gap)));
     }
 }

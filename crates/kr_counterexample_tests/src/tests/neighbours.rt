@@ -112,72 +112,57 @@ fn counts<P: Protocol>(
     Ok(counts)
 }
 
-/// Compares the numbers of changes and of rejected tables; those with a script may be more than are known.
-fn are(rt: &impl Abort, found: Numbers, known: Numbers) {
+/// Compares the numbers of changes and of rejected tables with those that are known, of the changes of a table with these
+/// clauses, of which the first of each so many is taken. Those with a script may be more than are known.
+fn are<P: Protocol>(
+    rt: &impl Abort,
+    alloc: Global,
+    protocol: &P,
+    clauses: &[Clause],
+    each: usize,
+    known: Numbers,
+) -> Result<(), Fail>
+    requires { 0 < each }
+{
+    let found = counts(alloc, protocol, clauses, each)?;
     assert_eq!(rt;
         (found.changes, found.rejected),
         (known.changes, known.rejected)
     );
     assert!(rt; found.shown >= known.shown, "{found:?}");
+    Ok(())
 }
+
+#[rattlefmt::skip]
+const TWO_MODES: Numbers = Numbers { changes: 32, rejected: 24, shown: 24 };
+
+#[rattlefmt::skip]
+const INTENTION_MODES: Numbers = Numbers { changes: 183, rejected: 116, shown: 77 };
+
+#[rattlefmt::skip]
+const INTENTION_MODES_AND_UPDATES: Numbers = Numbers { changes: 189, rejected: 121, shown: 82 };
+
+#[rattlefmt::skip]
+const TWO_PARTS: Numbers = Numbers { changes: 121, rejected: 81, shown: 41 };
 
 #[test]
 fn of_two_modes(rt: HostRuntime) -> Result<(), Fail> {
-    let found = counts(rt.alloc(), &Im, IM, 1)?;
-    are(
-        &rt,
-        found,
-        Numbers {
-            changes: 32,
-            rejected: 24,
-            shown: 24,
-        },
-    );
-    Ok(())
+    are(&rt, rt.alloc(), &Im, IM, 1, TWO_MODES)
 }
 
 #[test]
 fn of_intention_modes(rt: HostRuntime) -> Result<(), Fail> {
-    let found = counts(rt.alloc(), &Kvl, KVL, 1)?;
-    are(
-        &rt,
-        found,
-        Numbers {
-            changes: 183,
-            rejected: 116,
-            shown: 77,
-        },
-    );
-    Ok(())
+    are(&rt, rt.alloc(), &Kvl, KVL, 1, INTENTION_MODES)
 }
 
 #[test]
 fn of_intention_modes_and_updates(rt: HostRuntime) -> Result<(), Fail> {
-    let found = counts(rt.alloc(), &KvlUpdate, KVL_UPDATE, 1)?;
-    are(
-        &rt,
-        found,
-        Numbers {
-            changes: 189,
-            rejected: 121,
-            shown: 82,
-        },
-    );
-    Ok(())
+    let known = INTENTION_MODES_AND_UPDATES;
+    are(&rt, rt.alloc(), &KvlUpdate, KVL_UPDATE, 1, known)
 }
 
 /// Each twelfth change of the table with range and key parts.
 #[test]
 fn of_two_parts(rt: HostRuntime) -> Result<(), Fail> {
-    let found = counts(rt.alloc(), &RangeKey, RANGE_KEY, 12)?;
-    are(
-        &rt,
-        found,
-        Numbers {
-            changes: 121,
-            rejected: 81,
-            shown: 41,
-        },
-    );
-    Ok(())
+    are(&rt, rt.alloc(), &RangeKey, RANGE_KEY, 12, TWO_PARTS)
 }

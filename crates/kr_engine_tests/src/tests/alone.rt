@@ -8,11 +8,19 @@ use kr_engine::{Name, Op};
 use kr_protocol::{Kvl, KvlUpdate};
 use std::test::Fail;
 
+/// One seat of an engine that opens without pairs.
+const ONE_SEAT: Story = Story {
+    name: "one seat",
+    opening: Opening::Empty,
+    places: 10,
+    seats: 1,
+    lines: &[],
+    then: Then::Closes,
+};
+
 /// A seat that began nothing, numbers that are open or taken.
 const TWO_SEATS: Story = Story {
     name: "two seats",
-    opening: Opening::Empty,
-    places: 10,
     seats: 2,
     lines: &[
         Line::By(0, Ask::Call(Op::Fetch(10)), Short::NotBegun),
@@ -24,15 +32,13 @@ const TWO_SEATS: Story = Story {
         Line::By(0, Ask::Call(Op::Commit), Short::Committed(1)),
         Line::By(0, Ask::Begin(1), Short::Taken),
     ],
-    then: Then::Closes,
+    ..ONE_SEAT
 };
 
 /// A row of two places: the end uses the kept one, and nothing else does.
 const TWO_PLACES: Story = Story {
     name: "two places",
-    opening: Opening::Empty,
     places: 2,
-    seats: 1,
     lines: &[
         Line::By(0, Ask::Begin(1), Short::Ok),
         Line::By(0, Ask::Call(Op::Fetch(10)), Short::Nothing(0)),
@@ -40,15 +46,13 @@ const TWO_PLACES: Story = Story {
         Line::By(0, Ask::Call(Op::Commit), Short::Committed(1)),
         Line::By(0, Ask::Begin(2), Short::RowFull),
     ],
-    then: Then::Closes,
+    ..ONE_SEAT
 };
 
 /// A number that its seat leaves behind unended keeps its place.
 const THREE_PLACES: Story = Story {
     name: "three places",
-    opening: Opening::Empty,
     places: 3,
-    seats: 1,
     lines: &[
         Line::By(0, Ask::Begin(1), Short::Ok),
         Line::By(0, Ask::Begin(2), Short::Ok),
@@ -57,14 +61,12 @@ const THREE_PLACES: Story = Story {
         Line::By(0, Ask::Call(Op::Commit), Short::Committed(1)),
         Line::By(0, Ask::Begin(3), Short::RowFull),
     ],
-    then: Then::Closes,
+    ..ONE_SEAT
 };
 
 /// An insert is blocked by a fetch of the gap, and a fetch by the insert until its commit.
 const THREE_SEATS: Story = Story {
     name: "three seats",
-    opening: Opening::Empty,
-    places: 10,
     seats: 3,
     lines: &[
         Line::By(0, Ask::Begin(1), Short::Ok),
@@ -79,6 +81,7 @@ const THREE_SEATS: Story = Story {
         Line::By(2, Ask::Call(Op::Fetch(17)), Short::Found(4, 5)),
     ],
     then: Then::Watched,
+    ..ONE_SEAT
 };
 
 /// 65 seats: a 65th active transaction is refused until one has ended.
@@ -95,41 +98,34 @@ const MANY_SEATS: Story = Story {
         Line::By(64, Ask::Call(Op::Fetch(10)), Short::Found(65, 1)),
         Line::By(64, Ask::Call(Op::Fetch(10)), Short::RowFull),
     ],
-    then: Then::Closes,
+    ..ONE_SEAT
 };
 
 /// One seat does 100,000 steps.
 const MANY_STEPS: Story = Story {
     name: "many steps",
-    opening: Opening::Empty,
     places: 100_001,
-    seats: 1,
     lines: &[
         Line::By(0, Ask::Begin(1), Short::Ok),
         Line::Fetches(100_000),
     ],
-    then: Then::Closes,
+    ..ONE_SEAT
 };
 
 /// The share of a seat that has done nothing fits an engine without entries.
 const A_SHARE_OF_NOTHING: Story = Story {
     name: "a share of nothing",
-    opening: Opening::Empty,
-    places: 10,
-    seats: 1,
-    lines: &[],
     then: Then::Lends(Lent {
         seat: 0,
         count: 0,
         last: None,
     }),
+    ..ONE_SEAT
 };
 
 /// It fits too where another seat has done something.
 const A_SHARE_BESIDE_ANOTHER: Story = Story {
     name: "a share beside another",
-    opening: Opening::Empty,
-    places: 10,
     seats: 2,
     lines: &[
         Line::By(0, Ask::Begin(1), Short::Ok),
@@ -140,6 +136,7 @@ const A_SHARE_BESIDE_ANOTHER: Story = Story {
         count: 0,
         last: None,
     }),
+    ..ONE_SEAT
 };
 
 /// A seat is lost with its transaction active: its entry and its locks stay, and the closed engine names it.

@@ -80,7 +80,12 @@ const AN_ABORT_CLOSES_A_CYCLE: Story = Story {
     opening: Opening::LeastKey,
     places: 12,
     seats: 3,
-    lines: BEFORE_A_CYCLE,
+    lines: &[
+        Line::EachBegins(3),
+        Line::By(2, Ask::Call(Op::Fetch(1)), Short::Found(0, 1)),
+        Line::By(1, Ask::Call(Op::Insert(30, 3)), Short::Done(1)),
+        Line::By(0, Ask::Call(Op::Insert(20, 2)), Short::Done(2)),
+    ],
     then: Then::Races(
         &[
             Part {
@@ -97,10 +102,6 @@ const AN_ABORT_CLOSES_A_CYCLE: Story = Story {
 /// The same where 1 takes its insert back, and stays active.
 const A_BACK_CLOSES_A_CYCLE: Story = Story {
     name: "a back closes a cycle",
-    opening: Opening::LeastKey,
-    places: 12,
-    seats: 3,
-    lines: BEFORE_A_CYCLE,
     then: Then::Races(
         &[
             Part {
@@ -112,14 +113,8 @@ const A_BACK_CLOSES_A_CYCLE: Story = Story {
         ],
         A_CYCLE_OF_2_AND_3,
     ),
+    ..AN_ABORT_CLOSES_A_CYCLE
 };
-
-const BEFORE_A_CYCLE: &[Line] = &[
-    Line::EachBegins(3),
-    Line::By(2, Ask::Call(Op::Fetch(1)), Short::Found(0, 1)),
-    Line::By(1, Ask::Call(Op::Insert(30, 3)), Short::Done(1)),
-    Line::By(0, Ask::Call(Op::Insert(20, 2)), Short::Done(2)),
-];
 
 const DELETES_1: Part = Part {
     once: &[],

@@ -1,6 +1,7 @@
 //! Faults, and the lines that tell them.
-use super::{Full, SHORT_SCAN, Shelf, leaves, owned};
+use super::{SHORT_SCAN, leaves};
 use kr_explain_program::execute;
+use kr_program_testing::{Full, Shelf, owned};
 use kr_script::Io;
 use std::process::Abort;
 use std::test::Fail;
@@ -104,19 +105,21 @@ fn faults_of_tables_are_told(rt: HostRuntime) -> Result<(), Fail> {
     Ok(())
 }
 
+/// The short scan, which is named `table`.
+const SHELF: Shelf = Shelf(&[("table", SHORT_SCAN)]);
+
 #[test]
 fn output_that_fails(rt: HostRuntime) -> Result<(), Fail> {
-    let shelf = Shelf { table: SHORT_SCAN };
     for words in [["@kvl"].as_slice(), ["table", "--script", "1"].as_slice()] {
         let words = owned(rt.alloc(), words)?;
         let mut err = Io::new(Vec::new(rt.alloc()));
-        let status = execute(&rt, words.as_slice(), &shelf, &mut Full, &mut err);
+        let status = execute(&rt, words.as_slice(), &SHELF, &mut Full, &mut err);
         assert_eq!(rt; status, 2);
         assert_eq!(rt;
             err.writer().as_slice(),
             b"kr_explain: output: cannot be written\n".as_slice()
         );
-        let told_nowhere = execute(&rt, words.as_slice(), &shelf, &mut Full, &mut Full);
+        let told_nowhere = execute(&rt, words.as_slice(), &SHELF, &mut Full, &mut Full);
         assert_eq!(rt; told_nowhere, 2);
     }
     Ok(())

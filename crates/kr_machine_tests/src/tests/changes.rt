@@ -1,13 +1,14 @@
 //! Updates, and changes taken back one at a time.
 
 use super::story::{
-    Answer, INDEX_SPECIFIC, IX, KEY_VALUE, Line, Lock, Opening, S, Story, THREE_PAIRS, View, X,
+    INDEX_SPECIFIC, IX, KEY_VALUE, Line, Lock, Opening, S, Story, THREE_PAIRS, View, X,
 };
 use super::telling::{on_plain_parts, on_scarce_parts};
 use kr_locks::Memory;
 use kr_machine::Name;
 use kr_model::{Op, Refusal};
 use kr_protocol::{Im, Kvl, KvlUpdate};
+use kr_testing::Answer;
 
 /// Two changes of one key are taken back one by one, the newer one first, and all locks are kept until the abort.
 const TWO_CHANGES_BACK: Story = Story {

@@ -1,12 +1,12 @@
 //! The machines that stories are told on.
 ghost use Rattle.std.specs.Prelude.{◌≡◌, None, IfOk};
 
-use super::scarce::{Countdown, ScarceIndex, ScarceLocks};
 use super::story::Opening;
 use kr_index::Sorted;
 use kr_locks::{List, Memory};
 use kr_machine::Machine;
 use kr_protocol::Protocol;
+use kr_testing::{Countdown, ScarceIndex, ScarceLocks};
 use std::alloc::Global;
 
 /// A machine at the plain index and lock table.

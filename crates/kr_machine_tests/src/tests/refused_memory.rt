@@ -3,13 +3,14 @@
 ghost use Rattle.std.specs.Prelude.{◌≡◌, None};
 
 use super::machines;
-use super::story::{Answer, KEY_VALUE, Line, Opening, Story, THREE_PAIRS, View};
+use super::story::{KEY_VALUE, Line, Opening, Story, THREE_PAIRS, View};
 use super::telling::{Seen, attempt, expect, follow, look};
 use kr_index::Ordered;
 use kr_locks::{Holdings, Memory};
 use kr_machine::{Machine, Txn};
 use kr_model::{Op, Refusal, Reply};
 use kr_protocol::{Kvl, KvlUpdate, Protocol};
+use kr_testing::Answer;
 use std::alloc::Global;
 use std::process::Abort;
 

@@ -1,7 +1,7 @@
 //! Scans, under each of the bundled protocols.
 
 use super::story::{
-    Answer, GREATEST_KEY, Held, INDEX_SPECIFIC, KEY_VALUE, Line, Lock, Opening, RANGE_KEY, Story,
+    GREATEST_KEY, Held, INDEX_SPECIFIC, KEY_VALUE, Line, Lock, Opening, RANGE_KEY, Story,
     THREE_PAIRS, View,
 };
 use super::telling::on_plain_parts;
@@ -9,6 +9,7 @@ use kr_locks::Memory;
 use kr_machine::Name;
 use kr_model::{Op, Refusal};
 use kr_protocol::{Im, Kvl, RangeKey};
+use kr_testing::Answer;
 
 /// A scan of the greatest key alone reads it at its first step, and asks for no lock on the end.
 const ENDS_AT_GREATEST_KEY: Story = Story {

@@ -1,13 +1,14 @@
 //! Fetches, inserts, deletes and ends, in one part and in two.
 
 use super::story::{
-    Answer, INDEX_SPECIFIC, IX, KEY_VALUE, Line, Lock, Opening, S, Story, THREE_PAIRS, View, X,
+    INDEX_SPECIFIC, IX, KEY_VALUE, Line, Lock, Opening, S, Story, THREE_PAIRS, View, X,
 };
 use super::telling::{on_plain_parts, on_scarce_parts};
 use kr_locks::Memory;
 use kr_machine::Name;
 use kr_model::{Op, Refusal};
 use kr_protocol::{Im, Kvl};
+use kr_testing::Answer;
 
 /// A transaction that splits a gap that it has read covers both parts of it.
 const SPLITS_OWN_GAP: Story = Story {

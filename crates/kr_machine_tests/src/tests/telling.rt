@@ -2,12 +2,13 @@
 ghost use Rattle.std.specs.Prelude.{◌≡◌, None};
 
 use super::machines;
-use super::story::{Answer, Line, Modes, Story, View};
+use super::story::{Line, Modes, Story, View};
 use kr_index::Ordered;
 use kr_locks::{Holdings, Memory};
 use kr_machine::{Machine, Mode, Name, Txn};
 use kr_model::{Op, Pairs, Reply, Txns};
 use kr_protocol::Protocol;
+use kr_testing::Answer;
 use std::alloc::Global;
 use std::process::Abort;
 

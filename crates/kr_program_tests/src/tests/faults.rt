@@ -1,7 +1,8 @@
 //! Faults of scripts and of output, and the lines that tell them.
-use super::{PHANTOM, RUN, Row, Texts, each_leaves, leaves, owned};
+use super::{PHANTOM, RUN, Row, Texts, each_leaves, leaves};
 use kr_program::execute;
-use kr_script::{Failed, Io, Sink};
+use kr_program_testing::{Full, owned};
+use kr_script::Io;
 use std::process::Abort;
 use std::sync::Wait;
 use std::test::Fail;
@@ -91,22 +92,6 @@ fn too_many_steps(rt: HostRuntime) -> Result<(), Fail> {
     faulty(&rt, script.as_str(), "kr: s: fault 7 TooMany at steps")
 }
 
-/// Output that can't be written, of which more puts have failed than are counted.
-#[derive(Drop)]
-struct Broken;
-
-impl Sink for Broken {
-    ghost use Rattle.std.specs.Prelude.{None};
-
-    ghost taken = { λ _. None };
-
-    ghost failures = { λ _. 18446744073709551615 };
-
-    fn put(&mut self, _bytes: &[u8]) -> Result<usize, Failed> {
-        Err(Failed)
-    }
-}
-
 #[test]
 fn output_that_fails(rt: HostRuntime) -> Result<(), Fail> {
     let alloc = rt.alloc();
@@ -114,7 +99,7 @@ fn output_that_fails(rt: HostRuntime) -> Result<(), Fail> {
     let mut err = Io::new(Vec::new(alloc));
     let script = "{\"format\":1,\"opening\":[],\"steps\":[]}";
     let files = Texts { table: "", script };
-    let ended = execute(&rt, words.as_slice(), &files, &mut Broken, &mut err);
+    let ended = execute(&rt, words.as_slice(), &files, &mut Full, &mut err);
     assert_eq!(rt; ended, 2);
     assert_eq!(rt;
         err.writer().as_slice(),

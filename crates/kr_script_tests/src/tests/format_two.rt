@@ -1,8 +1,8 @@
 //! Scripts of format 2 from their bytes to the whole report: updates, and changes taken back one at a time.
-use super::reports::Sample;
 use kr_protocol::{Kvl, KvlUpdate, Protocol};
 use kr_script::{read_script, report_run};
 use kr_serial::{judge, run_any};
+use kr_testing::Plain;
 use std::alloc::Global;
 use std::test::Fail;
 
@@ -19,7 +19,7 @@ fn told<P: Protocol>(alloc: Global, protocol: &P, script: &str) -> Result<String
 enum Under {
     Kvl,
     KvlUpdate,
-    Sample,
+    Plain,
 }
 
 /// The same report, under the protocol of a story.
@@ -27,7 +27,7 @@ fn told_under(alloc: Global, under: Under, script: &str) -> Result<String, Fail>
     match under {
         Under::Kvl => told(alloc, &Kvl, script),
         Under::KvlUpdate => told(alloc, &KvlUpdate, script),
-        Under::Sample => told(alloc, &Sample, script),
+        Under::Plain => told(alloc, &Plain, script),
     }
 }
 
@@ -80,7 +80,7 @@ const STORIES: &[(Under, &str, &str)] = &[
     ),
     // Updates that aren't serial: both update a key that no lock keeps, and the one who comes second commits first.
     (
-        Under::Sample,
+        Under::Plain,
         r#"{"format":2,"opening":[[20,2]],"steps":[[1,"update",20,7],[2,"update",20,9],[2,"commit"],[1,"commit"]]}"#,
         r#"{"index":[[20,9]],"locks":[],"replies":[["updated",2],["updated",7],["committed"],["committed"]],"unfinished":[],"verdict":["not-serial",2,1,["updated",7],["updated",2]]}"#,
     ),

@@ -1,60 +1,10 @@
-ghost use Rattle.std.specs.Prelude.{max, List, [], ◌∷◌, None, true, codes, refl};
-ghost use Rattle.std.proofs.Common.{rules};
-ghost use Rattle.kr_model.proofs.Tested.{lawful_by_test};
-
-use kr_model::{Mode, Name, Pairs, Programs, Refusal, Reply, Row, Side, Span, Txn, Txns};
-use kr_protocol::Protocol;
+use kr_model::{Mode, Name, Pairs, Programs, Refusal, Reply, Txn, Txns};
 use kr_script::{read_script, report_run, report_verdict};
 use kr_serial::{Index, Ran, Replies, Triples, Verdict};
+use kr_testing::Plain;
 use std::alloc::{AllocError, Global};
 use std::process::Abort;
 use std::test::Fail;
-
-// Two modes, which stand beside each other and are never asked for. Updates are offered.
-#[derive(Drop)]
-pub struct Sample;
-
-impl Protocol for Sample {
-    ghost table = { λ _. record { count = 2; ok = λ q h. true; convert = λ h q. max h q; ask = λ row side own. None; updates = true } };
-
-    ghost names = { λ _. codes "S" ∷ (88 ∷ 34 ∷ 92 ∷ []) ∷ [] };
-
-    fn count(&self) -> Mode {
-        2
-    }
-
-    fn ok(&self, _requested: Mode, _held: Mode) -> bool {
-        true
-    }
-
-    fn row(&self, _requested: Mode) -> u16 {
-        0
-    }
-
-    fn convert(&self, held: Mode, requested: Mode) -> Mode {
-        held.max(requested)
-    }
-
-    fn name(&self, mode: Mode) -> &str {
-        match mode {
-            0 => "none",
-            1 => "S",
-            _ => "X\"\\",
-        }
-    }
-
-    fn ask(&self, _row: Row, _side: Side, _own_next: Mode) -> Option<(Mode, Span)> {
-        None
-    }
-
-    fn updates(&self) -> bool {
-        true
-    }
-
-    ghost lawful = { λ _. lawful_by_test (record { count = 2; ok = λ q h. true; convert = λ h q. max h q; ask = λ row side own. None; updates = true }) refl };
-
-    ghost named = { λ _. Prim.search rules };
-}
 
 /// The index of pairs, which are written as in the opening of a script.
 fn index_of(alloc: Global, pairs: &str) -> Result<Index, Fail> {
@@ -98,7 +48,7 @@ fn phantom(alloc: Global) -> Result<Ran, Fail> {
 #[test]
 fn reports_the_phantom(rt: HostRuntime) -> Result<(), Fail> {
     let ran = phantom(rt.alloc())?;
-    let text = report_run(rt.alloc(), &Sample, &ran, &Verdict::Serial)?;
+    let text = report_run(rt.alloc(), &Plain, &ran, &Verdict::Serial)?;
     assert_eq!(rt;
         text.as_str(),
         "{\"index\":[[10,1],[20,2],[30,3]],\"locks\":[[20,1,\"S\"]],\"replies\":[[\"none\"],[\"blocked\",[1]]],\"unfinished\":[1],\"verdict\":[\"serial\"]}"
@@ -186,7 +136,7 @@ const EACH_REPLY: &str =
 #[test]
 fn reports_each_reply(rt: HostRuntime) -> Result<(), Fail> {
     let ran = of_each_reply(rt.alloc())?;
-    let text = report_run(rt.alloc(), &&Sample, &ran, &not_serial(rt.alloc())?)?;
+    let text = report_run(rt.alloc(), &&Plain, &ran, &not_serial(rt.alloc())?)?;
     assert_eq!(rt; text.as_str(), EACH_REPLY);
     Ok(())
 }

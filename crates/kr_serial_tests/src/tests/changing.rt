@@ -1,20 +1,37 @@
 //! Updates, and changes taken back one at a time, with what they leave worked out by hand.
 
 use super::runs::{Left, Opening, Run, Step, THREE_PAIRS, each_tells};
-use super::telling::{Answer, Did, Told};
+use super::telling::{Did, Told};
 use super::ways::{KEY_VALUE, KEY_VALUE_WITH_UPDATES};
 use kr_index::Memory;
 use kr_model::{Op, Refusal};
 use kr_serial::Name;
+use kr_testing::Answer;
 
 /// Shared, of key-value locking.
 const S: u8 = 3;
+
+/// The three pairs as before, and no locks, of nobody.
+const AS_BEFORE: Left = Left {
+    index: THREE_PAIRS,
+    locks: &[],
+    unfinished: &[],
+    programs: Some(&[]),
+};
+
+/// A run under key-value locking that leaves all as before.
+const ON_THREE_PAIRS: Run = Run {
+    ways: KEY_VALUE,
+    opening: Opening::ThreePairs,
+    steps: &[],
+    left: Some(AS_BEFORE),
+    told: Told::Serial,
+};
 
 const UPDATES: &[Run] = &[
     // An update of a present key and one of an absent key, which another waits for; the abort puts the value back.
     Run {
         ways: KEY_VALUE_WITH_UPDATES,
-        opening: Opening::ThreePairs,
         steps: &[
             Step(1, Op::Update(20, 9), Answer::Updated(2)),
             Step(2, Op::Fetch(20), Answer::BlockedBy(1)),
@@ -23,30 +40,20 @@ const UPDATES: &[Run] = &[
             Step(2, Op::Fetch(20), Answer::Found(2)),
         ],
         left: Some(Left {
-            index: THREE_PAIRS,
             locks: &[((Name::Key(20), 2), S)],
             unfinished: &[2],
-            programs: Some(&[]),
+            ..AS_BEFORE
         }),
-        told: Told::Serial,
+        ..ON_THREE_PAIRS
     },
     // Where the protocol offers no updates.
     Run {
-        ways: KEY_VALUE,
-        opening: Opening::ThreePairs,
         steps: &[Step(1, Op::Update(20, 9), Answer::Refused(Refusal::NoUpdate))],
-        left: Some(Left {
-            index: THREE_PAIRS,
-            locks: &[],
-            unfinished: &[],
-            programs: Some(&[]),
-        }),
-        told: Told::Serial,
+        ..ON_THREE_PAIRS
     },
     // An update that commits stands for the next, and is one of the program's operations.
     Run {
         ways: KEY_VALUE_WITH_UPDATES,
-        opening: Opening::ThreePairs,
         steps: &[
             Step(1, Op::Update(20, 9), Answer::Updated(2)),
             Step(1, Op::Commit, Answer::Committed),
@@ -55,8 +62,6 @@ const UPDATES: &[Run] = &[
         ],
         left: Some(Left {
             index: &[(10, 1), (20, 7), (30, 3)],
-            locks: &[],
-            unfinished: &[],
             programs: Some(&[
                 Did {
                     txn: 1,
@@ -67,16 +72,15 @@ const UPDATES: &[Run] = &[
                     operations: &[(Op::Update(20, 7), Answer::Updated(9))],
                 },
             ]),
+            ..AS_BEFORE
         }),
-        told: Told::Serial,
+        ..ON_THREE_PAIRS
     },
 ];
 
 const BACKS: &[Run] = &[
     // A deleted key is inserted again, and both changes are taken back, with another's fetches between.
     Run {
-        ways: KEY_VALUE,
-        opening: Opening::ThreePairs,
         steps: &[
             Step(1, Op::Delete(20), Answer::Deleted(2)),
             Step(1, Op::Insert(20, 9), Answer::Done),
@@ -91,17 +95,14 @@ const BACKS: &[Run] = &[
             Step(2, Op::Fetch(20), Answer::Found(2)),
         ],
         left: Some(Left {
-            index: THREE_PAIRS,
             locks: &[((Name::Key(20), 2), S)],
             unfinished: &[2],
-            programs: Some(&[]),
+            ..AS_BEFORE
         }),
-        told: Told::Serial,
+        ..ON_THREE_PAIRS
     },
     // An insert is taken back after another's insert into the gap below it, which then commits.
     Run {
-        ways: KEY_VALUE,
-        opening: Opening::ThreePairs,
         steps: &[
             Step(1, Op::Insert(15, 5), Answer::Done),
             Step(2, Op::Insert(12, 7), Answer::Done),
@@ -119,12 +120,11 @@ const BACKS: &[Run] = &[
                 operations: &[(Op::Insert(12, 7), Answer::Done)],
             }]),
         }),
-        told: Told::Serial,
+        ..ON_THREE_PAIRS
     },
     // Two updates and an insert are taken back in turn, with another's fetches between.
     Run {
         ways: KEY_VALUE_WITH_UPDATES,
-        opening: Opening::ThreePairs,
         steps: &[
             Step(1, Op::Update(20, 9), Answer::Updated(2)),
             Step(1, Op::Insert(25, 5), Answer::Done),
@@ -140,12 +140,11 @@ const BACKS: &[Run] = &[
             Step(2, Op::Fetch(20), Answer::Found(2)),
         ],
         left: Some(Left {
-            index: THREE_PAIRS,
             locks: &[((Name::Key(20), 2), S), ((Name::Key(30), 2), S)],
             unfinished: &[2],
-            programs: Some(&[]),
+            ..AS_BEFORE
         }),
-        told: Told::Serial,
+        ..ON_THREE_PAIRS
     },
 ];
 

@@ -1,9 +1,10 @@
 //! Verdicts on programs, worked out by hand over an opening index of 10, 20 and 30, with the values 1, 2 and 3.
 
 use super::runs::THREE_PAIRS;
-use super::telling::{Answer, Did, Told};
+use super::telling::{Did, Told, reply_of};
 use kr_model::{Answers, Op, Program, Programs, Txns};
 use kr_serial::{Index, Ran, Replies, Triples, judge};
+use kr_testing::Answer;
 use std::alloc::{AllocError, Global};
 use std::process::Abort;
 
@@ -19,7 +20,7 @@ struct Row<'a> {
 fn program(alloc: Global, did: &Did) -> Result<Program, AllocError> {
     let mut operations = Vec::new(alloc);
     for (op, answer) in did.operations {
-        let reply = answer.reply(alloc)?;
+        let reply = reply_of(alloc, *answer)?;
         operations.push((*op, reply))?;
     }
     Ok(Program {

@@ -1,11 +1,12 @@
 //! Runs, with what they tell and leave, as rows.
 ghost use Rattle.kr_model.specs.Map.{IsMap};
 
-use super::telling::{Answer, Did, Told, are_programs};
+use super::telling::{Did, Told, are_programs};
 use super::ways::{Way, ran_by};
 use kr_index::Memory;
 use kr_model::{Event, Op};
 use kr_serial::{Mode, Name, Ran, Reply, Txn, judge};
+use kr_testing::Answer;
 use std::alloc::Global;
 use std::process::Abort;
 

@@ -1,11 +1,12 @@
 //! A gap that is read and then split.
 
 use super::runs::{Left, Opening, Run, Step, each_tells};
-use super::telling::{Answer, Did, Told};
+use super::telling::{Did, Told};
 use super::ways::KEY_VALUE;
 use kr_index::Memory;
 use kr_model::Op;
 use kr_serial::Name;
+use kr_testing::Answer;
 
 /// Intent exclusive, of key-value locking.
 const IX: u8 = 2;

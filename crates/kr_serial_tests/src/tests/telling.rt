@@ -1,78 +1,22 @@
 //! What steps, operations and verdicts tell, as it stands in rows.
 
-use kr_model::{Op, Pairs, Program, Refusal, Reply, Txn};
+use kr_model::{Op, Pairs, Program, Reply, Txn};
 use kr_serial::Verdict;
+use kr_testing::Answer;
 use std::alloc::{AllocError, Global};
 
-/// The answer to a step or to an operation.
-#[derive(Clone, Copy)]
-pub enum Answer<'a> {
-    /// The value of the fetched key.
-    Found(u64),
-    /// The fetched key is absent.
-    None,
-    /// The scan ended with these pairs.
-    Rows(&'a [(u64, u64)]),
-    /// The key was inserted.
-    Done,
-    /// The key to insert is present already.
-    Duplicate,
-    /// The value of the deleted key.
-    Deleted(u64),
-    /// The key to delete or to update is absent.
-    Absent,
-    /// The value that the updated key had before.
-    Updated(u64),
-    Committed,
-    Aborted,
-    /// The newest change was taken back, and so many changes are left.
-    Undone(u64),
-    /// This transaction, and no other, holds locks that refuse the step.
-    BlockedBy(Txn),
-    Refused(Refusal),
-}
-
-impl Answer<'_> {
-    /// Whether a reply is this answer.
-    pub fn is(self, reply: &Reply) -> bool {
-        match self {
-            Answer::Found(value) => matches!(reply, Reply::Found(told) if *told == value),
-            Answer::None => matches!(reply, Reply::None),
-            Answer::Rows(pairs) => matches!(reply, Reply::Rows(told) if told.as_slice() == pairs),
-            Answer::Done => matches!(reply, Reply::Done),
-            Answer::Duplicate => matches!(reply, Reply::Duplicate),
-            Answer::Deleted(value) => matches!(reply, Reply::Deleted(told) if *told == value),
-            Answer::Absent => matches!(reply, Reply::Absent),
-            Answer::Updated(value) => matches!(reply, Reply::Updated(told) if *told == value),
-            Answer::Committed => matches!(reply, Reply::Committed),
-            Answer::Aborted => matches!(reply, Reply::Aborted),
-            Answer::Undone(left) => matches!(reply, Reply::Undone(told) if *told == left),
-            Answer::BlockedBy(txn) => is_blocked_by(reply, txn),
-            Answer::Refused(why) => matches!(reply, Reply::Refused(told) if *told == why),
-        }
-    }
-
-    /// The reply that is this answer, where it is one to an operation.
-    pub fn reply(self, alloc: Global) -> Result<Reply, AllocError> {
-        Ok(match self {
-            Answer::Found(value) => Reply::Found(value),
-            Answer::Rows(pairs) => Reply::Rows(Pairs::from_vec(pairs.to_vec(alloc)?)),
-            Answer::Done => Reply::Done,
-            Answer::Duplicate => Reply::Duplicate,
-            Answer::Deleted(value) => Reply::Deleted(value),
-            Answer::Absent => Reply::Absent,
-            Answer::Updated(value) => Reply::Updated(value),
-            _ => Reply::None,
-        })
-    }
-}
-
-/// Whether a reply is that this transaction alone blocks the step.
-fn is_blocked_by(reply: &Reply, txn: Txn) -> bool {
-    match reply {
-        Reply::Blocked(told) => told.as_slice() == [txn].as_slice(),
-        _ => false,
-    }
+/// The reply that is this answer, where it is one to an operation.
+pub fn reply_of(alloc: Global, answer: Answer) -> Result<Reply, AllocError> {
+    Ok(match answer {
+        Answer::Found(value) => Reply::Found(value),
+        Answer::Rows(pairs) => Reply::Rows(Pairs::from_vec(pairs.to_vec(alloc)?)),
+        Answer::Done => Reply::Done,
+        Answer::Duplicate => Reply::Duplicate,
+        Answer::Deleted(value) => Reply::Deleted(value),
+        Answer::Absent => Reply::Absent,
+        Answer::Updated(value) => Reply::Updated(value),
+        _ => Reply::None,
+    })
 }
 
 /// What a transaction that committed did, and what it was told.

@@ -1,11 +1,11 @@
 //! The ways in which events are run.
 ghost use Rattle.kr_model.specs.Map.{IsMap};
 
-use super::plain::Plain;
 use kr_index::Memory;
 use kr_model::Event;
 use kr_protocol::{Covered, Im, Kvl, KvlUpdate, RangeKey};
 use kr_serial::{Ran, run, run_any};
+use kr_testing::Plain;
 use std::alloc::Global;
 
 /// The call that runs events, and the protocol that keeps transactions apart.

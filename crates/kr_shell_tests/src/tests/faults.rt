@@ -1,8 +1,9 @@
 //! The lines that tell why a word names no table or no script.
 use super::{
-    Ending, ScriptFault, Shelf, TableFault, at_fault, read_script, script_at, table_at, tells,
-    unreadable, whole,
+    Ending, ScriptFault, TableFault, at_fault, read_script, script_at, table_at, tells, unreadable,
+    whole,
 };
+use kr_program_testing::Shelf;
 use std::alloc::{AllocError, Global};
 use std::process::Abort;
 use std::test::Fail;
@@ -23,15 +24,18 @@ const WORDS: &[(&str, &str)] = &[
     ("big", "out of memory"),
 ];
 
+/// A file without a text.
+const EMPTY: Shelf = Shelf(&[("file", "")]);
+
 #[test]
 fn nothing_is_had(rt: HostRuntime) -> Result<(), Fail> {
-    let (alloc, shelf) = (rt.alloc(), Shelf(b""));
+    let alloc = rt.alloc();
     for (word, told) in WORDS {
-        let bytes = whole(&rt, *word, &shelf).err().ok_or("bytes")?;
+        let bytes = whole(&rt, *word, &EMPTY).err().ok_or("bytes")?;
         tells(&rt, alloc, bytes, *told)?;
-        let table = table_at(&rt, *word, &shelf).err().ok_or("a table")?;
+        let table = table_at(&rt, *word, &EMPTY).err().ok_or("a table")?;
         tells(&rt, alloc, table, *told)?;
-        let script = script_at(&rt, *word, &shelf).err().ok_or("a script")?;
+        let script = script_at(&rt, *word, &EMPTY).err().ok_or("a script")?;
         tells(&rt, alloc, script, *told)?;
     }
     tells(&rt, alloc, unreadable(alloc, "w"), "w: cannot be read")?;
@@ -104,7 +108,8 @@ fn tells_of_table(
 fn no_tables(rt: HostRuntime) -> Result<(), Fail> {
     let alloc = rt.alloc();
     for (text, told) in TABLES {
-        let ending = table_at(&rt, "file", &Shelf(text.as_bytes()))
+        let files = [("file", *text)];
+        let ending = table_at(&rt, "file", &Shelf(files.as_slice()))
             .err()
             .ok_or("a table")?;
         let line = format!(in alloc; "file: {told}")?;
@@ -138,7 +143,8 @@ fn tells_of_script<R: std::rt::Files + AllocGlobal + Abort>(
     told: &str,
 ) -> Result<(), Fail> {
     let alloc = rt.alloc();
-    let ending = script_at(rt, "file", &Shelf(text.as_bytes()))
+    let files = [("file", text)];
+    let ending = script_at(rt, "file", &Shelf(files.as_slice()))
         .err()
         .ok_or("a script")?;
     let line = format!(in alloc; "file: {told}")?;
@@ -170,7 +176,8 @@ fn faults_of_long_texts(rt: HostRuntime) -> Result<(), Fail> {
         "w: fault 7 TooMany at steps",
     )?;
     let long = " ".repeat(alloc, 65_537)?;
-    let ending = table_at(&rt, "file", &Shelf(long.as_bytes()))
+    let files = [("file", long.as_str())];
+    let ending = table_at(&rt, "file", &Shelf(files.as_slice()))
         .err()
         .ok_or("a table")?;
     tells(&rt, alloc, ending, "file: fault 1 TooLong")?;

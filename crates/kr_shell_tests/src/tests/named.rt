@@ -1,24 +1,27 @@
 //! The bytes, the tables and the scripts that words name.
 use super::{
-    AnyTable, FileFault, SCRIPT, Shelf, TABLE, read_file, read_script, script_at, table_at, whole,
+    AnyTable, FileFault, SCRIPT, TABLE, read_file, read_script, script_at, table_at, whole,
 };
+use kr_program_testing::Shelf;
 use kr_protocol::Protocol;
 use std::test::Fail;
 
+/// A file of three letters.
+const LETTERS: Shelf = Shelf(&[("file", "abc")]);
+
 #[test]
 fn bytes(rt: HostRuntime) -> Result<(), Fail> {
-    let shelf = Shelf(b"abc");
-    let read = read_file(&rt, "file", &shelf).map_err(|_| "not read")?;
+    let read = read_file(&rt, "file", &LETTERS).map_err(|_| "not read")?;
     assert_eq!(rt; read.as_slice(), b"abc".as_slice());
-    let had = whole(&rt, "file", &shelf).map_err(|_| "not had")?;
+    let had = whole(&rt, "file", &LETTERS).map_err(|_| "not had")?;
     assert_eq!(rt; had.as_slice(), b"abc".as_slice());
     assert_eq!(rt;
-        read_file(&rt, "big", &shelf).err(),
+        read_file(&rt, "big", &LETTERS).err(),
         Some(FileFault::Memory)
     );
     for word in ["@file", "@", "other", ""] {
         assert_eq!(rt;
-            read_file(&rt, word, &shelf).err(),
+            read_file(&rt, word, &LETTERS).err(),
             Some(FileFault::Unreadable),
             "{word}"
         );
@@ -35,11 +38,13 @@ const TABLES: &[(&str, &str, u8)] = &[
     ("file", "A", 1),
 ];
 
+/// The table in a file.
+const TABLE_FILE: Shelf = Shelf(&[("file", TABLE)]);
+
 #[test]
 fn tables(rt: HostRuntime) -> Result<(), Fail> {
-    let shelf = Shelf(TABLE.as_bytes());
     for (word, first, count) in TABLES {
-        let table = table_at(&rt, *word, &shelf).map_err(|_| "no table")?;
+        let table = table_at(&rt, *word, &TABLE_FILE).map_err(|_| "no table")?;
         assert_eq!(rt; table.count(), *count, "{word}");
         assert_eq!(rt; table.name(1), *first, "{word}");
         assert_eq!(rt;
@@ -52,10 +57,12 @@ fn tables(rt: HostRuntime) -> Result<(), Fail> {
     Ok(())
 }
 
+/// The script in a file.
+const SCRIPT_FILE: Shelf = Shelf(&[("file", SCRIPT)]);
+
 #[test]
 fn scripts(rt: HostRuntime) -> Result<(), Fail> {
-    let shelf = Shelf(SCRIPT.as_bytes());
-    let script = script_at(&rt, "file", &shelf).map_err(|_| "no script")?;
+    let script = script_at(&rt, "file", &SCRIPT_FILE).map_err(|_| "no script")?;
     let read = read_script(rt.alloc(), SCRIPT.as_bytes()).map_err(|_| "not read")?;
     assert_eq!(rt; script.opening(), read.opening());
     assert_eq!(rt; script.steps(), read.steps());

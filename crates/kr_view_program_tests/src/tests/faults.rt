@@ -1,14 +1,9 @@
 //! Faults, and the lines that tell them.
-use super::{ASKS_NOTHING, Full, PHANTOM, Shelf, owned, tells};
+use super::{ASKS_NOTHING, PHANTOM, SHELF, tells};
+use kr_program_testing::{Full, Shelf, owned};
 use kr_script::Io;
 use kr_view_program::execute;
 use std::test::Fail;
-
-/// A table and a script that are good.
-const SHELF: Shelf = Shelf {
-    table: ASKS_NOTHING,
-    script: PHANTOM,
-};
 
 /// Words, with the line behind the program's name.
 const WORDS: &[(&[&str], &str)] = &[
@@ -63,10 +58,8 @@ fn faults_of_words_and_files_are_told(rt: HostRuntime) -> Result<(), Fail> {
 #[test]
 fn faults_of_tables_are_told(rt: HostRuntime) -> Result<(), Fail> {
     for (table, line) in TABLES {
-        let shelf = Shelf {
-            table: *table,
-            script: PHANTOM,
-        };
+        let files = [("table", *table), ("s", PHANTOM)];
+        let shelf = Shelf(files.as_slice());
         assert!(rt;
             tells(&rt, ["table", "s"].as_slice(), &shelf, *line)?,
             "{line}"
@@ -78,10 +71,8 @@ fn faults_of_tables_are_told(rt: HostRuntime) -> Result<(), Fail> {
 #[test]
 fn faults_of_scripts_are_told(rt: HostRuntime) -> Result<(), Fail> {
     for (script, line) in SCRIPTS {
-        let shelf = Shelf {
-            table: ASKS_NOTHING,
-            script: *script,
-        };
+        let files = [("table", ASKS_NOTHING), ("s", *script)];
+        let shelf = Shelf(files.as_slice());
         assert!(rt;
             tells(&rt, ["@kvl", "s"].as_slice(), &shelf, *line)?,
             "{line}"

@@ -1,5 +1,5 @@
 //! Pages that the program prints, with its status.
-use super::{ASKS_NOTHING, PHANTOM, Shelf, left_by};
+use super::{SHELF, left_by};
 use std::str;
 use std::test::Fail;
 
@@ -14,12 +14,8 @@ const ROWS: [(&str, u8, &str); 5] = [
 
 #[test]
 fn a_whole_page_is_printed(rt: HostRuntime) -> Result<(), Fail> {
-    let shelf = Shelf {
-        table: ASKS_NOTHING,
-        script: PHANTOM,
-    };
     for (table, status, verdict) in ROWS {
-        let left = left_by(&rt, [table, "s"].as_slice(), &shelf)?;
+        let left = left_by(&rt, [table, "s"].as_slice(), &SHELF)?;
         let page = str::from_utf8(left.out.as_slice()).ok();
         let page = page.ok_or("no text")?;
         let title = format!(in rt.alloc(); "<title>A run under {table}</title>")?;

@@ -1,12 +1,13 @@
 //! Two transactions that no lock keeps apart: an answer that was given isn't the one of the commit order.
 
 use super::super::runs::{Opening, Run, Step, tells};
-use super::super::telling::{Answer, Told};
+use super::super::telling::Told;
 use super::super::ways::Way;
 use super::inputs::{CASES, case};
 use kr_index::Memory;
 use kr_model::Op;
 use kr_serial::Txn;
+use kr_testing::Answer;
 use std::alloc::Global;
 use std::process::Abort;
 

@@ -1,12 +1,13 @@
 //! Each operation at a key that is absent at first, with ample memory: none answers want of memory.
 
 use super::super::runs::{Left, Opening, Run, Step, tells};
-use super::super::telling::{Answer, Told};
+use super::super::telling::Told;
 use super::super::ways::{Locking, Way};
 use super::inputs::{CASES, case};
 use kr_index::Memory;
 use kr_model::{Op, Refusal};
 use kr_serial::Txn;
+use kr_testing::Answer;
 
 /// Each of the ways that offers no updates, and the one without locks.
 const WAYS: &[Way] = &[

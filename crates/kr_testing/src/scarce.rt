@@ -1,4 +1,5 @@
 //! An index and a lock table that refuse memory once, at a call that is counted out beforehand.
+ghost use Rattle.std.specs.Prelude.{◌≡◌, []};
 
 use kr_index::{Ordered, Sorted};
 use kr_locks::{Holdings, List, Memory};
@@ -14,10 +15,16 @@ pub struct Countdown {
 }
 
 impl Countdown {
+    /// So many calls get memory, and then one doesn't; all get it at `None`. No clause sees what a cell holds.
     pub fn new(left: Option<u32>) -> Countdown {
         Countdown {
             left: Cell::new(left),
         }
+    }
+
+    /// The next call gets no memory.
+    pub fn refuse_next(&self) {
+        self.left.set(Some(0));
     }
 
     /// Counts a call, and answers the error at the one that gets no memory.
@@ -91,6 +98,18 @@ impl Ordered for ScarceIndex {
 pub struct ScarceLocks {
     pub list: List,
     pub memory: Countdown,
+}
+
+impl ScarceLocks {
+    /// No locks, and memory for all calls.
+    pub fn new(alloc: Global) -> ScarceLocks
+        ensures { result.list ≡ [] }
+    {
+        ScarceLocks {
+            list: List::new(alloc),
+            memory: Countdown::new(None),
+        }
+    }
 }
 
 impl Holdings for ScarceLocks {

@@ -1,10 +1,10 @@
 use Rattle.std.specs.Prelude.{max, None, true, refl}
 use Rattle.kr_model.specs.Protocol.{Protocol}
 use Rattle.kr_protocol.proofs.RowLaws.{no_conflicts}
-use Rattle.kr_batch_tests.proofs.tests.PlainProtocol.row.Goals as goal
+use Rattle.kr_testing.proofs.plain.PlainProtocol.row.Goals as goal
 
 alone : Protocol
-alone = record { count = 1; ok = λ q h. true; convert = λ h q. max h q; ask = λ row side own. None; updates = true }
+alone = record { count = 2; ok = λ q h. true; convert = λ h q. max h q; ask = λ row side own. None; updates = true }
 
 pub returns : goal.returns
 unfolding alone
