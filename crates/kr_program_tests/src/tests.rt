@@ -1,7 +1,8 @@
 use self::covered::serial_under_each;
 use self::pairs::agree_under_each;
-use kr_program::{FileFault, Files, execute};
+use kr_program::execute;
 use kr_script::Io;
+use kr_shell::{FileFault, Files};
 use std::alloc::{AllocError, Global};
 use std::process::Abort;
 use std::sync::Wait;
@@ -31,6 +32,8 @@ struct Texts<'a> {
 }
 
 impl Files for Texts<'_> {
+    ghost may_give = { λ _ _ _. Unit {0} };
+
     fn whole<R: std::rt::Files + AllocGlobal>(
         &self,
         rt: &R,
