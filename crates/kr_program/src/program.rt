@@ -30,6 +30,7 @@ use kr_script::Sink;
 use kr_shell::{
     AnyTable, Ending, FileFault, Files, at_fault, finish, read_file, table_at, unreadable, whole,
 };
+use std::alloc::Global;
 use std::sync::Wait;
 use std::thread::Threads;
 
