@@ -12,8 +12,6 @@ use Rattle.kr_script.specs.declared.threaded.Threaded.{Threaded}
 use Rattle.kr_threads.specs.Threaded.{IsThreaded}
 use Rattle.kr_program.specs.declared.words.Task.{Task}
 use Rattle.kr_program.specs.declared.words.Task.TheVariants.{Check, Run, Judge, Threads}
-use Rattle.kr_program.specs.declared.program.Ending.{Ending}
-use Rattle.kr_program.specs.declared.program.Ending.TheVariants.{Line, Memory, Place, Output}
 
 -- Under a covered table the whole report of a run of some script by several threads was written, and the answer is that it is serial; under another the report of the check, and the answer is that it is rejected.
 abbrev pub ThreadsReported : Protocol → List (List ℕ) → Option (List ℕ) → Option (List ℕ) → Bool → Type 0
@@ -28,10 +26,3 @@ Reports p names (Run word) old new well = (s : Script) × (Appends old new (repo
 Reports p names (Judge words) old new well = (ss : List Script) × ((length ss ≡ length words.items)
     × (Appends old new (judge_lines p (map (λ w. w.now) words.items) ss) × (IsTrue well ↔ All (IsSerialScript p) ss)))
 Reports p names (Threads word workers) old new well = ThreadsReported p names old new well
-
--- Whether the program ends for output that can't be written.
-abbrev pub is_output : Ending → Bool
-is_output (Line text) = false
-is_output Memory = false
-is_output Place = false
-is_output Output = true

@@ -1,22 +1,24 @@
 //! The program over its words, files and streams.
-ghost use Rattle.std.specs.Prelude.{◌≡◌, ◌⊎◌, ◌↔◌, ◌≤◌, ℕ, List, All, true, false, IfOk, IfErr, IsTrue, length, map, if◌then◌else◌};
+ghost use Rattle.std.specs.Prelude.{◌≡◌, ◌⊎◌, ◌↔◌, ◌≤◌, ℕ, List, All, true, false, IfOk, IfErr, IsTrue, length, map};
 ghost use Rattle.std.specs.Io.KnownBytes.{Appends};
 ghost use Rattle.kr_model.specs.Protocol.{Protocol, IsLawful};
 ghost use Rattle.kr_model.specs.Covers.{IsCovered};
-ghost use Rattle.kr_script.specs.Puts.{HasCause};
+ghost use Rattle.kr_script.specs.Puts.{AppendsFront, HasCause};
 ghost use Rattle.kr_script.specs.Script.{Script};
+ghost use Rattle.kr_shell.specs.Endings.{is_output, ending_line};
+ghost use Rattle.kr_shell.specs.declared.endings.Ending.{Ending};
+ghost use Rattle.kr_shell.specs.declared.endings.Ending.TheVariants as ending;
 ghost use Rattle.kr_program.specs.Over.{report_line, IsSerialScript};
 ghost use Rattle.kr_program.specs.Judges.{judge_lines};
-ghost use Rattle.kr_program.specs.Program.{Reports, ThreadsReported, is_output};
+ghost use Rattle.kr_program.specs.Program.{Reports, ThreadsReported};
 ghost use Rattle.kr_program.specs.Threads.{threads_line};
 ghost use Rattle.kr_script.specs.declared.threaded.Threaded.{Threaded};
 ghost use Rattle.kr_threads.specs.Threaded.{IsThreaded};
 ghost use Rattle.kr_program.specs.declared.words.Task.{Task};
-ghost use Rattle.kr_program.specs.declared.program.Ending.TheVariants as ending;
 ghost use Rattle.kr_program.specs.declared.over.OverFault.TheVariants as fault;
+ghost use Rattle.kr_program.specs.declared.words.WordsFault.TheVariants as words_fault;
 
 use crate::checks::{check_over, write_check};
-use crate::files::{FileFault, Files};
 use crate::judges::{LinesFault, judge_over};
 use crate::over::{OverFault, run_over};
 use crate::threads::threads_over;
@@ -24,38 +26,16 @@ use crate::words::{Task, WordsFault, Workers, read_words};
 use kr_batch::{JudgeFault, TextFault, Texts};
 use kr_cases::{Cause, Rejected, check};
 use kr_protocol::{Covered, Im, Kvl, KvlUpdate, Protocol, RangeKey};
-use kr_script::{ScriptFault, Sink, print};
-use kr_table::TableFault;
-use std::alloc::{AllocError, Global};
+use kr_script::Sink;
+use kr_shell::{
+    AnyTable, Ending, FileFault, Files, at_fault, finish, read_file, table_at, unreadable, whole,
+};
+use std::alloc::Global;
 use std::sync::Wait;
 use std::thread::Threads;
 
-/// The line for want of memory.
-pub const OUT_OF_MEMORY: &str = "kr: out of memory";
-
-/// The line for words of no form.
-pub const NOT_UNDERSTOOD: &str = "kr: words not understood";
-
-/// Why the program ends without a report, or with a beginning of it.
-#[derive(Drop)]
-enum Ending {
-    /// With this line on standard error.
-    Line(String),
-    /// With the line for want of memory.
-    Memory,
-    /// With the line for a place that was refused.
-    Place,
-    /// With the line for output that can't be written.
-    Output,
-}
-
-impl From<AllocError> for Ending {
-    ghost from_gives = { λ _ e. e ≡ ending.Memory };
-
-    fn from(_e: AllocError) -> Ending {
-        Ending::Memory
-    }
-}
+/// The program's name.
+pub const NAME: &str = "kr";
 
 /// A script's fault is told with the word that names the script, so none comes here.
 impl From<OverFault> for Ending {
@@ -70,73 +50,14 @@ impl From<OverFault> for Ending {
     }
 }
 
-/// The status of a report: 0 where a table was accepted or each run was serial, and 1 where not.
-fn status(is_well: bool) -> u8
-    ensures value { result ≡ (if is_well then 0 else 1) }
-    ensures well { result ≡ 0 → is_well ≡ true }
-    ensures not_well { result ≡ 1 → is_well ≡ false }
-{
-    if is_well { 0 } else { 1 }
-}
+impl From<WordsFault> for Ending {
+    ghost from_gives = { λ f e. ((f ≡ words_fault.NotUnderstood) × (e ≡ ending.NotUnderstood)) ⊎ ((f ≡ words_fault.Memory) × (e ≡ ending.Memory)) };
 
-/// How the program ends with what is told of a word, on one line. A control character, of the word or of a name in a file,
-/// stands as its number, as `\u{a}`, so that it neither breaks the line nor reaches the terminal.
-fn told_of(alloc: Global, word: &str, what: &str) -> Result<Ending, AllocError>
-    ensures { IfOk result (λ e. is_output e ≡ false) }
-{
-    let text = format!(in alloc; "kr: {word}: {what}")?;
-    let mut line = String::new(alloc);
-    for c in text.as_str().chars() {
-        if c.is_control() {
-            let number = c as u32;
-            line.push_str(format!(in alloc; "\\u{{{number:x}}}")?.as_str())?;
-        } else {
-            line.push(c)?;
+    fn from(fault: WordsFault) -> Ending {
+        match fault {
+            WordsFault::NotUnderstood => Ending::NotUnderstood,
+            WordsFault::Memory => Ending::Memory,
         }
-    }
-    Ok(Ending::Line(line))
-}
-
-fn unreadable(alloc: Global, word: &str) -> Result<Ending, AllocError>
-    ensures { IfOk result (λ e. is_output e ≡ false) }
-{
-    told_of(alloc, word, "cannot be read")
-}
-
-/// The bytes of the file that a word names. A word that begins with `@` is never a file.
-fn read_file<R: std::rt::Files + AllocGlobal, F: Files>(
-    rt: &R,
-    word: &str,
-    files: &F,
-) -> Result<Vec<u8>, FileFault> {
-    if word.starts_with('@') {
-        return Err(FileFault::Unreadable);
-    }
-    files.whole(rt, word)
-}
-
-/// The bytes of the file that a word names, or how the program ends.
-fn whole<R: std::rt::Files + AllocGlobal, F: Files>(
-    rt: &R,
-    word: &str,
-    files: &F,
-) -> Result<Vec<u8>, Ending>
-    ensures { IfErr result (λ e. is_output e ≡ false) }
-{
-    match read_file(rt, word, files) {
-        Ok(bytes) => Ok(bytes),
-        Err(FileFault::Memory) => Err(Ending::Memory),
-        Err(FileFault::Unreadable) => Err(unreadable(rt.alloc(), word)?),
-    }
-}
-
-/// How the program ends at a fault of the script that a word names.
-fn at_fault(alloc: Global, word: &str, fault: ScriptFault) -> Result<Ending, AllocError>
-    ensures { IfOk result (λ e. is_output e ≡ false) }
-{
-    match fault {
-        ScriptFault::Memory => Ok(Ending::Memory),
-        _ => told_of(alloc, word, format!(in alloc; "{fault}")?.as_str()),
     }
 }
 
@@ -158,7 +79,7 @@ fn run_script<R: std::rt::Files + AllocGlobal, P: Protocol, F: Files, W: Sink>(
     let bytes = whole(rt, script, files)?;
     match run_over(alloc, protocol, bytes.as_slice(), out) {
         Ok(is_serial) => Ok(is_serial),
-        Err(OverFault::Script(fault)) => Err(at_fault(alloc, script, fault)?),
+        Err(OverFault::Script(fault)) => Err(at_fault(alloc, script, fault)),
         Err(fault) => Err(Ending::from(fault)),
     }
 }
@@ -205,9 +126,9 @@ where
         Ok(serial) => Ok(serial),
         Err(LinesFault::Print) => Err(Ending::Output),
         Err(LinesFault::Judge(JudgeFault::Memory)) => Err(Ending::Memory),
-        Err(LinesFault::Judge(JudgeFault::Unreadable(at))) => Err(unreadable(alloc, words[at])?),
+        Err(LinesFault::Judge(JudgeFault::Unreadable(at))) => Err(unreadable(alloc, words[at])),
         Err(LinesFault::Judge(JudgeFault::Script(at, fault))) => {
-            Err(at_fault(alloc, words[at], fault)?)
+            Err(at_fault(alloc, words[at], fault))
         }
     }
 }
@@ -236,7 +157,7 @@ fn thread_script<
     let bytes = whole(rt, script, files)?;
     match threads_over(rt, alloc, protocol, bytes.as_slice(), workers.count(), out) {
         Ok(answer) => Ok(answer),
-        Err(OverFault::Script(fault)) => Err(at_fault(alloc, script, fault)?),
+        Err(OverFault::Script(fault)) => Err(at_fault(alloc, script, fault)),
         Err(fault) => Err(Ending::from(fault)),
     }
 }
@@ -318,43 +239,37 @@ where
     ensures nothing { IfErr result (λ e. IsTrue (is_output e) ⊎ (out.new ≡ out.old)) }
     ensures cause { IfErr result (λ e. IsTrue (is_output e) → HasCause (W.failures out.old) (W.failures out.new)) }
 {
-    match table {
-        "@kvl" => under(rt, Kvl, task, files, out),
-        "@kvl-update" => under(rt, KvlUpdate, task, files, out),
-        "@im" => under(rt, Im, task, files, out),
-        "@range-key" => under(rt, RangeKey, task, files, out),
-        _ => with_file(rt, table, task, files, out),
+    match table_at(rt, table, files)? {
+        AnyTable::Kvl => under(rt, Kvl, task, files, out),
+        AnyTable::KvlUpdate => under(rt, KvlUpdate, task, files, out),
+        AnyTable::Im => under(rt, Im, task, files, out),
+        AnyTable::RangeKey => under(rt, RangeKey, task, files, out),
+        AnyTable::Read(table) => under(rt, table, task, files, out),
     }
 }
 
-/// Does a task under the table in the file that a word names.
-fn with_file<R: std::rt::Files + AllocGlobal + Threads + Wait + Sync, F: Files + Sync, W: Sink>(
+/// Does what the words ask, and answers whether the table is accepted, or each run is serial.
+fn ask<R: std::rt::Files + AllocGlobal + Threads + Wait + Sync, F: Files + Sync, W: Sink>(
     rt: &R,
-    table: &str,
-    task: &Task,
+    words: &[String],
     files: &F,
     out: &mut W,
 ) -> Result<bool, Ending>
 where
     R::File: Send + Sync,
     R::Dir: Send + Sync,
-    ensures reports { IfOk result (λ is_well. (p : Protocol) × (names : List (List ℕ)) × IsLawful p × Reports p names task.now (W.taken out.old) (W.taken out.new) is_well) }
+    ensures reports { IfOk result (λ is_well. (p : Protocol) × (names : List (List ℕ)) × (task : Task) × IsLawful p × Reports p names task (W.taken out.old) (W.taken out.new) is_well) }
     ensures nothing { IfErr result (λ e. IsTrue (is_output e) ⊎ (out.new ≡ out.old)) }
     ensures cause { IfErr result (λ e. IsTrue (is_output e) → HasCause (W.failures out.old) (W.failures out.new)) }
 {
-    let alloc = rt.alloc();
-    let bytes = whole(rt, table, files)?;
-    match kr_table::read(alloc, bytes.as_slice()) {
-        Ok(protocol) => under(rt, protocol, task, files, out),
-        Err(TableFault::Memory) => Err(Ending::Memory),
-        Err(fault) => Err(told_of(alloc, table, format!(in alloc; "{fault}")?.as_str())?),
-    }
+    let asked = read_words(rt.alloc(), words)?;
+    with_table(rt, asked.table, &asked.task, files, out)
 }
 
 /// Runs the program on words without its own name, and answers its status: 0 where it accepted a table or each run was
 /// serial, 1 where it rejected a table or a run wasn't serial, and 2 where it told a fault on `err`. At 0 and 1 the whole
-/// report of a task under a lawful table is written on `out`; at a fault of words, files, tables, scripts or memory
-/// nothing is.
+/// report of a task under a lawful table is written on `out`, and nothing on `err`; at a fault of words, files, tables,
+/// scripts or memory nothing is written on `out`.
 pub fn execute<
     R: std::rt::Files + AllocGlobal + Threads + Wait + Sync,
     F: Files + Sync,
@@ -368,22 +283,9 @@ where
     ensures accepts { result ≡ 0 → (p : Protocol) × (names : List (List ℕ)) × (task : Task) × IsLawful p × Reports p names task (W.taken out.old) (W.taken out.new) true }
     ensures refuses { result ≡ 1 → (p : Protocol) × (names : List (List ℕ)) × (task : Task) × IsLawful p × Reports p names task (W.taken out.old) (W.taken out.new) false }
     ensures fault { result ≡ 2 → HasCause (W.failures out.old) (W.failures out.new) ⊎ (out.new ≡ out.old) }
+    ensures told { result ≡ 2 → (e : Ending) × AppendsFront (E.taken err.old) (E.taken err.new) (ending_line NAME.now e) }
+    ensures silent { (err.new ≡ err.old) ⊎ (result ≡ 2) }
 {
-    let done = match read_words(rt.alloc(), words) {
-        Ok(asked) => with_table(rt, asked.table, &asked.task, files, out),
-        Err(WordsFault::NotUnderstood) => {
-            let _ = print(err, NOT_UNDERSTOOD);
-            return 2;
-        }
-        Err(WordsFault::Memory) => Err(Ending::Memory),
-    };
-    let line = match &done {
-        Ok(is_well) => return status(*is_well),
-        Err(Ending::Line(line)) => line.as_str(),
-        Err(Ending::Memory) => OUT_OF_MEMORY,
-        Err(Ending::Place) => "kr: place refused",
-        Err(Ending::Output) => "kr: output: cannot be written",
-    };
-    let _ = print(err, line);
-    2
+    let done = ask(rt, words, files, out);
+    finish(NAME, &done, err)
 }
