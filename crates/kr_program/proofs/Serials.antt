@@ -11,7 +11,7 @@ use Rattle.kr_serial.proofs.Wholes.{serial_exactly}
 use Rattle.kr_serial.proofs.SerialRuns.{covered_programs}
 use Rattle.kr_script.specs.Script.{Script}
 use Rattle.kr_batch.specs.Names.{AreNamed}
-use Rattle.kr_program.specs.Over.{run_of, IsSerialScript}
+use Rattle.kr_program.specs.Runs.{run_of, IsSerialScript}
 use Rattle.kr_program.specs.Judges.{is_serial, verdicts_on}
 
 told_serial : (v : Verdict) → is_serial v ≡ true → v ≡ Serial

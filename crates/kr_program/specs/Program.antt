@@ -4,7 +4,7 @@ use Rattle.std.specs.Io.KnownBytes.{Appends}
 use Rattle.kr_model.specs.Protocol.{Protocol}
 use Rattle.kr_model.specs.Covers.{IsCovered}
 use Rattle.kr_script.specs.Script.{Script}
-use Rattle.kr_program.specs.Over.{report_line, IsSerialScript}
+use Rattle.kr_program.specs.Runs.{report_line, IsSerialScript}
 use Rattle.kr_program.specs.Checks.{check_line}
 use Rattle.kr_program.specs.Judges.{judge_lines}
 use Rattle.kr_program.specs.Threads.{threads_line}

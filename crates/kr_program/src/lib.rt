@@ -2,15 +2,17 @@
 #![tactic(auto)]
 
 mod checks;
+mod faults;
 mod judges;
-mod over;
 mod program;
+mod runs;
 mod threads;
 mod words;
 
 pub use checks::{check_over, write_check};
+pub use faults::ReportFault;
 pub use judges::{LinesFault, judge_over};
-pub use over::{OverFault, run_over};
 pub use program::{NAME, execute};
+pub use runs::run_over;
 pub use threads::threads_over;
 pub use words::{Asked, Task, WordsFault, Workers, read_words};

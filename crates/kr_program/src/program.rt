@@ -8,19 +8,20 @@ ghost use Rattle.kr_script.specs.Script.{Script};
 ghost use Rattle.kr_shell.specs.Endings.{is_output, ending_line};
 ghost use Rattle.kr_shell.specs.declared.endings.Ending.{Ending};
 ghost use Rattle.kr_shell.specs.declared.endings.Ending.TheVariants as ending;
-ghost use Rattle.kr_program.specs.Over.{report_line, IsSerialScript};
+ghost use Rattle.kr_program.specs.Runs.{report_line, IsSerialScript};
 ghost use Rattle.kr_program.specs.Judges.{judge_lines};
 ghost use Rattle.kr_program.specs.Program.{Reports, ThreadsReported};
 ghost use Rattle.kr_program.specs.Threads.{threads_line};
 ghost use Rattle.kr_script.specs.declared.threaded.Threaded.{Threaded};
 ghost use Rattle.kr_threads.specs.Threaded.{IsThreaded};
 ghost use Rattle.kr_program.specs.declared.words.Task.{Task};
-ghost use Rattle.kr_program.specs.declared.over.OverFault.TheVariants as fault;
+ghost use Rattle.kr_program.specs.declared.faults.ReportFault.TheVariants as fault;
 ghost use Rattle.kr_program.specs.declared.words.WordsFault.TheVariants as words_fault;
 
 use crate::checks::{check_over, write_check};
+use crate::faults::ReportFault;
 use crate::judges::{LinesFault, judge_over};
-use crate::over::{OverFault, run_over};
+use crate::runs::run_over;
 use crate::threads::threads_over;
 use crate::words::{Task, WordsFault, Workers, read_words};
 use kr_batch::{JudgeFault, TextFault, Texts};
@@ -38,14 +39,14 @@ use std::thread::Threads;
 pub const NAME: &str = "kr";
 
 /// A script's fault is told with the word that names the script, so none comes here.
-impl From<OverFault> for Ending {
+impl From<ReportFault> for Ending {
     ghost from_gives = { λ f e. (e ≡ ending.Output) ↔ (f ≡ fault.Print) };
 
-    fn from(fault: OverFault) -> Ending {
+    fn from(fault: ReportFault) -> Ending {
         match fault {
-            OverFault::Print => Ending::Output,
-            OverFault::Place => Ending::Place,
-            OverFault::Script(_) | OverFault::Memory => Ending::Memory,
+            ReportFault::Print => Ending::Output,
+            ReportFault::Place => Ending::Place,
+            ReportFault::Script(_) | ReportFault::Memory => Ending::Memory,
         }
     }
 }
@@ -79,7 +80,7 @@ fn run_script<R: std::rt::Files + AllocGlobal, P: Protocol, F: Files, W: Sink>(
     let bytes = whole(rt, script, files)?;
     match run_over(alloc, protocol, bytes.as_slice(), out) {
         Ok(is_serial) => Ok(is_serial),
-        Err(OverFault::Script(fault)) => Err(at_fault(alloc, script, fault)),
+        Err(ReportFault::Script(fault)) => Err(at_fault(alloc, script, fault)),
         Err(fault) => Err(Ending::from(fault)),
     }
 }
@@ -157,7 +158,7 @@ fn thread_script<
     let bytes = whole(rt, script, files)?;
     match threads_over(rt, alloc, protocol, bytes.as_slice(), workers.count(), out) {
         Ok(answer) => Ok(answer),
-        Err(OverFault::Script(fault)) => Err(at_fault(alloc, script, fault)),
+        Err(ReportFault::Script(fault)) => Err(at_fault(alloc, script, fault)),
         Err(fault) => Err(Ending::from(fault)),
     }
 }
