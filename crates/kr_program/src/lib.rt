@@ -15,4 +15,4 @@ pub use judges::{LinesFault, judge_over};
 pub use program::{NAME, execute};
 pub use runs::run_over;
 pub use threads::threads_over;
-pub use words::{Asked, Task, WordsFault, Workers, read_words};
+pub use words::{Asked, Task, Workers, read_words};

@@ -16,14 +16,13 @@ ghost use Rattle.kr_script.specs.declared.threaded.Threaded.{Threaded};
 ghost use Rattle.kr_threads.specs.Threaded.{IsThreaded};
 ghost use Rattle.kr_program.specs.declared.words.Task.{Task};
 ghost use Rattle.kr_program.specs.declared.faults.ReportFault.TheVariants as fault;
-ghost use Rattle.kr_program.specs.declared.words.WordsFault.TheVariants as words_fault;
 
 use crate::checks::{check_over, write_check};
 use crate::faults::ReportFault;
 use crate::judges::{LinesFault, judge_over};
 use crate::runs::run_over;
 use crate::threads::threads_over;
-use crate::words::{Task, WordsFault, Workers, read_words};
+use crate::words::{Task, Workers, read_words};
 use kr_batch::{JudgeFault, TextFault, Texts};
 use kr_cases::{Cause, Rejected, check};
 use kr_protocol::{Covered, Im, Kvl, KvlUpdate, Protocol, RangeKey};
@@ -47,17 +46,6 @@ impl From<ReportFault> for Ending {
             ReportFault::Print => Ending::Output,
             ReportFault::Place => Ending::Place,
             ReportFault::Script(_) | ReportFault::Memory => Ending::Memory,
-        }
-    }
-}
-
-impl From<WordsFault> for Ending {
-    ghost from_gives = { λ f e. ((f ≡ words_fault.NotUnderstood) × (e ≡ ending.NotUnderstood)) ⊎ ((f ≡ words_fault.Memory) × (e ≡ ending.Memory)) };
-
-    fn from(fault: WordsFault) -> Ending {
-        match fault {
-            WordsFault::NotUnderstood => Ending::NotUnderstood,
-            WordsFault::Memory => Ending::Memory,
         }
     }
 }
