@@ -1,9 +1,12 @@
--- What the program writes of a task under a table, and how it ends, but for how it reads files.
+-- What the program writes of a task under the table that a word names. What files may give is a relation of words to bytes, or to none.
 use Rattle.std.specs.Prelude.{◌≡◌, ℕ, Bool, true, false, List, Option, ◌↔◌, ◌⊎◌, IsTrue, All, length, map}
 use Rattle.std.specs.Io.KnownBytes.{Appends}
-use Rattle.kr_model.specs.Protocol.{Protocol}
+use Rattle.kr_model.specs.Protocol.{Protocol, IsLawful}
 use Rattle.kr_model.specs.Covers.{IsCovered}
 use Rattle.kr_script.specs.Script.{Script}
+use Rattle.kr_shell.specs.declared.tables.AnyTable.{AnyTable}
+use Rattle.kr_shell.specs.Named.{NamesTable}
+use Rattle.kr_shell.specs.Tables.{table_of, names_of}
 use Rattle.kr_program.specs.Runs.{report_line, IsSerialScript}
 use Rattle.kr_program.specs.Checks.{check_line}
 use Rattle.kr_program.specs.Judges.{judge_lines}
@@ -26,3 +29,12 @@ Reports p names (Run word) old new well = (s : Script) × (Appends old new (repo
 Reports p names (Judge words) old new well = (ss : List Script) × ((length ss ≡ length words.items)
     × (Appends old new (judge_lines p (map (λ w. w.now) words.items) ss) × (IsTrue well ↔ All (IsSerialScript p) ss)))
 Reports p names (Threads word workers) old new well = ThreadsReported p names old new well
+
+-- The whole report of a task was written, under the lawful table that a word names.
+pub record Answers (may_give : List ℕ → Option (List ℕ) → Type 0) (old new : Option (List ℕ)) (well : Bool) : Type 0 where
+  pub table : List ℕ
+  pub task : Task
+  pub named : AnyTable
+  pub names : NamesTable may_give table named
+  pub lawful : IsLawful (table_of named)
+  pub reports : Reports (table_of named) (names_of named) task old new well

@@ -1,7 +1,6 @@
 //! The program over its words, files and streams.
 ghost use Rattle.std.specs.Prelude.{◌≡◌, ◌⊎◌, ◌↔◌, ◌≤◌, ℕ, List, All, true, false, IfOk, IfErr, IsTrue, length, map};
 ghost use Rattle.std.specs.Io.KnownBytes.{Appends};
-ghost use Rattle.kr_model.specs.Protocol.{Protocol, IsLawful};
 ghost use Rattle.kr_model.specs.Covers.{IsCovered};
 ghost use Rattle.kr_script.specs.Puts.{AppendsFront, HasCause};
 ghost use Rattle.kr_script.specs.Script.{Script};
@@ -10,11 +9,10 @@ ghost use Rattle.kr_shell.specs.declared.endings.Ending.{Ending};
 ghost use Rattle.kr_shell.specs.declared.endings.Ending.TheVariants as ending;
 ghost use Rattle.kr_program.specs.Runs.{report_line, IsSerialScript};
 ghost use Rattle.kr_program.specs.Judges.{judge_lines};
-ghost use Rattle.kr_program.specs.Program.{Reports, ThreadsReported};
+ghost use Rattle.kr_program.specs.Program.{Answers, Reports, ThreadsReported};
 ghost use Rattle.kr_program.specs.Threads.{threads_line};
 ghost use Rattle.kr_script.specs.declared.threaded.Threaded.{Threaded};
 ghost use Rattle.kr_threads.specs.Threaded.{IsThreaded};
-ghost use Rattle.kr_program.specs.declared.words.Task.{Task};
 ghost use Rattle.kr_program.specs.declared.faults.ReportFault.TheVariants as fault;
 
 use crate::checks::{check_over, write_check};
@@ -25,10 +23,10 @@ use crate::threads::threads_over;
 use crate::words::{Task, Workers, read_words};
 use kr_batch::{JudgeFault, TextFault, Texts};
 use kr_cases::{Cause, Rejected, check};
-use kr_protocol::{Covered, Im, Kvl, KvlUpdate, Protocol, RangeKey};
+use kr_protocol::{Covered, Protocol};
 use kr_script::Sink;
 use kr_shell::{
-    AnyTable, Ending, FileFault, Files, at_fault, finish, read_file, table_at, unreadable, whole,
+    Ending, FileFault, Files, at_fault, finish, read_file, table_at, unreadable, whole,
 };
 use std::alloc::Global;
 use std::sync::Wait;
@@ -212,32 +210,8 @@ where
     }
 }
 
-/// Does a task under the table that a word names: one of the bundled tables, or a file. Scripts are read only where
-/// the table is one.
-fn with_table<R: std::rt::Files + AllocGlobal + Threads + Wait + Sync, F: Files + Sync, W: Sink>(
-    rt: &R,
-    table: &str,
-    task: &Task,
-    files: &F,
-    out: &mut W,
-) -> Result<bool, Ending>
-where
-    R::File: Send + Sync,
-    R::Dir: Send + Sync,
-    ensures reports { IfOk result (λ is_well. (p : Protocol) × (names : List (List ℕ)) × IsLawful p × Reports p names task.now (W.taken out.old) (W.taken out.new) is_well) }
-    ensures nothing { IfErr result (λ e. IsTrue (is_output e) ⊎ (out.new ≡ out.old)) }
-    ensures cause { IfErr result (λ e. IsTrue (is_output e) → HasCause (W.failures out.old) (W.failures out.new)) }
-{
-    match table_at(rt, table, files)? {
-        AnyTable::Kvl => under(rt, Kvl, task, files, out),
-        AnyTable::KvlUpdate => under(rt, KvlUpdate, task, files, out),
-        AnyTable::Im => under(rt, Im, task, files, out),
-        AnyTable::RangeKey => under(rt, RangeKey, task, files, out),
-        AnyTable::Read(table) => under(rt, table, task, files, out),
-    }
-}
-
-/// Does what the words ask, and answers whether the table is accepted, or each run is serial.
+/// Does what the words ask under the table that the word of it names, and answers whether the table is accepted, or each run
+/// is serial. Scripts are read only where that word names a table.
 fn ask<R: std::rt::Files + AllocGlobal + Threads + Wait + Sync, F: Files + Sync, W: Sink>(
     rt: &R,
     words: &[String],
@@ -247,18 +221,19 @@ fn ask<R: std::rt::Files + AllocGlobal + Threads + Wait + Sync, F: Files + Sync,
 where
     R::File: Send + Sync,
     R::Dir: Send + Sync,
-    ensures reports { IfOk result (λ is_well. (p : Protocol) × (names : List (List ℕ)) × (task : Task) × IsLawful p × Reports p names task (W.taken out.old) (W.taken out.new) is_well) }
+    ensures answers { IfOk result (Answers (F.may_give files.now) (W.taken out.old) (W.taken out.new)) }
     ensures nothing { IfErr result (λ e. IsTrue (is_output e) ⊎ (out.new ≡ out.old)) }
     ensures cause { IfErr result (λ e. IsTrue (is_output e) → HasCause (W.failures out.old) (W.failures out.new)) }
 {
     let asked = read_words(rt.alloc(), words)?;
-    with_table(rt, asked.table, &asked.task, files, out)
+    let table = table_at(rt, asked.table, files)?;
+    under(rt, table, &asked.task, files, out)
 }
 
 /// Runs the program on words without its own name, and answers its status: 0 where it accepted a table or each run was
 /// serial, 1 where it rejected a table or a run wasn't serial, and 2 where it told a fault on `err`. At 0 and 1 the whole
-/// report of a task under a lawful table is written on `out`, and nothing on `err`; at a fault of words, files, tables,
-/// scripts or memory nothing is written on `out`.
+/// report of a task under the table that a word names is written on `out`, and nothing on `err`; at a fault of words, files,
+/// tables, scripts or memory nothing is written on `out`.
 pub fn execute<
     R: std::rt::Files + AllocGlobal + Threads + Wait + Sync,
     F: Files + Sync,
@@ -269,8 +244,8 @@ where
     R::File: Send + Sync,
     R::Dir: Send + Sync,
     ensures within { result ≤ 2 }
-    ensures accepts { result ≡ 0 → (p : Protocol) × (names : List (List ℕ)) × (task : Task) × IsLawful p × Reports p names task (W.taken out.old) (W.taken out.new) true }
-    ensures refuses { result ≡ 1 → (p : Protocol) × (names : List (List ℕ)) × (task : Task) × IsLawful p × Reports p names task (W.taken out.old) (W.taken out.new) false }
+    ensures accepts { result ≡ 0 → Answers (F.may_give files.now) (W.taken out.old) (W.taken out.new) true }
+    ensures refuses { result ≡ 1 → Answers (F.may_give files.now) (W.taken out.old) (W.taken out.new) false }
     ensures fault { result ≡ 2 → HasCause (W.failures out.old) (W.failures out.new) ⊎ (out.new ≡ out.old) }
     ensures told { result ≡ 2 → (e : Ending) × AppendsFront (E.taken err.old) (E.taken err.new) (ending_line NAME.now e) }
     ensures silent { (err.new ≡ err.old) ⊎ (result ≡ 2) }

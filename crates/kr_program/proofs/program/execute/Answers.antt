@@ -3,10 +3,10 @@ use Rattle.kr_shell.proofs.Finished.{ok_at, fault_at, silent_at}
 use Rattle.kr_program.proofs.program.execute.Goals as goal
 
 pub returns-clause-accepts : goal.returns-clause-accepts
-returns-clause-accepts g c zero = ok_at c.ask-done.result true _ c.ask-done.ensures.reports (c.finish.ensures.well.0 zero)
+returns-clause-accepts g c zero = ok_at c.ask-done.result true _ c.ask-done.ensures.answers (c.finish.ensures.well.0 zero)
 
 pub returns-clause-refuses : goal.returns-clause-refuses
-returns-clause-refuses g c one = ok_at c.ask-done.result false _ c.ask-done.ensures.reports (c.finish.ensures.not_well.0 one)
+returns-clause-refuses g c one = ok_at c.ask-done.result false _ c.ask-done.ensures.answers (c.finish.ensures.not_well.0 one)
 
 pub returns-clause-fault : goal.returns-clause-fault
 returns-clause-fault g c two = fault_at c.ask-done.result c.finish.result _ _ c.finish.ensures.well c.finish.ensures.not_well c.ask-done.ensures.nothing c.ask-done.ensures.cause two
