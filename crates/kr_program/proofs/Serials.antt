@@ -51,7 +51,7 @@ module _ (p : Protocol) where
   all_covered laws covered may_be (n ∷ ns) (s ∷ ss) are (suc k) d low = all_covered laws covered may_be ns ss are.1 k d (omega arith)
 
 -- as many scripts as names, and as many verdicts
-pub as_many : {N : Type 0} (f : N → List ℕ) (may_be : List ℕ → Option (List ℕ) → Type 0) (names : List N) (ss : List Script) → AreNamed may_be (map f names) ss → length ss ≡ length names
+as_many : {N : Type 0} (f : N → List ℕ) (may_be : List ℕ → Option (List ℕ) → Type 0) (names : List N) (ss : List Script) → AreNamed may_be (map f names) ss → length ss ≡ length names
 as_many f may_be [] [] are = refl
 as_many f may_be [] (s ∷ ss) are = absurd are
 as_many f may_be (n ∷ ns) [] are = absurd are

@@ -1,12 +1,15 @@
 //! The program over its words, files and streams.
-ghost use Rattle.std.specs.Prelude.{◌≡◌, ◌⊎◌, ◌↔◌, ◌≤◌, ℕ, List, All, true, false, IfOk, IfErr, IsTrue, length, map};
+ghost use Rattle.std.specs.Prelude.{◌≡◌, ◌⊎◌, ◌↔◌, ◌≤◌, List, All, true, false, IfOk, IfErr, IsTrue, map};
 ghost use Rattle.std.specs.Io.KnownBytes.{Appends};
 ghost use Rattle.kr_model.specs.Covers.{IsCovered};
 ghost use Rattle.kr_script.specs.Puts.{AppendsFront, HasCause};
 ghost use Rattle.kr_script.specs.Script.{Script};
 ghost use Rattle.kr_shell.specs.Endings.{is_output, ending_line};
+ghost use Rattle.kr_shell.specs.Files.{MayBeHad};
+ghost use Rattle.kr_shell.specs.Named.{NamesScript};
 ghost use Rattle.kr_shell.specs.declared.endings.Ending.{Ending};
 ghost use Rattle.kr_shell.specs.declared.endings.Ending.TheVariants as ending;
+ghost use Rattle.kr_batch.specs.Names.{AreNamed};
 ghost use Rattle.kr_program.specs.Runs.{report_line, IsSerialScript};
 ghost use Rattle.kr_program.specs.Judges.{judge_lines};
 ghost use Rattle.kr_program.specs.Program.{Answers, Reports, ThreadsReported};
@@ -56,8 +59,9 @@ fn run_script<R: std::rt::Files + AllocGlobal, P: Protocol, F: Files, W: Sink>(
     files: &F,
     out: &mut W,
 ) -> Result<bool, Ending>
-    ensures reports { IfOk result (λ serial. (s : Script) × (Appends (W.taken out.old) (W.taken out.new) (report_line (P.table protocol.now) (P.names protocol.now) s)
-        × (IsTrue serial ↔ IsSerialScript (P.table protocol.now) s))) }
+    ensures reports { IfOk result (λ serial. (s : Script) × (NamesScript (F.may_give files.now) script.now s
+        × (Appends (W.taken out.old) (W.taken out.new) (report_line (P.table protocol.now) (P.names protocol.now) s)
+        × (IsTrue serial ↔ IsSerialScript (P.table protocol.now) s)))) }
     ensures covered { IsCovered (P.table protocol.now) → IfOk result (λ serial. IsTrue serial) }
     ensures nothing { IfErr result (λ e. IsTrue (is_output e) ⊎ (out.new ≡ out.old)) }
     ensures cause { IfErr result (λ e. IsTrue (is_output e) → HasCause (W.failures out.old) (W.failures out.new)) }
@@ -79,7 +83,7 @@ struct Scripts<'a, R, F> {
 }
 
 impl<R: std::rt::Files + AllocGlobal, F: Files> Texts for Scripts<'_, R, F> {
-    ghost may_be = { λ _ _ _. Unit {0} };
+    ghost may_be = { λ s. MayBeHad (F.may_give s.files.now) };
 
     fn text(&self, _alloc: Global, name: &str) -> Result<Vec<u8>, TextFault> {
         match read_file(self.rt, name, self.files) {
@@ -101,7 +105,7 @@ fn judge_scripts<
 where
     R::File: Send + Sync,
     R::Dir: Send + Sync,
-    ensures reports { IfOk result (λ serial. (ss : List Script) × ((length ss ≡ length words.now)
+    ensures reports { IfOk result (λ serial. (ss : List Script) × (AreNamed (MayBeHad (F.may_give files.now)) (map (λ w. w.now) words.now) ss
         × (Appends (W.taken out.old) (W.taken out.new) (judge_lines (P.table protocol.now) (map (λ w. w.now) words.now) ss)
         × (IsTrue serial ↔ All (IsSerialScript (P.table protocol.now)) ss)))) }
     ensures covered { IsCovered (P.table protocol.now) → IfOk result (λ serial. IsTrue serial) }
@@ -135,8 +139,8 @@ fn thread_script<
     files: &F,
     out: &mut W,
 ) -> Result<bool, Ending>
-    ensures reports { IfOk result (λ serial. IsTrue serial × ((s : Script) × ((d : Threaded) × (IsThreaded (P.table protocol.now) s.opening s.steps d
-        × Appends (W.taken out.old) (W.taken out.new) (threads_line d))))) }
+    ensures reports { IfOk result (λ serial. IsTrue serial × ((s : Script) × (NamesScript (F.may_give files.now) script.now s
+        × ((d : Threaded) × (IsThreaded (P.table protocol.now) s.opening s.steps d × Appends (W.taken out.old) (W.taken out.new) (threads_line d)))))) }
     ensures nothing { IfErr result (λ e. IsTrue (is_output e) ⊎ (out.new ≡ out.old)) }
     ensures cause { IfErr result (λ e. IsTrue (is_output e) → HasCause (W.failures out.old) (W.failures out.new)) }
 {
@@ -164,7 +168,7 @@ fn check_and_thread<
     files: &F,
     out: &mut W,
 ) -> Result<bool, Ending>
-    ensures reports { IfOk result (ThreadsReported (P.table protocol) (P.names protocol) (W.taken out.old) (W.taken out.new)) }
+    ensures reports { IfOk result (ThreadsReported (F.may_give files.now) (P.table protocol) (P.names protocol) script.now (W.taken out.old) (W.taken out.new)) }
     ensures covered { IsCovered (P.table protocol) → IfOk result (λ is_well. IsTrue is_well) }
     ensures nothing { IfErr result (λ e. IsTrue (is_output e) ⊎ (out.new ≡ out.old)) }
     ensures cause { IfErr result (λ e. IsTrue (is_output e) → HasCause (W.failures out.old) (W.failures out.new)) }
@@ -194,7 +198,7 @@ fn under<
 where
     R::File: Send + Sync,
     R::Dir: Send + Sync,
-    ensures reports { IfOk result (Reports (P.table protocol) (P.names protocol) task.now (W.taken out.old) (W.taken out.new)) }
+    ensures reports { IfOk result (Reports (F.may_give files.now) (P.table protocol) (P.names protocol) task.now (W.taken out.old) (W.taken out.new)) }
     ensures covered { IsCovered (P.table protocol) → IfOk result (λ is_well. IsTrue is_well) }
     ensures nothing { IfErr result (λ e. IsTrue (is_output e) ⊎ (out.new ≡ out.old)) }
     ensures cause { IfErr result (λ e. IsTrue (is_output e) → HasCause (W.failures out.old) (W.failures out.new)) }
@@ -232,8 +236,8 @@ where
 
 /// Runs the program on words without its own name, and answers its status: 0 where it accepted a table or each run was
 /// serial, 1 where it rejected a table or a run wasn't serial, and 2 where it told a fault on `err`. At 0 and 1 the whole
-/// report of a task under the table that a word names is written on `out`, and nothing on `err`; at a fault of words, files,
-/// tables, scripts or memory nothing is written on `out`.
+/// report of a task, under the table and of the scripts that words name, is written on `out`, and nothing on `err`; at a
+/// fault of words, files, tables, scripts or memory nothing is written on `out`.
 pub fn execute<
     R: std::rt::Files + AllocGlobal + Threads + Wait + Sync,
     F: Files + Sync,
