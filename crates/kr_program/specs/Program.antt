@@ -1,14 +1,16 @@
--- What the program writes of a task, under the table and of the scripts that words name. What files may give is a relation of words to bytes, or to none.
-use Rattle.std.specs.Prelude.{◌≡◌, ℕ, Bool, true, false, List, Option, ◌↔◌, ◌⊎◌, IsTrue, All, map}
+-- What the program writes of a task, under the table and of the scripts that words name, and why it ends without that. What files may give is a relation of words to bytes, or to none.
+use Rattle.std.specs.Prelude.{◌≡◌, ℕ, Bool, true, false, List, Option, ◌↔◌, ◌⊎◌, IsTrue, All, map, string_bytes}
 use Rattle.std.specs.Io.KnownBytes.{Appends}
 use Rattle.kr_model.specs.Protocol.{Protocol, IsLawful}
 use Rattle.kr_model.specs.Covers.{IsCovered}
 use Rattle.kr_script.specs.Script.{Script}
+use Rattle.kr_shell.specs.declared.endings.Ending.{Ending}
+use Rattle.kr_shell.specs.declared.endings.Ending.TheVariants.{NotUnderstood, Memory, Place, Output, Told}
 use Rattle.kr_shell.specs.declared.tables.AnyTable.{AnyTable}
 use Rattle.kr_shell.specs.Files.{MayBeHad}
-use Rattle.kr_shell.specs.Named.{NamesTable, NamesScript}
+use Rattle.kr_shell.specs.Named.{NamesTable, TellsNoTable, NamesScript, TellsNoScript}
 use Rattle.kr_shell.specs.Tables.{table_of, names_of}
-use Rattle.kr_batch.specs.Names.{AreNamed}
+use Rattle.kr_batch.specs.Names.{AreNamed, IsFirst}
 use Rattle.kr_program.specs.Runs.{report_line, IsSerialScript}
 use Rattle.kr_program.specs.Checks.{check_line}
 use Rattle.kr_program.specs.Judges.{judge_lines}
@@ -41,3 +43,35 @@ pub record Answers (may_give : List ℕ → Option (List ℕ) → Type 0) (old n
   pub names : NamesTable may_give table named
   pub lawful : IsLawful (table_of named)
   pub reports : Reports may_give (table_of named) (names_of named) task old new well
+
+-- A task ends without its report, or with a beginning of it: for memory, a place or output, or with a line that is told of a word, of which this holds.
+abbrev pub Unreported : (List ℕ → Type 0) → Ending → Type 0
+Unreported P NotUnderstood = ⊥
+Unreported P Memory = Unit {0}
+Unreported P Place = Unit {0}
+Unreported P Output = Unit {0}
+Unreported P (Told line) = P (string_bytes line)
+
+-- The line tells why the first of the words that names no script names none.
+abbrev pub TellsFirst : (List ℕ → Option (List ℕ) → Type 0) → List (List ℕ) → List ℕ → Type 0
+TellsFirst may_give words line = (place : ℕ) × IsFirst (MayBeHad may_give) words place (λ word. TellsNoScript may_give word line)
+
+-- The line tells why a word of a task names no script; of several, it is the first.
+abbrev pub TellsTask : (List ℕ → Option (List ℕ) → Type 0) → Task → List ℕ → Type 0
+TellsTask may_give Check = λ line. ⊥
+TellsTask may_give (Run word) = TellsNoScript may_give word.now
+TellsTask may_give (Judge words) = TellsFirst may_give (map (λ w. w.now) words.items)
+TellsTask may_give (Threads word workers) = TellsNoScript may_give word.now
+
+-- The line tells why the word of a table names none; or why a word of a task names no script, where that of the table names one.
+abbrev pub TellsWord : (List ℕ → Option (List ℕ) → Type 0) → List ℕ → Task → List ℕ → Type 0
+TellsWord may_give table task line =
+    TellsNoTable may_give table line ⊎ ((t : AnyTable) × (NamesTable may_give table t × TellsTask may_give task line))
+
+-- Why the program ends without a report, or with a beginning of it.
+abbrev pub Ends : (List ℕ → Option (List ℕ) → Type 0) → Ending → Type 0
+Ends may_give NotUnderstood = Unit {0}
+Ends may_give Memory = Unit {0}
+Ends may_give Place = Unit {0}
+Ends may_give Output = Unit {0}
+Ends may_give (Told line) = (table : List ℕ) × ((task : Task) × TellsWord may_give table task (string_bytes line))

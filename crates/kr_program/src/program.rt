@@ -6,13 +6,13 @@ ghost use Rattle.kr_script.specs.Puts.{AppendsFront, HasCause};
 ghost use Rattle.kr_script.specs.Script.{Script};
 ghost use Rattle.kr_shell.specs.Endings.{is_output, ending_line};
 ghost use Rattle.kr_shell.specs.Files.{MayBeHad};
-ghost use Rattle.kr_shell.specs.Named.{NamesScript};
+ghost use Rattle.kr_shell.specs.Named.{NamesScript, TellsNoScript};
 ghost use Rattle.kr_shell.specs.declared.endings.Ending.{Ending};
 ghost use Rattle.kr_shell.specs.declared.endings.Ending.TheVariants as ending;
-ghost use Rattle.kr_batch.specs.Names.{AreNamed};
+ghost use Rattle.kr_batch.specs.Names.{AreNamed, ExplainsNames};
 ghost use Rattle.kr_program.specs.Runs.{report_line, IsSerialScript};
 ghost use Rattle.kr_program.specs.Judges.{judge_lines};
-ghost use Rattle.kr_program.specs.Program.{Answers, Reports, ThreadsReported};
+ghost use Rattle.kr_program.specs.Program.{Answers, Ends, Reports, TellsFirst, TellsTask, ThreadsReported, Unreported};
 ghost use Rattle.kr_program.specs.Threads.{threads_line};
 ghost use Rattle.kr_script.specs.declared.threaded.Threaded.{Threaded};
 ghost use Rattle.kr_threads.specs.Threaded.{IsThreaded};
@@ -40,7 +40,7 @@ pub const NAME: &str = "kr";
 
 /// A script's fault is told with the word that names the script, so none comes here.
 impl From<ReportFault> for Ending {
-    ghost from_gives = { λ f e. (e ≡ ending.Output) ↔ (f ≡ fault.Print) };
+    ghost from_gives = { λ f e. ((e ≡ ending.Output) ↔ (f ≡ fault.Print)) × Unreported (λ _. ⊥) e };
 
     fn from(fault: ReportFault) -> Ending {
         match fault {
@@ -63,6 +63,7 @@ fn run_script<R: std::rt::Files + AllocGlobal, P: Protocol, F: Files, W: Sink>(
         × (Appends (W.taken out.old) (W.taken out.new) (report_line (P.table protocol.now) (P.names protocol.now) s)
         × (IsTrue serial ↔ IsSerialScript (P.table protocol.now) s)))) }
     ensures covered { IsCovered (P.table protocol.now) → IfOk result (λ serial. IsTrue serial) }
+    ensures err { IfErr result (Unreported (TellsNoScript (F.may_give files.now) script.now)) }
     ensures nothing { IfErr result (λ e. IsTrue (is_output e) ⊎ (out.new ≡ out.old)) }
     ensures cause { IfErr result (λ e. IsTrue (is_output e) → HasCause (W.failures out.old) (W.failures out.new)) }
 {
@@ -94,6 +95,22 @@ impl<R: std::rt::Files + AllocGlobal, F: Files> Texts for Scripts<'_, R, F> {
     }
 }
 
+impl<R: std::rt::Files + AllocGlobal, F: Files> Scripts<'_, R, F> {
+    /// How the program ends at this fault of the first of the words that names no script.
+    fn ending_for(&self, words: &[&str], judge_fault: JudgeFault) -> Ending
+        requires { ExplainsNames (MayBeHad (F.may_give self.now.files.now)) (map (λ w. w.now) words.now) judge_fault }
+        ensures ends { Unreported (TellsFirst (F.may_give self.now.files.now) (map (λ w. w.now) words.now)) result }
+        ensures other { is_output result ≡ false }
+    {
+        let alloc = self.rt.alloc();
+        match judge_fault {
+            JudgeFault::Unreadable(at) => unreadable(alloc, words[at]),
+            JudgeFault::Script(at, fault) => at_fault(alloc, words[at], fault),
+            JudgeFault::Memory => Ending::Memory,
+        }
+    }
+}
+
 /// Judges the scripts in the files that words name, writes the lines of their verdicts, and answers whether all are
 /// serial. Each thread reads the files of its scripts; of several faults the first in the order of the words is told.
 fn judge_scripts<
@@ -109,18 +126,15 @@ where
         × (Appends (W.taken out.old) (W.taken out.new) (judge_lines (P.table protocol.now) (map (λ w. w.now) words.now) ss)
         × (IsTrue serial ↔ All (IsSerialScript (P.table protocol.now)) ss)))) }
     ensures covered { IsCovered (P.table protocol.now) → IfOk result (λ serial. IsTrue serial) }
+    ensures err { IfErr result (Unreported (TellsFirst (F.may_give files.now) (map (λ w. w.now) words.now))) }
     ensures nothing { IfErr result (λ e. IsTrue (is_output e) ⊎ (out.new ≡ out.old)) }
     ensures cause { IfErr result (λ e. IsTrue (is_output e) → HasCause (W.failures out.old) (W.failures out.new)) }
 {
-    let alloc = rt.alloc();
-    match judge_over(rt, alloc, protocol, &Scripts { rt, files }, words, out) {
+    let scripts = Scripts { rt, files };
+    match judge_over(rt, rt.alloc(), protocol, &scripts, words, out) {
         Ok(serial) => Ok(serial),
         Err(LinesFault::Print) => Err(Ending::Output),
-        Err(LinesFault::Judge(JudgeFault::Memory)) => Err(Ending::Memory),
-        Err(LinesFault::Judge(JudgeFault::Unreadable(at))) => Err(unreadable(alloc, words[at])),
-        Err(LinesFault::Judge(JudgeFault::Script(at, fault))) => {
-            Err(at_fault(alloc, words[at], fault))
-        }
+        Err(LinesFault::Judge(fault)) => Err(scripts.ending_for(words, fault)),
     }
 }
 
@@ -141,6 +155,7 @@ fn thread_script<
 ) -> Result<bool, Ending>
     ensures reports { IfOk result (λ serial. IsTrue serial × ((s : Script) × (NamesScript (F.may_give files.now) script.now s
         × ((d : Threaded) × (IsThreaded (P.table protocol.now) s.opening s.steps d × Appends (W.taken out.old) (W.taken out.new) (threads_line d)))))) }
+    ensures err { IfErr result (Unreported (TellsNoScript (F.may_give files.now) script.now)) }
     ensures nothing { IfErr result (λ e. IsTrue (is_output e) ⊎ (out.new ≡ out.old)) }
     ensures cause { IfErr result (λ e. IsTrue (is_output e) → HasCause (W.failures out.old) (W.failures out.new)) }
 {
@@ -170,6 +185,7 @@ fn check_and_thread<
 ) -> Result<bool, Ending>
     ensures reports { IfOk result (ThreadsReported (F.may_give files.now) (P.table protocol) (P.names protocol) script.now (W.taken out.old) (W.taken out.new)) }
     ensures covered { IsCovered (P.table protocol) → IfOk result (λ is_well. IsTrue is_well) }
+    ensures err { IfErr result (Unreported (TellsNoScript (F.may_give files.now) script.now)) }
     ensures nothing { IfErr result (λ e. IsTrue (is_output e) ⊎ (out.new ≡ out.old)) }
     ensures cause { IfErr result (λ e. IsTrue (is_output e) → HasCause (W.failures out.old) (W.failures out.new)) }
 {
@@ -200,6 +216,7 @@ where
     R::Dir: Send + Sync,
     ensures reports { IfOk result (Reports (F.may_give files.now) (P.table protocol) (P.names protocol) task.now (W.taken out.old) (W.taken out.new)) }
     ensures covered { IsCovered (P.table protocol) → IfOk result (λ is_well. IsTrue is_well) }
+    ensures err { IfErr result (Unreported (TellsTask (F.may_give files.now) task.now)) }
     ensures nothing { IfErr result (λ e. IsTrue (is_output e) ⊎ (out.new ≡ out.old)) }
     ensures cause { IfErr result (λ e. IsTrue (is_output e) → HasCause (W.failures out.old) (W.failures out.new)) }
 {
@@ -226,6 +243,7 @@ where
     R::File: Send + Sync,
     R::Dir: Send + Sync,
     ensures answers { IfOk result (Answers (F.may_give files.now) (W.taken out.old) (W.taken out.new)) }
+    ensures err { IfErr result (Ends (F.may_give files.now)) }
     ensures nothing { IfErr result (λ e. IsTrue (is_output e) ⊎ (out.new ≡ out.old)) }
     ensures cause { IfErr result (λ e. IsTrue (is_output e) → HasCause (W.failures out.old) (W.failures out.new)) }
 {
@@ -237,7 +255,8 @@ where
 /// Runs the program on words without its own name, and answers its status: 0 where it accepted a table or each run was
 /// serial, 1 where it rejected a table or a run wasn't serial, and 2 where it told a fault on `err`. At 0 and 1 the whole
 /// report of a task, under the table and of the scripts that words name, is written on `out`, and nothing on `err`; at a
-/// fault of words, files, tables, scripts or memory nothing is written on `out`.
+/// fault of words, files, tables, scripts or memory nothing is written on `out`. The line on `err` tells of a word why it
+/// names no table or no script, or that words aren't understood, or that memory, a place or output was refused.
 pub fn execute<
     R: std::rt::Files + AllocGlobal + Threads + Wait + Sync,
     F: Files + Sync,
@@ -251,7 +270,8 @@ where
     ensures accepts { result ≡ 0 → Answers (F.may_give files.now) (W.taken out.old) (W.taken out.new) true }
     ensures refuses { result ≡ 1 → Answers (F.may_give files.now) (W.taken out.old) (W.taken out.new) false }
     ensures fault { result ≡ 2 → HasCause (W.failures out.old) (W.failures out.new) ⊎ (out.new ≡ out.old) }
-    ensures told { result ≡ 2 → (e : Ending) × AppendsFront (E.taken err.old) (E.taken err.new) (ending_line NAME.now e) }
+    ensures told { result ≡ 2 → (e : Ending) × (Ends (F.may_give files.now) e
+        × AppendsFront (E.taken err.old) (E.taken err.new) (ending_line NAME.now e)) }
     ensures silent { (err.new ≡ err.old) ⊎ (result ≡ 2) }
 {
     let done = ask(rt, words, files, out);

@@ -1,5 +1,5 @@
 use Rattle.std.specs.Prelude.{true, false}
-use Rattle.kr_shell.proofs.Finished.{ok_at, fault_at, silent_at}
+use Rattle.kr_shell.proofs.Finished.{ok_at, ending_at, fault_at, silent_at}
 use Rattle.kr_program.proofs.program.execute.Goals as goal
 
 pub returns-clause-accepts : goal.returns-clause-accepts
@@ -10,6 +10,9 @@ returns-clause-refuses g c one = ok_at c.ask-done.result false _ c.ask-done.ensu
 
 pub returns-clause-fault : goal.returns-clause-fault
 returns-clause-fault g c two = fault_at c.ask-done.result c.finish.result _ _ c.finish.ensures.well c.finish.ensures.not_well c.ask-done.ensures.nothing c.ask-done.ensures.cause two
+
+pub returns-clause-told : goal.returns-clause-told
+returns-clause-told g c two = ending_at c.ask-done.result c.finish.result _ _ c.finish.ensures.well c.finish.ensures.not_well c.ask-done.ensures.err c.finish.ensures.told two
 
 pub returns-clause-silent : goal.returns-clause-silent
 returns-clause-silent g c = silent_at c.ask-done.result c.finish.result _ c.finish.ensures.within c.finish.ensures.well c.finish.ensures.not_well c.finish.ensures.silent
