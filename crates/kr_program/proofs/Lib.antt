@@ -1,3 +1,4 @@
+pub mod Answered
+pub mod Ended
 pub mod Reported
 pub mod Serials
-pub mod Faults

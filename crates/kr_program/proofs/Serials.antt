@@ -11,7 +11,7 @@ use Rattle.kr_serial.proofs.Wholes.{serial_exactly}
 use Rattle.kr_serial.proofs.SerialRuns.{covered_programs}
 use Rattle.kr_script.specs.Script.{Script}
 use Rattle.kr_batch.specs.Names.{AreNamed}
-use Rattle.kr_program.specs.Over.{run_of, IsSerialScript}
+use Rattle.kr_program.specs.Runs.{run_of, IsSerialScript}
 use Rattle.kr_program.specs.Judges.{is_serial, verdicts_on}
 
 told_serial : (v : Verdict) → is_serial v ≡ true → v ≡ Serial
@@ -51,7 +51,7 @@ module _ (p : Protocol) where
   all_covered laws covered may_be (n ∷ ns) (s ∷ ss) are (suc k) d low = all_covered laws covered may_be ns ss are.1 k d (omega arith)
 
 -- as many scripts as names, and as many verdicts
-pub as_many : {N : Type 0} (f : N → List ℕ) (may_be : List ℕ → Option (List ℕ) → Type 0) (names : List N) (ss : List Script) → AreNamed may_be (map f names) ss → length ss ≡ length names
+as_many : {N : Type 0} (f : N → List ℕ) (may_be : List ℕ → Option (List ℕ) → Type 0) (names : List N) (ss : List Script) → AreNamed may_be (map f names) ss → length ss ≡ length names
 as_many f may_be [] [] are = refl
 as_many f may_be [] (s ∷ ss) are = absurd are
 as_many f may_be (n ∷ ns) [] are = absurd are

@@ -7,7 +7,7 @@ ghost use Rattle.kr_model.specs.Protocol.{IsLawful};
 ghost use Rattle.kr_script.specs.Script.{Script};
 ghost use Rattle.kr_batch.specs.Names.{AreNamed};
 ghost use Rattle.kr_batch.specs.declared.named.JudgeFault.TheVariants as judge_fault;
-ghost use Rattle.kr_program.specs.Over.{IsSerialScript};
+ghost use Rattle.kr_program.specs.Runs.{IsSerialScript};
 ghost use Rattle.kr_program.specs.Judges.{is_serial, reports_of, lines, judge_lines, ExplainsLines};
 ghost use Rattle.kr_program.specs.declared.judges.LinesFault.TheVariants as fault;
 

@@ -1,18 +1,18 @@
-//! The program's tasks: its words, its files, and from the bytes of tables and scripts to the reports, on sinks.
+//! The program's tasks: its words, and from the bytes of tables and scripts to the reports, on sinks.
 #![tactic(auto)]
 
 mod checks;
-mod files;
+mod faults;
 mod judges;
-mod over;
 mod program;
+mod runs;
 mod threads;
 mod words;
 
 pub use checks::{check_over, write_check};
-pub use files::{Disk, FileFault, Files};
+pub use faults::ReportFault;
 pub use judges::{LinesFault, judge_over};
-pub use over::{OverFault, run_over};
-pub use program::{NOT_UNDERSTOOD, OUT_OF_MEMORY, execute};
+pub use program::{NAME, execute};
+pub use runs::run_over;
 pub use threads::threads_over;
-pub use words::{Asked, Task, WordsFault, Workers, read_words};
+pub use words::{Asked, Task, Workers, read_words};

@@ -1,142 +1,53 @@
 //! The program over its words, files and streams.
-ghost use Rattle.std.specs.Prelude.{◌≡◌, ◌⊎◌, ◌↔◌, ◌≤◌, ℕ, List, All, true, false, IfOk, IfErr, IsTrue, length, map, if◌then◌else◌};
+ghost use Rattle.std.specs.Prelude.{◌≡◌, ◌⊎◌, ◌↔◌, ◌≤◌, List, All, true, false, IfOk, IfErr, IsTrue, map};
 ghost use Rattle.std.specs.Io.KnownBytes.{Appends};
-ghost use Rattle.kr_model.specs.Protocol.{Protocol, IsLawful};
 ghost use Rattle.kr_model.specs.Covers.{IsCovered};
-ghost use Rattle.kr_script.specs.Puts.{HasCause};
+ghost use Rattle.kr_script.specs.Puts.{AppendsFront, HasCause};
 ghost use Rattle.kr_script.specs.Script.{Script};
-ghost use Rattle.kr_program.specs.Over.{report_line, IsSerialScript};
+ghost use Rattle.kr_shell.specs.Endings.{is_output, ending_line};
+ghost use Rattle.kr_shell.specs.Files.{MayBeHad};
+ghost use Rattle.kr_shell.specs.Named.{NamesScript, TellsNoScript};
+ghost use Rattle.kr_shell.specs.declared.endings.Ending.{Ending};
+ghost use Rattle.kr_shell.specs.declared.endings.Ending.TheVariants as ending;
+ghost use Rattle.kr_batch.specs.Names.{AreNamed, ExplainsNames};
+ghost use Rattle.kr_program.specs.Runs.{report_line, IsSerialScript};
 ghost use Rattle.kr_program.specs.Judges.{judge_lines};
-ghost use Rattle.kr_program.specs.Program.{Reports, ThreadsReported, is_output};
+ghost use Rattle.kr_program.specs.Program.{Answers, Ends, Reports, TellsFirst, TellsTask, ThreadsReported, Unreported};
 ghost use Rattle.kr_program.specs.Threads.{threads_line};
 ghost use Rattle.kr_script.specs.declared.threaded.Threaded.{Threaded};
 ghost use Rattle.kr_threads.specs.Threaded.{IsThreaded};
-ghost use Rattle.kr_program.specs.declared.words.Task.{Task};
-ghost use Rattle.kr_program.specs.declared.program.Ending.TheVariants as ending;
-ghost use Rattle.kr_program.specs.declared.over.OverFault.TheVariants as fault;
+ghost use Rattle.kr_program.specs.declared.faults.ReportFault.TheVariants as fault;
 
 use crate::checks::{check_over, write_check};
-use crate::files::{FileFault, Files};
+use crate::faults::ReportFault;
 use crate::judges::{LinesFault, judge_over};
-use crate::over::{OverFault, run_over};
+use crate::runs::run_over;
 use crate::threads::threads_over;
-use crate::words::{Task, WordsFault, Workers, read_words};
+use crate::words::{Task, Workers, read_words};
 use kr_batch::{JudgeFault, TextFault, Texts};
 use kr_cases::{Cause, Rejected, check};
-use kr_protocol::{Covered, Im, Kvl, KvlUpdate, Protocol, RangeKey};
-use kr_script::{ScriptFault, Sink, print};
-use kr_table::TableFault;
-use std::alloc::{AllocError, Global};
+use kr_protocol::{Covered, Protocol};
+use kr_script::Sink;
+use kr_shell::{
+    Ending, FileFault, Files, at_fault, finish, read_file, table_at, unreadable, whole,
+};
+use std::alloc::Global;
 use std::sync::Wait;
 use std::thread::Threads;
 
-/// The line for want of memory.
-pub const OUT_OF_MEMORY: &str = "kr: out of memory";
-
-/// The line for words of no form.
-pub const NOT_UNDERSTOOD: &str = "kr: words not understood";
-
-/// Why the program ends without a report, or with a beginning of it.
-#[derive(Drop)]
-enum Ending {
-    /// With this line on standard error.
-    Line(String),
-    /// With the line for want of memory.
-    Memory,
-    /// With the line for a place that was refused.
-    Place,
-    /// With the line for output that can't be written.
-    Output,
-}
-
-impl From<AllocError> for Ending {
-    ghost from_gives = { λ _ e. e ≡ ending.Memory };
-
-    fn from(_e: AllocError) -> Ending {
-        Ending::Memory
-    }
-}
+/// The program's name.
+pub const NAME: &str = "kr";
 
 /// A script's fault is told with the word that names the script, so none comes here.
-impl From<OverFault> for Ending {
-    ghost from_gives = { λ f e. (e ≡ ending.Output) ↔ (f ≡ fault.Print) };
+impl From<ReportFault> for Ending {
+    ghost from_gives = { λ f e. ((e ≡ ending.Output) ↔ (f ≡ fault.Print)) × Unreported (λ _. ⊥) e };
 
-    fn from(fault: OverFault) -> Ending {
+    fn from(fault: ReportFault) -> Ending {
         match fault {
-            OverFault::Print => Ending::Output,
-            OverFault::Place => Ending::Place,
-            OverFault::Script(_) | OverFault::Memory => Ending::Memory,
+            ReportFault::Print => Ending::Output,
+            ReportFault::Place => Ending::Place,
+            ReportFault::Script(_) | ReportFault::Memory => Ending::Memory,
         }
-    }
-}
-
-/// The status of a report: 0 where a table was accepted or each run was serial, and 1 where not.
-fn status(is_well: bool) -> u8
-    ensures value { result ≡ (if is_well then 0 else 1) }
-    ensures well { result ≡ 0 → is_well ≡ true }
-    ensures not_well { result ≡ 1 → is_well ≡ false }
-{
-    if is_well { 0 } else { 1 }
-}
-
-/// How the program ends with what is told of a word, on one line. A control character, of the word or of a name in a file,
-/// stands as its number, as `\u{a}`, so that it neither breaks the line nor reaches the terminal.
-fn told_of(alloc: Global, word: &str, what: &str) -> Result<Ending, AllocError>
-    ensures { IfOk result (λ e. is_output e ≡ false) }
-{
-    let text = format!(in alloc; "kr: {word}: {what}")?;
-    let mut line = String::new(alloc);
-    for c in text.as_str().chars() {
-        if c.is_control() {
-            let number = c as u32;
-            line.push_str(format!(in alloc; "\\u{{{number:x}}}")?.as_str())?;
-        } else {
-            line.push(c)?;
-        }
-    }
-    Ok(Ending::Line(line))
-}
-
-fn unreadable(alloc: Global, word: &str) -> Result<Ending, AllocError>
-    ensures { IfOk result (λ e. is_output e ≡ false) }
-{
-    told_of(alloc, word, "cannot be read")
-}
-
-/// The bytes of the file that a word names. A word that begins with `@` is never a file.
-fn read_file<R: std::rt::Files + AllocGlobal, F: Files>(
-    rt: &R,
-    word: &str,
-    files: &F,
-) -> Result<Vec<u8>, FileFault> {
-    if word.starts_with('@') {
-        return Err(FileFault::Unreadable);
-    }
-    files.whole(rt, word)
-}
-
-/// The bytes of the file that a word names, or how the program ends.
-fn whole<R: std::rt::Files + AllocGlobal, F: Files>(
-    rt: &R,
-    word: &str,
-    files: &F,
-) -> Result<Vec<u8>, Ending>
-    ensures { IfErr result (λ e. is_output e ≡ false) }
-{
-    match read_file(rt, word, files) {
-        Ok(bytes) => Ok(bytes),
-        Err(FileFault::Memory) => Err(Ending::Memory),
-        Err(FileFault::Unreadable) => Err(unreadable(rt.alloc(), word)?),
-    }
-}
-
-/// How the program ends at a fault of the script that a word names.
-fn at_fault(alloc: Global, word: &str, fault: ScriptFault) -> Result<Ending, AllocError>
-    ensures { IfOk result (λ e. is_output e ≡ false) }
-{
-    match fault {
-        ScriptFault::Memory => Ok(Ending::Memory),
-        _ => told_of(alloc, word, format!(in alloc; "{fault}")?.as_str()),
     }
 }
 
@@ -148,9 +59,11 @@ fn run_script<R: std::rt::Files + AllocGlobal, P: Protocol, F: Files, W: Sink>(
     files: &F,
     out: &mut W,
 ) -> Result<bool, Ending>
-    ensures reports { IfOk result (λ serial. (s : Script) × (Appends (W.taken out.old) (W.taken out.new) (report_line (P.table protocol.now) (P.names protocol.now) s)
-        × (IsTrue serial ↔ IsSerialScript (P.table protocol.now) s))) }
+    ensures reports { IfOk result (λ serial. (s : Script) × (NamesScript (F.may_give files.now) script.now s
+        × (Appends (W.taken out.old) (W.taken out.new) (report_line (P.table protocol.now) (P.names protocol.now) s)
+        × (IsTrue serial ↔ IsSerialScript (P.table protocol.now) s)))) }
     ensures covered { IsCovered (P.table protocol.now) → IfOk result (λ serial. IsTrue serial) }
+    ensures err { IfErr result (Unreported (TellsNoScript (F.may_give files.now) script.now)) }
     ensures nothing { IfErr result (λ e. IsTrue (is_output e) ⊎ (out.new ≡ out.old)) }
     ensures cause { IfErr result (λ e. IsTrue (is_output e) → HasCause (W.failures out.old) (W.failures out.new)) }
 {
@@ -158,7 +71,7 @@ fn run_script<R: std::rt::Files + AllocGlobal, P: Protocol, F: Files, W: Sink>(
     let bytes = whole(rt, script, files)?;
     match run_over(alloc, protocol, bytes.as_slice(), out) {
         Ok(is_serial) => Ok(is_serial),
-        Err(OverFault::Script(fault)) => Err(at_fault(alloc, script, fault)?),
+        Err(ReportFault::Script(fault)) => Err(at_fault(alloc, script, fault)),
         Err(fault) => Err(Ending::from(fault)),
     }
 }
@@ -171,13 +84,29 @@ struct Scripts<'a, R, F> {
 }
 
 impl<R: std::rt::Files + AllocGlobal, F: Files> Texts for Scripts<'_, R, F> {
-    ghost may_be = { λ _ _ _. Unit {0} };
+    ghost may_be = { λ s. MayBeHad (F.may_give s.files.now) };
 
     fn text(&self, _alloc: Global, name: &str) -> Result<Vec<u8>, TextFault> {
         match read_file(self.rt, name, self.files) {
             Ok(bytes) => Ok(bytes),
             Err(FileFault::Memory) => Err(TextFault::Memory),
             Err(FileFault::Unreadable) => Err(TextFault::Unreadable),
+        }
+    }
+}
+
+impl<R: std::rt::Files + AllocGlobal, F: Files> Scripts<'_, R, F> {
+    /// How the program ends at this fault of the first of the words that names no script.
+    fn ending_for(&self, words: &[&str], judge_fault: JudgeFault) -> Ending
+        requires { ExplainsNames (MayBeHad (F.may_give self.now.files.now)) (map (λ w. w.now) words.now) judge_fault }
+        ensures ends { Unreported (TellsFirst (F.may_give self.now.files.now) (map (λ w. w.now) words.now)) result }
+        ensures other { is_output result ≡ false }
+    {
+        let alloc = self.rt.alloc();
+        match judge_fault {
+            JudgeFault::Unreadable(at) => unreadable(alloc, words[at]),
+            JudgeFault::Script(at, fault) => at_fault(alloc, words[at], fault),
+            JudgeFault::Memory => Ending::Memory,
         }
     }
 }
@@ -193,22 +122,19 @@ fn judge_scripts<
 where
     R::File: Send + Sync,
     R::Dir: Send + Sync,
-    ensures reports { IfOk result (λ serial. (ss : List Script) × ((length ss ≡ length words.now)
+    ensures reports { IfOk result (λ serial. (ss : List Script) × (AreNamed (MayBeHad (F.may_give files.now)) (map (λ w. w.now) words.now) ss
         × (Appends (W.taken out.old) (W.taken out.new) (judge_lines (P.table protocol.now) (map (λ w. w.now) words.now) ss)
         × (IsTrue serial ↔ All (IsSerialScript (P.table protocol.now)) ss)))) }
     ensures covered { IsCovered (P.table protocol.now) → IfOk result (λ serial. IsTrue serial) }
+    ensures err { IfErr result (Unreported (TellsFirst (F.may_give files.now) (map (λ w. w.now) words.now))) }
     ensures nothing { IfErr result (λ e. IsTrue (is_output e) ⊎ (out.new ≡ out.old)) }
     ensures cause { IfErr result (λ e. IsTrue (is_output e) → HasCause (W.failures out.old) (W.failures out.new)) }
 {
-    let alloc = rt.alloc();
-    match judge_over(rt, alloc, protocol, &Scripts { rt, files }, words, out) {
+    let scripts = Scripts { rt, files };
+    match judge_over(rt, rt.alloc(), protocol, &scripts, words, out) {
         Ok(serial) => Ok(serial),
         Err(LinesFault::Print) => Err(Ending::Output),
-        Err(LinesFault::Judge(JudgeFault::Memory)) => Err(Ending::Memory),
-        Err(LinesFault::Judge(JudgeFault::Unreadable(at))) => Err(unreadable(alloc, words[at])?),
-        Err(LinesFault::Judge(JudgeFault::Script(at, fault))) => {
-            Err(at_fault(alloc, words[at], fault)?)
-        }
+        Err(LinesFault::Judge(fault)) => Err(scripts.ending_for(words, fault)),
     }
 }
 
@@ -227,8 +153,9 @@ fn thread_script<
     files: &F,
     out: &mut W,
 ) -> Result<bool, Ending>
-    ensures reports { IfOk result (λ serial. IsTrue serial × ((s : Script) × ((d : Threaded) × (IsThreaded (P.table protocol.now) s.opening s.steps d
-        × Appends (W.taken out.old) (W.taken out.new) (threads_line d))))) }
+    ensures reports { IfOk result (λ serial. IsTrue serial × ((s : Script) × (NamesScript (F.may_give files.now) script.now s
+        × ((d : Threaded) × (IsThreaded (P.table protocol.now) s.opening s.steps d × Appends (W.taken out.old) (W.taken out.new) (threads_line d)))))) }
+    ensures err { IfErr result (Unreported (TellsNoScript (F.may_give files.now) script.now)) }
     ensures nothing { IfErr result (λ e. IsTrue (is_output e) ⊎ (out.new ≡ out.old)) }
     ensures cause { IfErr result (λ e. IsTrue (is_output e) → HasCause (W.failures out.old) (W.failures out.new)) }
 {
@@ -236,7 +163,7 @@ fn thread_script<
     let bytes = whole(rt, script, files)?;
     match threads_over(rt, alloc, protocol, bytes.as_slice(), workers.count(), out) {
         Ok(answer) => Ok(answer),
-        Err(OverFault::Script(fault)) => Err(at_fault(alloc, script, fault)?),
+        Err(ReportFault::Script(fault)) => Err(at_fault(alloc, script, fault)),
         Err(fault) => Err(Ending::from(fault)),
     }
 }
@@ -256,8 +183,9 @@ fn check_and_thread<
     files: &F,
     out: &mut W,
 ) -> Result<bool, Ending>
-    ensures reports { IfOk result (ThreadsReported (P.table protocol) (P.names protocol) (W.taken out.old) (W.taken out.new)) }
+    ensures reports { IfOk result (ThreadsReported (F.may_give files.now) (P.table protocol) (P.names protocol) script.now (W.taken out.old) (W.taken out.new)) }
     ensures covered { IsCovered (P.table protocol) → IfOk result (λ is_well. IsTrue is_well) }
+    ensures err { IfErr result (Unreported (TellsNoScript (F.may_give files.now) script.now)) }
     ensures nothing { IfErr result (λ e. IsTrue (is_output e) ⊎ (out.new ≡ out.old)) }
     ensures cause { IfErr result (λ e. IsTrue (is_output e) → HasCause (W.failures out.old) (W.failures out.new)) }
 {
@@ -286,8 +214,9 @@ fn under<
 where
     R::File: Send + Sync,
     R::Dir: Send + Sync,
-    ensures reports { IfOk result (Reports (P.table protocol) (P.names protocol) task.now (W.taken out.old) (W.taken out.new)) }
+    ensures reports { IfOk result (Reports (F.may_give files.now) (P.table protocol) (P.names protocol) task.now (W.taken out.old) (W.taken out.new)) }
     ensures covered { IsCovered (P.table protocol) → IfOk result (λ is_well. IsTrue is_well) }
+    ensures err { IfErr result (Unreported (TellsTask (F.may_give files.now) task.now)) }
     ensures nothing { IfErr result (λ e. IsTrue (is_output e) ⊎ (out.new ≡ out.old)) }
     ensures cause { IfErr result (λ e. IsTrue (is_output e) → HasCause (W.failures out.old) (W.failures out.new)) }
 {
@@ -302,59 +231,32 @@ where
     }
 }
 
-/// Does a task under the table that a word names: one of the bundled tables, or a file. Scripts are read only where
-/// the table is one.
-fn with_table<R: std::rt::Files + AllocGlobal + Threads + Wait + Sync, F: Files + Sync, W: Sink>(
+/// Does what the words ask under the table that the word of it names, and answers whether the table is accepted, or each run
+/// is serial. Scripts are read only where that word names a table.
+fn ask<R: std::rt::Files + AllocGlobal + Threads + Wait + Sync, F: Files + Sync, W: Sink>(
     rt: &R,
-    table: &str,
-    task: &Task,
+    words: &[String],
     files: &F,
     out: &mut W,
 ) -> Result<bool, Ending>
 where
     R::File: Send + Sync,
     R::Dir: Send + Sync,
-    ensures reports { IfOk result (λ is_well. (p : Protocol) × (names : List (List ℕ)) × IsLawful p × Reports p names task.now (W.taken out.old) (W.taken out.new) is_well) }
+    ensures answers { IfOk result (Answers (F.may_give files.now) (W.taken out.old) (W.taken out.new)) }
+    ensures err { IfErr result (Ends (F.may_give files.now)) }
     ensures nothing { IfErr result (λ e. IsTrue (is_output e) ⊎ (out.new ≡ out.old)) }
     ensures cause { IfErr result (λ e. IsTrue (is_output e) → HasCause (W.failures out.old) (W.failures out.new)) }
 {
-    match table {
-        "@kvl" => under(rt, Kvl, task, files, out),
-        "@kvl-update" => under(rt, KvlUpdate, task, files, out),
-        "@im" => under(rt, Im, task, files, out),
-        "@range-key" => under(rt, RangeKey, task, files, out),
-        _ => with_file(rt, table, task, files, out),
-    }
-}
-
-/// Does a task under the table in the file that a word names.
-fn with_file<R: std::rt::Files + AllocGlobal + Threads + Wait + Sync, F: Files + Sync, W: Sink>(
-    rt: &R,
-    table: &str,
-    task: &Task,
-    files: &F,
-    out: &mut W,
-) -> Result<bool, Ending>
-where
-    R::File: Send + Sync,
-    R::Dir: Send + Sync,
-    ensures reports { IfOk result (λ is_well. (p : Protocol) × (names : List (List ℕ)) × IsLawful p × Reports p names task.now (W.taken out.old) (W.taken out.new) is_well) }
-    ensures nothing { IfErr result (λ e. IsTrue (is_output e) ⊎ (out.new ≡ out.old)) }
-    ensures cause { IfErr result (λ e. IsTrue (is_output e) → HasCause (W.failures out.old) (W.failures out.new)) }
-{
-    let alloc = rt.alloc();
-    let bytes = whole(rt, table, files)?;
-    match kr_table::read(alloc, bytes.as_slice()) {
-        Ok(protocol) => under(rt, protocol, task, files, out),
-        Err(TableFault::Memory) => Err(Ending::Memory),
-        Err(fault) => Err(told_of(alloc, table, format!(in alloc; "{fault}")?.as_str())?),
-    }
+    let asked = read_words(rt.alloc(), words)?;
+    let table = table_at(rt, asked.table, files)?;
+    under(rt, table, &asked.task, files, out)
 }
 
 /// Runs the program on words without its own name, and answers its status: 0 where it accepted a table or each run was
 /// serial, 1 where it rejected a table or a run wasn't serial, and 2 where it told a fault on `err`. At 0 and 1 the whole
-/// report of a task under a lawful table is written on `out`; at a fault of words, files, tables, scripts or memory
-/// nothing is.
+/// report of a task, under the table and of the scripts that words name, is written on `out`, and nothing on `err`; at a
+/// fault of words, files, tables, scripts or memory nothing is written on `out`. The line on `err` tells of a word why it
+/// names no table or no script, or that words aren't understood, or that memory, a place or output was refused.
 pub fn execute<
     R: std::rt::Files + AllocGlobal + Threads + Wait + Sync,
     F: Files + Sync,
@@ -365,25 +267,13 @@ where
     R::File: Send + Sync,
     R::Dir: Send + Sync,
     ensures within { result ≤ 2 }
-    ensures accepts { result ≡ 0 → (p : Protocol) × (names : List (List ℕ)) × (task : Task) × IsLawful p × Reports p names task (W.taken out.old) (W.taken out.new) true }
-    ensures refuses { result ≡ 1 → (p : Protocol) × (names : List (List ℕ)) × (task : Task) × IsLawful p × Reports p names task (W.taken out.old) (W.taken out.new) false }
+    ensures accepts { result ≡ 0 → Answers (F.may_give files.now) (W.taken out.old) (W.taken out.new) true }
+    ensures refuses { result ≡ 1 → Answers (F.may_give files.now) (W.taken out.old) (W.taken out.new) false }
     ensures fault { result ≡ 2 → HasCause (W.failures out.old) (W.failures out.new) ⊎ (out.new ≡ out.old) }
+    ensures told { result ≡ 2 → (e : Ending) × (Ends (F.may_give files.now) e
+        × AppendsFront (E.taken err.old) (E.taken err.new) (ending_line NAME.now e)) }
+    ensures silent { (err.new ≡ err.old) ⊎ (result ≡ 2) }
 {
-    let done = match read_words(rt.alloc(), words) {
-        Ok(asked) => with_table(rt, asked.table, &asked.task, files, out),
-        Err(WordsFault::NotUnderstood) => {
-            let _ = print(err, NOT_UNDERSTOOD);
-            return 2;
-        }
-        Err(WordsFault::Memory) => Err(Ending::Memory),
-    };
-    let line = match &done {
-        Ok(is_well) => return status(*is_well),
-        Err(Ending::Line(line)) => line.as_str(),
-        Err(Ending::Memory) => OUT_OF_MEMORY,
-        Err(Ending::Place) => "kr: place refused",
-        Err(Ending::Output) => "kr: output: cannot be written",
-    };
-    let _ = print(err, line);
-    2
+    let done = ask(rt, words, files, out);
+    finish(NAME, &done, err)
 }

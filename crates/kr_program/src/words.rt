@@ -1,9 +1,10 @@
 //! What the words ask.
-ghost use Rattle.std.specs.Prelude.{◌≡◌, ◌<◌, ◌≤◌, IfSome};
-ghost use Rattle.kr_program.specs.declared.words.WordsFault.TheVariants as fault;
+ghost use Rattle.std.specs.Prelude.{◌≡◌, ◌⊎◌, ◌<◌, ◌≤◌, IfErr, IfSome};
+ghost use Rattle.kr_shell.specs.declared.endings.Ending.TheVariants as ending;
 
 use clap::error::ErrorKind;
 use clap::{Arg, ArgAction, Command};
+use kr_shell::{Ending, is_plain};
 use std::alloc::{AllocError, Global};
 
 /// What is asked.
@@ -78,23 +79,6 @@ fn digit_of(byte: u8) -> Option<usize>
     }
 }
 
-/// Why nothing is asked.
-#[derive(Clone, Copy, Debug, PartialEq, Eq)]
-pub enum WordsFault {
-    /// The words are of no form.
-    NotUnderstood,
-    /// A growth was refused.
-    Memory,
-}
-
-impl From<AllocError> for WordsFault {
-    ghost from_gives = { λ _ e. e ≡ fault.Memory };
-
-    fn from(_e: AllocError) -> WordsFault {
-        WordsFault::Memory
-    }
-}
-
 fn positional<'a>(alloc: Global, id: &'a str) -> Arg<'a> {
     Arg::new(alloc, id).required(true).action(ArgAction::Set)
 }
@@ -140,29 +124,31 @@ fn without_workers(words: &[String]) -> Option<(&[String], Workers)> {
 
 /// Whether no word begins with a hyphen: but for `--workers`, none of the forms has such a word.
 fn has_form(words: &[String]) -> bool {
-    words.iter().all(|word| !word.as_str().starts_with('-'))
+    words.iter().all(|word| is_plain(word.as_str()))
 }
 
 /// What the words ask, the program's name left out: `check TABLE`, `run TABLE SCRIPT`, `judge TABLE SCRIPT..` with one script
 /// or more, or `threads TABLE SCRIPT --workers N` with N from 1 to 64, where the last two words may be left out, and N is
-/// then 4.
-pub fn read_words<'a>(alloc: Global, words: &'a [String]) -> Result<Asked<'a>, WordsFault> {
+/// then 4. Other words aren't understood.
+pub fn read_words<'a>(alloc: Global, words: &'a [String]) -> Result<Asked<'a>, Ending>
+    ensures { IfErr result (λ e. (e ≡ ending.Memory) ⊎ (e ≡ ending.NotUnderstood)) }
+{
     let Some((words, workers)) = without_workers(words) else {
-        return Err(WordsFault::NotUnderstood);
+        return Err(Ending::NotUnderstood);
     };
     if !has_form(words) {
-        return Err(WordsFault::NotUnderstood);
+        return Err(Ending::NotUnderstood);
     }
     let matches = match command(alloc)?.try_get_matches_from(words) {
         Ok(matches) => matches,
-        Err(e) if e.kind() == ErrorKind::OutOfMemory => return Err(WordsFault::Memory),
-        Err(_) => return Err(WordsFault::NotUnderstood),
+        Err(e) if e.kind() == ErrorKind::OutOfMemory => return Err(Ending::Memory),
+        Err(_) => return Err(Ending::NotUnderstood),
     };
     let Some((name, given)) = matches.subcommand() else {
-        return Err(WordsFault::NotUnderstood);
+        return Err(Ending::NotUnderstood);
     };
     let Some(table) = given.get_str("table") else {
-        return Err(WordsFault::NotUnderstood);
+        return Err(Ending::NotUnderstood);
     };
     if name == "check" {
         return Ok(Asked {
@@ -172,7 +158,7 @@ pub fn read_words<'a>(alloc: Global, words: &'a [String]) -> Result<Asked<'a>, W
     }
     if name == "judge" {
         let Some(scripts) = given.get_strs("scripts") else {
-            return Err(WordsFault::NotUnderstood);
+            return Err(Ending::NotUnderstood);
         };
         let task = Task::Judge(scripts.to_vec(alloc)?);
         return Ok(Asked { table, task });
@@ -186,6 +172,6 @@ pub fn read_words<'a>(alloc: Global, words: &'a [String]) -> Result<Asked<'a>, W
             table,
             task: Task::Run(script),
         }),
-        None => Err(WordsFault::NotUnderstood),
+        None => Err(Ending::NotUnderstood),
     }
 }

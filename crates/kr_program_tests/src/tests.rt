@@ -1,6 +1,7 @@
-use kr_program::{FileFault, Files, execute};
+use kr_program::execute;
 use kr_program_testing::{Left, owned};
 use kr_script::Io;
+use kr_shell::{FileFault, Files};
 use kr_table::bundled::{IM, KVL, KVL_UPDATE, RANGE_KEY};
 use std::alloc::{AllocError, Global};
 use std::process::Abort;
@@ -32,6 +33,8 @@ struct Texts<'a> {
 }
 
 impl Files for Texts<'_> {
+    ghost may_give = { λ _ _ _. Unit {0} };
+
     fn whole<R: std::rt::Files + AllocGlobal>(
         &self,
         rt: &R,

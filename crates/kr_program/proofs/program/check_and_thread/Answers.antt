@@ -11,6 +11,6 @@ returns-in-Ok-clause-reports g c =
     let covered : IsCovered (table c.args.protocol) = c.in-Ok.ensures.exactly.0 refl in
     let same : c.in-Ok.checked.protocol ≡ c.args.protocol = c.in-Ok.ensures.ok in
     IfOk-weaker c.thread_script.result _ _ (λ well h.
-    let (serial, (s, (d, (threaded, written)))) = h in
-    inl (serial, (covered, (s, (d, (subst (λ q. IsThreaded (table q) s.opening s.steps d) same threaded, written))))))
+    let (serial, (s, (named, (d, (threaded, written))))) = h in
+    inl (serial, (covered, (s, (named, (d, (subst (λ q. IsThreaded (table q) s.opening s.steps d) same threaded, written)))))))
     c.thread_script.ensures.reports

@@ -1,10 +1,18 @@
-use Rattle.std.proofs.Common.{rules}
+use Rattle.std.specs.Prelude.{true, false}
+use Rattle.kr_shell.proofs.Finished.{ok_at, ending_at, fault_at, silent_at}
 use Rattle.kr_program.proofs.program.execute.Goals as goal
-use Rattle.kr_program.proofs.program.execute.Goals.{in-Ok+in-Judge-1, in-Ok+in-Check-1, in-Err-Memory}
 
--- The report is that of the task that was done, whichever it was.
-pub returns-in-Ok-done-clause-refuses : goal.returns-in-Ok-done-clause-refuses
-returns-in-Ok-done-clause-refuses g c one = elim c.match-read_words.branch [ in-Ok+in-Judge-1 w ↦ search rules | in-Ok+in-Check-1 w ↦ search rules | in-Err-Memory w ↦ search rules ]
+pub returns-clause-accepts : goal.returns-clause-accepts
+returns-clause-accepts g c zero = ok_at c.ask-done.result true _ c.ask-done.ensures.answers (c.finish.ensures.well.0 zero)
 
-pub returns-in-Ok-done-clause-accepts : goal.returns-in-Ok-done-clause-accepts
-returns-in-Ok-done-clause-accepts g c zero = elim c.match-read_words.branch [ in-Ok+in-Judge-1 w ↦ search rules | in-Ok+in-Check-1 w ↦ search rules | in-Err-Memory w ↦ search rules ]
+pub returns-clause-refuses : goal.returns-clause-refuses
+returns-clause-refuses g c one = ok_at c.ask-done.result false _ c.ask-done.ensures.answers (c.finish.ensures.not_well.0 one)
+
+pub returns-clause-fault : goal.returns-clause-fault
+returns-clause-fault g c two = fault_at c.ask-done.result c.finish.result _ _ c.finish.ensures.well c.finish.ensures.not_well c.ask-done.ensures.nothing c.ask-done.ensures.cause two
+
+pub returns-clause-told : goal.returns-clause-told
+returns-clause-told g c two = ending_at c.ask-done.result c.finish.result _ _ c.finish.ensures.well c.finish.ensures.not_well c.ask-done.ensures.err c.finish.ensures.told two
+
+pub returns-clause-silent : goal.returns-clause-silent
+returns-clause-silent g c = silent_at c.ask-done.result c.finish.result _ c.finish.ensures.within c.finish.ensures.well c.finish.ensures.not_well c.finish.ensures.silent

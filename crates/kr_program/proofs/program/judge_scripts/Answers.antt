@@ -1,8 +1,11 @@
-use Rattle.kr_program.proofs.Serials.{as_many}
 use Rattle.kr_program.proofs.program.judge_scripts.Goals as goal
 
--- There are as many scripts as words.
+-- What may be found at a name is what may be had for the word.
 pub returns-in-Ok-clause-reports : goal.returns-in-Ok-clause-reports
-returns-in-Ok-clause-reports g c =
-    let (ss, (are, (written, told))) = c.in-Ok.ensures.ok in
-    (ss, (as_many (λ w. w.now) (λ name found. Unit {0}) c.args.words.now ss are, (written, told)))
+returns-in-Ok-clause-reports g c = c.in-Ok.ensures.ok
+
+pub ending_for-requires : goal.ending_for-requires
+ending_for-requires g c = rw c.in-Err-Judge.field-0-is at c.in-Err-Judge.ensures.err
+
+pub returns-clause-err : goal.returns-clause-err
+returns-clause-err g c = c.ending_for.ensures.ends

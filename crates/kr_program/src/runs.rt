@@ -8,58 +8,14 @@ ghost use Rattle.kr_serial.specs.Verdicts.{verdict_of};
 ghost use Rattle.kr_script.specs.Script.{Script};
 ghost use Rattle.kr_script.specs.Reading.{reading};
 ghost use Rattle.kr_script.specs.Report.{run_text};
-ghost use Rattle.kr_program.specs.Over.{report_line, IsSerialScript, over_fault, Explains};
-ghost use Rattle.kr_program.specs.declared.over.OverFault.TheVariants as fault;
+ghost use Rattle.kr_program.specs.Runs.{report_line, IsSerialScript, Explains};
+ghost use Rattle.kr_program.specs.declared.faults.ReportFault.TheVariants as fault;
 
+use crate::faults::ReportFault;
 use kr_protocol::Protocol;
-use kr_script::{PrintFault, ScriptFault, Sink, print, read_script, report_run};
+use kr_script::{Sink, print, read_script, report_run};
 use kr_serial::{Ran, judge, run_any};
 use std::alloc::{AllocError, Global};
-use thiserror::Error;
-
-/// Why nothing, or not all, was written.
-#[derive(Debug, Drop, Error)]
-pub enum OverFault {
-    /// The bytes are no script. The fault is never `Memory`.
-    #[error("{0}")]
-    Script(ScriptFault),
-    /// A growth was refused.
-    #[error("out of memory")]
-    Memory,
-    /// A place of the history was refused. Only a run by several threads has this fault.
-    #[error("place refused")]
-    Place,
-    /// The sink didn't take the whole report.
-    #[error("output")]
-    Print,
-}
-
-impl From<AllocError> for OverFault {
-    ghost from_gives = { λ _ e. e ≡ fault.Memory };
-
-    fn from(_e: AllocError) -> OverFault {
-        OverFault::Memory
-    }
-}
-
-impl From<PrintFault> for OverFault {
-    ghost from_gives = { λ _ e. e ≡ fault.Print };
-
-    fn from(_e: PrintFault) -> OverFault {
-        OverFault::Print
-    }
-}
-
-impl From<ScriptFault> for OverFault {
-    ghost from_gives = { λ f e. e ≡ over_fault f };
-
-    fn from(f: ScriptFault) -> OverFault {
-        match f {
-            ScriptFault::Memory => OverFault::Memory,
-            f => OverFault::Script(f),
-        }
-    }
-}
 
 /// The report of a run with its verdict, and whether it is serial.
 fn report_of<P: Protocol>(
@@ -84,7 +40,7 @@ pub fn run_over<P: Protocol, W: Sink>(
     protocol: &P,
     script: &[u8],
     out: &mut W,
-) -> Result<bool, OverFault>
+) -> Result<bool, ReportFault>
     ensures ok { IfOk result (λ _. (s : Script) × ((reading script.now ≡ Ok s)
         × Appends (W.taken out.old) (W.taken out.new) (report_line (P.table protocol.now) (P.names protocol.now) s))) }
     ensures serial { IfOk result (λ serial. IfOk (reading script.now)

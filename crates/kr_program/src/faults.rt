@@ -1,0 +1,52 @@
+//! Why a report isn't written, or not whole.
+ghost use Rattle.std.specs.Prelude.{◌≡◌};
+ghost use Rattle.kr_program.specs.Runs.{report_fault};
+ghost use Rattle.kr_program.specs.declared.faults.ReportFault.TheVariants as fault;
+
+use kr_script::{PrintFault, ScriptFault};
+use std::alloc::AllocError;
+use thiserror::Error;
+
+/// Why a report isn't written, or not whole.
+#[derive(Debug, Drop, Error)]
+pub enum ReportFault {
+    /// The bytes are no script. The fault is never `Memory`.
+    #[error("{0}")]
+    Script(ScriptFault),
+    /// A growth was refused.
+    #[error("out of memory")]
+    Memory,
+    /// A place of the history was refused. Only a run by several threads has this fault.
+    #[error("place refused")]
+    Place,
+    /// The sink didn't take the whole report.
+    #[error("output")]
+    Print,
+}
+
+impl From<AllocError> for ReportFault {
+    ghost from_gives = { λ _ e. e ≡ fault.Memory };
+
+    fn from(_e: AllocError) -> ReportFault {
+        ReportFault::Memory
+    }
+}
+
+impl From<PrintFault> for ReportFault {
+    ghost from_gives = { λ _ e. e ≡ fault.Print };
+
+    fn from(_e: PrintFault) -> ReportFault {
+        ReportFault::Print
+    }
+}
+
+impl From<ScriptFault> for ReportFault {
+    ghost from_gives = { λ f e. e ≡ report_fault f };
+
+    fn from(f: ScriptFault) -> ReportFault {
+        match f {
+            ScriptFault::Memory => ReportFault::Memory,
+            f => ReportFault::Script(f),
+        }
+    }
+}
