@@ -57,8 +57,9 @@ class Draft:
         """Makes the table one of format 2. Mostly an update asks for what a delete asks of its key, and keeps it."""
         self.format = 2
         clause = self.clause(random, 'update')
-        if random.random() < 0.7:
-            clause = {'mode': self.rules['delete', 'current'][0]['mode'], 'span': 'commit'}
+        asked = self.rules.get(('delete', 'current'))
+        if asked and random.random() < 0.7:
+            clause = {'mode': asked[0]['mode'], 'span': 'commit'}
         if random.random() < 0.9:
             self.rules['update', 'current'] = [clause]
 
