@@ -1,5 +1,5 @@
 //! Writing a table.
-ghost use Rattle.std.specs.Prelude.{◌≡◌, ◌≤◌, Err, IfOk, Ok, pos, string_bytes, true};
+ghost use Rattle.std.specs.Prelude.{◌≡◌, ◌≤◌, Err, IfOk, Ok, false, pos, string_bytes, true};
 ghost use Rattle.toml.specs.View.{table_view};
 ghost use Rattle.toml.specs.Data.{table as a_table, members_depth, members_have_valid_dates};
 ghost use Rattle.toml.specs.Text.{IsDocumentText};
