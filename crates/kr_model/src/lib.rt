@@ -3,11 +3,9 @@
 #![tactic(auto)]
 
 mod copies;
-mod lists;
-mod programs;
+mod items;
 
-pub use lists::{Pairs, Txns};
-pub use programs::{Answers, Programs};
+pub use items::{Answers, Items, Pairs, Programs, Txns};
 use std::alloc::AllocError;
 
 /// A growth was refused.

@@ -1,6 +1,13 @@
 //! What a run leaves.
 
-use crate::{Index, Programs, Replies, Triples, Txns};
+use crate::Index;
+use kr_model::{Items, Mode, Name, Programs, Reply, Txn, Txns};
+
+/// Replies to steps.
+pub type Replies = Items<Reply>;
+
+/// Locks as triples of a name, its holder and the mode.
+pub type Triples = Items<((Name, Txn), Mode)>;
 
 /// A run at its end.
 #[derive(Debug, Drop)]

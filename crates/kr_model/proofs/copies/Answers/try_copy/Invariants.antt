@@ -1,5 +1,5 @@
 use Rattle.std.proofs.Common.{◌≡◌, take}
-use Rattle.kr_model.proofs.programs.Answers.try_copy.Given as goal
+use Rattle.kr_model.proofs.copies.Answers.try_copy.Given as goal
 
 -- The operations so far are copied.
 abbrev pub invariant-loop-op : goal.invariant-loop-op

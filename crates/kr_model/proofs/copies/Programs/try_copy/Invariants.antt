@@ -1,5 +1,5 @@
 use Rattle.std.proofs.Common.{◌≡◌, take}
-use Rattle.kr_model.proofs.programs.Programs.try_copy.Given as goal
+use Rattle.kr_model.proofs.copies.Programs.try_copy.Given as goal
 
 -- The programs so far are copied.
 abbrev pub invariant-loop-program : goal.invariant-loop-program
