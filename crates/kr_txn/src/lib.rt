@@ -11,12 +11,15 @@ ghost use Rattle.kr_txn.specs.Standings.{number_of, active_of, entries, IsInOrde
 
 mod ended;
 mod log;
+mod numbered;
 mod unfinished;
 
 pub use ended::Ended;
 use kr_model::Txns;
 pub use kr_model::{Memory, Txn};
 pub use log::Log;
+use numbered::place;
+pub use numbered::{Numbered, position};
 use std::alloc::Global;
 
 /// A scan in progress.
@@ -58,17 +61,12 @@ impl Standing {
     }
 }
 
-/// The place of a transaction in the list, the first from 0, or `None` where it isn't there. Looks at one after another.
-pub fn position(list: &[Standing], txn: Txn) -> Option<usize>
-    ensures some { IfSome result (IsPosition number_of txn list.now) }
-    ensures none { IfNone result (AreOthers number_of txn list.now (length list.now)) }
-{
-    for i in 0..list.len() {
-        if list[i].txn == txn {
-            return Some(i);
-        }
+impl Numbered for Standing {
+    ghost number = { number_of };
+
+    fn number(&self) -> Txn {
+        self.txn
     }
-    None
 }
 
 /// The numbers of the transactions, in the order of the list, or `Memory` where a growth is refused.
@@ -80,19 +78,6 @@ pub fn numbers(alloc: Global, list: &[Standing]) -> Result<Txns, Memory>
         numbers.push(standing.txn)?;
     }
     Ok(Txns::from_vec(numbers))
-}
-
-/// The place of the first transaction with a greater number, or else the end of the list.
-fn place(list: &[Standing], txn: Txn) -> usize
-    requires { AreOthers number_of txn list.now (length list.now) }
-    ensures { IsPlace number_of txn list.now result }
-{
-    for i in 0..list.len() {
-        if txn < list[i].txn {
-            return i;
-        }
-    }
-    list.len()
 }
 
 /// Takes a transaction out of the list, which rises by number, and gives it back; `None` where it isn't there, and then

@@ -9,6 +9,7 @@ ghost use Rattle.kr_model.specs.Log.{Log, logged, with_step, last_answered};
 ghost use Rattle.kr_txn.specs.Numbered.{IsPosition, IsPlace, AreOthers, without_txn};
 ghost use Rattle.kr_txn.specs.Logs.{number_of, operations_of, entries, shown, IsApart, IsInOrder, logged_as, LogWithRoom, MayNote, MayNoteAs};
 
+use crate::numbered::{Numbered, place, position};
 use kr_model::{Answers, Op, Program, Reply, Txn};
 use std::alloc::{AllocError, Global};
 
@@ -125,30 +126,12 @@ fn answer_last(operations: Vec<(Op, Reply)>, reply: Reply) -> Vec<(Op, Reply)>
     }
 }
 
-/// The place of a transaction in the list, or `None` where it isn't there. Looks at one after another.
-fn position(list: &[Unfinished], txn: Txn) -> Option<usize>
-    ensures some { IfSome result (IsPosition number_of txn list.now) }
-    ensures none { IfNone result (AreOthers number_of txn list.now (length list.now)) }
-{
-    for i in 0..list.len() {
-        if list[i].txn == txn {
-            return Some(i);
-        }
-    }
-    None
-}
+impl Numbered for Unfinished {
+    ghost number = { number_of };
 
-/// The place of the first transaction with a greater number, or else the end of the list.
-fn place(list: &[Unfinished], txn: Txn) -> usize
-    requires { AreOthers number_of txn list.now (length list.now) }
-    ensures { IsPlace number_of txn list.now result }
-{
-    for i in 0..list.len() {
-        if txn < list[i].txn {
-            return i;
-        }
+    fn number(&self) -> Txn {
+        self.txn
     }
-    list.len()
 }
 
 /// Takes a transaction out of the list and gives it back; `None` where it isn't there, and then the list stays. The
