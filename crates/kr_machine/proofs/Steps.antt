@@ -28,7 +28,10 @@ use Rattle.kr_model.specs.Step.{Outcome, Effect, fetched, inserted, deleted, upd
 use Rattle.std.specs.Option.{option_map}
 use Rattle.kr_txn.specs.declared.Scan as txn
 use Rattle.kr_txn.specs.Standings.{scan_of}
-use Rattle.kr_machine.specs.Pending.{IsAttempt, IsEnd, IsRowOf, begun, refusal_in, look_of, attempt_of, look_effect, effect_of, map_back, changes_back, standing_back, after_op}
+use Rattle.kr_machine.specs.declared.parts.Ending.{Ending}
+use Rattle.kr_machine.specs.declared.parts.Ending.TheVariants as ending
+use Rattle.kr_machine.specs.Parts.{ended_by, end_reply}
+use Rattle.kr_machine.specs.Pending.{IsAttempt, IsRowOf, begun, refusal_in, look_of, attempt_of, look_effect, effect_of, map_back, changes_back, standing_back, after_op}
 
 -- The refusal of an operation whose transaction has not ended, by whether updates are offered and how it stands.
 abbrev pub refused_by : Bool → Option Active → Bool → Op → Option Refusal
@@ -154,19 +157,17 @@ granted_reply p s t o plan b is allowed is_plan none same =
     ∙ sym (ap (λ (x : Outcome). x.0) (granted_step p s t o allowed is (ap (λ pl. blockers p s.locks t (requests pl)) (sym is_plan) ∙ none)))
 
 -- The state after the end of a transaction, by what the machine has taken for it.
-pub stepped_end : (p : Protocol) (m : Map) (h : Locks) (ended : List ℕ) (es : List (ℕ × Active)) (t : ℕ) (a : Active) (o : Op) → IsEnd o
-    → refusal_of p (record { map = m; locks = h; ended = ended; active = es }) t o ≡ None → a ≡ unwrap_or (find nat_cmp t es) idle
-    → ◌≡◌ {A = State} (let o' = step p (record { map = m; locks = h; ended = ended; active = es }) t o in o'.1) (after_op m h ended (filter (λ e. not (e.0 == t)) es) t a o)
-stepped_end p m h ended es t a op.Commit is allowed is_a = ap (λ (x : Outcome). x.1) (performs p (record { map = m; locks = h; ended = ended; active = es }) t op.Commit allowed)
-stepped_end p m h ended es t a op.Abort is allowed is_a =
+pub stepped_end : (p : Protocol) (m : Map) (h : Locks) (ended : List ℕ) (es : List (ℕ × Active)) (t : ℕ) (a : Active) (x : Ending)
+    → refusal_of p (record { map = m; locks = h; ended = ended; active = es }) t (ended_by x) ≡ None → a ≡ unwrap_or (find nat_cmp t es) idle
+    → ◌≡◌ {A = State} (let o = step p (record { map = m; locks = h; ended = ended; active = es }) t (ended_by x) in o.1) (after_op m h ended (filter (λ e. not (e.0 == t)) es) t a (ended_by x))
+stepped_end p m h ended es t a ending.Commit allowed is_a = ap (λ (x : Outcome). x.1) (performs p (record { map = m; locks = h; ended = ended; active = es }) t op.Commit allowed)
+stepped_end p m h ended es t a ending.Abort allowed is_a =
     ap (λ (x : Outcome). x.1) (performs p (record { map = m; locks = h; ended = ended; active = es }) t op.Abort allowed) ∙ ap (λ b. after_op m h ended (filter (λ e. not (e.0 == t)) es) t b op.Abort) (sym is_a)
-stepped_end p m h ended es t a (op.Fetch k) is allowed is_a = absurd is
-stepped_end p m h ended es t a (op.Insert k v) is allowed is_a = absurd is
-stepped_end p m h ended es t a (op.Delete k) is allowed is_a = absurd is
-stepped_end p m h ended es t a (op.Update k v) is allowed is_a = absurd is
-stepped_end p m h ended es t a op.Go is allowed is_a = absurd is
-stepped_end p m h ended es t a op.Back is allowed is_a = absurd is
-stepped_end p m h ended es t a (op.Scan lo hi) is allowed is_a = absurd is
+
+-- What the end of a transaction answers.
+pub end_answers : (p : Protocol) (s : State) (t : ℕ) (x : Ending) → refusal_of p s t (ended_by x) ≡ None → end_reply x ≡ (step p s t (ended_by x)).0
+end_answers p s t ending.Commit allowed = sym (ap (λ (x : Outcome). x.0) (performs p s t op.Commit allowed))
+end_answers p s t ending.Abort allowed = sym (ap (λ (x : Outcome). x.0) (performs p s t op.Abort allowed))
 
 blocked_by : (p : Protocol) (s : State) (t : ℕ) (rs : List Request) (e : Effect) (us : List ℕ) → (us ≡ [] → ⊥) → granted_or_blocked p s t rs e us ≡ (reply.Blocked us, s)
 blocked_by p s t rs e [] h = absurd (h refl)

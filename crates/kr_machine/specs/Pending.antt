@@ -18,7 +18,6 @@ use Rattle.kr_model.specs.declared.Step.{Step}
 use Rattle.kr_model.specs.declared.Step.TheVariants as attempt
 use Rattle.kr_model.specs.declared.Op.{Op}
 use Rattle.kr_model.specs.declared.Op.TheVariants as op
-use Rattle.kr_model.specs.declared.Reply.{Reply}
 use Rattle.kr_model.specs.declared.Reply.TheVariants as reply
 use Rattle.kr_model.specs.declared.Refusal.{Refusal}
 use Rattle.kr_model.specs.declared.Refusal.TheVariants as refusal
@@ -53,17 +52,6 @@ IsRowOf m (op.Insert k v) r = r ≡ (if is_some (get m k) then row.FetchHit else
 IsRowOf m (op.Delete k) r = r ≡ (if is_some (get m k) then row.Delete else row.FetchMiss)
 IsRowOf m (op.Update k v) r = r ≡ (if is_some (get m k) then row.Update else row.FetchMiss)
 IsRowOf m _ r = Unit {0}
-
--- The operations that end their transaction.
-abbrev pub IsEnd : Op → Type 0
-IsEnd op.Commit = Unit {0}
-IsEnd op.Abort = Unit {0}
-IsEnd _ = ⊥
-
--- What an operation answers that ends its transaction.
-abbrev pub end_reply : Op → Reply
-end_reply op.Abort = reply.Aborted
-end_reply _ = reply.Committed
 
 -- The refusal of an operation whose transaction has not ended, may be active and doesn't roll back, by whether updates are offered, whether a scan is in progress, and whether no change is left.
 abbrev pub scan_refusal : Bool → Bool → Bool → Op → Option Refusal

@@ -7,7 +7,7 @@ ghost use Rattle.kr_model.specs.State.{idle};
 ghost use Rattle.kr_model.specs.Step.{fetched, deleted, updated};
 ghost use Rattle.kr_model.specs.Run.{is_granted};
 ghost use Rattle.kr_txn.specs.Standings.{scan_of};
-ghost use Rattle.kr_machine.specs.Pending.{IsRowOf, IsEnd, end_reply, attempt_of, effect_of};
+ghost use Rattle.kr_machine.specs.Pending.{IsRowOf, attempt_of, effect_of};
 
 use crate::scans;
 use kr_index::{Memory, Name, Ordered};
@@ -117,24 +117,5 @@ pub(crate) fn reply_to<I: Ordered>(
             None => Ok(Reply::None),
         },
         Op::Commit | Op::Abort | Op::Back => Ok(Reply::None),
-    }
-}
-
-/// What an operation answers that ends its transaction.
-pub(crate) fn end_reply(op: Op) -> Reply
-    requires { IsEnd op }
-    ensures reply { result ≡ end_reply op }
-    ensures granted { is_granted result ≡ true }
-{
-    match op {
-        Op::Abort => Reply::Aborted,
-        Op::Commit
-        | Op::Fetch(_)
-        | Op::Insert(_, _)
-        | Op::Delete(_)
-        | Op::Update(_, _)
-        | Op::Scan(_, _)
-        | Op::Go
-        | Op::Back => Reply::Committed,
     }
 }

@@ -10,8 +10,10 @@ ghost use Rattle.kr_model.specs.declared.Op.TheVariants as op_is;
 ghost use Rattle.kr_model.specs.declared.Reply.TheVariants as reply_is;
 ghost use Rattle.kr_plan.specs.Modes.{ArePlanModes};
 ghost use Rattle.kr_txn.specs.Standings.{entries};
-ghost use Rattle.kr_machine.specs.Pending.{IsMachine, IsAttempt, IsEnd, attempt_of, shown, shown_locks, shown_active};
+ghost use Rattle.kr_machine.specs.Parts.{ended_by};
+ghost use Rattle.kr_machine.specs.Pending.{IsMachine, IsAttempt, attempt_of, shown, shown_locks, shown_active};
 
+use crate::parts::Ending;
 use crate::pending::Pending;
 use crate::{change, holds, room, scans};
 use kr_index::Ordered;
@@ -88,13 +90,12 @@ pub(crate) fn reserve_end<P: Protocol, I: Ordered, L: Holdings>(
     ended: &mut Ended,
     active: &mut Vec<Standing>,
     txn: Txn,
-    op: Op,
+    ending: Ending,
 ) -> Result<Pending, Memory>
     requires at_rest { IsMachine (P.table protocol.now) (I.map index.now) (I.pins index.now) (L.locks locks.now) ended.old active.old None }
-    requires end { IsEnd op }
-    requires allowed { refusal_of (P.table protocol.now) (shown None (I.map index.now) (L.locks locks.now) ended.old.numbers (entries active.old.items)) txn op ≡ None }
+    requires allowed { refusal_of (P.table protocol.now) (shown None (I.map index.now) (L.locks locks.now) ended.old.numbers (entries active.old.items)) txn (ended_by ending) ≡ None }
     ensures ended { ended.new.numbers ≡ ended.old.numbers }
-    ensures event { IfOk result (λ p. p.event ≡ record { txn = txn; op = op }) }
+    ensures event { IfOk result (λ p. p.event ≡ record { txn = txn; op = ended_by ending }) }
     ensures seen_locks { IfOk result (λ p. shown_locks (Some p) (L.locks locks.now) ≡ L.locks locks.now) }
     ensures seen_active { IfOk result (λ p. shown_active (Some p) (entries active.new.items) ≡ entries active.old.items) }
     ensures ok { IfOk result (λ p. IsMachine (P.table protocol.now) (I.map index.now) (I.pins index.now) (L.locks locks.now) ended.new active.new (Some p)) }
@@ -102,6 +103,7 @@ pub(crate) fn reserve_end<P: Protocol, I: Ordered, L: Holdings>(
     ensures err { OnErr result (IsMachine (P.table protocol.now) (I.map index.now) (I.pins index.now) (L.locks locks.now) ended.new active.new None) }
     ensures active_ends { find nat_cmp txn (entries active.old.items) ≢ None → IsOk result }
 {
+    let op = ending.op();
     let event = Event { txn, op };
     let alloc = *active.allocator();
     match take_out(active, txn) {

@@ -4,8 +4,10 @@ ghost use Rattle.kr_model.specs.State.{start, active_of};
 ghost use Rattle.kr_model.specs.Step.{step, IsStep, takes_no_memory, refusal_of};
 ghost use Rattle.kr_model.specs.Run.{is_granted};
 ghost use Rattle.kr_model.specs.declared.Op.TheVariants as op_is;
-ghost use Rattle.kr_machine.specs.Pending.{IsAttempt, IsEnd};
+ghost use Rattle.kr_machine.specs.Parts.{ended_by};
+ghost use Rattle.kr_machine.specs.Pending.{IsAttempt};
 
+use crate::parts::Ending;
 use crate::pending::{Pending, Ready};
 use crate::{change, holds, refusals, replies, reserve, room};
 use kr_index::Ordered;
@@ -147,7 +149,8 @@ impl<P: Protocol, I: Ordered, L: Holdings> Stepper<P, I, L> {
             return Err(Reply::Refused(refusal));
         }
         match op {
-            Op::Commit | Op::Abort => self.end(txn, op),
+            Op::Commit => self.end(txn, Ending::Commit),
+            Op::Abort => self.end(txn, Ending::Abort),
             Op::Back => self.back(txn),
             Op::Fetch(_)
             | Op::Scan(_, _)
@@ -158,16 +161,15 @@ impl<P: Protocol, I: Ordered, L: Holdings> Stepper<P, I, L> {
         }
     }
 
-    /// The same for an operation that ends its transaction, where no refusal applies.
-    fn end(&mut self, txn: Txn, op: Op) -> Result<Ready, Reply>
-        requires end { IsEnd op }
+    /// The same for the end of a transaction, where no refusal applies.
+    fn end(&mut self, txn: Txn, ending: Ending) -> Result<Ready, Reply>
         requires at_rest { self.old.pending ≡ None }
-        requires allowed { refusal_of (P.table self.old.protocol) self.old.state txn op ≡ None }
-        ensures event { IfOk result (λ r. r.event ≡ record { txn = txn; op = op }) }
-        ensures reply { IfOk result (λ r. r.reply ≡ (step (P.table self.old.protocol) self.old.state txn op).0) }
+        requires allowed { refusal_of (P.table self.old.protocol) self.old.state txn (ended_by ending) ≡ None }
+        ensures event { IfOk result (λ r. r.event ≡ record { txn = txn; op = ended_by ending }) }
+        ensures reply { IfOk result (λ r. r.reply ≡ (step (P.table self.old.protocol) self.old.state txn (ended_by ending)).0) }
         ensures granted { IfOk result (λ r. is_granted r.reply ≡ true) }
-        ensures waits { OnOk result (self.new ≡ record { protocol = self.old.protocol; state = self.old.state; pending = Some (record { txn = txn; op = op }) }) }
-        ensures refusal { IfErr result (λ r. IsStep (P.table self.old.protocol) self.old.state txn op r self.old.state) }
+        ensures waits { OnOk result (self.new ≡ record { protocol = self.old.protocol; state = self.old.state; pending = Some (record { txn = txn; op = ended_by ending }) }) }
+        ensures refusal { IfErr result (λ r. IsStep (P.table self.old.protocol) self.old.state txn (ended_by ending) r self.old.state) }
         ensures not_granted { IfErr result (λ r. is_granted r ≡ false) }
         ensures err { OnErr result (self.new ≡ self.old) }
     {
@@ -178,13 +180,16 @@ impl<P: Protocol, I: Ordered, L: Holdings> Stepper<P, I, L> {
             &mut self.ended,
             &mut self.active,
             txn,
-            op,
+            ending,
         ) {
             Ok(pending) => {
                 self.pending = Some(pending);
                 Ok(Ready {
-                    event: Event { txn, op },
-                    reply: replies::end_reply(op),
+                    event: Event {
+                        txn,
+                        op: ending.op(),
+                    },
+                    reply: ending.reply(),
                 })
             }
             Err(_) => Err(Reply::Refused(Refusal::Memory)),

@@ -4,7 +4,9 @@ use Rattle.std.specs.Ordering.{nat_cmp}
 use Rattle.std.specs.FinMap.{find, is_sorted}
 use Rattle.kr_txn.specs.Standings.{active_of, entries}
 use Rattle.kr_txn.proofs.Lists.{in_order-put}
-use Rattle.kr_machine.specs.Pending.{IsMachine, IsEnd}
+use Rattle.kr_machine.specs.declared.parts.Ending.TheVariants as ending
+use Rattle.kr_machine.specs.Parts.{ended_by}
+use Rattle.kr_machine.specs.Pending.{IsMachine}
 use Rattle.kr_machine.specs.Pins.{all_changes_of, taken_pins}
 use Rattle.kr_machine.proofs.Finish.{reserved_now, event_of_pending, pins_now, ended_machine}
 use Rattle.kr_machine.proofs.Pins.{noted-put}
@@ -15,20 +17,20 @@ invariant_of-self g c =
     let inv = c.self.invariant in
     let was = sym c.take.ensures.value ∙ c.in-Some.is in
     let same : c.in-Some.pending.event ≡ c.args.event = event_of_pending c.self.inside.pending c.in-Some.pending c.args.event (ap (λ m. m.pending) c.self.view_is ∙ c.requires) was in
-    let ends : IsEnd c.args.event.op = rw c.in-Commit.is tt in
+    let ends : c.args.event.op ≡ ended_by ending.Commit = c.in-Commit.is in
     subst (λ o. IsMachine (g.P.Protocol.table c.self.inside.protocol) (g.I.Ordered.map c.settle.new.index) (g.I.Ordered.pins c.settle.new.index) (g.L.Holdings.locks c.leave.new.locks) c.leave.new.ended c.self.inside.active o) (sym c.take.ensures.after)
     (subst (λ l. IsMachine (g.P.Protocol.table c.self.inside.protocol) (g.I.Ordered.map c.settle.new.index) (g.I.Ordered.pins c.settle.new.index) l c.leave.new.ended c.self.inside.active None) (sym c.leave.ensures.locks)
-    (ended_machine (g.P.Protocol.table c.self.inside.protocol) (g.I.Ordered.map c.self.inside.index) (g.I.Ordered.map c.settle.new.index) (g.I.Ordered.pins c.self.inside.index) (g.I.Ordered.pins c.settle.new.index) (g.L.Holdings.locks c.self.inside.locks) c.args.event.txn c.self.inside.ended c.leave.new.ended c.self.inside.active c.self.inside.pending c.in-Some.pending c.args.event was same ends inv c.leave.ensures.room c.settle.ensures.pins))
+    (ended_machine (g.P.Protocol.table c.self.inside.protocol) (g.I.Ordered.map c.self.inside.index) (g.I.Ordered.map c.settle.new.index) (g.I.Ordered.pins c.self.inside.index) (g.I.Ordered.pins c.settle.new.index) (g.L.Holdings.locks c.self.inside.locks) c.args.event.txn c.self.inside.ended c.leave.new.ended c.self.inside.active c.self.inside.pending c.in-Some.pending c.args.event ending.Commit was same ends inv c.leave.ensures.room c.settle.ensures.pins))
 
 pub invariant_of-self-in-Abort-1 : goal.invariant_of-self-in-Abort-1
 invariant_of-self-in-Abort-1 g c =
     let inv = c.self.invariant in
     let was = sym c.take.ensures.value ∙ c.in-Some.is in
     let same : c.in-Some.pending.event ≡ c.args.event = event_of_pending c.self.inside.pending c.in-Some.pending c.args.event (ap (λ m. m.pending) c.self.view_is ∙ c.requires) was in
-    let ends : IsEnd c.args.event.op = rw c.in-Abort.is tt in
+    let ends : c.args.event.op ≡ ended_by ending.Abort = c.in-Abort.is in
     subst (λ o. IsMachine (g.P.Protocol.table c.self.inside.protocol) (g.I.Ordered.map c.undo.new.index) (g.I.Ordered.pins c.undo.new.index) (g.L.Holdings.locks c.leave-in-Abort.new.locks) c.leave-in-Abort.new.ended c.self.inside.active o) (sym c.take.ensures.after)
     (subst (λ l. IsMachine (g.P.Protocol.table c.self.inside.protocol) (g.I.Ordered.map c.undo.new.index) (g.I.Ordered.pins c.undo.new.index) l c.leave-in-Abort.new.ended c.self.inside.active None) (sym c.leave-in-Abort.ensures.locks)
-    (ended_machine (g.P.Protocol.table c.self.inside.protocol) (g.I.Ordered.map c.self.inside.index) (g.I.Ordered.map c.undo.new.index) (g.I.Ordered.pins c.self.inside.index) (g.I.Ordered.pins c.undo.new.index) (g.L.Holdings.locks c.self.inside.locks) c.args.event.txn c.self.inside.ended c.leave-in-Abort.new.ended c.self.inside.active c.self.inside.pending c.in-Some.pending c.args.event was same ends inv c.leave-in-Abort.ensures.room c.undo.ensures.pins))
+    (ended_machine (g.P.Protocol.table c.self.inside.protocol) (g.I.Ordered.map c.self.inside.index) (g.I.Ordered.map c.undo.new.index) (g.I.Ordered.pins c.self.inside.index) (g.I.Ordered.pins c.undo.new.index) (g.L.Holdings.locks c.self.inside.locks) c.args.event.txn c.self.inside.ended c.leave-in-Abort.new.ended c.self.inside.active c.self.inside.pending c.in-Some.pending c.args.event ending.Abort was same ends inv c.leave-in-Abort.ensures.room c.undo.ensures.pins))
 
 pub invariant_of-self-in-Fetch : goal.invariant_of-self-in-Fetch
 invariant_of-self-in-Fetch g c =
