@@ -8,7 +8,7 @@ use Rattle.kr_model.specs.declared.Event.{Event}
 use Rattle.kr_model.specs.declared.Name.{Name}
 use Rattle.kr_model.specs.declared.Op.{Op}
 use Rattle.kr_model.specs.declared.Row.{Row}
-use Rattle.kr_model.specs.State.{Active}
+use Rattle.kr_model.specs.State.{Active, Scan}
 use Rattle.kr_txn.proofs.Lists.{in_order-put}
 use Rattle.kr_machine.specs.declared.pending.Pending.{Pending}
 use Rattle.kr_machine.specs.declared.parts.Ending.{Ending}
@@ -65,9 +65,9 @@ end_pins ending.Commit r q = refl
 end_pins ending.Abort r q = refl
 
 -- The row of the end of a transaction says nothing.
-pub end_row : (m : Map) (x : Ending) (r : Row) → IsRowOf m (ended_by x) r
-end_row m ending.Commit r = tt
-end_row m ending.Abort r = tt
+pub end_row : (m : Map) (c : Option Scan) (x : Ending) (r : Row) → IsRowOf m c (ended_by x) r
+end_row m c ending.Commit r = tt
+end_row m c ending.Abort r = tt
 
 -- The end of a transaction needs no room in the list.
 pub room_end : (active : Vec Standing Global) (s : Standing) (rows : Vec (ℕ × ℕ) Global) (x : Ending) → HasRoom active s rows (ended_by x)
