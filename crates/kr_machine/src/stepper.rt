@@ -133,13 +133,8 @@ impl<P: Protocol, I: Ordered, L: Holdings> Stepper<P, I, L> {
         ensures not_granted { IfErr result (λ r. is_granted r ≡ false) }
         ensures err { OnErr result (self.new ≡ self.old) }
     {
-        if let Some(refusal) = refusals::refusal(
-            &self.protocol,
-            &self.ended,
-            &self.active,
-            txn,
-            op,
-        ) {
+        let refusal = refusals::refusal(&self.protocol, &self.ended, &self.active, txn, op);
+        if let Some(refusal) = refusal {
             return Err(Reply::Refused(refusal));
         }
         match Part::of(op) {
@@ -198,12 +193,11 @@ impl<P: Protocol, I: Ordered, L: Holdings> Stepper<P, I, L> {
             txn,
         ) {
             Some(pending) => {
+                let event = pending.event;
                 let left = pending.standing.changes.len() - 1;
                 self.pending = Some(pending);
-                Ok(Ready {
-                    event: Event { txn, op: Op::Back },
-                    reply: Reply::Undone(left as u64),
-                })
+                let reply = Reply::Undone(left as u64);
+                Ok(Ready { event, reply })
             }
             None => Err(Reply::Refused(Refusal::NothingLeft)),
         }
@@ -264,13 +258,12 @@ impl<P: Protocol, I: Ordered, L: Holdings> Stepper<P, I, L> {
         let Ready { event, reply: _ } = ready;
         if let Some(pending) = self.pending.take() {
             let Pending {
-                event: _,
                 plan,
                 current_was,
                 next_was,
                 standing,
                 was_active,
-                first_rows: _,
+                ..
             } = pending;
             change::unpin_change(&mut self.index, event.op, plan.row);
             holds::give_back(&mut self.locks, event.txn, plan.next, next_was);
@@ -286,13 +279,10 @@ impl<P: Protocol, I: Ordered, L: Holdings> Stepper<P, I, L> {
     {
         if let Some(pending) = self.pending.take() {
             let Pending {
-                event: _,
                 plan,
-                current_was: _,
-                next_was: _,
                 standing,
-                was_active: _,
                 first_rows,
+                ..
             } = pending;
             match Part::of(event.op) {
                 Part::End(ending) => {
@@ -305,14 +295,8 @@ impl<P: Protocol, I: Ordered, L: Holdings> Stepper<P, I, L> {
                 }
                 Part::Touch(touch) => {
                     let row = plan.row;
-                    let standing = change::perform(
-                        &mut self.index,
-                        standing,
-                        first_rows,
-                        touch,
-                        row,
-                    );
-                    put_in(&mut self.active, standing);
+                    let done = change::perform(&mut self.index, standing, first_rows, touch, row);
+                    put_in(&mut self.active, done);
                 }
             }
         }

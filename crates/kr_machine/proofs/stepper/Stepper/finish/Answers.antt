@@ -27,18 +27,18 @@ invariant_of-self-in-Touch g c =
     let was = sym c.take.ensures.value ∙ c.in-Some.is in
     let now = reserved_now (g.P.Protocol.table c.self.inside.protocol) (g.I.Ordered.map c.self.inside.index) (g.I.Ordered.pins c.self.inside.index) (g.L.Holdings.locks c.self.inside.locks) c.self.inside.ended c.self.inside.active c.self.inside.pending c.in-Some.pending was inv.reserved in
     let same : c.in-Some.pending.event ≡ c.args.event = event_of_pending c.self.inside.pending c.in-Some.pending c.args.event (ap (λ m. m.pending) c.self.view_is ∙ c.requires) was in
-    let apart = subst (λ t. find nat_cmp t (entries c.self.inside.active.items) ≡ None) (sym (c.perform-standing.ensures.txn ∙ now.itself)) now.apart in
-    subst (λ o. IsMachine (g.P.Protocol.table c.self.inside.protocol) (g.I.Ordered.map c.perform-standing.new.index) (g.I.Ordered.pins c.perform-standing.new.index) (g.L.Holdings.locks c.self.inside.locks) c.self.inside.ended c.put_in-in-Touch.new.list o) (sym c.take.ensures.after) (record {
+    let apart = subst (λ t. find nat_cmp t (entries c.self.inside.active.items) ≡ None) (sym (c.perform-done.ensures.txn ∙ now.itself)) now.apart in
+    subst (λ o. IsMachine (g.P.Protocol.table c.self.inside.protocol) (g.I.Ordered.map c.perform-done.new.index) (g.I.Ordered.pins c.perform-done.new.index) (g.L.Holdings.locks c.self.inside.locks) c.self.inside.ended c.put_in-in-Touch.new.list o) (sym c.take.ensures.after) (record {
       in_order = inv.in_order;
       within = inv.within;
       no_none = inv.no_none;
-      standing = subst (λ es. IsTrue (is_sorted nat_cmp es)) (sym c.put_in-in-Touch.ensures.items) (in_order-put c.perform-standing.result.txn (entries c.self.inside.active.items) inv.standing (active_of c.perform-standing.result));
+      standing = subst (λ es. IsTrue (is_sorted nat_cmp es)) (sym c.put_in-in-Touch.ensures.items) (in_order-put c.perform-done.result.txn (entries c.self.inside.active.items) inv.standing (active_of c.perform-done.result));
       room = omega (arith, now.room_ended, c.put_in-in-Touch.ensures.len);
       has_pins = λ q.
           let x = pins_now (g.I.Ordered.pins c.self.inside.index) (entries c.self.inside.active.items) c.self.inside.pending c.in-Some.pending c.args.event was same inv.has_pins q in
-          let y = c.perform-standing.ensures.pins q in
+          let y = c.perform-done.ensures.pins q in
           let z = ap (λ es. all_changes_of es q) c.put_in-in-Touch.ensures.items in
-          let w = noted-put c.perform-standing.result.txn (active_of c.perform-standing.result) (entries c.self.inside.active.items) q apart in
+          let w = noted-put c.perform-done.result.txn (active_of c.perform-done.result) (entries c.self.inside.active.items) q apart in
           let v = ap (λ o. taken_pins o c.in-Some.pending.plan.row q) (sym c.of.ensures ∙ ap op_of c.in-Touch.is) in
           omega (arith, x, y, z, w, v);
       reserved = tt;
