@@ -7,12 +7,14 @@ use Rattle.std.specs.FinMap.{put, is_sorted}
 use Rattle.kr_model.specs.declared.Event.{Event}
 use Rattle.kr_model.specs.declared.Name.{Name}
 use Rattle.kr_model.specs.declared.Op.{Op}
-use Rattle.kr_model.specs.declared.Op.TheVariants as op
 use Rattle.kr_model.specs.declared.Row.{Row}
-use Rattle.kr_model.specs.State.{Active}
+use Rattle.kr_model.specs.State.{Active, Scan}
 use Rattle.kr_txn.proofs.Lists.{in_order-put}
 use Rattle.kr_machine.specs.declared.pending.Pending.{Pending}
-use Rattle.kr_machine.specs.Pending.{IsReserved, IsMachine, IsRowOf, HasPins, IsEnd, HasRoom}
+use Rattle.kr_machine.specs.declared.parts.Ending.{Ending}
+use Rattle.kr_machine.specs.declared.parts.Ending.TheVariants as ending
+use Rattle.kr_machine.specs.Parts.{ended_by}
+use Rattle.kr_machine.specs.Pending.{IsReserved, IsMachine, IsRowOf, HasPins, HasRoom}
 use Rattle.kr_machine.specs.Pins.{changes_of, all_changes_of, taken_pins}
 use Rattle.kr_model.proofs.Keep.{HasNoNone-release, AreWithin-release, IsLocks-release}
 use Rattle.kr_txn.specs.Standings.{active_of, entries}
@@ -58,46 +60,25 @@ pins_now pins es o d e is same h q =
     at q ∙ ap (λ (x : Event). all_changes_of es q + changes_of (active_of d.standing).changes q + taken_pins x.op d.plan.row q) same
 
 -- The end of a transaction takes no pin.
-pub end_pins : (o : Op) (r : Row) → IsEnd o → (q : ℕ) → taken_pins o r q ≡ 0
-end_pins op.Commit r is q = refl
-end_pins op.Abort r is q = refl
-end_pins (op.Fetch k) r is q = refl
-end_pins (op.Insert k v) r is q = absurd is
-end_pins (op.Delete k) r is q = absurd is
-end_pins (op.Update k v) r is q = absurd is
-end_pins op.Go r is q = refl
-end_pins op.Back r is q = refl
-end_pins (op.Scan lo hi) r is q = refl
+pub end_pins : (x : Ending) (r : Row) (q : ℕ) → taken_pins (ended_by x) r q ≡ 0
+end_pins ending.Commit r q = refl
+end_pins ending.Abort r q = refl
 
 -- The row of the end of a transaction says nothing.
-pub end_row : (m : Map) (o : Op) (r : Row) → IsEnd o → IsRowOf m o r
-end_row m op.Commit r is = tt
-end_row m op.Abort r is = tt
-end_row m (op.Fetch k) r is = absurd is
-end_row m (op.Insert k v) r is = absurd is
-end_row m (op.Delete k) r is = absurd is
-end_row m (op.Update k v) r is = absurd is
-end_row m op.Go r is = tt
-end_row m op.Back r is = tt
-end_row m (op.Scan lo hi) r is = tt
+pub end_row : (m : Map) (c : Option Scan) (x : Ending) (r : Row) → IsRowOf m c (ended_by x) r
+end_row m c ending.Commit r = tt
+end_row m c ending.Abort r = tt
 
 -- The end of a transaction needs no room in the list.
-pub room_end : (active : Vec Standing Global) (s : Standing) (rows : Vec (ℕ × ℕ) Global) (o : Op) → IsEnd o → HasRoom active s rows o
-room_end active s rows op.Commit is = tt
-room_end active s rows op.Abort is = tt
-room_end active s rows (op.Fetch k) is = absurd is
-room_end active s rows (op.Insert k v) is = absurd is
-room_end active s rows (op.Delete k) is = absurd is
-room_end active s rows (op.Update k v) is = absurd is
-room_end active s rows op.Go is = absurd is
-room_end active s rows op.Back is = absurd is
-room_end active s rows (op.Scan lo hi) is = absurd is
+pub room_end : (active : Vec Standing Global) (s : Standing) (rows : Vec (ℕ × ℕ) Global) (x : Ending) → HasRoom active s rows (ended_by x)
+room_end active s rows ending.Commit = tt
+room_end active s rows ending.Abort = tt
 
 -- What the machine is after the end of the transaction whose step was pending.
-pub ended_machine : (p : Protocol) (m n : Map) (pins left : ℕ → ℕ) (real : Locks) (t : ℕ) (ended more : EndedNumbers) (active : Vec Standing Global) (o : Option Pending) (d : Pending) (e : Event)
-    → o ≡ Some d → d.event ≡ e → IsEnd e.op → IsMachine p m pins real ended active o → ended.room ≤ more.room + 1 → ((q : ℕ) → left q + changes_of (active_of d.standing).changes q ≡ pins q)
+pub ended_machine : (p : Protocol) (m n : Map) (pins left : ℕ → ℕ) (real : Locks) (t : ℕ) (ended more : EndedNumbers) (active : Vec Standing Global) (o : Option Pending) (d : Pending) (e : Event) (x : Ending)
+    → o ≡ Some d → d.event ≡ e → e.op ≡ ended_by x → IsMachine p m pins real ended active o → ended.room ≤ more.room + 1 → ((q : ℕ) → left q + changes_of (active_of d.standing).changes q ≡ pins q)
     → IsMachine p n left (release real t) more active None
-ended_machine p m n pins left real t ended more active o d e is same end inv room freed =
+ended_machine p m n pins left real t ended more active o d e x is same end inv room freed =
     let now = reserved_now p m pins real ended active o d is inv.reserved in
     record {
       in_order = IsLocks-release real t inv.in_order;
@@ -106,9 +87,9 @@ ended_machine p m n pins left real t ended more active o d e is same end inv roo
       standing = inv.standing;
       room = omega (arith, now.room_ended, room);
       has_pins = λ q.
-          let x = pins_now pins (entries active.items) o d e is same inv.has_pins q in
-          let y = end_pins e.op d.plan.row end q in
-          let z = freed q in
-          omega (arith, x, y, z);
+          let u = pins_now pins (entries active.items) o d e is same inv.has_pins q in
+          let v = ap (λ (p : Op). taken_pins p d.plan.row q) end ∙ end_pins x d.plan.row q in
+          let w = freed q in
+          omega (arith, u, v, w);
       reserved = tt;
     }

@@ -11,7 +11,8 @@ use Rattle.std.specs.FinMap.{find, put}
 use Rattle.kr_model.specs.declared.Op.{Op}
 use Rattle.kr_model.specs.declared.Op.TheVariants as op
 use Rattle.kr_model.specs.declared.Refusal.{Refusal}
-use Rattle.kr_model.specs.declared.Refusal.TheVariants.{Ended, Full}
+use Rattle.kr_model.specs.declared.Refusal.TheVariants.{Ended, Full, NoScan}
+use Rattle.kr_model.specs.declared.Reply.{Reply}
 use Rattle.kr_model.specs.declared.Reply.TheVariants as reply
 use Rattle.kr_model.specs.Protocol.{Protocol}
 use Rattle.kr_model.specs.declared.Plan.{Plan}
@@ -24,11 +25,18 @@ use Rattle.kr_model.specs.declared.Name.{Name}
 use Rattle.kr_model.specs.declared.Name.TheVariants.{Key, End}
 use Rattle.kr_model.specs.declared.Row.TheVariants as row
 use Rattle.kr_model.specs.declared.Step.{Step}
-use Rattle.kr_model.specs.Step.{Outcome, Effect, fetched, inserted, deleted, updated, row_read, looked, name_to_look, is_full, refusal_of, step, granted_or_blocked, attempted_scan, unless_refused, after_effect, performed, one_taken_back}
+use Rattle.kr_model.specs.declared.Step.TheVariants as attempt
+use Rattle.kr_model.specs.Step.{Outcome, Effect, fetched, inserted, deleted, updated, row_read, looked, name_to_look, is_full, refusal_of, step, granted_or_blocked, attempted, attempted_scan, unless_refused, after_effect, performed, one_taken_back}
 use Rattle.std.specs.Option.{option_map}
 use Rattle.kr_txn.specs.declared.Scan as txn
 use Rattle.kr_txn.specs.Standings.{scan_of}
-use Rattle.kr_machine.specs.Pending.{IsAttempt, IsEnd, IsRowOf, begun, refusal_in, look_of, attempt_of, look_effect, effect_of, map_back, changes_back, standing_back, after_op}
+use Rattle.kr_machine.specs.declared.parts.Ending.{Ending}
+use Rattle.kr_machine.specs.declared.parts.Ending.TheVariants as ending
+use Rattle.kr_machine.specs.declared.parts.KeyTouch.TheVariants as key
+use Rattle.kr_machine.specs.declared.parts.Touch.{Touch}
+use Rattle.kr_machine.specs.declared.parts.Touch.TheVariants as touch
+use Rattle.kr_machine.specs.Parts.{ended_by, end_reply, op_of_touch}
+use Rattle.kr_machine.specs.Pending.{IsRowAt, begun, refusal_in, look_of, attempt_of, rows_of, reply_of, look_effect, effect_of, map_back, changes_back, standing_back, after_op}
 
 -- The refusal of an operation whose transaction has not ended, by whether updates are offered and how it stands.
 abbrev pub refused_by : Bool → Option Active → Bool → Op → Option Refusal
@@ -47,76 +55,76 @@ refusal_is p m h ended es t o x hx f hf l hl =
     chain p.updates (list_any (λ u. u == t) ended) (find nat_cmp t es) (nat_le 64 (length es)) o ∙ ap (λ y. cond y (Some Ended) (refused_by p.updates (find nat_cmp t es) (nat_le 64 (length es)) o)) hx
     ∙ ap (λ g. cond x (Some Ended) (refused_by p.updates g (nat_le 64 (length es)) o)) hf ∙ ap (λ k. cond x (Some Ended) (refused_by p.updates f k o)) hl
 
--- To go on where no scan is in progress is refused.
-go_needs_scan : (v x y z w : Bool) (c : Option Scan) → cond x (Some Ended) (cond y (Some Full) (refusal_in v z (is_some c) w op.Go)) ≡ None → c ≡ None → ⊥
-go_needs_scan v true y z w c h e = cc
-go_needs_scan v false true z w c h e = cc
-go_needs_scan v false false true w c h e = cc
-go_needs_scan v false false false w None h e = cc
-go_needs_scan v false false false w (Some c) h e = cc
+-- Where a scan that begins isn't refused, no scan is in progress.
+begins_alone : (v x y z w : Bool) (c : Option Scan) (lo hi : ℕ) → cond x (Some Ended) (cond y (Some Full) (refusal_in v z (is_some c) w (op.Scan lo hi))) ≡ None → rows_of c ≡ []
+begins_alone v true y z w c lo hi h = absurd (cc)
+begins_alone v false true z w c lo hi h = absurd (cc)
+begins_alone v false false true w c lo hi h = absurd (cc)
+begins_alone v false false false w None lo hi h = refl
+begins_alone v false false false w (Some c) lo hi h = absurd (cc)
 
-module _ (p : Protocol) (s : State) (t : ℕ) (o : Op) (allowed : refusal_of p s t o ≡ None) where
-  performs : step p s t o ≡ performed p s t o
-  performs = ap (unless_refused p s t o) allowed
+performs : (p : Protocol) (s : State) (t : ℕ) (o : Op) → refusal_of p s t o ≡ None → step p s t o ≡ performed p s t o
+performs p s t o allowed = ap (unless_refused p s t o) allowed
+
+-- What an attempt does, whose effect is e where it is granted. To go on where no scan is in progress is refused.
+abbrev attempted_by : Protocol → State → ℕ → Effect → Option Step → Outcome
+attempted_by p s t e None = (reply.Refused NoScan, s)
+attempted_by p s t e (Some a) = attempted p s t a e
+
+module _ (p : Protocol) (s : State) (t : ℕ) where
+  by_look : (c : Option Scan) → attempted_scan p s t c ≡ attempted_by p s t (look_effect s.map (standing s t) c) (look_of s.map c)
+  by_look None = refl
+  by_look (Some c) = refl
+
+  by_touch : (x : Touch) → performed p s t (op_of_touch x) ≡ attempted_by p s t (effect_of s.map (standing s t) (op_of_touch x)) (attempt_of s.map (standing s t).scan (op_of_touch x))
+  by_touch (touch.Key (key.Fetch k)) = refl
+  by_touch (touch.Key (key.Insert k v)) = refl
+  by_touch (touch.Key (key.Delete k)) = refl
+  by_touch (touch.Key (key.Update k v)) = refl
+  by_touch (touch.Scan lo hi) = refl
+  by_touch touch.Go = by_look (standing s t).scan
 
   -- The requests of an attempt.
   abbrev asked : Step → List Request
   asked a = requests (plan_of p s.map s.locks t a)
 
-  by_look : (c : Option Scan) → (c ≡ None → ⊥) → attempted_scan p s t c ≡ granted_or_blocked p s t (asked (look_of s.map c)) (look_effect s.map (standing s t) c) (blockers p s.locks t (asked (look_of s.map c)))
-  by_look None some = absurd (some refl)
-  by_look (Some c) some = refl
-
-  by_attempt : (o : Op) → IsAttempt o → refusal_of p s t o ≡ None → performed p s t o ≡ granted_or_blocked p s t (asked (attempt_of s.map (standing s t).scan o)) (effect_of s.map (standing s t) o) (blockers p s.locks t (asked (attempt_of s.map (standing s t).scan o)))
-  by_attempt (op.Fetch k) is allowed = refl
-  by_attempt (op.Insert k v) is allowed = refl
-  by_attempt (op.Delete k) is allowed = refl
-  by_attempt (op.Update k v) is allowed = refl
-  by_attempt (op.Scan lo hi) is allowed = refl
-  by_attempt op.Go is allowed = by_look (standing s t).scan (go_needs_scan p.updates (list_any (λ u. u == t) s.ended) (is_full s t) (is_rolling s t) (has_nothing_left s t) (standing s t).scan allowed)
-  by_attempt op.Commit is allowed = absurd is
-  by_attempt op.Abort is allowed = absurd is
-  by_attempt op.Back is allowed = absurd is
-
   -- Where no refusal applies, an attempt is granted or blocked.
-  pub attempts : IsAttempt o → step p s t o ≡ granted_or_blocked p s t (asked (attempt_of s.map (standing s t).scan o)) (effect_of s.map (standing s t) o) (blockers p s.locks t (asked (attempt_of s.map (standing s t).scan o)))
-  attempts is = performs ∙ by_attempt o is allowed
+  attempts : (x : Touch) (a : Step) → refusal_of p s t (op_of_touch x) ≡ None → attempt_of s.map (standing s t).scan (op_of_touch x) ≡ Some a
+      → step p s t (op_of_touch x) ≡ granted_or_blocked p s t (asked a) (effect_of s.map (standing s t) (op_of_touch x)) (blockers p s.locks t (asked a))
+  attempts x a allowed is = performs p s t (op_of_touch x) allowed ∙ by_touch x ∙ ap (attempted_by p s t (effect_of s.map (standing s t) (op_of_touch x))) is
 
   -- An attempt that nobody blocks has its effect.
-  pub granted_step : IsAttempt o → blockers p s.locks t (asked (attempt_of s.map (standing s t).scan o)) ≡ [] → step p s t o ≡ after_effect p s t (asked (attempt_of s.map (standing s t).scan o)) (effect_of s.map (standing s t) o)
-  granted_step is none = attempts is ∙ ap (granted_or_blocked p s t (asked (attempt_of s.map (standing s t).scan o)) (effect_of s.map (standing s t) o)) none
+  granted_step : (x : Touch) (a : Step) → refusal_of p s t (op_of_touch x) ≡ None → attempt_of s.map (standing s t).scan (op_of_touch x) ≡ Some a → blockers p s.locks t (asked a) ≡ []
+      → step p s t (op_of_touch x) ≡ after_effect p s t (asked a) (effect_of s.map (standing s t) (op_of_touch x))
+  granted_step x a allowed is none = attempts x a allowed is ∙ ap (granted_or_blocked p s t (asked a) (effect_of s.map (standing s t) (op_of_touch x))) none
 
 row_by : (b : Bool) (x y : Access) → (cond b x y).row ≡ cond b x.row y.row
 row_by true x y = refl
 row_by false x y = refl
 
--- The row of a plan says of an operation on one key whether that key is present.
-pub row_of_plan : (p : Protocol) (m : Map) (h : Locks) (t : ℕ) (c : Option Scan) (o : Op) (plan : Plan) → plan ≡ plan_of p m h t (attempt_of m c o) → IsRowOf m o plan.row
-row_of_plan p m h t c (op.Fetch k) plan is = ap (λ (x : Plan). x.row) is ∙ row_by (is_some (get m k)) (access row.FetchHit (Some (Key k)) None) (access row.FetchMiss None (Some (at m k)))
-row_of_plan p m h t c (op.Insert k v) plan is = ap (λ (x : Plan). x.row) is ∙ row_by (is_some (get m k)) (access row.FetchHit (Some (Key k)) None) (access row.Insert (Some (Key k)) (Some (at m k)))
-row_of_plan p m h t c (op.Delete k) plan is = ap (λ (x : Plan). x.row) is ∙ row_by (is_some (get m k)) (access row.Delete (Some (Key k)) (Some (after m k))) (access row.FetchMiss None (Some (at m k)))
-row_of_plan p m h t c (op.Update k v) plan is = ap (λ (x : Plan). x.row) is ∙ row_by (is_some (get m k)) (access row.Update (Some (Key k)) None) (access row.FetchMiss None (Some (at m k)))
-row_of_plan p m h t c (op.Scan lo hi) plan is = tt
-row_of_plan p m h t c op.Go plan is = tt
-row_of_plan p m h t c op.Commit plan is = tt
-row_of_plan p m h t c op.Abort plan is = tt
-row_of_plan p m h t c op.Back plan is = tt
+-- The row of a plan says of an attempt at one key whether that key is present.
+pub row_of_plan : (p : Protocol) (m : Map) (h : Locks) (t : ℕ) (a : Step) (plan : Plan) → plan ≡ plan_of p m h t a → IsRowAt m a plan.row
+row_of_plan p m h t (attempt.Fetch k) plan is = ap (λ (x : Plan). x.row) is ∙ row_by (is_some (get m k)) (access row.FetchHit (Some (Key k)) None) (access row.FetchMiss None (Some (at m k)))
+row_of_plan p m h t (attempt.Insert k) plan is = ap (λ (x : Plan). x.row) is ∙ row_by (is_some (get m k)) (access row.FetchHit (Some (Key k)) None) (access row.Insert (Some (Key k)) (Some (at m k)))
+row_of_plan p m h t (attempt.Delete k) plan is = ap (λ (x : Plan). x.row) is ∙ row_by (is_some (get m k)) (access row.Delete (Some (Key k)) (Some (after m k))) (access row.FetchMiss None (Some (at m k)))
+row_of_plan p m h t (attempt.Update k) plan is = ap (λ (x : Plan). x.row) is ∙ row_by (is_some (get m k)) (access row.Update (Some (Key k)) None) (access row.FetchMiss None (Some (at m k)))
+row_of_plan p m h t (attempt.Look n hi) plan is = tt
 
 fetch_reply : (m : Map) (a b : Active) (g : Option ℕ) → (fetched m a g).reply ≡ (fetched m b g).reply
 fetch_reply m a b None = refl
 fetch_reply m a b (Some v) = refl
 
-insert_reply : (m : Map) (a b : Active) (k v : ℕ) (g : Option ℕ) → (inserted m a k v g).reply ≡ (inserted m b k v g).reply
-insert_reply m a b k v None = refl
-insert_reply m a b k v (Some w) = refl
+insert_reply : (m : Map) (a b : Active) (k v w : ℕ) (g : Option ℕ) → (inserted m a k v g).reply ≡ (inserted m b k w g).reply
+insert_reply m a b k v w None = refl
+insert_reply m a b k v w (Some u) = refl
 
 delete_reply : (m : Map) (a b : Active) (k : ℕ) (g : Option ℕ) → (deleted m a k g).reply ≡ (deleted m b k g).reply
 delete_reply m a b k None = refl
 delete_reply m a b k (Some w) = refl
 
-update_reply : (m : Map) (a b : Active) (k v : ℕ) (g : Option ℕ) → (updated m a k v g).reply ≡ (updated m b k v g).reply
-update_reply m a b k v None = refl
-update_reply m a b k v (Some w) = refl
+update_reply : (m : Map) (a b : Active) (k v w : ℕ) (g : Option ℕ) → (updated m a k v g).reply ≡ (updated m b k w g).reply
+update_reply m a b k v w None = refl
+update_reply m a b k v w (Some u) = refl
 
 read_reply : (m : Map) (a b : Active) (l n hi k v : ℕ) (rows : List (ℕ × ℕ)) (x : Bool) → k == hi ≡ x → (row_read m a (record { lo = l; hi = hi; rows = rows }) k v).reply ≡ (row_read m b (record { lo = n; hi = hi; rows = rows }) k v).reply
 read_reply m a b l n hi k v rows true e = rw e refl
@@ -131,53 +139,57 @@ look_reply m a b l j hi rows (Key k) = by (nat_le k hi) refl
     by true e = rw e (read_reply m a b l j hi k (unwrap_or (get m k) 0) rows (k == hi) refl)
     by false e = rw e refl
 
-scan_reply : (m : Map) (a b : Active) (c : Option Scan) → (look_effect m a c).reply ≡ (look_effect m b c).reply
-scan_reply m a b None = refl
-scan_reply m a b (Some c) = look_reply m a b c.lo c.lo c.hi c.rows (name_to_look m c)
+some_step : (a b : Step) → ◌≡◌ {A = Option Step} (Some a) (Some b) → a ≡ b
+some_step a b e = cc
 
--- The reply doesn't depend on how the transaction stands, but for its scan.
-pub reply_same : (m : Map) (a b : Active) (o : Op) → a.scan ≡ b.scan → (effect_of m a o).reply ≡ (effect_of m b o).reply
-reply_same m a b (op.Fetch k) e = fetch_reply m a b (get m k)
-reply_same m a b (op.Insert k v) e = insert_reply m a b k v (get m k)
-reply_same m a b (op.Delete k) e = delete_reply m a b k (get m k)
-reply_same m a b (op.Update k v) e = update_reply m a b k v (get m k)
-reply_same m a b (op.Scan lo hi) e = scan_reply m a b (Some (begun lo hi))
-reply_same m a b op.Go e = scan_reply m a b a.scan ∙ ap (λ c. (look_effect m b c).reply) e
-reply_same m a b op.Commit e = refl
-reply_same m a b op.Abort e = refl
-reply_same m a b op.Back e = refl
+go_reply : (m : Map) (a : Active) (c : Option Scan) (x : Step) → look_of m c ≡ Some x → reply_of m (rows_of c) x ≡ (look_effect m a c).reply
+go_reply m a None x is = absurd (cc)
+go_reply m a (Some c) x is = ap (reply_of m c.rows) (sym (some_step (attempt.Look (name_to_look m c) c.hi) x is)) ∙ look_reply m idle a 0 c.lo c.hi c.rows (name_to_look m c)
 
--- The reply of a granted attempt, by the scan in progress.
-pub granted_reply : (p : Protocol) (s : State) (t : ℕ) (o : Op) (plan : Plan) (b : Active) → IsAttempt o → refusal_of p s t o ≡ None → plan ≡ plan_of p s.map s.locks t (attempt_of s.map (standing s t).scan o) → blockers p s.locks t (requests plan) ≡ [] → b.scan ≡ (standing s t).scan → (effect_of s.map b o).reply ≡ (step p s t o).0
-granted_reply p s t o plan b is allowed is_plan none same =
-    reply_same s.map b (standing s t) o same
-    ∙ sym (ap (λ (x : Outcome). x.0) (granted_step p s t o allowed is (ap (λ pl. blockers p s.locks t (requests pl)) (sym is_plan) ∙ none)))
+-- The reply of an operation goes by its attempt, and by the rows of the scan in progress.
+module _ (p : Protocol) (s : State) (t : ℕ) where
+  abbrev reply_now : Step → Reply
+  reply_now = reply_of s.map (rows_of (standing s t).scan)
+
+  reply_is : (x : Touch) (a : Step) → refusal_of p s t (op_of_touch x) ≡ None → attempt_of s.map (standing s t).scan (op_of_touch x) ≡ Some a → reply_now a ≡ (effect_of s.map (standing s t) (op_of_touch x)).reply
+  reply_is (touch.Key (key.Fetch k)) a allowed is = ap reply_now (sym (some_step (attempt.Fetch k) a is)) ∙ fetch_reply s.map idle (standing s t) (get s.map k)
+  reply_is (touch.Key (key.Insert k v)) a allowed is = ap reply_now (sym (some_step (attempt.Insert k) a is)) ∙ insert_reply s.map idle (standing s t) k 0 v (get s.map k)
+  reply_is (touch.Key (key.Delete k)) a allowed is = ap reply_now (sym (some_step (attempt.Delete k) a is)) ∙ delete_reply s.map idle (standing s t) k (get s.map k)
+  reply_is (touch.Key (key.Update k v)) a allowed is = ap reply_now (sym (some_step (attempt.Update k) a is)) ∙ update_reply s.map idle (standing s t) k 0 v (get s.map k)
+  reply_is (touch.Scan lo hi) a allowed is =
+      ap (λ rows. reply_of s.map rows a) (begins_alone p.updates (list_any (λ u. u == t) s.ended) (is_full s t) (is_rolling s t) (has_nothing_left s t) (standing s t).scan lo hi allowed)
+      ∙ go_reply s.map (standing s t) (Some (begun lo hi)) a is
+  reply_is touch.Go a allowed is = go_reply s.map (standing s t) (standing s t).scan a is
+
+  -- The reply of a granted attempt.
+  pub granted_reply : (x : Touch) (a : Step) (plan : Plan) → refusal_of p s t (op_of_touch x) ≡ None → attempt_of s.map (standing s t).scan (op_of_touch x) ≡ Some a → plan ≡ plan_of p s.map s.locks t a → blockers p s.locks t (requests plan) ≡ []
+      → reply_now a ≡ (step p s t (op_of_touch x)).0
+  granted_reply x a plan allowed is is_plan none =
+      reply_is x a allowed is ∙ sym (ap (λ (x : Outcome). x.0) (granted_step p s t x a allowed is (ap (λ pl. blockers p s.locks t (requests pl)) (sym is_plan) ∙ none)))
 
 -- The state after the end of a transaction, by what the machine has taken for it.
-pub stepped_end : (p : Protocol) (m : Map) (h : Locks) (ended : List ℕ) (es : List (ℕ × Active)) (t : ℕ) (a : Active) (o : Op) → IsEnd o
-    → refusal_of p (record { map = m; locks = h; ended = ended; active = es }) t o ≡ None → a ≡ unwrap_or (find nat_cmp t es) idle
-    → ◌≡◌ {A = State} (let o' = step p (record { map = m; locks = h; ended = ended; active = es }) t o in o'.1) (after_op m h ended (filter (λ e. not (e.0 == t)) es) t a o)
-stepped_end p m h ended es t a op.Commit is allowed is_a = ap (λ (x : Outcome). x.1) (performs p (record { map = m; locks = h; ended = ended; active = es }) t op.Commit allowed)
-stepped_end p m h ended es t a op.Abort is allowed is_a =
+pub stepped_end : (p : Protocol) (m : Map) (h : Locks) (ended : List ℕ) (es : List (ℕ × Active)) (t : ℕ) (a : Active) (x : Ending)
+    → refusal_of p (record { map = m; locks = h; ended = ended; active = es }) t (ended_by x) ≡ None → a ≡ unwrap_or (find nat_cmp t es) idle
+    → ◌≡◌ {A = State} (let o = step p (record { map = m; locks = h; ended = ended; active = es }) t (ended_by x) in o.1) (after_op m h ended (filter (λ e. not (e.0 == t)) es) t a (ended_by x))
+stepped_end p m h ended es t a ending.Commit allowed is_a = ap (λ (x : Outcome). x.1) (performs p (record { map = m; locks = h; ended = ended; active = es }) t op.Commit allowed)
+stepped_end p m h ended es t a ending.Abort allowed is_a =
     ap (λ (x : Outcome). x.1) (performs p (record { map = m; locks = h; ended = ended; active = es }) t op.Abort allowed) ∙ ap (λ b. after_op m h ended (filter (λ e. not (e.0 == t)) es) t b op.Abort) (sym is_a)
-stepped_end p m h ended es t a (op.Fetch k) is allowed is_a = absurd is
-stepped_end p m h ended es t a (op.Insert k v) is allowed is_a = absurd is
-stepped_end p m h ended es t a (op.Delete k) is allowed is_a = absurd is
-stepped_end p m h ended es t a (op.Update k v) is allowed is_a = absurd is
-stepped_end p m h ended es t a op.Go is allowed is_a = absurd is
-stepped_end p m h ended es t a op.Back is allowed is_a = absurd is
-stepped_end p m h ended es t a (op.Scan lo hi) is allowed is_a = absurd is
+
+-- What the end of a transaction answers.
+pub end_answers : (p : Protocol) (s : State) (t : ℕ) (x : Ending) → refusal_of p s t (ended_by x) ≡ None → end_reply x ≡ (step p s t (ended_by x)).0
+end_answers p s t ending.Commit allowed = sym (ap (λ (x : Outcome). x.0) (performs p s t op.Commit allowed))
+end_answers p s t ending.Abort allowed = sym (ap (λ (x : Outcome). x.0) (performs p s t op.Abort allowed))
 
 blocked_by : (p : Protocol) (s : State) (t : ℕ) (rs : List Request) (e : Effect) (us : List ℕ) → (us ≡ [] → ⊥) → granted_or_blocked p s t rs e us ≡ (reply.Blocked us, s)
 blocked_by p s t rs e [] h = absurd (h refl)
 blocked_by p s t rs e (u ∷ us) h = refl
 
 -- An attempt that somebody blocks answers who, and leaves the state.
-pub blocked_step : (p : Protocol) (s : State) (t : ℕ) (o : Op) (plan : Plan) (us : List ℕ) → IsAttempt o → refusal_of p s t o ≡ None → plan ≡ plan_of p s.map s.locks t (attempt_of s.map (standing s t).scan o) → us ≡ blockers p s.locks t (requests plan) → (blockers p s.locks t (requests plan) ≡ [] → ⊥) → ◌≡◌ {A = Outcome} (reply.Blocked us, s) (step p s t o)
-blocked_step p s t o plan us is allowed is_plan is_us some =
+pub blocked_step : (p : Protocol) (s : State) (t : ℕ) (x : Touch) (a : Step) (plan : Plan) (us : List ℕ) → refusal_of p s t (op_of_touch x) ≡ None → attempt_of s.map (standing s t).scan (op_of_touch x) ≡ Some a → plan ≡ plan_of p s.map s.locks t a → us ≡ blockers p s.locks t (requests plan) → (blockers p s.locks t (requests plan) ≡ [] → ⊥) → ◌≡◌ {A = Outcome} (reply.Blocked us, s) (step p s t (op_of_touch x))
+blocked_step p s t x a plan us allowed is is_plan is_us some =
     let here = ap (λ pl. blockers p s.locks t (requests pl)) is_plan in
     ap (λ l. (reply.Blocked l, s)) (is_us ∙ here)
-    ∙ sym (attempts p s t o allowed is ∙ blocked_by p s t (requests (plan_of p s.map s.locks t (attempt_of s.map (standing s t).scan o))) (effect_of s.map (standing s t) o) (blockers p s.locks t (requests (plan_of p s.map s.locks t (attempt_of s.map (standing s t).scan o)))) (λ none. some (here ∙ none)))
+    ∙ sym (attempts p s t x a allowed is ∙ blocked_by p s t (asked p s t a) (effect_of s.map (standing s t) (op_of_touch x)) (blockers p s.locks t (asked p s t a)) (λ none. some (here ∙ none)))
 
 -- A scan in progress is one for the definitions too.
 pub scanning : (c : Option txn.Scan) → is_some (option_map scan_of c) ≡ is_some c

@@ -7,7 +7,7 @@ use Rattle.std.specs.FinMap.{find, put}
 use Rattle.kr_model.specs.Protocol.{Protocol}
 use Rattle.kr_model.specs.Map.{Map, Changes, get, restore, restore_all}
 use Rattle.kr_model.specs.Locks.{Locks, Request, IsLocks, own, keep_or_drop, release, add_once, AreWithin, HasNoNone}
-use Rattle.kr_model.specs.State.{State, Active, Scan}
+use Rattle.kr_model.specs.State.{State, Active, Scan, idle}
 use Rattle.kr_model.specs.Step.{Effect, effect, fetched, inserted, deleted, updated, looked, name_to_look, takes_back, goes_on, is_go, is_bad_range, is_update, is_back, step}
 use Rattle.kr_model.specs.declared.Name.{Name}
 use Rattle.kr_model.specs.declared.Span.{Span}
@@ -26,44 +26,9 @@ use Rattle.kr_txn.specs.declared.Standing.{Standing}
 use Rattle.kr_txn.specs.EndedNumbers.{EndedNumbers}
 use Rattle.kr_txn.specs.Standings.{active_of, entries, IsInOrder}
 use Rattle.kr_machine.specs.Pins.{changes_of, all_changes_of, taken_pins}
+use Rattle.kr_machine.specs.declared.parts.Ending.{Ending}
+use Rattle.kr_machine.specs.declared.parts.Ending.TheVariants as ending
 use Rattle.kr_machine.specs.declared.pending.Pending.{Pending}
-
--- The operations that read or change one key.
-abbrev pub IsOfOneKey : Op → Type 0
-IsOfOneKey (op.Fetch k) = Unit {0}
-IsOfOneKey (op.Insert k v) = Unit {0}
-IsOfOneKey (op.Delete k) = Unit {0}
-IsOfOneKey (op.Update k v) = Unit {0}
-IsOfOneKey _ = ⊥
-
--- The operations that make one attempt at the index.
-abbrev pub IsAttempt : Op → Type 0
-IsAttempt (op.Fetch k) = Unit {0}
-IsAttempt (op.Insert k v) = Unit {0}
-IsAttempt (op.Delete k) = Unit {0}
-IsAttempt (op.Update k v) = Unit {0}
-IsAttempt (op.Scan lo hi) = Unit {0}
-IsAttempt op.Go = Unit {0}
-IsAttempt _ = ⊥
-
--- The row of an operation on one key says whether that key is present.
-abbrev pub IsRowOf : Map → Op → Row → Type 0
-IsRowOf m (op.Fetch k) r = r ≡ (if is_some (get m k) then row.FetchHit else row.FetchMiss)
-IsRowOf m (op.Insert k v) r = r ≡ (if is_some (get m k) then row.FetchHit else row.Insert)
-IsRowOf m (op.Delete k) r = r ≡ (if is_some (get m k) then row.Delete else row.FetchMiss)
-IsRowOf m (op.Update k v) r = r ≡ (if is_some (get m k) then row.Update else row.FetchMiss)
-IsRowOf m _ r = Unit {0}
-
--- The operations that end their transaction.
-abbrev pub IsEnd : Op → Type 0
-IsEnd op.Commit = Unit {0}
-IsEnd op.Abort = Unit {0}
-IsEnd _ = ⊥
-
--- What an operation answers that ends its transaction.
-abbrev pub end_reply : Op → Reply
-end_reply op.Abort = reply.Aborted
-end_reply _ = reply.Committed
 
 -- The refusal of an operation whose transaction has not ended, may be active and doesn't roll back, by whether updates are offered, whether a scan is in progress, and whether no change is left.
 abbrev pub scan_refusal : Bool → Bool → Bool → Op → Option Refusal
@@ -84,19 +49,44 @@ abbrev pub begun : ℕ → ℕ → Scan
 begun lo hi = record { lo = lo; hi = hi; rows = [] }
 
 -- The attempt of a scan's step, where there is a scan.
-abbrev pub look_of : Map → Option Scan → Step
-look_of m None = attempt.Fetch 0
-look_of m (Some c) = attempt.Look (name_to_look m c) c.hi
+abbrev pub look_of : Map → Option Scan → Option Step
+look_of m None = None
+look_of m (Some c) = Some (attempt.Look (name_to_look m c) c.hi)
 
--- The attempt of an operation that makes one, by the scan in progress.
-abbrev pub attempt_of : Map → Option Scan → Op → Step
-attempt_of m c (op.Fetch k) = attempt.Fetch k
-attempt_of m c (op.Insert k v) = attempt.Insert k
-attempt_of m c (op.Delete k) = attempt.Delete k
-attempt_of m c (op.Update k v) = attempt.Update k
+-- The attempt of an operation, where it makes one, by the scan in progress.
+abbrev pub attempt_of : Map → Option Scan → Op → Option Step
+attempt_of m c (op.Fetch k) = Some (attempt.Fetch k)
+attempt_of m c (op.Insert k v) = Some (attempt.Insert k)
+attempt_of m c (op.Delete k) = Some (attempt.Delete k)
+attempt_of m c (op.Update k v) = Some (attempt.Update k)
 attempt_of m c (op.Scan lo hi) = look_of m (Some (begun lo hi))
 attempt_of m c op.Go = look_of m c
-attempt_of m c _ = attempt.Fetch 0
+attempt_of m c _ = None
+
+-- The row of an attempt at one key says whether that key is present.
+abbrev pub IsRowAt : Map → Step → Row → Type 0
+IsRowAt m (attempt.Fetch k) r = r ≡ (if is_some (get m k) then row.FetchHit else row.FetchMiss)
+IsRowAt m (attempt.Insert k) r = r ≡ (if is_some (get m k) then row.FetchHit else row.Insert)
+IsRowAt m (attempt.Delete k) r = r ≡ (if is_some (get m k) then row.Delete else row.FetchMiss)
+IsRowAt m (attempt.Update k) r = r ≡ (if is_some (get m k) then row.Update else row.FetchMiss)
+IsRowAt m (attempt.Look n hi) r = Unit {0}
+
+-- The row of an operation is that of its attempt, where it makes one.
+abbrev pub IsRowOf : Map → Option Scan → Op → Row → Type 0
+IsRowOf m c o r = IfSome (attempt_of m c o) (λ x. IsRowAt m x r)
+
+-- The rows of the scan in progress, if there is one.
+abbrev pub rows_of : Option Scan → List (ℕ × ℕ)
+rows_of None = []
+rows_of (Some c) = c.rows
+
+-- What a granted attempt answers, that of a scan's step by the rows that the scan has. The value that an operation writes doesn't matter.
+abbrev pub reply_of : Map → List (ℕ × ℕ) → Step → Reply
+reply_of m rows (attempt.Fetch k) = (fetched m idle (get m k)).reply
+reply_of m rows (attempt.Insert k) = (inserted m idle k 0 (get m k)).reply
+reply_of m rows (attempt.Delete k) = (deleted m idle k (get m k)).reply
+reply_of m rows (attempt.Update k) = (updated m idle k 0 (get m k)).reply
+reply_of m rows (attempt.Look n hi) = (looked m idle (record { lo = 0; hi = hi; rows = rows }) n).reply
 
 -- What a granted step of a scan does, where there is a scan.
 abbrev pub look_effect : Map → Active → Option Scan → Effect
@@ -112,6 +102,11 @@ effect_of m a (op.Update k v) = updated m a k v (get m k)
 effect_of m a (op.Scan lo hi) = look_effect m a (Some (begun lo hi))
 effect_of m a op.Go = look_effect m a a.scan
 effect_of m a _ = effect reply.None m a
+
+-- The index after the end of a transaction that has made these changes.
+abbrev pub map_at_end : Map → Changes → Ending → Map
+map_at_end m cs ending.Commit = m
+map_at_end m cs ending.Abort = restore_all m cs
 
 -- The index with the newest of these changes taken back.
 abbrev pub map_back : Map → Changes → Map
@@ -193,7 +188,7 @@ pub record IsReserved (p : Protocol) (m : Map) (pins : ℕ → ℕ) (real : Lock
   -- the transaction that was taken out is that of the event
   pub itself : d.standing.txn ≡ d.event.txn
   -- the plan's row is that of the index
-  pub row : IsRowOf m d.event.op d.plan.row
+  pub row : IsRowOf m (active_of d.standing).scan d.event.op d.plan.row
   -- the transaction isn't in the list meanwhile
   pub apart : find nat_cmp d.event.txn (entries active.items) ≡ None
   -- the lock that the step keeps on the next name, if it keeps one, is held

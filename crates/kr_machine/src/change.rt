@@ -2,9 +2,11 @@
 ghost use Rattle.std.specs.Prelude.{◌≡◌, ℕ, ◌+◌, ◌<◌, ◌≤◌, OnOk, OnErr, vec_len, vec_capacity};
 ghost use Rattle.kr_model.specs.Map.{restore_all};
 ghost use Rattle.kr_txn.specs.Standings.{active_of};
-ghost use Rattle.kr_machine.specs.Pending.{IsAttempt, IsOfOneKey, IsRowOf, HasRoomIn, HasFirstRoom, effect_of, map_back, standing_back};
+ghost use Rattle.kr_machine.specs.Parts.{op_of_key, op_of_touch};
+ghost use Rattle.kr_machine.specs.Pending.{IsRowOf, HasRoomIn, HasFirstRoom, effect_of, map_at_end, map_back, standing_back};
 ghost use Rattle.kr_machine.specs.Pins.{changed_key, changes_of, taken_pins};
 
+use crate::parts::{Ending, KeyTouch, Touch};
 use crate::scans;
 use kr_index::{Memory, Ordered};
 use kr_model::{Op, Row};
@@ -47,63 +49,55 @@ pub(crate) fn unpin_change<I: Ordered>(index: &mut I, op: Op, row: Row)
     }
 }
 
-/// Does a granted operation on the index, by the row of its attempt, and notes the row that is read, or the change, whose
-/// pin stays.
+/// Does what is granted on the index, by the row of its attempt, and notes the row that is read, or the change, whose pin
+/// stays.
 pub(crate) fn perform<I: Ordered>(
     index: &mut I,
     standing: Standing,
     first_rows: Vec<(u64, u64)>,
-    op: Op,
+    touch: Touch,
     row: Row,
 ) -> Standing
-    requires attempt { IsAttempt op }
-    requires row { IsRowOf (I.map index.old) op row }
-    requires pins { (q : ℕ) → taken_pins op row q ≤ I.pins index.old q }
-    requires room { HasRoomIn standing op }
-    requires first_room { HasFirstRoom first_rows op }
-    ensures map { I.map index.new ≡ (effect_of (I.map index.old) (active_of standing) op).map }
-    ensures pins { (q : ℕ) → I.pins index.new q + taken_pins op row q + changes_of (active_of standing).changes q ≡ I.pins index.old q + changes_of (active_of result).changes q }
+    requires row { IsRowOf (I.map index.old) (active_of standing).scan (op_of_touch touch) row }
+    requires pins { (q : ℕ) → taken_pins (op_of_touch touch) row q ≤ I.pins index.old q }
+    requires room { HasRoomIn standing (op_of_touch touch) }
+    requires first_room { HasFirstRoom first_rows (op_of_touch touch) }
+    ensures map { I.map index.new ≡ (effect_of (I.map index.old) (active_of standing) (op_of_touch touch)).map }
+    ensures pins { (q : ℕ) → I.pins index.new q + taken_pins (op_of_touch touch) row q + changes_of (active_of standing).changes q ≡ I.pins index.old q + changes_of (active_of result).changes q }
     ensures txn { result.txn ≡ standing.txn }
-    ensures standing { active_of result ≡ (effect_of (I.map index.old) (active_of standing) op).standing }
+    ensures standing { active_of result ≡ (effect_of (I.map index.old) (active_of standing) (op_of_touch touch)).standing }
 {
-    match op {
-        Op::Scan(lo, hi) => {
+    match touch {
+        Touch::Scan(lo, hi) => {
             let rows = first_rows;
             scans::begin(index, standing, Scan { lo, hi, rows })
         }
-        Op::Go => scans::go_on(index, standing),
-        Op::Fetch(_)
-        | Op::Insert(_, _)
-        | Op::Delete(_)
-        | Op::Update(_, _)
-        | Op::Commit
-        | Op::Abort
-        | Op::Back => change(index, standing, op, row),
+        Touch::Go => scans::go_on(index, standing),
+        Touch::Key(touch) => change(index, standing, touch, row),
     }
 }
 
-/// The same of an operation that reads or changes one key. Where it changes none, the index isn't looked at.
-fn change<I: Ordered>(index: &mut I, standing: Standing, op: Op, row: Row) -> Standing
-    requires one_key { IsOfOneKey op }
-    requires row { IsRowOf (I.map index.old) op row }
-    requires pins { (q : ℕ) → taken_pins op row q ≤ I.pins index.old q }
+/// The same where one key is read or changed. Where none changes, the index isn't looked at.
+fn change<I: Ordered>(index: &mut I, standing: Standing, touch: KeyTouch, row: Row) -> Standing
+    requires row { IsRowOf (I.map index.old) (active_of standing).scan (op_of_key touch) row }
+    requires pins { (q : ℕ) → taken_pins (op_of_key touch) row q ≤ I.pins index.old q }
     requires room { vec_len standing.changes < vec_capacity standing.changes }
-    ensures map { I.map index.new ≡ (effect_of (I.map index.old) (active_of standing) op).map }
-    ensures pins { (q : ℕ) → I.pins index.new q + taken_pins op row q + changes_of (active_of standing).changes q ≡ I.pins index.old q + changes_of (active_of result).changes q }
+    ensures map { I.map index.new ≡ (effect_of (I.map index.old) (active_of standing) (op_of_key touch)).map }
+    ensures pins { (q : ℕ) → I.pins index.new q + taken_pins (op_of_key touch) row q + changes_of (active_of standing).changes q ≡ I.pins index.old q + changes_of (active_of result).changes q }
     ensures txn { result.txn ≡ standing.txn }
-    ensures standing { active_of result ≡ (effect_of (I.map index.old) (active_of standing) op).standing }
+    ensures standing { active_of result ≡ (effect_of (I.map index.old) (active_of standing) (op_of_key touch)).standing }
 {
     let mut standing = standing;
-    match (op, row) {
-        (Op::Insert(key, value), Row::Insert) => {
+    match (touch, row) {
+        (KeyTouch::Insert(key, value), Row::Insert) => {
             index.put(key, value);
             standing.changes.push_reserved((key, None));
         }
-        (Op::Delete(key), Row::Delete) => match index.take(key) {
+        (KeyTouch::Delete(key), Row::Delete) => match index.take(key) {
             Some(value) => standing.changes.push_reserved((key, Some(value))),
             None => index.unpin(key),
         },
-        (Op::Update(key, value), Row::Update) => match index.get(key) {
+        (KeyTouch::Update(key, value), Row::Update) => match index.get(key) {
             Some(old) => {
                 index.put(key, value);
                 standing.changes.push_reserved((key, Some(old)));
@@ -115,8 +109,20 @@ fn change<I: Ordered>(index: &mut I, standing: Standing, op: Op, row: Row) -> St
     standing
 }
 
+/// Lets the changes of a transaction stand or takes them back, as it ends, and gives up their pins.
+pub(crate) fn end<I: Ordered>(index: &mut I, standing: Standing, ending: Ending)
+    requires { (q : ℕ) → changes_of (active_of standing).changes q ≤ I.pins index.old q }
+    ensures map { I.map index.new ≡ map_at_end (I.map index.old) (active_of standing).changes ending }
+    ensures pins { (q : ℕ) → I.pins index.new q + changes_of (active_of standing).changes q ≡ I.pins index.old q }
+{
+    match ending {
+        Ending::Commit => settle(index, standing),
+        Ending::Abort => undo(index, standing),
+    }
+}
+
 /// Lets the changes of a transaction stand, and gives up their pins.
-pub(crate) fn settle<I: Ordered>(index: &mut I, standing: Standing)
+fn settle<I: Ordered>(index: &mut I, standing: Standing)
     requires { (q : ℕ) → changes_of (active_of standing).changes q ≤ I.pins index.old q }
     ensures map { I.map index.new ≡ I.map index.old }
     ensures pins { (q : ℕ) → I.pins index.new q + changes_of (active_of standing).changes q ≡ I.pins index.old q }
@@ -128,7 +134,7 @@ pub(crate) fn settle<I: Ordered>(index: &mut I, standing: Standing)
 }
 
 /// Takes the changes of a transaction back, newest first, and gives up their pins.
-pub(crate) fn undo<I: Ordered>(index: &mut I, standing: Standing)
+fn undo<I: Ordered>(index: &mut I, standing: Standing)
     requires { (q : ℕ) → changes_of (active_of standing).changes q ≤ I.pins index.old q }
     ensures map { I.map index.new ≡ restore_all (I.map index.old) (active_of standing).changes }
     ensures pins { (q : ℕ) → I.pins index.new q + changes_of (active_of standing).changes q ≡ I.pins index.old q }

@@ -7,6 +7,7 @@
 mod change;
 mod holds;
 mod machine;
+mod parts;
 mod pending;
 mod refusals;
 mod replies;

@@ -11,6 +11,7 @@ ghost use Rattle.kr_model.specs.Run.{is_granted};
 ghost use Rattle.kr_txn.specs.Logs.{MayNote};
 ghost use Rattle.kr_machine.specs.Logged.{MayKeep, twice};
 
+use crate::parts::Part;
 use crate::pending::{DueReply, Ready};
 use crate::stepper::Stepper;
 use kr_index::Ordered;
@@ -252,32 +253,18 @@ fn keep(
     ensures noted { OnOk result (MayNote log.new (record { txn = txn; op = op }) reply.now) }
     ensures end { IsTrue (takes_no_memory op) → IsTrue is_active → IsOk result }
 {
-    match op {
-        Op::Commit => {
+    match Part::of(op) {
+        Part::End(ending) => {
             if !is_active {
                 log.make_room(txn)?;
             }
             Ok(DueReply {
-                noted: Reply::Committed,
-                told: Reply::Committed,
+                noted: ending.reply(),
+                told: ending.reply(),
             })
         }
-        Op::Abort => {
-            if !is_active {
-                log.make_room(txn)?;
-            }
-            Ok(DueReply {
-                noted: Reply::Aborted,
-                told: Reply::Aborted,
-            })
-        }
-        Op::Back => Ok(undone(reply)),
-        Op::Fetch(_)
-        | Op::Scan(_, _)
-        | Op::Go
-        | Op::Insert(_, _)
-        | Op::Delete(_)
-        | Op::Update(_, _) => {
+        Part::Back => Ok(undone(reply)),
+        Part::Touch(_) => {
             log.make_room(txn)?;
             Ok(DueReply {
                 noted: reply.try_copy(alloc)?,

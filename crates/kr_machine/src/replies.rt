@@ -1,45 +1,34 @@
-//! What an operation attempts, and what it answers where it is granted.
-ghost use Rattle.std.specs.Prelude.{◌≡◌, ℕ, true, false, [], IfOk, option_map, option_copied};
-ghost use Rattle.kr_model.specs.declared.Name.{Name};
-ghost use Rattle.kr_model.specs.declared.Step.TheVariants as step_is;
+//! What is attempted, and what it answers where it is granted.
+ghost use Rattle.std.specs.Prelude.{◌≡◌, ℕ, true, IfOk, option_map, option_copied};
 ghost use Rattle.kr_model.specs.Map.{get};
 ghost use Rattle.kr_model.specs.State.{idle};
 ghost use Rattle.kr_model.specs.Step.{fetched, deleted, updated};
 ghost use Rattle.kr_model.specs.Run.{is_granted};
 ghost use Rattle.kr_txn.specs.Standings.{scan_of};
-ghost use Rattle.kr_machine.specs.Pending.{IsRowOf, IsEnd, end_reply, attempt_of, effect_of};
+ghost use Rattle.kr_machine.specs.Parts.{op_of_touch};
+ghost use Rattle.kr_machine.specs.Pending.{IsRowAt, attempt_of, reply_of, rows_of};
 
+use crate::parts::{KeyTouch, Touch};
 use crate::scans;
-use kr_index::{Memory, Name, Ordered};
-use kr_model::{Op, Reply, Row, Step};
+use kr_index::{Memory, Ordered};
+use kr_model::{Reply, Row, Step};
 use kr_txn::Scan;
 use std::alloc::Global;
 
-/// The attempt of an operation that makes one, by the scan in progress; of any other it doesn't matter.
-pub(crate) fn attempt_of<I: Ordered>(index: &I, scan: Option<&Scan>, op: Op) -> Step
-    ensures { result ≡ attempt_of (I.map index.now) (option_map scan_of (option_copied scan.entry)) op }
+/// What is attempted, by the scan in progress; `None` where it is to go on with a scan and none is in progress.
+pub(crate) fn attempt_of<I: Ordered>(index: &I, scan: Option<&Scan>, touch: Touch) -> Option<Step>
+    ensures { result ≡ attempt_of (I.map index.now) (option_map scan_of (option_copied scan.entry)) (op_of_touch touch) }
 {
-    match op {
-        Op::Fetch(key) => Step::Fetch(key),
-        Op::Insert(key, _) => Step::Insert(key),
-        Op::Delete(key) => Step::Delete(key),
-        Op::Update(key, _) => Step::Update(key),
-        Op::Scan(lo, hi) => Step::Look(index.at(lo), hi),
-        Op::Go => match scan {
-            Some(scan) => Step::Look(scans::name_to_look(index, scan), scan.hi),
-            None => Step::Fetch(0),
+    match touch {
+        Touch::Key(KeyTouch::Fetch(key)) => Some(Step::Fetch(key)),
+        Touch::Key(KeyTouch::Insert(key, _)) => Some(Step::Insert(key)),
+        Touch::Key(KeyTouch::Delete(key)) => Some(Step::Delete(key)),
+        Touch::Key(KeyTouch::Update(key, _)) => Some(Step::Update(key)),
+        Touch::Scan(lo, hi) => Some(Step::Look(index.at(lo), hi)),
+        Touch::Go => match scan {
+            Some(scan) => Some(Step::Look(scans::name_to_look(index, scan), scan.hi)),
+            None => None,
         },
-        Op::Commit | Op::Abort | Op::Back => Step::Fetch(0),
-    }
-}
-
-/// The name that an attempt looks at for a scan; `End` for any other attempt.
-fn looked_at(attempt: Step) -> Name
-    ensures { (name : Name) (hi : ℕ) → attempt ≡ step_is.Look name hi → result ≡ name }
-{
-    match attempt {
-        Step::Look(name, _) => name,
-        Step::Fetch(_) | Step::Insert(_) | Step::Delete(_) | Step::Update(_) => Name::End,
     }
 }
 
@@ -76,65 +65,39 @@ fn updated<I: Ordered>(index: &I, key: u64) -> Reply
     }
 }
 
-/// What an operation answers where it is granted, by the scan in progress, its attempt and the row of that; or `Memory`
-/// where the rows of a scan that ends can't be copied. The index is looked at for values alone.
+/// What an attempt answers where it is granted, by the scan in progress and the row; or `Memory` where the rows of a scan
+/// that ends can't be copied. The index is looked at for values alone.
 pub(crate) fn reply_to<I: Ordered>(
     alloc: Global,
     index: &I,
     scan: Option<&Scan>,
-    op: Op,
     attempt: Step,
     row: Row,
 ) -> Result<Reply, Memory>
-    requires attempt { attempt ≡ attempt_of (I.map index.now) (option_map scan_of (option_copied scan)) op }
-    requires row { IsRowOf (I.map index.now) op row }
-    ensures reply { IfOk result (λ r. r ≡ (effect_of (I.map index.now) (record { scan = option_map scan_of (option_copied scan.entry); changes = []; rolling = false }) op).reply) }
+    requires { IsRowAt (I.map index.now) attempt row }
+    ensures reply { IfOk result (λ r. r ≡ reply_of (I.map index.now) (rows_of (option_map scan_of (option_copied scan.entry))) attempt) }
     ensures granted { IfOk result (λ r. is_granted r ≡ true) }
 {
-    match op {
-        Op::Fetch(key) => match row {
+    match attempt {
+        Step::Fetch(key) => match row {
             Row::FetchMiss => Ok(Reply::None),
             _ => Ok(fetched(index, key)),
         },
-        Op::Insert(_, _) => match row {
+        Step::Insert(_) => match row {
             Row::Insert => Ok(Reply::Done),
             _ => Ok(Reply::Duplicate),
         },
-        Op::Delete(key) => match row {
+        Step::Delete(key) => match row {
             Row::FetchMiss => Ok(Reply::Absent),
             _ => Ok(deleted(index, key)),
         },
-        Op::Update(key, _) => match row {
+        Step::Update(key) => match row {
             Row::FetchMiss => Ok(Reply::Absent),
             _ => Ok(updated(index, key)),
         },
-        Op::Scan(_, hi) => scans::answer(alloc, index, looked_at(attempt), hi, &[]),
-        Op::Go => match scan {
-            Some(scan) => {
-                let name = looked_at(attempt);
-                scans::answer(alloc, index, name, scan.hi, scan.rows.as_slice())
-            }
-            None => Ok(Reply::None),
+        Step::Look(name, hi) => match scan {
+            Some(scan) => scans::answer(alloc, index, name, hi, scan.rows.as_slice()),
+            None => scans::answer(alloc, index, name, hi, &[]),
         },
-        Op::Commit | Op::Abort | Op::Back => Ok(Reply::None),
-    }
-}
-
-/// What an operation answers that ends its transaction.
-pub(crate) fn end_reply(op: Op) -> Reply
-    requires { IsEnd op }
-    ensures reply { result ≡ end_reply op }
-    ensures granted { is_granted result ≡ true }
-{
-    match op {
-        Op::Abort => Reply::Aborted,
-        Op::Commit
-        | Op::Fetch(_)
-        | Op::Insert(_, _)
-        | Op::Delete(_)
-        | Op::Update(_, _)
-        | Op::Scan(_, _)
-        | Op::Go
-        | Op::Back => Reply::Committed,
     }
 }

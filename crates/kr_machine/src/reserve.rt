@@ -1,5 +1,5 @@
 //! All memory of a granted step.
-ghost use Rattle.std.specs.Prelude.{None, Some, ◌≡◌, ◌≢◌, ℕ, ◌<◌, ◌≤◌, [], IfOk, IfErr, IsOk, OnErr, OnOk, true, false, unwrap_or, IfSome, ◌-◌, vec_len};
+ghost use Rattle.std.specs.Prelude.{None, Some, ◌≡◌, ◌≢◌, ℕ, ◌<◌, ◌≤◌, [], IfOk, IfErr, IsOk, OnErr, OnOk, true, false, unwrap_or, IfSome, ◌-◌, vec_len, option_map};
 ghost use Rattle.std.specs.Ordering.{nat_cmp};
 ghost use Rattle.std.specs.FinMap.{find};
 ghost use Rattle.kr_model.specs.Locks.{blockers, AreWithin};
@@ -10,8 +10,10 @@ ghost use Rattle.kr_model.specs.declared.Op.TheVariants as op_is;
 ghost use Rattle.kr_model.specs.declared.Reply.TheVariants as reply_is;
 ghost use Rattle.kr_plan.specs.Modes.{ArePlanModes};
 ghost use Rattle.kr_txn.specs.Standings.{entries};
-ghost use Rattle.kr_machine.specs.Pending.{IsMachine, IsAttempt, IsEnd, attempt_of, shown, shown_locks, shown_active};
+ghost use Rattle.kr_machine.specs.Parts.{ended_by, op_of_touch};
+ghost use Rattle.kr_machine.specs.Pending.{IsMachine, attempt_of, shown, shown_locks, shown_active};
 
+use crate::parts::{Ending, Touch};
 use crate::pending::Pending;
 use crate::{change, holds, room, scans};
 use kr_index::Ordered;
@@ -29,18 +31,17 @@ pub(crate) fn reserve<P: Protocol, I: Ordered, L: Holdings>(
     ended: &mut Ended,
     active: &mut Vec<Standing>,
     txn: Txn,
-    op: Op,
+    touch: Touch,
     plan: Plan,
 ) -> Result<Pending, Memory>
     requires at_rest { IsMachine (P.table protocol.now) (I.map index.old) (I.pins index.old) (L.locks locks.old) ended.old active.old None }
-    requires attempt { IsAttempt op }
-    requires allowed { refusal_of (P.table protocol.now) (shown None (I.map index.old) (L.locks locks.old) ended.old.numbers (entries active.old.items)) txn op ≡ None }
-    requires plan { plan ≡ plan_of (P.table protocol.now) (I.map index.old) (L.locks locks.old) txn (attempt_of (I.map index.old) (unwrap_or (find nat_cmp txn (entries active.old.items)) idle).scan op) }
+    requires allowed { refusal_of (P.table protocol.now) (shown None (I.map index.old) (L.locks locks.old) ended.old.numbers (entries active.old.items)) txn (op_of_touch touch) ≡ None }
+    requires plan { Some plan ≡ option_map (plan_of (P.table protocol.now) (I.map index.old) (L.locks locks.old) txn) (attempt_of (I.map index.old) (unwrap_or (find nat_cmp txn (entries active.old.items)) idle).scan (op_of_touch touch)) }
     requires modes { ArePlanModes (P.table protocol.now).count plan }
     requires granted { blockers (P.table protocol.now) (L.locks locks.old) txn (requests plan) ≡ [] }
     ensures map { I.map index.new ≡ I.map index.old }
     ensures ended { ended.new.numbers ≡ ended.old.numbers }
-    ensures event { IfOk result (λ p. p.event ≡ record { txn = txn; op = op }) }
+    ensures event { IfOk result (λ p. p.event ≡ record { txn = txn; op = op_of_touch touch }) }
     ensures seen_locks { IfOk result (λ p. shown_locks (Some p) (L.locks locks.new) ≡ L.locks locks.old) }
     ensures seen_active { IfOk result (λ p. shown_active (Some p) (entries active.new.items) ≡ entries active.old.items) }
     ensures ok { IfOk result (λ p. IsMachine (P.table protocol.now) (I.map index.new) (I.pins index.new) (L.locks locks.new) ended.new active.new (Some p)) }
@@ -49,8 +50,9 @@ pub(crate) fn reserve<P: Protocol, I: Ordered, L: Holdings>(
     ensures err { OnErr result (IsMachine (P.table protocol.now) (I.map index.new) (I.pins index.new) (L.locks locks.new) ended.new active.new None) }
 {
     room::make_room(ended, active)?;
-    let first_rows = scans::first_rows(*active.allocator(), op)?;
-    let (standing, was_active) = room::stand(active, txn, op)?;
+    let op = touch.op();
+    let first_rows = scans::first_rows(*active.allocator(), touch)?;
+    let (standing, was_active) = room::stand(active, txn, touch)?;
     if let Err(refused) = change::pin_change(index, op, plan.row) {
         room::put_down(active, txn, standing, was_active);
         return Err(refused);
@@ -88,13 +90,12 @@ pub(crate) fn reserve_end<P: Protocol, I: Ordered, L: Holdings>(
     ended: &mut Ended,
     active: &mut Vec<Standing>,
     txn: Txn,
-    op: Op,
+    ending: Ending,
 ) -> Result<Pending, Memory>
     requires at_rest { IsMachine (P.table protocol.now) (I.map index.now) (I.pins index.now) (L.locks locks.now) ended.old active.old None }
-    requires end { IsEnd op }
-    requires allowed { refusal_of (P.table protocol.now) (shown None (I.map index.now) (L.locks locks.now) ended.old.numbers (entries active.old.items)) txn op ≡ None }
+    requires allowed { refusal_of (P.table protocol.now) (shown None (I.map index.now) (L.locks locks.now) ended.old.numbers (entries active.old.items)) txn (ended_by ending) ≡ None }
     ensures ended { ended.new.numbers ≡ ended.old.numbers }
-    ensures event { IfOk result (λ p. p.event ≡ record { txn = txn; op = op }) }
+    ensures event { IfOk result (λ p. p.event ≡ record { txn = txn; op = ended_by ending }) }
     ensures seen_locks { IfOk result (λ p. shown_locks (Some p) (L.locks locks.now) ≡ L.locks locks.now) }
     ensures seen_active { IfOk result (λ p. shown_active (Some p) (entries active.new.items) ≡ entries active.old.items) }
     ensures ok { IfOk result (λ p. IsMachine (P.table protocol.now) (I.map index.now) (I.pins index.now) (L.locks locks.now) ended.new active.new (Some p)) }
@@ -102,6 +103,7 @@ pub(crate) fn reserve_end<P: Protocol, I: Ordered, L: Holdings>(
     ensures err { OnErr result (IsMachine (P.table protocol.now) (I.map index.now) (I.pins index.now) (L.locks locks.now) ended.new active.new None) }
     ensures active_ends { find nat_cmp txn (entries active.old.items) ≢ None → IsOk result }
 {
+    let op = ending.op();
     let event = Event { txn, op };
     let alloc = *active.allocator();
     match take_out(active, txn) {

@@ -5,11 +5,13 @@ ghost use Rattle.std.specs.FinMap.{find, put};
 ghost use Rattle.kr_model.specs.Locks.{add_once, release};
 ghost use Rattle.kr_model.specs.State.{idle, Active};
 ghost use Rattle.kr_txn.specs.Standings.{active_of, scan_of, entries, IsInOrder};
+ghost use Rattle.kr_machine.specs.Parts.{op_of_touch};
 ghost use Rattle.kr_machine.specs.Pending.{HasRoomIn};
 ghost use Rattle.kr_machine.specs.Pins.{changes_of, all_changes_of};
 
+use crate::parts::Touch;
 use kr_locks::Holdings;
-use kr_model::{Op, Txn};
+use kr_model::Txn;
 use kr_txn::{Ended, Memory, Scan, Standing, position, put_in, take_out};
 
 /// The scan in progress of a transaction, if there is one.
@@ -37,38 +39,32 @@ pub(crate) fn make_room(ended: &mut Ended, active: &mut Vec<Standing>) -> Result
     Ok(())
 }
 
-/// Takes room for what an operation adds to its transaction: a row of the scan in progress, or a change.
-fn make_room_in(standing: &mut Standing, op: Op) -> Result<(), Memory>
+/// Takes room for what is added to a transaction: a row of the scan in progress, or a change.
+fn make_room_in(standing: &mut Standing, touch: Touch) -> Result<(), Memory>
     ensures txn { standing.new.txn ≡ standing.old.txn }
     ensures same { active_of standing.new ≡ active_of standing.old }
-    ensures ok { OnOk result (HasRoomIn standing.new op) }
+    ensures ok { OnOk result (HasRoomIn standing.new (op_of_touch touch)) }
 {
-    match op {
-        Op::Scan(_, _) => {}
-        Op::Go => {
+    match touch {
+        Touch::Scan(_, _) => {}
+        Touch::Go => {
             if let Some(scan) = &mut standing.scan {
                 scan.rows.reserve(1)?;
             }
         }
-        Op::Fetch(_)
-        | Op::Insert(_, _)
-        | Op::Delete(_)
-        | Op::Update(_, _)
-        | Op::Commit
-        | Op::Abort
-        | Op::Back => {
+        Touch::Key(_) => {
             standing.changes.reserve(1)?;
         }
     }
     Ok(())
 }
 
-/// Takes a transaction out of the list, or makes a new one, with room for what an operation adds to it; and tells whether
+/// Takes a transaction out of the list, or makes a new one, with room for what is added to it; and tells whether
 /// it was there.
 pub(crate) fn stand(
     active: &mut Vec<Standing>,
     txn: Txn,
-    op: Op,
+    touch: Touch,
 ) -> Result<(Standing, bool), Memory>
     requires order { IsInOrder active.old.items }
     requires room { vec_len active.old < vec_capacity active.old }
@@ -82,14 +78,14 @@ pub(crate) fn stand(
     ensures txn { IfOk result (λ s. s.0.txn ≡ txn) }
     ensures fresh { IfOk result (λ s. active_of s.0 ≡ unwrap_or (find nat_cmp txn (entries active.old.items)) idle) }
     ensures noted { IfOk result (λ s. (q : ℕ) → all_changes_of (entries active.old.items) q ≡ all_changes_of (entries active.new.items) q + changes_of (active_of s.0).changes q) }
-    ensures change { IfOk result (λ s. HasRoomIn s.0 op) }
+    ensures change { IfOk result (λ s. HasRoomIn s.0 (op_of_touch touch)) }
     ensures err { OnErr result (entries active.new.items ≡ entries active.old.items) }
     ensures err_len { OnErr result (vec_len active.new ≡ vec_len active.old) }
 {
     match take_out(active, txn) {
         Some(standing) => {
             let mut standing = standing;
-            match make_room_in(&mut standing, op) {
+            match make_room_in(&mut standing, touch) {
                 Ok(()) => Ok((standing, true)),
                 Err(refused) => {
                     put_in(active, standing);
@@ -99,7 +95,7 @@ pub(crate) fn stand(
         }
         None => {
             let mut standing = Standing::new(*active.allocator(), txn);
-            make_room_in(&mut standing, op)?;
+            make_room_in(&mut standing, touch)?;
             Ok((standing, false))
         }
     }

@@ -4,10 +4,12 @@ ghost use Rattle.kr_model.specs.State.{idle};
 ghost use Rattle.kr_model.specs.Run.{is_granted};
 ghost use Rattle.kr_model.specs.Step.{Effect, looked, name_to_look};
 ghost use Rattle.kr_txn.specs.Standings.{active_of, scan_of};
+ghost use Rattle.kr_machine.specs.Parts.{op_of_touch};
 ghost use Rattle.kr_machine.specs.Pending.{HasFirstRoom, look_effect};
 
+use crate::parts::Touch;
 use kr_index::{Memory, Name, Ordered};
-use kr_model::{Op, Pairs, Reply};
+use kr_model::{Pairs, Reply};
 use kr_txn::{Scan, Standing};
 use std::alloc::Global;
 
@@ -48,13 +50,13 @@ pub(crate) fn answer<I: Ordered>(
     Ok(Reply::Rows(Pairs::from_vec(all)))
 }
 
-/// No rows, with room for the first where an operation begins a scan.
-pub(crate) fn first_rows(alloc: Global, op: Op) -> Result<Vec<(u64, u64)>, Memory>
-    ensures { IfOk result (λ rows. HasFirstRoom rows op) }
+/// No rows, with room for the first where a scan begins.
+pub(crate) fn first_rows(alloc: Global, touch: Touch) -> Result<Vec<(u64, u64)>, Memory>
+    ensures { IfOk result (λ rows. HasFirstRoom rows (op_of_touch touch)) }
 {
-    match op {
-        Op::Scan(_, _) => Ok(Vec::with_capacity(alloc, 1)?),
-        _ => Ok(Vec::new(alloc)),
+    match touch {
+        Touch::Scan(_, _) => Ok(Vec::with_capacity(alloc, 1)?),
+        Touch::Key(_) | Touch::Go => Ok(Vec::new(alloc)),
     }
 }
 

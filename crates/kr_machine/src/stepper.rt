@@ -4,8 +4,9 @@ ghost use Rattle.kr_model.specs.State.{start, active_of};
 ghost use Rattle.kr_model.specs.Step.{step, IsStep, takes_no_memory, refusal_of};
 ghost use Rattle.kr_model.specs.Run.{is_granted};
 ghost use Rattle.kr_model.specs.declared.Op.TheVariants as op_is;
-ghost use Rattle.kr_machine.specs.Pending.{IsAttempt, IsEnd};
+ghost use Rattle.kr_machine.specs.Parts.{ended_by, op_of_touch};
 
+use crate::parts::{Ending, Part, Touch};
 use crate::pending::{Pending, Ready};
 use crate::{change, holds, refusals, replies, reserve, room};
 use kr_index::Ordered;
@@ -87,14 +88,9 @@ impl<P: Protocol, I: Ordered, L: Holdings> Stepper<P, I, L> {
         requires { self.now.pending ≡ None }
         ensures { result ≡ (takes_no_memory op && is_some (active_of self.now.state txn)) }
     {
-        match op {
-            Op::Commit | Op::Abort | Op::Back => self.active(txn),
-            Op::Fetch(_)
-            | Op::Scan(_, _)
-            | Op::Go
-            | Op::Insert(_, _)
-            | Op::Delete(_)
-            | Op::Update(_, _) => false,
+        match Part::of(op) {
+            Part::End(_) | Part::Back => self.active(txn),
+            Part::Touch(_) => false,
         }
     }
 
@@ -137,37 +133,26 @@ impl<P: Protocol, I: Ordered, L: Holdings> Stepper<P, I, L> {
         ensures not_granted { IfErr result (λ r. is_granted r ≡ false) }
         ensures err { OnErr result (self.new ≡ self.old) }
     {
-        if let Some(refusal) = refusals::refusal(
-            &self.protocol,
-            &self.ended,
-            &self.active,
-            txn,
-            op,
-        ) {
+        let refusal = refusals::refusal(&self.protocol, &self.ended, &self.active, txn, op);
+        if let Some(refusal) = refusal {
             return Err(Reply::Refused(refusal));
         }
-        match op {
-            Op::Commit | Op::Abort => self.end(txn, op),
-            Op::Back => self.back(txn),
-            Op::Fetch(_)
-            | Op::Scan(_, _)
-            | Op::Go
-            | Op::Insert(_, _)
-            | Op::Delete(_)
-            | Op::Update(_, _) => self.attempt(txn, op),
+        match Part::of(op) {
+            Part::End(ending) => self.end(txn, ending),
+            Part::Back => self.back(txn),
+            Part::Touch(touch) => self.attempt(txn, touch),
         }
     }
 
-    /// The same for an operation that ends its transaction, where no refusal applies.
-    fn end(&mut self, txn: Txn, op: Op) -> Result<Ready, Reply>
-        requires end { IsEnd op }
+    /// The same for the end of a transaction, where no refusal applies.
+    fn end(&mut self, txn: Txn, ending: Ending) -> Result<Ready, Reply>
         requires at_rest { self.old.pending ≡ None }
-        requires allowed { refusal_of (P.table self.old.protocol) self.old.state txn op ≡ None }
-        ensures event { IfOk result (λ r. r.event ≡ record { txn = txn; op = op }) }
-        ensures reply { IfOk result (λ r. r.reply ≡ (step (P.table self.old.protocol) self.old.state txn op).0) }
+        requires allowed { refusal_of (P.table self.old.protocol) self.old.state txn (ended_by ending) ≡ None }
+        ensures event { IfOk result (λ r. r.event ≡ record { txn = txn; op = ended_by ending }) }
+        ensures reply { IfOk result (λ r. r.reply ≡ (step (P.table self.old.protocol) self.old.state txn (ended_by ending)).0) }
         ensures granted { IfOk result (λ r. is_granted r.reply ≡ true) }
-        ensures waits { OnOk result (self.new ≡ record { protocol = self.old.protocol; state = self.old.state; pending = Some (record { txn = txn; op = op }) }) }
-        ensures refusal { IfErr result (λ r. IsStep (P.table self.old.protocol) self.old.state txn op r self.old.state) }
+        ensures waits { OnOk result (self.new ≡ record { protocol = self.old.protocol; state = self.old.state; pending = Some (record { txn = txn; op = ended_by ending }) }) }
+        ensures refusal { IfErr result (λ r. IsStep (P.table self.old.protocol) self.old.state txn (ended_by ending) r self.old.state) }
         ensures not_granted { IfErr result (λ r. is_granted r ≡ false) }
         ensures err { OnErr result (self.new ≡ self.old) }
     {
@@ -178,14 +163,13 @@ impl<P: Protocol, I: Ordered, L: Holdings> Stepper<P, I, L> {
             &mut self.ended,
             &mut self.active,
             txn,
-            op,
+            ending,
         ) {
             Ok(pending) => {
+                let event = pending.event;
                 self.pending = Some(pending);
-                Ok(Ready {
-                    event: Event { txn, op },
-                    reply: replies::end_reply(op),
-                })
+                let reply = ending.reply();
+                Ok(Ready { event, reply })
             }
             Err(_) => Err(Reply::Refused(Refusal::Memory)),
         }
@@ -209,32 +193,32 @@ impl<P: Protocol, I: Ordered, L: Holdings> Stepper<P, I, L> {
             txn,
         ) {
             Some(pending) => {
+                let event = pending.event;
                 let left = pending.standing.changes.len() - 1;
                 self.pending = Some(pending);
-                Ok(Ready {
-                    event: Event { txn, op: Op::Back },
-                    reply: Reply::Undone(left as u64),
-                })
+                let reply = Reply::Undone(left as u64);
+                Ok(Ready { event, reply })
             }
             None => Err(Reply::Refused(Refusal::NothingLeft)),
         }
     }
 
-    /// The same for an operation that asks for locks, where no refusal applies.
-    fn attempt(&mut self, txn: Txn, op: Op) -> Result<Ready, Reply>
-        requires attempt { IsAttempt op }
+    /// The same for what asks for locks, where no refusal applies.
+    fn attempt(&mut self, txn: Txn, touch: Touch) -> Result<Ready, Reply>
         requires at_rest { self.old.pending ≡ None }
-        requires allowed { refusal_of (P.table self.old.protocol) self.old.state txn op ≡ None }
-        ensures event { IfOk result (λ r. r.event ≡ record { txn = txn; op = op }) }
-        ensures reply { IfOk result (λ r. r.reply ≡ (step (P.table self.old.protocol) self.old.state txn op).0) }
+        requires allowed { refusal_of (P.table self.old.protocol) self.old.state txn (op_of_touch touch) ≡ None }
+        ensures event { IfOk result (λ r. r.event ≡ record { txn = txn; op = op_of_touch touch }) }
+        ensures reply { IfOk result (λ r. r.reply ≡ (step (P.table self.old.protocol) self.old.state txn (op_of_touch touch)).0) }
         ensures granted { IfOk result (λ r. is_granted r.reply ≡ true) }
-        ensures waits { OnOk result (self.new ≡ record { protocol = self.old.protocol; state = self.old.state; pending = Some (record { txn = txn; op = op }) }) }
-        ensures refusal { IfErr result (λ r. IsStep (P.table self.old.protocol) self.old.state txn op r self.old.state) }
+        ensures waits { OnOk result (self.new ≡ record { protocol = self.old.protocol; state = self.old.state; pending = Some (record { txn = txn; op = op_of_touch touch }) }) }
+        ensures refusal { IfErr result (λ r. IsStep (P.table self.old.protocol) self.old.state txn (op_of_touch touch) r self.old.state) }
         ensures not_granted { IfErr result (λ r. is_granted r ≡ false) }
         ensures err { OnErr result (self.new ≡ self.old) }
     {
         let scan = room::scan_of(&self.active, txn);
-        let attempt = replies::attempt_of(&self.index, scan, op);
+        let Some(attempt) = replies::attempt_of(&self.index, scan, touch) else {
+            return Err(Reply::Refused(Refusal::NoScan));
+        };
         let plan = kr_plan::plan(&self.protocol, &self.index, &self.locks, txn, attempt);
         let alloc = *self.active.allocator();
         if !kr_plan::granted(&self.protocol, &self.locks, txn, &plan) {
@@ -243,7 +227,7 @@ impl<P: Protocol, I: Ordered, L: Holdings> Stepper<P, I, L> {
                 Err(_) => return Err(Reply::Refused(Refusal::Memory)),
             }
         }
-        let reply = match replies::reply_to(alloc, &self.index, scan, op, attempt, plan.row) {
+        let reply = match replies::reply_to(alloc, &self.index, scan, attempt, plan.row) {
             Ok(reply) => reply,
             Err(_) => return Err(Reply::Refused(Refusal::Memory)),
         };
@@ -254,15 +238,13 @@ impl<P: Protocol, I: Ordered, L: Holdings> Stepper<P, I, L> {
             &mut self.ended,
             &mut self.active,
             txn,
-            op,
+            touch,
             plan,
         ) {
             Ok(pending) => {
+                let event = pending.event;
                 self.pending = Some(pending);
-                Ok(Ready {
-                    event: Event { txn, op },
-                    reply,
-                })
+                Ok(Ready { event, reply })
             }
             Err(_) => Err(Reply::Refused(Refusal::Memory)),
         }
@@ -276,13 +258,12 @@ impl<P: Protocol, I: Ordered, L: Holdings> Stepper<P, I, L> {
         let Ready { event, reply: _ } = ready;
         if let Some(pending) = self.pending.take() {
             let Pending {
-                event: _,
                 plan,
                 current_was,
                 next_was,
                 standing,
                 was_active,
-                first_rows: _,
+                ..
             } = pending;
             change::unpin_change(&mut self.index, event.op, plan.row);
             holds::give_back(&mut self.locks, event.txn, plan.next, next_was);
@@ -298,37 +279,24 @@ impl<P: Protocol, I: Ordered, L: Holdings> Stepper<P, I, L> {
     {
         if let Some(pending) = self.pending.take() {
             let Pending {
-                event: _,
                 plan,
-                current_was: _,
-                next_was: _,
                 standing,
-                was_active: _,
                 first_rows,
+                ..
             } = pending;
-            match event.op {
-                Op::Commit => {
-                    change::settle(&mut self.index, standing);
+            match Part::of(event.op) {
+                Part::End(ending) => {
+                    change::end(&mut self.index, standing, ending);
                     room::leave(&mut self.locks, &mut self.ended, event.txn);
                 }
-                Op::Abort => {
-                    change::undo(&mut self.index, standing);
-                    room::leave(&mut self.locks, &mut self.ended, event.txn);
-                }
-                Op::Back => {
+                Part::Back => {
                     let left = change::take_back(&mut self.index, standing);
                     put_in(&mut self.active, left);
                 }
-                Op::Fetch(_)
-                | Op::Scan(_, _)
-                | Op::Go
-                | Op::Insert(_, _)
-                | Op::Delete(_)
-                | Op::Update(_, _) => {
-                    let op = event.op;
+                Part::Touch(touch) => {
                     let row = plan.row;
-                    let standing = change::perform(&mut self.index, standing, first_rows, op, row);
-                    put_in(&mut self.active, standing);
+                    let done = change::perform(&mut self.index, standing, first_rows, touch, row);
+                    put_in(&mut self.active, done);
                 }
             }
         }

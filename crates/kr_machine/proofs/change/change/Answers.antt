@@ -3,6 +3,7 @@ use Rattle.std.proofs.Common.{sym, ◌∙◌, ap}
 use Rattle.kr_model.specs.Map.{get}
 use Rattle.kr_model.specs.Step.{deleted}
 use Rattle.kr_txn.specs.Standings.{active_of}
+use Rattle.kr_machine.specs.Parts.{op_of_key}
 use Rattle.kr_machine.specs.Pending.{effect_of}
 use Rattle.kr_machine.proofs.Absent.{without_absent}
 use Rattle.kr_machine.proofs.change.change.Goals as goal
@@ -15,4 +16,4 @@ returns-in-None-clause-map g c =
     let key = c.in-Delete-Delete.key in
     let absent : get m key ≡ None = sym c.take.ensures.value ∙ c.in-None.is in
     c.unpin.ensures.map ∙ c.take.ensures.map ∙ without_absent m key absent
-    ∙ sym (ap (λ o. (effect_of m a o).map) c.in-Delete-Delete.is-0 ∙ ap (λ o. (deleted m a key o).map) absent)
+    ∙ sym (ap (λ x. (effect_of m a (op_of_key x)).map) c.in-Delete-Delete.is-0 ∙ ap (λ o. (deleted m a key o).map) absent)

@@ -7,8 +7,9 @@ use Rattle.kr_model.specs.State.{Active, idle}
 use Rattle.kr_model.specs.Step.{step}
 use Rattle.kr_txn.specs.Standings.{active_of, entries}
 use Rattle.kr_txn.proofs.Lists.{find-without, put_back, in_order-without}
+use Rattle.kr_machine.specs.Parts.{ended_by}
 use Rattle.kr_machine.specs.Pending.{after_op}
-use Rattle.kr_machine.specs.Pins.{changes_of, all_changes_of}
+use Rattle.kr_machine.specs.Pins.{changes_of, all_changes_of, taken_pins}
 use Rattle.kr_machine.proofs.Steps.{stepped_end}
 use Rattle.kr_machine.proofs.Pins.{noted-without}
 use Rattle.kr_model.specs.declared.Row.TheVariants.{FetchHit}
@@ -28,9 +29,9 @@ returns-in-Some-clause-ok g c =
     let es = entries c.args.active.now.items in
     let is_a : a ≡ unwrap_or (find nat_cmp c.args.txn es) idle = ap (λ o. unwrap_or o idle) c.in-Some.ensures.found in
     let seen = ap (λ xs. put nat_cmp c.args.txn a xs) c.take_out.ensures.rest ∙ put_back c.args.txn es rest.standing a (sym c.in-Some.ensures.found) in
-    let stepped = ap (λ (xs : List (ℕ × Active)). let o = step p (record { map = m; locks = h; ended = c.args.ended.now.numbers; active = xs }) c.args.txn c.args.op in o.1) seen
-    ∙ stepped_end p m h c.args.ended.now.numbers es c.args.txn a c.args.op c.requires.end c.requires.allowed is_a
-    ∙ ap (λ xs. after_op m h c.args.ended.now.numbers xs c.args.txn a c.args.op) (sym c.take_out.ensures.rest) in
+    let stepped = ap (λ (xs : List (ℕ × Active)). let o = step p (record { map = m; locks = h; ended = c.args.ended.now.numbers; active = xs }) c.args.txn (ended_by c.args.ending) in o.1) seen
+    ∙ stepped_end p m h c.args.ended.now.numbers es c.args.txn a c.args.ending c.requires.allowed is_a
+    ∙ ap (λ xs. after_op m h c.args.ended.now.numbers xs c.args.txn a (ended_by c.args.ending)) (sym c.take_out.ensures.rest) in
     let noted : (q : ℕ) → all_changes_of es q ≡ all_changes_of (entries c.take_out.new.list.items) q + changes_of a.changes q =
     λ q. noted-without c.args.txn es a q rest.standing (sym c.in-Some.ensures.found) ∙ ap (λ xs. all_changes_of xs q + changes_of a.changes q) (sym c.take_out.ensures.rest) in
     let order = subst (λ xs. IsTrue (is_sorted nat_cmp xs)) (sym c.take_out.ensures.rest) (in_order-without c.args.txn es rest.standing) in
@@ -43,12 +44,12 @@ returns-in-Some-clause-ok g c =
       has_pins = λ q.
           let x = rest.has_pins q in
           let y = noted q in
-          let z = end_pins c.args.op FetchHit c.requires.end q in
+          let z : taken_pins c.op-op.result FetchHit q ≡ 0 = rw c.op-op.ensures (end_pins c.args.ending FetchHit q) in
           omega (arith, x, y, z);
       reserved = record {
-        stepped = stepped;
+        stepped = rw c.op-op.ensures stepped;
         itself = c.in-Some.ensures.txn;
-        row = end_row m c.args.op FetchHit c.requires.end;
+        row = rw c.op-op.ensures (end_row m a.scan c.args.ending FetchHit);
         apart = rw c.take_out.ensures.rest (find-without c.args.txn es);
         next_held = tt;
         current_held = tt;
@@ -58,6 +59,6 @@ returns-in-Some-clause-ok g c =
         noted = λ q. ap (λ xs. all_changes_of xs q) seen ∙ noted q;
         room_ended = omega (arith, rest.room, c.in-Some.ensures.some);
         room_back = λ _. grind (arith, common_steps, c.in-Some.ensures.some, c.take_out.ensures.capacity);
-        room = room_end c.take_out.new.list c.in-Some.standing c.new.result c.args.op c.requires.end;
+        room = rw c.op-op.ensures (room_end c.take_out.new.list c.in-Some.standing c.new.result c.args.ending);
       };
     }
