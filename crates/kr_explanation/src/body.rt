@@ -30,30 +30,37 @@ pub fn body<P: Protocol>(
     let mut out = Vec::new(alloc);
     match cause.blame {
         Blame::Place { row, side } => {
-            void_sentences(alloc, protocol, &mut out, cases, row, side)?;
+            void_sentences(alloc, &mut out, cases, row, side)?;
             return Ok(out);
         }
-        Blame::Request { row, .. } => {
-            request_sentences(alloc, protocol, &mut out, cases, row)?;
-        }
-        Blame::Conversion { .. } => {
-            let covers = protected(alloc, cases, "and")?;
-            let steps = steps_of(alloc, cases)?;
-            out.push(format!(in alloc;
-                "Locks are tested and kept in the converted mode. This concerns {covers}, after {steps}."
-            )?)?;
-        }
-        Blame::Pair { held, .. } => {
-            let held = name_of(protocol, held);
-            let covers = protected(alloc, cases, "and")?;
-            let steps = steps_of(alloc, cases)?;
-            out.push(format!(in alloc;
-                "{held} is the lock after {steps}, and has to protect {covers}."
-            )?)?;
-        }
+        Blame::Request { row, .. } => request_sentences(alloc, protocol, &mut out, cases, row)?,
+        Blame::Conversion { .. } => out.push(conversion_sentence(alloc, cases)?)?,
+        Blame::Pair { held, .. } => out.push(pair_sentence(alloc, protocol, cases, held)?)?,
     }
     out.push(let_in_sentence(alloc, protocol, case)?)?;
     Ok(out)
+}
+
+/// Which locks a conversion weakens.
+fn conversion_sentence(alloc: Global, cases: &[FailedCase]) -> Result<String, Memory> {
+    let covers = protected(alloc, cases, "and")?;
+    let steps = steps_of(alloc, cases)?;
+    format!(in alloc;
+        "Locks are tested and kept in the converted mode. This concerns {covers}, after {steps}."
+    )
+}
+
+/// Which locks a mode beside this held one is let in by.
+fn pair_sentence<P: Protocol>(
+    alloc: Global,
+    protocol: &P,
+    cases: &[FailedCase],
+    held: Mode,
+) -> Result<String, Memory> {
+    let held = name_of(protocol, held);
+    let covers = protected(alloc, cases, "and")?;
+    let steps = steps_of(alloc, cases)?;
+    format!(in alloc; "{held} is the lock after {steps}, and has to protect {covers}.")
 }
 
 /// What the covers of the cases protect, in the order of the covers.
@@ -97,9 +104,8 @@ fn is_kept_out(cover: Cover, row: Row, side: Side) -> bool {
 }
 
 /// What no lock keeps out, and what isn't safe then.
-fn void_sentences<P: Protocol>(
+fn void_sentences(
     alloc: Global,
-    _protocol: &P,
     out: &mut Vec<String>,
     cases: &[FailedCase],
     row: Row,
@@ -141,16 +147,11 @@ fn request_sentences<P: Protocol>(
     cases: &[FailedCase],
     row: Row,
 ) -> Result<(), Memory> {
-    let count = protocol.count();
-    let mut owns = Vec::new(alloc);
-    for own in 0..=count {
-        if cases.iter().any(|case| own_next(case) == own) {
-            owns.push(own)?;
+    if matches!(row, Row::Insert | Row::Delete) {
+        let owns = owns_of(alloc, protocol.count(), cases)?;
+        if owns.len() <= protocol.count() as usize {
+            out.push(own_next_sentence(alloc, protocol, &owns)?)?;
         }
-    }
-    if matches!(row, Row::Insert | Row::Delete) && owns.len() <= count as usize {
-        let owns = modes_listed(alloc, protocol, &owns)?;
-        out.push(format!(in alloc; "This is so where the own mode on the next name is {owns}.")?)?;
     }
     let covers = protected(alloc, cases, "and")?;
     let split = if cases.iter().all(|case| case.case == Rule::Split) {
@@ -160,6 +161,27 @@ fn request_sentences<P: Protocol>(
     };
     out.push(format!(in alloc; "Its lock there has to protect {covers}{split}.")?)?;
     Ok(())
+}
+
+/// The own modes on the next name that the cases are taken at, of a protocol of so many modes, rising.
+fn owns_of(alloc: Global, count: Mode, cases: &[FailedCase]) -> Result<Vec<Mode>, Memory> {
+    let mut owns = Vec::new(alloc);
+    for own in 0..=count {
+        if cases.iter().any(|case| own_next(case) == own) {
+            owns.push(own)?;
+        }
+    }
+    Ok(owns)
+}
+
+/// For which own modes on the next name a request is too weak.
+fn own_next_sentence<P: Protocol>(
+    alloc: Global,
+    protocol: &P,
+    owns: &[Mode],
+) -> Result<String, Memory> {
+    let owns = modes_listed(alloc, protocol, owns)?;
+    format!(in alloc; "This is so where the own mode on the next name is {owns}.")
 }
 
 /// What the mode of a case lets in.
@@ -188,16 +210,37 @@ fn let_in<P: Protocol>(alloc: Global, protocol: &P, case: &FailedCase) -> Result
     let row = row_word(place.row);
     let asks = name_of(protocol, mode);
     let made = converted(protocol, place.own, mode);
-    let mut out = format!(in alloc; "{comer}, for which `{row}` asks {asks} on {side}")?;
-    if place.own != 0 {
-        let own = name_of(protocol, place.own);
-        let made = name_of(protocol, made);
-        write!(out, "; to one who holds {own} there already that is {made}")?;
+    let own = own_words(alloc, protocol, place.own, made)?;
+    let beside = beside_words(alloc, protocol, made, case.mode)?;
+    format!(in alloc; "{comer}, for which `{row}` asks {asks} on {side}{own}{beside}")
+}
+
+/// What the mode that is asked for makes of a mode that its asker holds already; nothing where no lock is held.
+fn own_words<P: Protocol>(
+    alloc: Global,
+    protocol: &P,
+    own: Mode,
+    made: Mode,
+) -> Result<String, Memory> {
+    if own == 0 {
+        return Ok(String::new(alloc));
     }
-    if case.mode != 0 {
-        let other = beside(protocol, made, case.mode);
-        let made = name_of(protocol, made);
-        write!(out, ", and {made} stands beside {other}")?;
+    let own = name_of(protocol, own);
+    let made = name_of(protocol, made);
+    format!(in alloc; "; to one who holds {own} there already that is {made}")
+}
+
+/// Beside which held mode that one stands; nothing where no lock is held.
+fn beside_words<P: Protocol>(
+    alloc: Global,
+    protocol: &P,
+    made: Mode,
+    held: Mode,
+) -> Result<String, Memory> {
+    if held == 0 {
+        return Ok(String::new(alloc));
     }
-    Ok(out)
+    let other = beside(protocol, made, held);
+    let made = name_of(protocol, made);
+    format!(in alloc; ", and {made} stands beside {other}")
 }

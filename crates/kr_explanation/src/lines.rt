@@ -2,6 +2,7 @@
 ghost use Rattle.std.specs.Prelude.{◌≡◌, ◌≢◌, All, IfOk, IsTrue};
 ghost use Rattle.kr_explanation.specs.Lines.{IsLineOf};
 
+use crate::spoken::{op_numbers, op_word};
 use kr_cases::Memory;
 use kr_model::{Event, Op};
 use kr_script::{Script, ScriptFault, read_script};
@@ -103,15 +104,12 @@ pub fn written(alloc: Global, opening: &[(u64, u64)], events: &[Event]) -> Resul
 /// Writes a step as an array.
 fn write_step(out: &mut String, event: Event) -> Result<(), Memory> {
     let txn = event.txn;
-    match event.op {
-        Op::Fetch(key) => write!(out, "[{txn},\"fetch\",{key}]"),
-        Op::Scan(lo, hi) => write!(out, "[{txn},\"scan\",{lo},{hi}]"),
-        Op::Go => write!(out, "[{txn},\"go\"]"),
-        Op::Insert(key, value) => write!(out, "[{txn},\"insert\",{key},{value}]"),
-        Op::Delete(key) => write!(out, "[{txn},\"delete\",{key}]"),
-        Op::Update(key, value) => write!(out, "[{txn},\"update\",{key},{value}]"),
-        Op::Commit => write!(out, "[{txn},\"commit\"]"),
-        Op::Abort => write!(out, "[{txn},\"abort\"]"),
-        Op::Back => write!(out, "[{txn},\"back\"]"),
+    let word = op_word(event.op);
+    write!(out, "[{txn},\"{word}\"")?;
+    for number in op_numbers(event.op) {
+        if let Some(number) = number {
+            write!(out, ",{number}")?;
+        }
     }
+    out.push_str("]")
 }

@@ -15,47 +15,69 @@ pub fn mend_sentence<P: Protocol>(
     protocol: &P,
     mend: &Mend,
 ) -> Result<String, Memory> {
+    let changes = mend.changes.as_slice();
+    let Some(change) = changes.first() else {
+        return Ok(String::new(alloc));
+    };
+    let modes = modes_of(alloc, changes)?;
+    let modes = modes_listed(alloc, protocol, &modes)?;
+    let what = change_words(alloc, protocol, change, modes.as_str())?;
     let tail = if mend.is_accepted {
         "the table is then accepted"
     } else {
         "these cases then hold"
     };
-    let modes = modes_of(alloc, mend.changes.as_slice())?;
-    let modes = modes_listed(alloc, protocol, &modes)?;
-    match mend.changes.as_slice().first() {
-        Some(
-            Change::Ask {
-                row,
-                side,
-                own_next,
-                span,
-                ..
-            },
-        ) => {
+    format!(in alloc; "{what}: {tail}")
+}
+
+/// A change, and all that differ from it in the mode alone.
+fn change_words<P: Protocol>(
+    alloc: Global,
+    protocol: &P,
+    change: &Change,
+    modes: &str,
+) -> Result<String, Memory> {
+    match change {
+        Change::Ask {
+            row,
+            side,
+            own_next,
+            span,
+            ..
+        } => {
             let owns = owns_words(alloc, protocol, *own_next)?;
-            let row = row_word(*row);
-            let side = side_words(*side);
-            let span = span_word(*span);
-            format!(in alloc; "let `{row}` ask {modes} ({span}) on {side}{owns}: {tail}")
+            ask_words(alloc, *row, *side, *span, modes, owns.as_str())
         }
-        Some(
-            Change::Convert {
-                held,
-                requested,
-                ..
-            },
-        ) => {
+        Change::Convert {
+            held,
+            requested,
+            ..
+        } => {
             let held = name_of(protocol, *held);
             let requested = name_of(protocol, *requested);
-            format!(in alloc; "let {held} held and {requested} asked make {modes}: {tail}")
+            format!(in alloc; "let {held} held and {requested} asked make {modes}")
         }
-        Some(Change::Apart { requested, held }) => {
+        Change::Apart { requested, held } => {
             let held = name_of(protocol, *held);
             let requested = name_of(protocol, *requested);
-            format!(in alloc; "let {requested} not stand beside {held}: {tail}")
+            format!(in alloc; "let {requested} not stand beside {held}")
         }
-        None => Ok(String::new(alloc)),
     }
+}
+
+/// A change of what a row asks for.
+fn ask_words(
+    alloc: Global,
+    row: Row,
+    side: Side,
+    span: Span,
+    modes: &str,
+    owns: &str,
+) -> Result<String, Memory> {
+    let row = row_word(row);
+    let side = side_words(side);
+    let span = span_word(span);
+    format!(in alloc; "let `{row}` ask {modes} ({span}) on {side}{owns}")
 }
 
 /// The modes of the changes, in their order.

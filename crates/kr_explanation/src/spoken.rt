@@ -6,19 +6,40 @@ use kr_model::{FailedCase, Mode, Name, Op, Origin, Reply, Txn};
 use kr_protocol::Protocol;
 use std::alloc::Global;
 
+/// The word of an operation.
+pub fn op_word(op: Op) -> &'static str {
+    match op {
+        Op::Fetch(_) => "fetch",
+        Op::Scan(_, _) => "scan",
+        Op::Go => "go",
+        Op::Insert(_, _) => "insert",
+        Op::Delete(_) => "delete",
+        Op::Update(_, _) => "update",
+        Op::Commit => "commit",
+        Op::Abort => "abort",
+        Op::Back => "back",
+    }
+}
+
+/// The numbers behind it.
+pub fn op_numbers(op: Op) -> [Option<u64>; 2] {
+    match op {
+        Op::Fetch(key) | Op::Delete(key) => [Some(key), None],
+        Op::Scan(lo, hi) => [Some(lo), Some(hi)],
+        Op::Insert(key, value) | Op::Update(key, value) => [Some(key), Some(value)],
+        Op::Go | Op::Commit | Op::Abort | Op::Back => [None, None],
+    }
+}
+
 /// An operation, by its word and its numbers.
 pub fn op_text(alloc: Global, op: Op) -> Result<String, Memory> {
-    match op {
-        Op::Fetch(key) => format!(in alloc; "fetch {key}"),
-        Op::Scan(lo, hi) => format!(in alloc; "scan {lo} {hi}"),
-        Op::Go => String::from_str(alloc, "go"),
-        Op::Insert(key, value) => format!(in alloc; "insert {key} {value}"),
-        Op::Delete(key) => format!(in alloc; "delete {key}"),
-        Op::Update(key, value) => format!(in alloc; "update {key} {value}"),
-        Op::Commit => String::from_str(alloc, "commit"),
-        Op::Abort => String::from_str(alloc, "abort"),
-        Op::Back => String::from_str(alloc, "back"),
+    let mut out = String::from_str(alloc, op_word(op))?;
+    for number in op_numbers(op) {
+        if let Some(number) = number {
+            write!(out, " {number}")?;
+        }
     }
+    Ok(out)
 }
 
 /// An answer, by its word and its numbers.

@@ -15,6 +15,7 @@ use crate::verdict::verdict_sentences;
 use crate::words::{cover_code, rule_code};
 use crate::wrap::{write_line, write_paragraph};
 use kr_cases::Memory;
+use kr_causes::Mend;
 use kr_model::FailedCase;
 use kr_protocol::Protocol;
 use std::alloc::Global;
@@ -138,21 +139,30 @@ fn write_mend<P: Protocol>(
     out: &mut String,
     explained: &Explained,
 ) -> Result<(), Memory> {
-    let Some(mend) = &explained.mend else {
-        write_line(out, "")?;
-        let text = format!(in alloc;
-            "No change was tried: changes are tried for the first {MOST_MENDED} causes."
-        )?;
-        return write_paragraph(out, text.as_str(), INDENT, 0);
-    };
-    if mend.changes.is_empty() {
-        return Ok(());
+    match &explained.mend {
+        None => write_untried(alloc, out),
+        Some(mend) if mend.changes.is_empty() => Ok(()),
+        Some(mend) => {
+            write_line(out, "\n   To mend it (each change tried by itself):")?;
+            let item = mend_item(alloc, protocol, mend)?;
+            write_paragraph(out, item.as_str(), INDENT + 2, 2)
+        }
     }
+}
+
+/// Writes that no change was tried.
+fn write_untried(alloc: Global, out: &mut String) -> Result<(), Memory> {
     write_line(out, "")?;
-    write_line(out, "   To mend it (each change tried by itself):")?;
+    let text = format!(in alloc;
+        "No change was tried: changes are tried for the first {MOST_MENDED} causes."
+    )?;
+    write_paragraph(out, text.as_str(), INDENT, 0)
+}
+
+/// The changes that mend a cause, as an item of a list.
+fn mend_item<P: Protocol>(alloc: Global, protocol: &P, mend: &Mend) -> Result<String, Memory> {
     let sentence = mend_sentence(alloc, protocol, mend)?;
-    let item = format!(in alloc; "- {sentence}")?;
-    write_paragraph(out, item.as_str(), INDENT + 2, 2)
+    format!(in alloc; "- {sentence}")
 }
 
 /// A case, by its code, its cover and the modes that it is taken at.

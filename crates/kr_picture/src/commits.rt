@@ -2,7 +2,7 @@
 
 use crate::run::{Difference, Run};
 use crate::words::{write_op, write_reply};
-use kr_model::{Program, Reply};
+use kr_model::{Op, Program, Reply, Txn};
 use std::alloc::AllocError;
 
 /// How many programs are shown, and how many operations of each, the last ones.
@@ -49,29 +49,48 @@ fn write_program(
     out: &mut String,
 ) -> Result<(), AllocError> {
     let operations = program.operations.as_slice();
-    let txn = program.txn;
     let hidden = operations.len().saturating_sub(OPERATIONS_SHOWN);
     if hidden > 0 || operations.is_empty() {
-        write!(
-            out,
-            "<tr><td>T{txn}</td><td colspan=\"3\">{hidden} operations, not shown</td></tr>\n"
-        )?;
+        write_hidden(program.txn, hidden, out)?;
     }
     let mut differed = differed;
     let mut number: u64 = 0;
     for (at, (op, given)) in operations.iter().enumerate() {
         number = number.saturating_add(1);
-        let here = difference.filter(|d| d.txn == txn && d.operation == number);
+        let here = difference.filter(|d| d.txn == program.txn && d.operation == number);
         if at >= hidden {
-            write!(out, "<tr><td>T{txn}</td><td>{number}. ")?;
-            write_op(out, *op)?;
-            out.push_str("</td><td>")?;
-            write_reply(out, given)?;
-            write_comparison(here.map(|d| d.serial), differed, out)?;
+            write_asked(program.txn, number, *op, out)?;
+            write_answers(given, here.map(|d| d.serial), differed, out)?;
         }
         differed = differed || here.is_some();
     }
     Ok(())
+}
+
+/// Writes that so many operations of a transaction aren't shown.
+fn write_hidden(txn: Txn, hidden: usize, out: &mut String) -> Result<(), AllocError> {
+    write!(
+        out,
+        "<tr><td>T{txn}</td><td colspan=\"3\">{hidden} operations, not shown</td></tr>\n"
+    )
+}
+
+/// Writes the operation of this number of a transaction, from 1.
+fn write_asked(txn: Txn, number: u64, op: Op, out: &mut String) -> Result<(), AllocError> {
+    write!(out, "<tr><td>T{txn}</td><td>{number}. ")?;
+    write_op(out, op)
+}
+
+/// Writes the answer that was given, and how it stands to that of a serial run.
+fn write_answers(
+    given: &Reply,
+    serial: Option<&Reply>,
+    differed: bool,
+    out: &mut String,
+) -> Result<(), AllocError> {
+    out.push_str("</td><td>")?;
+    write_reply(out, given)?;
+    write_comparison(serial, differed, out)
 }
 
 /// Writes how an answer stands to that of a serial run: the same up to the first difference, and not compared behind it.
