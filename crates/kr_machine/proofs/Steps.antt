@@ -35,8 +35,8 @@ use Rattle.kr_machine.specs.declared.parts.Ending.TheVariants as ending
 use Rattle.kr_machine.specs.declared.parts.KeyTouch.TheVariants as key
 use Rattle.kr_machine.specs.declared.parts.Touch.{Touch}
 use Rattle.kr_machine.specs.declared.parts.Touch.TheVariants as touch
-use Rattle.kr_machine.specs.Parts.{ended_by, end_reply, op_of_touch}
-use Rattle.kr_machine.specs.Pending.{IsRowAt, begun, refusal_in, look_of, attempt_of, rows_of, reply_of, look_effect, effect_of, map_back, changes_back, standing_back, after_op}
+use Rattle.kr_machine.specs.Parts.{ended_by, op_of_touch}
+use Rattle.kr_machine.specs.Pending.{IsRowAt, end_reply, begun, refusal_in, look_of, attempt_of, rows_of, reply_of, look_effect, effect_of, map_back, changes_back, standing_back, after_op}
 
 -- The refusal of an operation whose transaction has not ended, by whether updates are offered and how it stands.
 abbrev pub refused_by : Bool → Option Active → Bool → Op → Option Refusal
@@ -176,7 +176,7 @@ stepped_end p m h ended es t a ending.Abort allowed is_a =
     ap (λ (x : Outcome). x.1) (performs p (record { map = m; locks = h; ended = ended; active = es }) t op.Abort allowed) ∙ ap (λ b. after_op m h ended (filter (λ e. not (e.0 == t)) es) t b op.Abort) (sym is_a)
 
 -- What the end of a transaction answers.
-pub end_answers : (p : Protocol) (s : State) (t : ℕ) (x : Ending) → refusal_of p s t (ended_by x) ≡ None → end_reply x ≡ (step p s t (ended_by x)).0
+pub end_answers : (p : Protocol) (s : State) (t : ℕ) (x : Ending) → refusal_of p s t (ended_by x) ≡ None → end_reply (ended_by x) ≡ (step p s t (ended_by x)).0
 end_answers p s t ending.Commit allowed = sym (ap (λ (x : Outcome). x.0) (performs p s t op.Commit allowed))
 end_answers p s t ending.Abort allowed = sym (ap (λ (x : Outcome). x.0) (performs p s t op.Abort allowed))
 

@@ -30,6 +30,11 @@ use Rattle.kr_machine.specs.declared.parts.Ending.{Ending}
 use Rattle.kr_machine.specs.declared.parts.Ending.TheVariants as ending
 use Rattle.kr_machine.specs.declared.pending.Pending.{Pending}
 
+-- What an operation answers that ends its transaction.
+abbrev pub end_reply : Op → Reply
+end_reply op.Abort = reply.Aborted
+end_reply _ = reply.Committed
+
 -- The refusal of an operation whose transaction has not ended, may be active and doesn't roll back, by whether updates are offered, whether a scan is in progress, and whether no change is left.
 abbrev pub scan_refusal : Bool → Bool → Bool → Op → Option Refusal
 scan_refusal updates scanning unchanged o =

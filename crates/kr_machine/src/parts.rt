@@ -1,7 +1,8 @@
 //! What an operation comes to for a machine: an end, a change taken back, or something that asks for locks.
 ghost use Rattle.std.specs.Prelude.{◌≡◌, true};
 ghost use Rattle.kr_model.specs.Run.{is_granted};
-ghost use Rattle.kr_machine.specs.Parts.{ended_by, end_reply, op_of_key, op_of_touch, op_of};
+ghost use Rattle.kr_machine.specs.Parts.{ended_by, op_of_key, op_of_touch, op_of};
+ghost use Rattle.kr_machine.specs.Pending.{end_reply};
 
 use kr_model::{Op, Reply};
 
@@ -27,7 +28,7 @@ impl Ending {
 
     /// What that operation answers.
     pub(crate) fn reply(self) -> Reply
-        ensures reply { result ≡ end_reply self }
+        ensures reply { result ≡ end_reply (ended_by self) }
         ensures granted { is_granted result ≡ true }
     {
         match self {
