@@ -114,20 +114,45 @@ fn mark(run: &Run, at: usize) -> &'static str {
     }
 }
 
+/// Attempts a step, and answers its line, of this number and with this mark.
+fn step_line<P: Protocol>(
+    alloc: Global,
+    machine: &mut Machine<&P, Tree, Buckets>,
+    protocol: &P,
+    columns: &Columns,
+    number: usize,
+    event: Event,
+    mark: &str,
+) -> Result<Line, Memory>
+    requires { machine.old.pending ≡ None }
+    ensures { machine.new.pending ≡ None }
+{
+    let reply = machine.step(event.txn, event.op);
+    let held = machine.locks()?;
+    let locks = locks_text(alloc, protocol, &held)?;
+    columns.line(alloc, number, event, &reply, locks, mark)
+}
+
 /// The lines of the table, the first of them above the steps.
 fn lines_of<P: Protocol>(alloc: Global, protocol: &P, run: &Run) -> Result<Vec<Line>, Memory> {
     let events = run.script.events.as_slice();
     let columns = Columns::of(alloc, events)?;
-    let index = Tree::from_pairs(alloc, run.script.opening.as_slice())?;
-    let mut machine = Machine::new(alloc, protocol, index, Buckets::new(alloc));
     let mut lines = Vec::new(alloc);
     lines.push(columns.head(alloc)?)?;
+    let index = Tree::from_pairs(alloc, run.script.opening.as_slice())?;
+    let mut machine = Machine::new(alloc, protocol, index, Buckets::new(alloc));
     for (at, event) in events.iter().enumerate() {
-        let reply = machine.step(event.txn, event.op);
-        let held = machine.locks()?;
-        let locks = locks_text(alloc, protocol, &held)?;
-        let number = lines.len();
-        lines.push(columns.line(alloc, number, *event, &reply, locks, mark(run, at))?)?;
+        let number = at.saturating_add(1);
+        let mark = mark(run, at);
+        lines.push(step_line(
+            alloc,
+            &mut machine,
+            protocol,
+            &columns,
+            number,
+            *event,
+            mark,
+        )?)?;
     }
     Ok(lines)
 }

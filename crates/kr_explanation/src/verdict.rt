@@ -4,7 +4,7 @@ use crate::orders::{OtherOrders, orders};
 use crate::run::Run;
 use crate::spoken::{answer_text, op_text, txns_text};
 use kr_cases::Memory;
-use kr_model::{Op, Program, Txn};
+use kr_model::{Op, Program, Reply, Txn};
 use kr_protocol::Protocol;
 use kr_serial::{Ran, Verdict, judge, run_any};
 use std::alloc::Global;
@@ -34,6 +34,16 @@ fn committed(alloc: Global, programs: &[Program]) -> Result<Vec<Txn>, Memory> {
     Ok(txns)
 }
 
+/// An operation of a program that the serial run answers otherwise.
+#[derive(Clone, Copy)]
+struct Difference<'a> {
+    txn: Txn,
+    /// Its number in the program, from 1.
+    operation: u64,
+    given: &'a Reply,
+    serial: &'a Reply,
+}
+
 /// Which answer differs, and whether another order would give all of them.
 pub fn verdict_sentences<P: Protocol>(
     alloc: Global,
@@ -42,32 +52,65 @@ pub fn verdict_sentences<P: Protocol>(
 ) -> Result<Vec<String>, Memory> {
     let opening = run.script.opening.as_slice();
     let ran = run_any(alloc, protocol, opening, run.script.events.as_slice())?;
+    match &judge(alloc, &ran)? {
+        Verdict::Serial => Ok(Vec::new(alloc)),
+        Verdict::NotSerial {
+            txn,
+            operation,
+            given,
+            serial,
+        } => {
+            let difference = Difference {
+                txn: *txn,
+                operation: *operation,
+                given,
+                serial,
+            };
+            difference_sentences(alloc, &ran, difference)
+        }
+    }
+}
+
+/// The same where an answer differs.
+fn difference_sentences(
+    alloc: Global,
+    ran: &Ran,
+    difference: Difference,
+) -> Result<Vec<String>, Memory> {
     let mut out = Vec::new(alloc);
-    if let Verdict::NotSerial {
+    let order = committed(alloc, ran.programs.as_slice())?;
+    out.push(difference_sentence(alloc, ran, difference, &order)?)?;
+    if order.len() > 1 {
+        out.push(orders_sentence(alloc, ran)?)?;
+    }
+    Ok(out)
+}
+
+/// Which answer differs, where the transactions committed in this order.
+fn difference_sentence(
+    alloc: Global,
+    ran: &Ran,
+    difference: Difference,
+    order: &[Txn],
+) -> Result<String, Memory> {
+    let Difference {
         txn,
         operation,
         given,
         serial,
-    } = judge(alloc, &ran)?
-    {
-        let op = operation_of(ran.programs.as_slice(), txn, operation);
-        let op = op_text(alloc, op)?;
-        let given = answer_text(alloc, &given)?;
-        let serial = answer_text(alloc, &serial)?;
-        let order = committed(alloc, ran.programs.as_slice())?;
-        if order.len() == 1 {
-            out.push(format!(in alloc;
-                "Not serial: T{txn} alone commits, and its operation {operation}, {op}, was answered {given}. Run alone it is answered {serial}."
-            )?)?;
-        } else {
-            let order = txns_text(alloc, &order)?;
-            out.push(format!(in alloc;
-                "Not serial: operation {operation} of T{txn}, {op}, was answered {given}. Run one after another in the order of the commits ({order}) it is answered {serial}."
-            )?)?;
-            out.push(orders_sentence(alloc, &ran)?)?;
-        }
+    } = difference;
+    let op = op_text(alloc, operation_of(ran.programs.as_slice(), txn, operation))?;
+    let given = answer_text(alloc, given)?;
+    let serial = answer_text(alloc, serial)?;
+    if order.len() == 1 {
+        return format!(in alloc;
+            "Not serial: T{txn} alone commits, and its operation {operation}, {op}, was answered {given}. Run alone it is answered {serial}."
+        );
     }
-    Ok(out)
+    let order = txns_text(alloc, order)?;
+    format!(in alloc;
+        "Not serial: operation {operation} of T{txn}, {op}, was answered {given}. Run one after another in the order of the commits ({order}) it is answered {serial}."
+    )
 }
 
 /// Whether another order of the committed programs gives the answers of the run.

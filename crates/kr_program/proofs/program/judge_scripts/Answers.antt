@@ -7,5 +7,5 @@ returns-in-Ok-clause-reports g c = c.in-Ok.ensures.ok
 pub ending_for-requires : goal.ending_for-requires
 ending_for-requires g c = rw c.in-Err-Judge.field-0-is at c.in-Err-Judge.ensures.err
 
-pub returns-clause-err : goal.returns-clause-err
-returns-clause-err g c = c.ending_for.ensures.ends
+pub returns-in-Err-Judge-clause-err : goal.returns-in-Err-Judge-clause-err
+returns-in-Err-Judge-clause-err g c = c.ending_for.ensures.ends
