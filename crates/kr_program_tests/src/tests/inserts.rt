@@ -1,5 +1,5 @@
 //! Fetches, inserts and commits.
-use super::stories::{STORY, Story, each_reports};
+use super::stories::{STORY, Story, each_reports, holds};
 use std::alloc::{AllocError, Global};
 use std::process::Abort;
 use std::sync::Wait;
@@ -63,6 +63,24 @@ fn fetched_by_64(alloc: Global, first: u8) -> Result<Fetched, AllocError> {
     })
 }
 
+/// A run of these steps, and what the report of it tells.
+fn story_of<'a>(
+    name: &'a str,
+    steps: &'a str,
+    replies: &'a str,
+    locks: &'a str,
+    unfinished: &'a str,
+) -> Story<'a> {
+    Story {
+        name,
+        steps,
+        replies,
+        locks,
+        unfinished,
+        ..STORY
+    }
+}
+
 /// Compares the report of 64 transactions that fetch 10, numbered from the first on, with these steps and replies before them and
 /// after them; one more is refused.
 fn one_too_many<R: std::rt::Files + AllocGlobal + Threads + Wait + Sync + Abort>(
@@ -84,15 +102,16 @@ where
     let replies = format!(in alloc; "[{before}{}{after}]", all.replies)?;
     let locks = format!(in alloc; "[{}]", all.locks)?;
     let unfinished = format!(in alloc; "[{}]", all.unfinished)?;
-    let story = Story {
-        name,
-        steps: steps.as_str(),
-        replies: replies.as_str(),
-        locks: locks.as_str(),
-        unfinished: unfinished.as_str(),
-        ..STORY
-    };
-    each_reports(rt, [story].as_slice())
+    holds(
+        rt,
+        &story_of(
+            name,
+            steps.as_str(),
+            replies.as_str(),
+            locks.as_str(),
+            unfinished.as_str(),
+        ),
+    )
 }
 
 #[test]

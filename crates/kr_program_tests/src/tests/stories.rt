@@ -65,6 +65,17 @@ fn report_of(alloc: Global, story: &Story) -> Result<String, AllocError> {
     )
 }
 
+/// A run by these words of this script that leaves this report.
+fn row_of<'a>(name: &'a str, words: &'a [&'a str], script: &'a str, out: &'a str) -> Row<'a> {
+    Row {
+        name,
+        words,
+        script,
+        out,
+        ..RUN
+    }
+}
+
 /// Runs a script as its story says, and compares the report.
 fn reports<R: std::rt::Files + AllocGlobal + Threads + Wait + Sync + Abort>(
     rt: &R,
@@ -77,14 +88,15 @@ where
     let script = script_of(rt.alloc(), story)?;
     let report = report_of(rt.alloc(), story)?;
     let words = ["run", story.under, "s"];
-    let row = Row {
-        name: story.name,
-        words: words.as_slice(),
-        script: script.as_str(),
-        out: report.as_str(),
-        ..RUN
-    };
-    leaves(rt, &row)
+    leaves(
+        rt,
+        &row_of(
+            story.name,
+            words.as_slice(),
+            script.as_str(),
+            report.as_str(),
+        ),
+    )
 }
 
 /// Runs a script under each of the bundled tables: it is serial under each, and has the same replies at each index with each lock
@@ -93,6 +105,19 @@ fn serial_and_agreed<R: AllocGlobal + Abort>(rt: &R, story: &Story) -> Result<()
     let script = script_of(rt.alloc(), story)?;
     serial_under_each(rt, script.as_str())?;
     agree_under_each(rt, script.as_str())
+}
+
+/// Both of a story.
+pub fn holds<R: std::rt::Files + AllocGlobal + Threads + Wait + Sync + Abort>(
+    rt: &R,
+    story: &Story,
+) -> Result<(), Fail>
+where
+    R::File: Send + Sync,
+    R::Dir: Send + Sync,
+{
+    serial_and_agreed(rt, story)?;
+    reports(rt, story)
 }
 
 /// Both of each story.
@@ -105,8 +130,7 @@ where
     R::Dir: Send + Sync,
 {
     for story in stories {
-        serial_and_agreed(rt, story)?;
-        reports(rt, story)?;
+        holds(rt, story)?;
     }
     Ok(())
 }
