@@ -8,8 +8,9 @@ ghost use Rattle.kr_cases.specs.Holes.{first_open, AreFirst, AreHoles};
 use kr_model::{Cover, Mode, Place, Row, Side};
 use kr_protocol::Protocol;
 
-/// What no other transaction may be granted beside a lock that has the cover, in order.
-fn must_conflict<P: Protocol>(protocol: &P, cover: Cover) -> &'static [(Row, Side)]
+/// What a lock that has the cover must conflict with, in order: no other transaction may be granted it. What an update asks
+/// for is there exactly where the protocol offers updates.
+pub fn must_conflict<P: Protocol>(protocol: &P, cover: Cover) -> &'static [(Row, Side)]
     ensures { result.now ≡ must_conflict (P.table protocol.now) cover }
 {
     let updates = protocol.updates();

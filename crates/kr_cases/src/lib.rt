@@ -7,4 +7,5 @@ mod holes;
 mod rules;
 
 pub use checker::{Cause, Checked, Rejected, cases, check};
+pub use holes::must_conflict;
 pub use kr_model::{FailedCase, Memory};

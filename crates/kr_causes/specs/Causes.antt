@@ -1,10 +1,24 @@
 -- Failed cases that are shared out to causes.
-use Rattle.std.specs.Prelude.{◌<◌, List, All, length, map}
+use Rattle.std.specs.Prelude.{ℕ, ◌<◌, List, All, length, map}
 use Rattle.std.specs.List.{flat_map}
 use Rattle.std.specs.List.Sorted.{IsPermutation}
 use Rattle.kr_model.specs.declared.FailedCase.{FailedCase}
+use Rattle.kr_model.specs.declared.Origin.{Origin}
+use Rattle.kr_model.specs.declared.Origin.TheVariants as origin
+use Rattle.kr_model.specs.declared.Rule.{Rule}
+use Rattle.kr_model.specs.declared.Rule.TheVariants as rule
 use Rattle.kr_causes.specs.declared.cause.Cause.{Cause}
 use Rattle.kr_causes.specs.declared.cause.Suspect.{Suspect}
+
+-- The own mode on the next name with which the lock of a case of this rule was taken, and 0 where its row doesn't go by it.
+abbrev pub own_next_in : Rule → Origin → ℕ
+own_next_in r (origin.Insert n o) = n
+own_next_in rule.Delete (origin.Own o) = o
+own_next_in r x = 0
+
+-- The same of a failed case.
+abbrev pub own_next : FailedCase → ℕ
+own_next f = own_next_in f.case f.from
 
 -- The cases of all causes, one cause after another.
 abbrev pub all_cases : List Cause → List FailedCase

@@ -12,6 +12,7 @@ pub use blame::Blame;
 pub use cause::{Cause, causes};
 pub use change::Change;
 pub use changed::Changed;
-pub use kr_cases::Memory;
+pub use kr_cases::{Memory, must_conflict};
 pub use kr_model::{FailedCase, Mode, Row, Side, Span};
 pub use mend::{Mend, mends};
+pub use reasons::own_next;

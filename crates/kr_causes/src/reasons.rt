@@ -1,7 +1,9 @@
 //! What may be to blame for one failed case.
-ghost use Rattle.std.specs.Prelude.{◌≤◌};
+ghost use Rattle.std.specs.Prelude.{◌≡◌, ◌≤◌};
+ghost use Rattle.kr_causes.specs.Causes.{own_next};
 
 use crate::blame::Blame;
+use kr_cases::must_conflict;
 use kr_model::{Cover, FailedCase, Mode, Origin, Place, Row, Rule, Side, Span};
 use kr_protocol::Protocol;
 
@@ -24,47 +26,6 @@ impl Reasons {
             first,
             others: [None; 3],
         }
-    }
-}
-
-/// The places that locks have to conflict with, in the order in which they are blamed.
-const PLACES: [(Row, Side); 8] = [
-    (Row::FetchHit, Side::Current),
-    (Row::FetchMiss, Side::Next),
-    (Row::ScanKey, Side::Current),
-    (Row::ScanStop, Side::Next),
-    (Row::Insert, Side::Next),
-    (Row::Delete, Side::Current),
-    (Row::Delete, Side::Next),
-    (Row::Update, Side::Current),
-];
-
-/// Whether a lock that has the cover has to conflict with what the row asks for at the side.
-fn must_conflict<P: Protocol>(protocol: &P, cover: Cover, row: Row, side: Side) -> bool {
-    match (row, side) {
-        (Row::FetchHit, Side::Current) => {
-            matches!(cover, Cover::InsertedKey | Cover::UpdatedKey)
-        }
-        (Row::FetchMiss | Row::ScanStop, Side::Next) => {
-            matches!(cover, Cover::InsertedKey | Cover::DeletedGap)
-        }
-        (Row::ScanKey, Side::Current) => {
-            matches!(
-                cover,
-                Cover::InsertedKey | Cover::DeletedGap | Cover::UpdatedKey
-            )
-        }
-        (Row::Insert, Side::Next) => matches!(cover, Cover::ReadGap | Cover::DeletedGap),
-        (Row::Delete, Side::Current) => true,
-        (Row::Delete, Side::Next) => matches!(cover, Cover::InsertedKey | Cover::DeletedGap),
-        (Row::Update, Side::Current) => {
-            protocol.updates()
-                && matches!(
-                    cover,
-                    Cover::ReadKey | Cover::InsertedKey | Cover::UpdatedKey
-                )
-        }
-        _ => false,
     }
 }
 
@@ -114,9 +75,12 @@ fn is_void<P: Protocol>(protocol: &P, row: Row, side: Side) -> bool {
 
 /// The first place that no lock conflicts with, of those that the cover has to conflict with.
 fn void_place<P: Protocol>(protocol: &P, cover: Cover) -> Option<Blame> {
-    for (row, side) in PLACES {
-        if must_conflict(protocol, cover, row, side) && is_void(protocol, row, side) {
-            return Some(Blame::Place { row, side });
+    for (row, side) in must_conflict(protocol, cover) {
+        if is_void(protocol, *row, *side) {
+            return Some(Blame::Place {
+                row: *row,
+                side: *side,
+            });
         }
     }
     None
@@ -140,8 +104,8 @@ fn conflicts<P: Protocol>(protocol: &P, held: Mode, row: Row, side: Side) -> boo
 
 /// Whether a lock in a mode leaves no place open of those that the cover has to conflict with.
 fn serves<P: Protocol>(protocol: &P, cover: Cover, held: Mode) -> bool {
-    for (row, side) in PLACES {
-        if must_conflict(protocol, cover, row, side) && !conflicts(protocol, held, row, side) {
+    for (row, side) in must_conflict(protocol, cover) {
+        if !conflicts(protocol, held, *row, *side) {
             return false;
         }
     }
@@ -163,11 +127,13 @@ fn taken_at(rule: Rule) -> (Row, Side) {
 }
 
 /// The own mode on the next name with which the lock of a case was taken, and 0 where the row doesn't go by it.
-pub(crate) fn own_next(case: &FailedCase) -> Mode {
-    match case.from {
-        Origin::Insert { own_next, .. } => own_next,
-        Origin::Own(own) if case.case == Rule::Delete => own,
-        Origin::Own(_) | Origin::Conversion { .. } => 0,
+pub fn own_next(case: &FailedCase) -> Mode
+    ensures { result ≡ own_next case.now }
+{
+    match (case.from, case.case) {
+        (Origin::Insert { own_next, .. }, _) => own_next,
+        (Origin::Own(own), Rule::Delete) => own,
+        _ => 0,
     }
 }
 

@@ -24,6 +24,27 @@ insert = { current = [{ mode = "X", span = "commit" }], next = [{ mode = "X", sp
 delete = { current = [{ mode = "X", span = "instant" }], next = [{ mode = "X", span = "commit" }] }
 "#;
 
+/// `@kvl`, where SIX held and IX asked make IS: it is rejected, and no run of its cause is known.
+const NO_RUN: &str = r#"format = 1
+modes = ["IS", "IX", "S", "SIX", "X"]
+compatible = { IS = ["IS", "IX", "S", "SIX"], IX = ["IS", "IX"], S = ["IS", "S"], SIX = ["IS"], X = [] }
+
+[convert]
+IS = { IS = "IS", IX = "IX", S = "S", SIX = "SIX", X = "X" }
+IX = { IS = "IX", IX = "IX", S = "SIX", SIX = "SIX", X = "X" }
+S = { IS = "S", IX = "SIX", S = "S", SIX = "SIX", X = "X" }
+SIX = { IS = "SIX", IX = "IS", S = "SIX", SIX = "SIX", X = "X" }
+X = { IS = "X", IX = "X", S = "X", SIX = "X", X = "X" }
+
+[rules]
+fetch-hit = { current = [{ mode = "S", span = "commit" }] }
+fetch-miss = { next = [{ mode = "S", span = "commit" }] }
+scan-key = { current = [{ mode = "S", span = "commit" }] }
+scan-stop = { next = [{ mode = "S", span = "commit" }] }
+insert = { current = [{ own = ["S", "SIX", "X"], mode = "X", span = "commit" }, { mode = "IX", span = "commit" }], next = [{ mode = "IX", span = "instant" }] }
+delete = { current = [{ mode = "X", span = "instant" }], next = [{ mode = "X", span = "commit" }] }
+"#;
+
 /// What the program leaves, called with these words.
 fn left_by<R: std::rt::Files + AllocGlobal>(
     rt: &R,

@@ -5,8 +5,8 @@ use crate::lists::{listed, modes_listed, put_once};
 use crate::title::beside;
 use crate::words::{comer_words, cover_words, row_word, rule_step, side_words};
 use kr_cases::Memory;
-use kr_causes::{Blame, Cause};
-use kr_model::{Cover, FailedCase, Mode, Origin, Row, Rule, Side};
+use kr_causes::{Blame, Cause, must_conflict, own_next};
+use kr_model::{Cover, FailedCase, Mode, Row, Rule, Side};
 use kr_protocol::Protocol;
 use std::alloc::Global;
 
@@ -30,7 +30,7 @@ pub fn body<P: Protocol>(
     let mut out = Vec::new(alloc);
     match cause.blame {
         Blame::Place { row, side } => {
-            void_sentences(alloc, &mut out, cases, row, side)?;
+            void_sentences(alloc, protocol, &mut out, cases, row, side)?;
             return Ok(out);
         }
         Blame::Request { row, .. } => request_sentences(alloc, protocol, &mut out, cases, row)?,
@@ -83,29 +83,10 @@ fn steps_of(alloc: Global, cases: &[FailedCase]) -> Result<String, Memory> {
     listed(alloc, &words, "and")
 }
 
-/// Whether a lock that has the cover has to conflict with what comes at this place.
-fn is_kept_out(cover: Cover, row: Row, side: Side) -> bool {
-    match (row, side) {
-        (Row::Delete, Side::Current) => true,
-        (Row::FetchHit, _) => matches!(cover, Cover::InsertedKey | Cover::UpdatedKey),
-        (Row::ScanKey, _) => matches!(
-            cover,
-            Cover::InsertedKey | Cover::DeletedGap | Cover::UpdatedKey
-        ),
-        (Row::FetchMiss | Row::ScanStop | Row::Delete, _) => {
-            matches!(cover, Cover::InsertedKey | Cover::DeletedGap)
-        }
-        (Row::Insert, _) => matches!(cover, Cover::ReadGap | Cover::DeletedGap),
-        (Row::Update, _) => matches!(
-            cover,
-            Cover::ReadKey | Cover::InsertedKey | Cover::UpdatedKey
-        ),
-    }
-}
-
 /// What no lock keeps out, and what isn't safe then.
-fn void_sentences(
+fn void_sentences<P: Protocol>(
     alloc: Global,
+    protocol: &P,
     out: &mut Vec<String>,
     cases: &[FailedCase],
     row: Row,
@@ -113,7 +94,7 @@ fn void_sentences(
 ) -> Result<(), Memory> {
     let mut others = Vec::new(alloc);
     for case in cases {
-        if is_kept_out(case.cover, row, side) {
+        if must_conflict(protocol, case.cover).contains(&(row, side)) {
             others.push(*case)?;
         }
     }
@@ -128,15 +109,6 @@ fn void_sentences(
         out.push(String::from_str(alloc, "And what it reads is not protected.")?)?;
     }
     Ok(())
-}
-
-/// The own mode on the next name that a case is taken at, and 0 where its row doesn't go by it.
-fn own_next(case: &FailedCase) -> Mode {
-    match case.from {
-        Origin::Insert { own_next, .. } => own_next,
-        Origin::Own(own) if case.case == Rule::Delete => own,
-        Origin::Own(_) | Origin::Conversion { .. } => 0,
-    }
 }
 
 /// Where the request is too weak, and what it has to protect.
