@@ -5,8 +5,8 @@ use Rattle.kr_model.specs.Protocol.{Protocol}
 use Rattle.kr_model.specs.Covers.{failed_cases}
 use Rattle.kr_script.specs.CheckReport.{check_text}
 use Rattle.kr_script.specs.Puts.{AppendsFront, HasCause}
-use Rattle.kr_program.specs.declared.faults.ReportFault.{ReportFault}
-use Rattle.kr_program.specs.declared.faults.ReportFault.TheVariants as fault
+use Rattle.kr_program.specs.declared.faults.OverFault.{OverFault}
+use Rattle.kr_program.specs.declared.faults.OverFault.TheVariants as fault
 
 -- The report of a check with its failed cases, of a protocol whose modes have these names, with its line feed.
 abbrev pub line_of : Protocol → List (List ℕ) → List FailedCase → List ℕ
@@ -17,7 +17,7 @@ abbrev pub check_line : Protocol → List (List ℕ) → List ℕ
 check_line p names = line_of p names (failed_cases p)
 
 -- No fault is of a script or a place, and a fault of printing has its cause in the sink, which took a beginning of the line.
-abbrev pub ExplainsLine : List ℕ → Option (List ℕ) → Option (List ℕ) → ℕ → ℕ → ReportFault → Type 0
+abbrev pub ExplainsLine : List ℕ → Option (List ℕ) → Option (List ℕ) → ℕ → ℕ → OverFault → Type 0
 ExplainsLine line old new before after (fault.Script f) = ⊥
 ExplainsLine line old new before after fault.Memory = Unit {0}
 ExplainsLine line old new before after fault.Place = ⊥

@@ -12,8 +12,8 @@ use Rattle.kr_script.specs.Faults.{Fault, fault_of}
 use Rattle.kr_script.specs.Reading.{reading}
 use Rattle.kr_script.specs.Report.{run_text}
 use Rattle.kr_script.specs.Puts.{AppendsFront, HasCause}
-use Rattle.kr_program.specs.declared.faults.ReportFault.{ReportFault}
-use Rattle.kr_program.specs.declared.faults.ReportFault.TheVariants as fault
+use Rattle.kr_program.specs.declared.faults.OverFault.{OverFault}
+use Rattle.kr_program.specs.declared.faults.OverFault.TheVariants as fault
 
 -- The run of a script under a protocol.
 abbrev pub run_of : Protocol → Script → Trace
@@ -30,12 +30,12 @@ abbrev pub IsSerialScript : Protocol → Script → Type 0
 IsSerialScript p s = AreSerial s.opening (programs (run_of p s).history)
 
 -- The fault of a script as one of a report: want of memory is one fault, wherever it comes.
-abbrev pub report_fault : ScriptFault → ReportFault
+abbrev pub report_fault : ScriptFault → OverFault
 report_fault told_as.Memory = fault.Memory
 report_fault f = fault.Script f
 
 -- A fault of the script is that of its bytes, no place is refused, and a fault of printing has its cause in the sink, which took a beginning of the report.
-abbrev pub Explains : Protocol → List (List ℕ) → List ℕ → Option (List ℕ) → Option (List ℕ) → ℕ → ℕ → ReportFault → Type 0
+abbrev pub Explains : Protocol → List (List ℕ) → List ℕ → Option (List ℕ) → Option (List ℕ) → ℕ → ℕ → OverFault → Type 0
 Explains p names bytes old new before after (fault.Script f) = (x : Fault) × ((fault_of f ≡ Some x) × (reading bytes ≡ Err x))
 Explains p names bytes old new before after fault.Memory = Unit {0}
 Explains p names bytes old new before after fault.Place = ⊥

@@ -10,15 +10,15 @@ use Rattle.kr_script.specs.ThreadsReport.{threads_text}
 use Rattle.kr_script.specs.Puts.{AppendsFront, HasCause}
 use Rattle.kr_script.specs.declared.threaded.Threaded.{Threaded}
 use Rattle.kr_threads.specs.Threaded.{IsThreaded}
-use Rattle.kr_program.specs.declared.faults.ReportFault.{ReportFault}
-use Rattle.kr_program.specs.declared.faults.ReportFault.TheVariants as fault
+use Rattle.kr_program.specs.declared.faults.OverFault.{OverFault}
+use Rattle.kr_program.specs.declared.faults.OverFault.TheVariants as fault
 
 -- The report of what several threads did, with the verdict on its run and a line feed.
 abbrev pub threads_line : Threaded → List ℕ
 threads_line d = threads_text d.faults.items d.history.items d.ran.index d.ran.unfinished (verdict_of (first_difference d.ran.opening d.ran.programs)) ++ 10 ∷ []
 
 -- A fault of the script is that of its bytes, and a fault of printing has its cause in the sink, which took a beginning of the report of a run of the script.
-abbrev pub ExplainsThreads : Protocol → List ℕ → Option (List ℕ) → Option (List ℕ) → ℕ → ℕ → ReportFault → Type 0
+abbrev pub ExplainsThreads : Protocol → List ℕ → Option (List ℕ) → Option (List ℕ) → ℕ → ℕ → OverFault → Type 0
 ExplainsThreads p bytes old new before after (fault.Script f) = (x : Fault) × ((fault_of f ≡ Some x) × (reading bytes ≡ Err x))
 ExplainsThreads p bytes old new before after fault.Memory = Unit {0}
 ExplainsThreads p bytes old new before after fault.Place = Unit {0}

@@ -3,9 +3,9 @@ ghost use Rattle.std.specs.Prelude.{◌≡◌, ◌⊎◌, ◌↔◌, [], IfOk, I
 ghost use Rattle.std.specs.Io.KnownBytes.{Appends};
 ghost use Rattle.kr_model.specs.Covers.{IsCovered};
 ghost use Rattle.kr_program.specs.Checks.{line_of, check_line, ExplainsLine};
-ghost use Rattle.kr_program.specs.declared.faults.ReportFault.TheVariants as fault;
+ghost use Rattle.kr_program.specs.declared.faults.OverFault.TheVariants as fault;
 
-use crate::faults::ReportFault;
+use crate::faults::OverFault;
 use kr_cases::{Cause, FailedCase, Rejected, check};
 use kr_protocol::Protocol;
 use kr_script::{Sink, print, report_check};
@@ -17,7 +17,7 @@ pub fn write_check<P: Protocol, W: Sink>(
     protocol: &P,
     failed: &[FailedCase],
     out: &mut W,
-) -> Result<bool, ReportFault>
+) -> Result<bool, OverFault>
     ensures ok { IfOk result (λ _. Appends (W.taken out.old) (W.taken out.new)
         (line_of (P.table protocol.now) (P.names protocol.now) failed.now)) }
     ensures accepted { IfOk result (λ accepted. IsTrue accepted ↔ (failed.now ≡ [])) }
@@ -28,7 +28,7 @@ pub fn write_check<P: Protocol, W: Sink>(
     let text = report_check(alloc, protocol, failed)?;
     match print(out, text.as_str()) {
         Ok(()) => Ok(failed.is_empty()),
-        Err(_) => Err(ReportFault::Print),
+        Err(_) => Err(OverFault::Print),
     }
 }
 
@@ -38,7 +38,7 @@ pub fn check_over<P: Protocol, W: Sink>(
     alloc: Global,
     protocol: P,
     out: &mut W,
-) -> Result<bool, ReportFault>
+) -> Result<bool, OverFault>
     ensures ok { IfOk result (λ _.
         Appends (W.taken out.old) (W.taken out.new) (check_line (P.table protocol) (P.names protocol))) }
     ensures accepted { IfOk result (λ accepted. IsTrue accepted ↔ IsCovered (P.table protocol)) }
@@ -50,7 +50,7 @@ pub fn check_over<P: Protocol, W: Sink>(
         Ok(checked) => write_check(alloc, checked.protocol(), &[], out),
         Err(Rejected { protocol, cause }) => match cause {
             Cause::Failed(failed) => write_check(alloc, &protocol, failed.as_slice(), out),
-            Cause::Memory => Err(ReportFault::Memory),
+            Cause::Memory => Err(OverFault::Memory),
         },
     }
 }

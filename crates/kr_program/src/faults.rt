@@ -1,7 +1,7 @@
 //! Why a report isn't written, or not whole.
 ghost use Rattle.std.specs.Prelude.{◌≡◌};
 ghost use Rattle.kr_program.specs.Runs.{report_fault};
-ghost use Rattle.kr_program.specs.declared.faults.ReportFault.TheVariants as fault;
+ghost use Rattle.kr_program.specs.declared.faults.OverFault.TheVariants as fault;
 
 use kr_script::{PrintFault, ScriptFault};
 use std::alloc::AllocError;
@@ -9,7 +9,7 @@ use thiserror::Error;
 
 /// Why a report isn't written, or not whole.
 #[derive(Debug, Drop, Error)]
-pub enum ReportFault {
+pub enum OverFault {
     /// The bytes are no script. The fault is never `Memory`.
     #[error("{0}")]
     Script(ScriptFault),
@@ -24,29 +24,29 @@ pub enum ReportFault {
     Print,
 }
 
-impl From<AllocError> for ReportFault {
+impl From<AllocError> for OverFault {
     ghost from_gives = { λ _ e. e ≡ fault.Memory };
 
-    fn from(_e: AllocError) -> ReportFault {
-        ReportFault::Memory
+    fn from(_e: AllocError) -> OverFault {
+        OverFault::Memory
     }
 }
 
-impl From<PrintFault> for ReportFault {
+impl From<PrintFault> for OverFault {
     ghost from_gives = { λ _ e. e ≡ fault.Print };
 
-    fn from(_e: PrintFault) -> ReportFault {
-        ReportFault::Print
+    fn from(_e: PrintFault) -> OverFault {
+        OverFault::Print
     }
 }
 
-impl From<ScriptFault> for ReportFault {
+impl From<ScriptFault> for OverFault {
     ghost from_gives = { λ f e. e ≡ report_fault f };
 
-    fn from(f: ScriptFault) -> ReportFault {
+    fn from(f: ScriptFault) -> OverFault {
         match f {
-            ScriptFault::Memory => ReportFault::Memory,
-            f => ReportFault::Script(f),
+            ScriptFault::Memory => OverFault::Memory,
+            f => OverFault::Script(f),
         }
     }
 }

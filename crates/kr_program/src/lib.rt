@@ -10,7 +10,7 @@ mod threads;
 mod words;
 
 pub use checks::{check_over, write_check};
-pub use faults::ReportFault;
+pub use faults::OverFault;
 pub use judges::{LinesFault, judge_over};
 pub use program::{NAME, execute};
 pub use runs::run_over;

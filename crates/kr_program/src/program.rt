@@ -16,10 +16,10 @@ ghost use Rattle.kr_program.specs.Program.{Answers, Ends, Reports, TellsFirst, T
 ghost use Rattle.kr_program.specs.Threads.{threads_line};
 ghost use Rattle.kr_script.specs.declared.threaded.Threaded.{Threaded};
 ghost use Rattle.kr_threads.specs.Threaded.{IsThreaded};
-ghost use Rattle.kr_program.specs.declared.faults.ReportFault.TheVariants as fault;
+ghost use Rattle.kr_program.specs.declared.faults.OverFault.TheVariants as fault;
 
 use crate::checks::{check_over, write_check};
-use crate::faults::ReportFault;
+use crate::faults::OverFault;
 use crate::judges::{LinesFault, judge_over};
 use crate::runs::run_over;
 use crate::threads::threads_over;
@@ -39,14 +39,14 @@ use std::thread::Threads;
 pub const NAME: &str = "kr";
 
 /// A script's fault is told with the word that names the script, so none comes here.
-impl From<ReportFault> for Ending {
+impl From<OverFault> for Ending {
     ghost from_gives = { λ f e. ((e ≡ ending.Output) ↔ (f ≡ fault.Print)) × Unreported (λ _. ⊥) e };
 
-    fn from(fault: ReportFault) -> Ending {
+    fn from(fault: OverFault) -> Ending {
         match fault {
-            ReportFault::Print => Ending::Output,
-            ReportFault::Place => Ending::Place,
-            ReportFault::Script(_) | ReportFault::Memory => Ending::Memory,
+            OverFault::Print => Ending::Output,
+            OverFault::Place => Ending::Place,
+            OverFault::Script(_) | OverFault::Memory => Ending::Memory,
         }
     }
 }
@@ -71,7 +71,7 @@ fn run_script<R: std::rt::Files + AllocGlobal, P: Protocol, F: Files, W: Sink>(
     let bytes = whole(rt, script, files)?;
     match run_over(alloc, protocol, bytes.as_slice(), out) {
         Ok(is_serial) => Ok(is_serial),
-        Err(ReportFault::Script(fault)) => Err(at_fault(alloc, script, fault)),
+        Err(OverFault::Script(fault)) => Err(at_fault(alloc, script, fault)),
         Err(fault) => Err(Ending::from(fault)),
     }
 }
@@ -163,7 +163,7 @@ fn thread_script<
     let bytes = whole(rt, script, files)?;
     match threads_over(rt, alloc, protocol, bytes.as_slice(), workers.count(), out) {
         Ok(answer) => Ok(answer),
-        Err(ReportFault::Script(fault)) => Err(at_fault(alloc, script, fault)),
+        Err(OverFault::Script(fault)) => Err(at_fault(alloc, script, fault)),
         Err(fault) => Err(Ending::from(fault)),
     }
 }

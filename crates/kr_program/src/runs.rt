@@ -9,9 +9,9 @@ ghost use Rattle.kr_script.specs.Script.{Script};
 ghost use Rattle.kr_script.specs.Reading.{reading};
 ghost use Rattle.kr_script.specs.Report.{run_text};
 ghost use Rattle.kr_program.specs.Runs.{report_line, IsSerialScript, Explains};
-ghost use Rattle.kr_program.specs.declared.faults.ReportFault.TheVariants as fault;
+ghost use Rattle.kr_program.specs.declared.faults.OverFault.TheVariants as fault;
 
-use crate::faults::ReportFault;
+use crate::faults::OverFault;
 use kr_protocol::Protocol;
 use kr_script::{Sink, print, read_script, report_run};
 use kr_serial::{Ran, judge, run_any};
@@ -40,7 +40,7 @@ pub fn run_over<P: Protocol, W: Sink>(
     protocol: &P,
     script: &[u8],
     out: &mut W,
-) -> Result<bool, ReportFault>
+) -> Result<bool, OverFault>
     ensures ok { IfOk result (λ _. (s : Script) × ((reading script.now ≡ Ok s)
         × Appends (W.taken out.old) (W.taken out.new) (report_line (P.table protocol.now) (P.names protocol.now) s))) }
     ensures serial { IfOk result (λ serial. IfOk (reading script.now)

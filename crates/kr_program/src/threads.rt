@@ -7,9 +7,9 @@ ghost use Rattle.kr_script.specs.Script.{Script};
 ghost use Rattle.kr_script.specs.declared.threaded.Threaded.{Threaded as Outcome};
 ghost use Rattle.kr_threads.specs.Threaded.{IsThreaded};
 ghost use Rattle.kr_program.specs.Threads.{threads_line, ExplainsThreads};
-ghost use Rattle.kr_program.specs.declared.faults.ReportFault.TheVariants as fault;
+ghost use Rattle.kr_program.specs.declared.faults.OverFault.TheVariants as fault;
 
-use crate::faults::ReportFault;
+use crate::faults::OverFault;
 use kr_protocol::Covered;
 use kr_script::{Sink, Threaded, print, read_script, report_threads};
 use kr_serial::judge;
@@ -39,7 +39,7 @@ pub fn threads_over<P: Covered + Sync, W: Sink>(
     script: &[u8],
     workers: usize,
     out: &mut W,
-) -> Result<bool, ReportFault>
+) -> Result<bool, OverFault>
     requires workers { (0 < workers) × (workers ≤ 64) }
     ensures ok { IfOk result (λ _. (s : Script) × ((d : Outcome) × ((reading script.now ≡ Ok s) × (IsThreaded (P.table protocol.now) s.opening s.steps d
         × Appends (W.taken out.old) (W.taken out.new) (threads_line d))))) }
@@ -51,12 +51,12 @@ pub fn threads_over<P: Covered + Sync, W: Sink>(
     let script = read_script(alloc, script)?;
     let threaded = match run_threads(rt, alloc, protocol, &script, workers, &Passage) {
         Ok(threaded) => threaded,
-        Err(RunFault::Memory) => return Err(ReportFault::Memory),
-        Err(RunFault::Place) => return Err(ReportFault::Place),
+        Err(RunFault::Memory) => return Err(OverFault::Memory),
+        Err(RunFault::Place) => return Err(OverFault::Place),
     };
     let (text, is_serial) = report_of(alloc, &threaded)?;
     match print(out, text.as_str()) {
         Ok(()) => Ok(is_serial),
-        Err(_) => Err(ReportFault::Print),
+        Err(_) => Err(OverFault::Print),
     }
 }
