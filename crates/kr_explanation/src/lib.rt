@@ -2,26 +2,14 @@
 //! each run as a script.
 #![tactic(auto)]
 
-mod answers;
-mod body;
 mod effort;
 mod explaining;
 mod explanation;
 mod lines;
-mod lists;
-mod mending;
-mod orders;
 mod run;
 mod scripts;
-mod seen;
-mod spoken;
-mod steps;
 mod text;
-mod title;
 mod told_run;
-mod verdict;
-mod words;
-mod wrap;
 
 pub use explaining::explain;
 pub use explanation::{Explained, Explanation, Rejected};

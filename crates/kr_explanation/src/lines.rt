@@ -1,10 +1,9 @@
-//! Scripts as lines of JSON.
+//! Lines that read as scripts.
 ghost use Rattle.std.specs.Prelude.{◌≡◌, ◌≢◌, All, IfOk, IsTrue};
 ghost use Rattle.kr_explanation.specs.Lines.{IsLineOf};
 
-use crate::spoken::{op_numbers, op_word};
 use kr_cases::Memory;
-use kr_model::{Event, Op};
+use kr_model::Event;
 use kr_script::{Script, ScriptFault, read_script};
 use std::alloc::{AllocError, Global};
 
@@ -72,44 +71,4 @@ fn has_no_line_feed(bytes: &[u8]) -> bool
     ensures { IsTrue result → All (λ b. b ≢ 10) bytes.now }
 {
     bytes.iter().all(|byte| *byte != b'\n')
-}
-
-/// A script as a line of JSON: of format 2 where it has an update, and else of format 1.
-pub fn written(alloc: Global, opening: &[(u64, u64)], events: &[Event]) -> Result<String, Memory> {
-    let format = if events
-        .iter()
-        .any(|event| matches!(event.op, Op::Update(_, _)))
-    {
-        2
-    } else {
-        1
-    };
-    let mut out = format!(in alloc; "{{\"format\":{format},\"opening\":[")?;
-    let mut separator = "";
-    for (key, value) in opening {
-        write!(out, "{separator}[{key},{value}]")?;
-        separator = ",";
-    }
-    out.push_str("],\"steps\":[")?;
-    separator = "";
-    for event in events {
-        out.push_str(separator)?;
-        write_step(&mut out, *event)?;
-        separator = ",";
-    }
-    out.push_str("]}")?;
-    Ok(out)
-}
-
-/// Writes a step as an array.
-fn write_step(out: &mut String, event: Event) -> Result<(), Memory> {
-    let txn = event.txn;
-    let word = op_word(event.op);
-    write!(out, "[{txn},\"{word}\"")?;
-    for number in op_numbers(event.op) {
-        if let Some(number) = number {
-            write!(out, ",{number}")?;
-        }
-    }
-    out.push_str("]")
 }

@@ -5,11 +5,12 @@ ghost use Rattle.kr_explanation.specs.Explained.{run_at};
 ghost use Rattle.kr_explanation.specs.Told.{IsScriptOf};
 
 use crate::explanation::Explanation;
-use crate::lines::{is_line_of, written};
+use crate::lines::is_line_of;
 use crate::run::Run;
 use kr_cases::Memory;
 use kr_counterexample::Counterexample;
 use kr_model::FailedCase;
+use kr_sentences::json_line;
 use std::alloc::Global;
 
 impl Explanation {
@@ -43,7 +44,7 @@ pub fn run_of(
     requires { IsMap script.opening.items }
     ensures { IfOk result (λ found. IfSome found (λ run. run.script ≡ script)) }
 {
-    let line = written(alloc, &script.opening, &script.events)?;
+    let line = json_line(alloc, &script.opening, &script.events)?;
     if is_line_of(alloc, line.as_str(), &script.opening, &script.events)? {
         Ok(Some(Run { case, script, line }))
     } else {

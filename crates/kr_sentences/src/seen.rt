@@ -1,8 +1,7 @@
 //! What is seen at the end of a run: a sentence for each ending.
 
-use crate::run::Run;
 use kr_cases::Memory;
-use kr_counterexample::Ending;
+use kr_counterexample::{Counterexample, Ending};
 use kr_model::Txn;
 use std::alloc::Global;
 
@@ -26,17 +25,17 @@ fn name_after(alloc: Global, opening: &[(u64, u64)]) -> Result<String, Memory> {
 }
 
 /// What is seen at the end of a run.
-pub fn seen(alloc: Global, run: &Run) -> Result<String, Memory> {
-    let t = run.script.holder;
-    let u = run.script.intruder;
-    let v = run.script.third.unwrap_or(u);
-    match run.script.ending {
+pub fn seen(alloc: Global, script: &Counterexample) -> Result<String, Memory> {
+    let t = script.holder;
+    let u = script.intruder;
+    let v = script.third.unwrap_or(u);
+    match script.ending {
         Ending::ReadKeyGone
         | Ending::ReadKeyUpdated
         | Ending::ReadGapFilled
         | Ending::ReadGapGrown => {
-            let y = name_after(alloc, run.script.opening.as_slice())?;
-            seen_by_reader(alloc, run.script.ending, t, u, y.as_str())
+            let y = name_after(alloc, script.opening.as_slice())?;
+            seen_by_reader(alloc, script.ending, t, u, y.as_str())
         }
         Ending::DeleteMissed
         | Ending::DeleteScanned
@@ -45,14 +44,14 @@ pub fn seen(alloc: Global, run: &Run) -> Result<String, Memory> {
         | Ending::DeleteSplit
         | Ending::DeleteGrown
         | Ending::DeleteDeletedBelow => {
-            let y = name_after(alloc, run.script.opening.as_slice())?;
-            seen_of_deleted(alloc, run.script.ending, t, u, v, y.as_str())
+            let y = name_after(alloc, script.opening.as_slice())?;
+            seen_of_deleted(alloc, script.ending, t, u, v, y.as_str())
         }
         Ending::UpdateFetched
         | Ending::UpdateScanned
         | Ending::UpdateDeleted
-        | Ending::UpdateUpdated => seen_of_updated(alloc, run.script.ending, t, u),
-        _ => seen_of_inserted(alloc, run.script.ending, t, u, v),
+        | Ending::UpdateUpdated => seen_of_updated(alloc, script.ending, t, u),
+        _ => seen_of_inserted(alloc, script.ending, t, u, v),
     }
 }
 

@@ -4,6 +4,7 @@ use crate::answers::{asked, converted, name_of};
 use crate::lists::{listed, modes_listed, put_once};
 use crate::title::beside;
 use crate::words::{comer_words, cover_words, row_word, rule_step, side_words};
+use crate::wrap::{INDENT, write_paragraph};
 use kr_cases::Memory;
 use kr_causes::{Blame, Cause, must_conflict, own_next};
 use kr_model::{Cover, FailedCase, Mode, Row, Rule, Side};
@@ -19,8 +20,23 @@ const COVERS: [Cover; 5] = [
     Cover::UpdatedKey,
 ];
 
+/// Writes the paragraphs under the title, where `case` is the one whose run is shown. The only fault is that a growth was
+/// refused.
+pub fn write_body<P: Protocol>(
+    alloc: Global,
+    protocol: &P,
+    out: &mut String,
+    cause: &Cause,
+    case: &FailedCase,
+) -> Result<(), Memory> {
+    for sentence in body(alloc, protocol, cause, case)?.iter() {
+        write_paragraph(out, sentence.as_str(), INDENT, 0)?;
+    }
+    Ok(())
+}
+
 /// The paragraphs under the title, where `case` is the one whose run is shown.
-pub fn body<P: Protocol>(
+fn body<P: Protocol>(
     alloc: Global,
     protocol: &P,
     cause: &Cause,

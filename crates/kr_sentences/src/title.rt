@@ -2,6 +2,7 @@
 
 use crate::answers::{asked, converted, name_of};
 use crate::words::{row_word, rule_code, side_words};
+use crate::wrap::write_line;
 use kr_cases::Memory;
 use kr_causes::{Blame, Cause};
 use kr_model::{FailedCase, Mode, Row, Rule, Side, Span};
@@ -21,8 +22,20 @@ const RULES: [Rule; 9] = [
     Rule::Update,
 ];
 
+/// Writes the title of the cause of this number, from 1, behind an empty line. The only fault is that a growth was refused.
+pub fn write_title<P: Protocol>(
+    alloc: Global,
+    protocol: &P,
+    out: &mut String,
+    number: usize,
+    cause: &Cause,
+) -> Result<(), Memory> {
+    write_line(out, "")?;
+    write_line(out, title(alloc, protocol, number, cause)?.as_str())
+}
+
 /// The title of the cause of this number, from 1.
-pub fn title<P: Protocol>(
+fn title<P: Protocol>(
     alloc: Global,
     protocol: &P,
     number: usize,

@@ -3,10 +3,10 @@ ghost use Rattle.std.specs.Prelude.{◌≡◌, None};
 ghost use Rattle.kr_model.specs.Map.{IsMap};
 
 use crate::answers::name_of;
-use crate::run::Run;
 use crate::spoken::{answer_text, lock_name, op_text};
 use crate::wrap::write_spaces;
 use kr_cases::Memory;
+use kr_counterexample::Counterexample;
 use kr_index::Tree;
 use kr_locks::Buckets;
 use kr_machine::Machine;
@@ -104,10 +104,10 @@ fn locks_text<P: Protocol>(
 }
 
 /// What is said of a step by its place, from 0.
-fn mark(run: &Run, at: usize) -> &'static str {
-    if at == run.script.weak {
+fn mark(script: &Counterexample, at: usize) -> &'static str {
+    if at == script.weak {
         "<- too weak"
-    } else if at == run.script.let_in {
+    } else if at == script.let_in {
         "<- let in"
     } else {
         ""
@@ -134,16 +134,22 @@ fn step_line<P: Protocol>(
 }
 
 /// The lines of the table, the first of them above the steps.
-fn lines_of<P: Protocol>(alloc: Global, protocol: &P, run: &Run) -> Result<Vec<Line>, Memory> {
-    let events = run.script.events.as_slice();
+fn lines_of<P: Protocol>(
+    alloc: Global,
+    protocol: &P,
+    script: &Counterexample,
+) -> Result<Vec<Line>, Memory>
+    requires { IsMap script.now.opening.items }
+{
+    let events = script.events.as_slice();
     let columns = Columns::of(alloc, events)?;
     let mut lines = Vec::new(alloc);
     lines.push(columns.head(alloc)?)?;
-    let index = Tree::from_pairs(alloc, run.script.opening.as_slice())?;
+    let index = Tree::from_pairs(alloc, script.opening.as_slice())?;
     let mut machine = Machine::new(alloc, protocol, index, Buckets::new(alloc));
     for (at, event) in events.iter().enumerate() {
         let number = at.saturating_add(1);
-        let mark = mark(run, at);
+        let mark = mark(script, at);
         lines.push(step_line(
             alloc,
             &mut machine,
@@ -199,9 +205,11 @@ pub fn write_steps<P: Protocol>(
     alloc: Global,
     protocol: &P,
     out: &mut String,
-    run: &Run,
-) -> Result<(), Memory> {
-    let lines = lines_of(alloc, protocol, run)?;
+    script: &Counterexample,
+) -> Result<(), Memory>
+    requires { IsMap script.now.opening.items }
+{
+    let lines = lines_of(alloc, protocol, script)?;
     let widths = widths(alloc, &lines)?;
     for line in lines.iter() {
         write_row(out, line, &widths)?;

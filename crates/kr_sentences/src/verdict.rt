@@ -1,9 +1,10 @@
 //! The verdict on a run, in words.
+ghost use Rattle.kr_model.specs.Map.{IsMap};
 
 use crate::orders::{OtherOrders, orders};
-use crate::run::Run;
 use crate::spoken::{answer_text, op_text, txns_text};
 use kr_cases::Memory;
+use kr_counterexample::Counterexample;
 use kr_model::{Op, Program, Reply, Txn};
 use kr_protocol::Protocol;
 use kr_serial::{Ran, Verdict, judge, run_any};
@@ -48,10 +49,12 @@ struct Difference<'a> {
 pub fn verdict_sentences<P: Protocol>(
     alloc: Global,
     protocol: &P,
-    run: &Run,
-) -> Result<Vec<String>, Memory> {
-    let opening = run.script.opening.as_slice();
-    let ran = run_any(alloc, protocol, opening, run.script.events.as_slice())?;
+    script: &Counterexample,
+) -> Result<Vec<String>, Memory>
+    requires { IsMap script.now.opening.items }
+{
+    let opening = script.opening.as_slice();
+    let ran = run_any(alloc, protocol, opening, script.events.as_slice())?;
     match &judge(alloc, &ran)? {
         Verdict::Serial => Ok(Vec::new(alloc)),
         Verdict::NotSerial {

@@ -1,20 +1,52 @@
-//! The line that names the changes which mend a cause.
+//! The lines that name the changes which mend a cause.
 
 use crate::answers::name_of;
 use crate::lists::modes_listed;
 use crate::words::{row_word, side_words, span_word};
+use crate::wrap::{INDENT, write_line, write_paragraph};
 use kr_cases::Memory;
 use kr_causes::{Change, Mend};
 use kr_model::{Mode, Row, Side, Span};
 use kr_protocol::Protocol;
 use std::alloc::Global;
 
-/// The changes, by what they have in common, and the modes in which they differ.
-pub fn mend_sentence<P: Protocol>(
+/// Writes the changes that mend a cause; or that none was tried, where they are tried for so many causes at most. The only
+/// fault is that a growth was refused.
+pub fn write_mend<P: Protocol>(
     alloc: Global,
     protocol: &P,
-    mend: &Mend,
-) -> Result<String, Memory> {
+    out: &mut String,
+    mend: &Option<Mend>,
+    most: usize,
+) -> Result<(), Memory> {
+    match mend {
+        None => write_untried(alloc, out, most),
+        Some(mend) if mend.changes.is_empty() => Ok(()),
+        Some(mend) => {
+            write_line(out, "\n   To mend it (each change tried by itself):")?;
+            let item = mend_item(alloc, protocol, mend)?;
+            write_paragraph(out, item.as_str(), INDENT + 2, 2)
+        }
+    }
+}
+
+/// Writes that no change was tried, since they are tried for so many causes at most.
+fn write_untried(alloc: Global, out: &mut String, most: usize) -> Result<(), Memory> {
+    write_line(out, "")?;
+    let text = format!(in alloc;
+        "No change was tried: changes are tried for the first {most} causes."
+    )?;
+    write_paragraph(out, text.as_str(), INDENT, 0)
+}
+
+/// The changes that mend a cause, as an item of a list.
+fn mend_item<P: Protocol>(alloc: Global, protocol: &P, mend: &Mend) -> Result<String, Memory> {
+    let sentence = mend_sentence(alloc, protocol, mend)?;
+    format!(in alloc; "- {sentence}")
+}
+
+/// The changes, by what they have in common, and the modes in which they differ.
+fn mend_sentence<P: Protocol>(alloc: Global, protocol: &P, mend: &Mend) -> Result<String, Memory> {
     let changes = mend.changes.as_slice();
     let Some(change) = changes.first() else {
         return Ok(String::new(alloc));

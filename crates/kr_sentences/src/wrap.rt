@@ -2,6 +2,9 @@
 
 use kr_cases::Memory;
 
+/// So many spaces stand before what is said of a cause.
+pub const INDENT: usize = 3;
+
 /// So many characters a line has at most, unless one word is longer.
 const WIDTH: usize = 118;
 

@@ -1,0 +1,27 @@
+//! The words and sentences that say why a lock table is rejected: each part of the text of a cause, and a script as a line
+//! of JSON.
+#![tactic(auto)]
+
+mod answers;
+mod body;
+mod json;
+mod lists;
+mod mending;
+mod orders;
+mod runs;
+mod seen;
+mod spoken;
+mod steps;
+mod title;
+mod verdict;
+mod whole;
+mod words;
+mod wrap;
+
+pub use body::write_body;
+pub use json::json_line;
+pub use kr_cases::Memory;
+pub use mending::write_mend;
+pub use runs::{Tries, write_no_run, write_run};
+pub use title::write_title;
+pub use whole::{causes_words, write_command};
