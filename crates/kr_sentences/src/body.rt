@@ -122,7 +122,12 @@ fn void_sentences<P: Protocol>(
         )?)?;
     }
     if others.len() < cases.len() {
-        out.push(String::from_str(alloc, "And what it reads is not protected.")?)?;
+        let what = if row == Row::Insert {
+            "inserts"
+        } else {
+            "reads"
+        };
+        out.push(format!(in alloc; "And what it {what} is not protected.")?)?;
     }
     Ok(())
 }

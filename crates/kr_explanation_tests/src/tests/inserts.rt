@@ -44,6 +44,42 @@ The script of run N, for `kr run insert.toml SCRIPT`: kr_explain insert.toml --s
             r#"{"format":1,"opening":[[10,1],[30,2]],"steps":[[1,"insert",20,5],[2,"fetch",20],[1,"abort"],[2,"commit"]]}"#,
         )],
     },
+    // Worked by hand. An inserted key lacks its cover where its own mode is none or S, at each of three own modes on the next
+    // name: six cases. A split gap that was read lacks it where S or X is held on the next name and nothing on the key: two;
+    // one with an own deleted key where X is held there, and none or S on the key: two.
+    Told {
+        name: "an insert asks for nothing on its key",
+        table: Table {
+            text: IM,
+            changes: &[("current = [{ mode = \"X\", span = \"commit\" }]", "")],
+        },
+        word: "no-insert.toml",
+        text: r#"refused: 10 of 61 cases fail, by one cause
+
+1. `insert` asks for no lock on its key. [G6: 6 cases, G7: 4 cases]
+   And what it inserts is not protected.
+
+   A run that goes wrong by G6 for IK from none and none, on 10:1, 30:2:
+
+        T1           T2        answer     locks afterwards
+     1  insert 20 5            done                         <- too weak
+     2               fetch 20  found 5    20: T2 S          <- let in
+     3  abort                  aborted    20: T2 S
+     4               commit    committed
+
+   T2 reads 20, which T1 has inserted and takes back.
+   Not serial: T2 alone commits, and its operation 1, fetch 20, was answered found 5. Run alone it is answered none.
+   8 of the 10 cases have such a run.
+
+   To mend it (each change tried by itself):
+     - let `insert` ask X (commit) on its key: the table is then accepted
+
+The script of run N, for `kr run no-insert.toml SCRIPT`: kr_explain no-insert.toml --script N
+"#,
+        scripts: &[Some(
+            r#"{"format":1,"opening":[[10,1],[30,2]],"steps":[[1,"insert",20,5],[2,"fetch",20],[1,"abort"],[2,"commit"]]}"#,
+        )],
+    },
     Told {
         name: "an insert that splits a gap asks IX on its key",
         table: Table {
