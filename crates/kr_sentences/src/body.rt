@@ -44,17 +44,39 @@ fn body<P: Protocol>(
 ) -> Result<Vec<String>, Memory> {
     let cases = cause.cases.as_slice();
     let mut out = Vec::new(alloc);
-    match cause.blame {
-        Blame::Place { row, side } => {
-            void_sentences(alloc, protocol, &mut out, cases, row, side)?;
-            return Ok(out);
-        }
-        Blame::Request { row, .. } => request_sentences(alloc, protocol, &mut out, cases, row)?,
+    put_blame_sentences(alloc, protocol, &mut out, cases, cause.blame)?;
+    if !matches!(cause.blame, Blame::Place { .. }) {
+        put_let_in_sentence(alloc, protocol, &mut out, case)?;
+    }
+    Ok(out)
+}
+
+/// What is said of what is to blame.
+fn put_blame_sentences<P: Protocol>(
+    alloc: Global,
+    protocol: &P,
+    out: &mut Vec<String>,
+    cases: &[FailedCase],
+    blame: Blame,
+) -> Result<(), Memory> {
+    match blame {
+        Blame::Place { row, side } => void_sentences(alloc, protocol, out, cases, row, side)?,
+        Blame::Request { row, .. } => request_sentences(alloc, protocol, out, cases, row)?,
         Blame::Conversion { .. } => out.push(conversion_sentence(alloc, cases)?)?,
         Blame::Pair { held, .. } => out.push(pair_sentence(alloc, protocol, cases, held)?)?,
     }
+    Ok(())
+}
+
+/// Puts what the mode of a case lets in behind the others.
+fn put_let_in_sentence<P: Protocol>(
+    alloc: Global,
+    protocol: &P,
+    out: &mut Vec<String>,
+    case: &FailedCase,
+) -> Result<(), Memory> {
     out.push(let_in_sentence(alloc, protocol, case)?)?;
-    Ok(out)
+    Ok(())
 }
 
 /// Which locks a conversion weakens.

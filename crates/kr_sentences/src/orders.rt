@@ -69,17 +69,29 @@ fn order<'a>(
 
 /// Whether the programs, one after another, give the answers of the run.
 fn gives(alloc: Global, ran: &Ran, order: &[&Program]) -> Result<bool, Memory> {
+    let opening = Index::copy_of(alloc, ran.opening.as_slice())?;
+    let programs = copies_of(alloc, order)?;
+    let ordered = ran_with(alloc, opening, programs);
+    Ok(judge(alloc, &ordered)?.is_serial())
+}
+
+/// Copies of programs, in their order.
+fn copies_of(alloc: Global, order: &[&Program]) -> Result<Vec<Program>, Memory> {
     let mut programs = Vec::new(alloc);
     for program in order {
         programs.push(program.try_copy(alloc)?)?;
     }
-    let ordered = Ran {
-        opening: Index::copy_of(alloc, ran.opening.as_slice())?,
+    Ok(programs)
+}
+
+/// A run of which only the opening map and the committed programs are told.
+fn ran_with(alloc: Global, opening: Index, programs: Vec<Program>) -> Ran {
+    Ran {
+        opening,
         replies: Replies::from_vec(Vec::new(alloc)),
         programs: Programs::from_vec(programs),
         index: Index::from_pairs(Pairs::from_vec(Vec::new(alloc))),
         locks: Triples::from_vec(Vec::new(alloc)),
         unfinished: Txns::from_vec(Vec::new(alloc)),
-    };
-    Ok(judge(alloc, &ordered)?.is_serial())
+    }
 }

@@ -4,7 +4,7 @@ ghost use Rattle.kr_model.specs.Map.{IsMap};
 use crate::seen::seen;
 use crate::spoken::{origin_text, pairs_text};
 use crate::steps::write_steps;
-use crate::verdict::verdict_sentences;
+use crate::verdict::write_verdict;
 use crate::words::{cover_code, rule_code};
 use crate::wrap::{INDENT, write_line, write_paragraph};
 use kr_cases::Memory;
@@ -75,21 +75,6 @@ fn write_run_head<P: Protocol>(
 /// Writes what is seen at the end of a run.
 fn write_seen(alloc: Global, out: &mut String, script: &Counterexample) -> Result<(), Memory> {
     write_paragraph(out, seen(alloc, script)?.as_str(), INDENT, 0)
-}
-
-/// Writes the verdict on a run.
-fn write_verdict<P: Protocol>(
-    alloc: Global,
-    protocol: &P,
-    out: &mut String,
-    script: &Counterexample,
-) -> Result<(), Memory>
-    requires { IsMap script.now.opening.items }
-{
-    for sentence in verdict_sentences(alloc, protocol, script)?.iter() {
-        write_paragraph(out, sentence.as_str(), INDENT, 0)?;
-    }
-    Ok(())
 }
 
 /// Writes how many of the cause's cases gave a run, unless all did.

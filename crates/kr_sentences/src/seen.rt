@@ -40,18 +40,20 @@ pub fn seen(alloc: Global, script: &Counterexample) -> Result<String, Memory> {
         Ending::DeleteMissed
         | Ending::DeleteScanned
         | Ending::DeleteStopped
-        | Ending::DeleteFilled
-        | Ending::DeleteSplit
-        | Ending::DeleteGrown
-        | Ending::DeleteDeletedBelow => {
+        | Ending::DeleteFilled => seen_of_deleted(alloc, script.ending, t, u),
+        Ending::DeleteSplit | Ending::DeleteGrown | Ending::DeleteDeletedBelow => {
             let y = name_after(alloc, script.opening.as_slice())?;
-            seen_of_deleted(alloc, script.ending, t, u, v, y.as_str())
+            seen_by_deleted(alloc, script.ending, t, u, v, y.as_str())
         }
+        Ending::InsertMissedBelow
+        | Ending::InsertStoppedBelow
+        | Ending::InsertDeletedBelow
+        | Ending::InsertDeletedPoint => seen_below_inserted(alloc, script.ending, t, u, v),
         Ending::UpdateFetched
         | Ending::UpdateScanned
         | Ending::UpdateDeleted
         | Ending::UpdateUpdated => seen_of_updated(alloc, script.ending, t, u),
-        _ => seen_of_inserted(alloc, script.ending, t, u, v),
+        _ => seen_of_inserted(alloc, script.ending, t, u),
     }
 }
 
@@ -83,14 +85,8 @@ fn seen_by_reader(
     }
 }
 
-/// The intruder `u`, or the third `v`, sees what the holder `t` has inserted.
-fn seen_of_inserted(
-    alloc: Global,
-    ending: Ending,
-    t: Txn,
-    u: Txn,
-    v: Txn,
-) -> Result<String, Memory> {
+/// The intruder `u` sees what the holder `t` has inserted.
+fn seen_of_inserted(alloc: Global, ending: Ending, t: Txn, u: Txn) -> Result<String, Memory> {
     match ending {
         Ending::InsertFetched => {
             format!(in alloc; "T{u} reads {A}, which T{t} has inserted and takes back.")
@@ -98,6 +94,22 @@ fn seen_of_inserted(
         Ending::InsertScanned => {
             format!(in alloc; "T{u} scans {A}, which T{t} has inserted and takes back.")
         }
+        Ending::InsertUpdated => {
+            format!(in alloc; "T{u} updates {A}, which T{t} has inserted and takes back.")
+        }
+        _ => { format!(in alloc; "T{u} deletes {A}, which T{t} has inserted and takes back.") }
+    }
+}
+
+/// The third `v` comes through below what the holder `t` has inserted, where the intruder `u` was.
+fn seen_below_inserted(
+    alloc: Global,
+    ending: Ending,
+    t: Txn,
+    u: Txn,
+    v: Txn,
+) -> Result<String, Memory> {
+    match ending {
         Ending::InsertMissedBelow | Ending::InsertStoppedBelow => {
             format!(in alloc;
                 "T{u} finds nothing at {C}; its lock on that gap is on {A}, which T{t} has inserted and takes back. Nothing is locked where T{v} then inserts {C}."
@@ -108,27 +120,16 @@ fn seen_of_inserted(
                 "T{u} deletes {K}; its lock on that gap is on {A}, which T{t} has inserted and takes back. Nothing is locked where T{v} then misses {K}, which T{u} brings back."
             )
         }
-        Ending::InsertDeletedPoint => {
+        _ => {
             format!(in alloc;
                 "T{u} deletes {P}; its lock on that gap is on {A}, which T{t} has inserted and takes back. Nothing is locked where T{v} then misses {P}, which T{u} brings back."
             )
         }
-        Ending::InsertUpdated => {
-            format!(in alloc; "T{u} updates {A}, which T{t} has inserted and takes back.")
-        }
-        _ => { format!(in alloc; "T{u} deletes {A}, which T{t} has inserted and takes back.") }
     }
 }
 
-/// The intruder `u`, or the third `v`, misses what the holder `t` has deleted; `y` is the next name.
-fn seen_of_deleted(
-    alloc: Global,
-    ending: Ending,
-    t: Txn,
-    u: Txn,
-    v: Txn,
-    y: &str,
-) -> Result<String, Memory> {
+/// The intruder `u` misses what the holder `t` has deleted, or fills its place.
+fn seen_of_deleted(alloc: Global, ending: Ending, t: Txn, u: Txn) -> Result<String, Memory> {
     match ending {
         Ending::DeleteMissed => {
             format!(in alloc; "T{u} finds nothing at {P}, which T{t} has deleted and brings back.")
@@ -139,9 +140,20 @@ fn seen_of_deleted(
         Ending::DeleteStopped => {
             format!(in alloc; "T{u} scans {P}, which T{t} has deleted and brings back.")
         }
-        Ending::DeleteFilled => {
-            format!(in alloc; "T{u} inserts {P}, which T{t} has deleted and brings back.")
-        }
+        _ => { format!(in alloc; "T{u} inserts {P}, which T{t} has deleted and brings back.") }
+    }
+}
+
+/// The third `v` misses what the holder `t` or the intruder `u` has deleted; `y` is the next name.
+fn seen_by_deleted(
+    alloc: Global,
+    ending: Ending,
+    t: Txn,
+    u: Txn,
+    v: Txn,
+    y: &str,
+) -> Result<String, Memory> {
+    match ending {
         Ending::DeleteSplit => {
             format!(in alloc;
                 "T{u} inserts {C} into the gap in which T{t} has deleted {P}: its lower part now ends at {C}, where T{t} has no lock. T{v} misses {P}, which T{t} brings back."

@@ -52,6 +52,14 @@ impl Columns {
         Ok(Line { cells })
     }
 
+    /// The lines above the steps.
+    fn first_lines(&self, alloc: Global) -> Result<Vec<Line>, Memory> {
+        let head = self.head(alloc)?;
+        let mut lines = Vec::new(alloc);
+        lines.push(head)?;
+        Ok(lines)
+    }
+
     /// The line of a step.
     fn line(
         &self,
@@ -141,24 +149,28 @@ fn lines_of<P: Protocol>(
 ) -> Result<Vec<Line>, Memory>
     requires { IsMap script.now.opening.items }
 {
-    let events = script.events.as_slice();
-    let columns = Columns::of(alloc, events)?;
-    let mut lines = Vec::new(alloc);
-    lines.push(columns.head(alloc)?)?;
+    let columns = Columns::of(alloc, script.events.as_slice())?;
     let index = Tree::from_pairs(alloc, script.opening.as_slice())?;
     let mut machine = Machine::new(alloc, protocol, index, Buckets::new(alloc));
-    for (at, event) in events.iter().enumerate() {
+    lines_by(alloc, protocol, &mut machine, &columns, script)
+}
+
+/// The same, by a machine that stands at the beginning.
+fn lines_by<P: Protocol>(
+    alloc: Global,
+    protocol: &P,
+    machine: &mut Machine<&P, Tree, Buckets>,
+    columns: &Columns,
+    script: &Counterexample,
+) -> Result<Vec<Line>, Memory>
+    requires { machine.old.pending ≡ None }
+{
+    let mut lines = columns.first_lines(alloc)?;
+    for (at, event) in script.events.as_slice().iter().enumerate() {
         let number = at.saturating_add(1);
         let mark = mark(script, at);
-        lines.push(step_line(
-            alloc,
-            &mut machine,
-            protocol,
-            &columns,
-            number,
-            *event,
-            mark,
-        )?)?;
+        let line = step_line(alloc, machine, protocol, columns, number, *event, mark)?;
+        lines.push(line)?;
     }
     Ok(lines)
 }

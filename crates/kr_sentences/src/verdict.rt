@@ -3,6 +3,7 @@ ghost use Rattle.kr_model.specs.Map.{IsMap};
 
 use crate::orders::{OtherOrders, orders};
 use crate::spoken::{answer_text, op_text, txns_text};
+use crate::wrap::{INDENT, write_paragraph};
 use kr_cases::Memory;
 use kr_counterexample::Counterexample;
 use kr_model::{Op, Program, Reply, Txn};
@@ -45,18 +46,19 @@ struct Difference<'a> {
     serial: &'a Reply,
 }
 
-/// Which answer differs, and whether another order would give all of them.
-pub fn verdict_sentences<P: Protocol>(
+/// Writes which answer differs, and whether another order would give all of them.
+pub fn write_verdict<P: Protocol>(
     alloc: Global,
     protocol: &P,
+    out: &mut String,
     script: &Counterexample,
-) -> Result<Vec<String>, Memory>
+) -> Result<(), Memory>
     requires { IsMap script.now.opening.items }
 {
     let opening = script.opening.as_slice();
     let ran = run_any(alloc, protocol, opening, script.events.as_slice())?;
     match &judge(alloc, &ran)? {
-        Verdict::Serial => Ok(Vec::new(alloc)),
+        Verdict::Serial => Ok(()),
         Verdict::NotSerial {
             txn,
             operation,
@@ -69,24 +71,43 @@ pub fn verdict_sentences<P: Protocol>(
                 given,
                 serial,
             };
-            difference_sentences(alloc, &ran, difference)
+            write_difference(alloc, out, &ran, difference)
         }
     }
 }
 
-/// The same where an answer differs.
-fn difference_sentences(
+/// Writes the same where an answer differs.
+fn write_difference(
     alloc: Global,
+    out: &mut String,
     ran: &Ran,
     difference: Difference,
-) -> Result<Vec<String>, Memory> {
-    let mut out = Vec::new(alloc);
+) -> Result<(), Memory> {
     let order = committed(alloc, ran.programs.as_slice())?;
-    out.push(difference_sentence(alloc, ran, difference, &order)?)?;
+    write_answers(alloc, out, ran, difference, &order)?;
     if order.len() > 1 {
-        out.push(orders_sentence(alloc, ran)?)?;
+        write_orders(alloc, out, ran)
+    } else {
+        Ok(())
     }
-    Ok(out)
+}
+
+/// Writes which answer differs.
+fn write_answers(
+    alloc: Global,
+    out: &mut String,
+    ran: &Ran,
+    difference: Difference,
+    order: &[Txn],
+) -> Result<(), Memory> {
+    let text = difference_sentence(alloc, ran, difference, order)?;
+    write_paragraph(out, text.as_str(), INDENT, 0)
+}
+
+/// Writes whether another order would give the answers of the run.
+fn write_orders(alloc: Global, out: &mut String, ran: &Ran) -> Result<(), Memory> {
+    let text = orders_sentence(alloc, ran)?;
+    write_paragraph(out, text.as_str(), INDENT, 0)
 }
 
 /// Which answer differs, where the transactions committed in this order.
