@@ -3,13 +3,14 @@ ghost use Rattle.std.specs.Prelude.{IfOk, IfSome};
 ghost use Rattle.kr_counterexample.specs.GoesWrong.{GoesWrong};
 
 use crate::counterexample::Counterexample;
+use crate::ending::Ending;
 use crate::entrances::Entrance;
 use crate::judging::goes_wrong;
 use crate::last_steps::last_steps;
 use crate::numbers::Numbers;
 use crate::step::{Actor, Step};
 use kr_cases::Memory;
-use kr_model::Op;
+use kr_model::{Event, Op};
 use kr_protocol::Protocol;
 use std::alloc::{AllocError, Global};
 
@@ -57,6 +58,26 @@ impl Draft {
         })
     }
 
+    /// The events of the script with this ending, by these numbers.
+    fn events(
+        &self,
+        alloc: Global,
+        numbers: &mut Numbers,
+        ending: Ending,
+    ) -> Result<Vec<Event>, AllocError> {
+        let mut events = Vec::new(alloc);
+        for step in self.steps.iter() {
+            numbers.put(&mut events, *step)?;
+        }
+        let (through, last) = last_steps(ending);
+        let by = Actor::Intruder;
+        numbers.put(&mut events, Step { by, op: through })?;
+        for (by, op) in last {
+            numbers.put(&mut events, Step { by: *by, op: *op })?;
+        }
+        Ok(events)
+    }
+
     /// The script with an ending by this entrance, if it goes wrong. The only fault is that a growth was refused.
     pub(crate) fn ended<P: Protocol>(
         &self,
@@ -68,16 +89,7 @@ impl Draft {
     {
         let (row, side, ending) = entrance;
         let mut numbers = Numbers::new(alloc);
-        let mut events = Vec::new(alloc);
-        for step in self.steps.iter() {
-            events.push(numbers.event(*step)?)?;
-        }
-        let (through, last) = last_steps(ending);
-        let by = Actor::Intruder;
-        events.push(numbers.event(Step { by, op: through })?)?;
-        for (by, op) in last {
-            events.push(numbers.event(Step { by: *by, op: *op })?)?;
-        }
+        let events = self.events(alloc, &mut numbers, ending)?;
         let opening = self.opening.to_vec(alloc)?;
         if !goes_wrong(alloc, protocol, &opening, &events)? {
             return Ok(None);

@@ -62,6 +62,13 @@ impl Numbers {
         };
         Ok(Event { txn, op })
     }
+
+    /// Puts the event of a step behind the others.
+    pub(crate) fn put(&mut self, events: &mut Vec<Event>, step: Step) -> Result<(), AllocError> {
+        let event = self.event(step)?;
+        events.push(event)?;
+        Ok(())
+    }
 }
 
 /// The events of a script.
@@ -69,7 +76,7 @@ pub(crate) fn events_of(alloc: Global, steps: &[Step]) -> Result<Vec<Event>, All
     let mut numbers = Numbers::new(alloc);
     let mut events = Vec::with_capacity(alloc, steps.len())?;
     for step in steps {
-        events.push(numbers.event(*step)?)?;
+        numbers.put(&mut events, *step)?;
     }
     Ok(events)
 }

@@ -134,6 +134,39 @@ fn both_sides(alloc: Global, current: Value, next: Value) -> Result<Value, Alloc
     Ok(Value::Table(sides))
 }
 
+/// Puts a row of one side, whose operation moves no key, at its name.
+fn put_one_side(
+    alloc: Global,
+    rules: &mut Document,
+    row: &str,
+    side: &str,
+    names: &[String],
+    request: Option<(Mode, Span)>,
+) -> Result<(), AllocError>
+    ensures { OnOk result (members_view rules.new.entries ≡ spec.put row.now (a_table (spec.one_side side.now (spec.plain_clauses (map string_bytes names.now) request))) (members_view rules.old.entries)) }
+{
+    let clauses = plain_clauses(alloc, names, request)?;
+    put_in(alloc, rules, row, one_side(alloc, side, clauses)?)
+}
+
+/// Puts a row of both sides, with a request for each own mode, from 0, for no lock, at its name.
+fn put_both_sides(
+    alloc: Global,
+    rules: &mut Document,
+    row: &str,
+    names: &[String],
+    current: &[Option<(Mode, Span)>],
+    next: &[Option<(Mode, Span)>],
+) -> Result<(), AllocError>
+    requires current { length current.now ≡ length names.now + 1 }
+    requires next { length next.now ≡ length names.now + 1 }
+    ensures { OnOk result (members_view rules.new.entries ≡ spec.put row.now (a_table (spec.changing_row (map string_bytes names.now) current.now next.now)) (members_view rules.old.entries)) }
+{
+    let current = own_clauses(alloc, names, current)?;
+    let next = own_clauses(alloc, names, next)?;
+    put_in(alloc, rules, row, both_sides(alloc, current, next)?)
+}
+
 /// The rows that every table has.
 fn all_rows(alloc: Global, p: &Parts) -> Result<Document, AllocError>
     requires { IsTable (data_of p.now) }
@@ -141,29 +174,32 @@ fn all_rows(alloc: Global, p: &Parts) -> Result<Document, AllocError>
 {
     let names = p.modes.names();
     let mut rules = Document::new(alloc);
-    let fetch_hit = one_side(alloc, "current", plain_clauses(alloc, names, p.fetch_hit)?)?;
-    put_in(alloc, &mut rules, "fetch-hit", fetch_hit)?;
-    let fetch_miss = one_side(alloc, "next", plain_clauses(alloc, names, p.fetch_miss)?)?;
-    put_in(alloc, &mut rules, "fetch-miss", fetch_miss)?;
-    let scan_key = one_side(alloc, "current", plain_clauses(alloc, names, p.scan_key)?)?;
-    put_in(alloc, &mut rules, "scan-key", scan_key)?;
-    let scan_stop = one_side(alloc, "next", plain_clauses(alloc, names, p.scan_stop)?)?;
-    put_in(alloc, &mut rules, "scan-stop", scan_stop)?;
-    let insert_current = own_clauses(alloc, names, p.insert_current.as_slice())?;
-    let insert_next = own_clauses(alloc, names, p.insert_next.as_slice())?;
-    put_in(
+    put_one_side(
+        alloc,
+        &mut rules,
+        "fetch-hit",
+        "current",
+        names,
+        p.fetch_hit,
+    )?;
+    put_one_side(alloc, &mut rules, "fetch-miss", "next", names, p.fetch_miss)?;
+    put_one_side(alloc, &mut rules, "scan-key", "current", names, p.scan_key)?;
+    put_one_side(alloc, &mut rules, "scan-stop", "next", names, p.scan_stop)?;
+    put_both_sides(
         alloc,
         &mut rules,
         "insert",
-        both_sides(alloc, insert_current, insert_next)?,
+        names,
+        p.insert_current.as_slice(),
+        p.insert_next.as_slice(),
     )?;
-    let delete_current = own_clauses(alloc, names, p.delete_current.as_slice())?;
-    let delete_next = own_clauses(alloc, names, p.delete_next.as_slice())?;
-    put_in(
+    put_both_sides(
         alloc,
         &mut rules,
         "delete",
-        both_sides(alloc, delete_current, delete_next)?,
+        names,
+        p.delete_current.as_slice(),
+        p.delete_next.as_slice(),
     )?;
     Ok(rules)
 }
@@ -175,9 +211,14 @@ pub fn rules_of(alloc: Global, p: &Parts) -> Result<Document, AllocError>
 {
     let mut rules = all_rows(alloc, p)?;
     if let Some(request) = p.update {
-        let clauses = plain_clauses(alloc, p.modes.names(), request)?;
-        let update = one_side(alloc, "current", clauses)?;
-        put_in(alloc, &mut rules, "update", update)?;
+        put_one_side(
+            alloc,
+            &mut rules,
+            "update",
+            "current",
+            p.modes.names(),
+            request,
+        )?;
     }
     Ok(rules)
 }
