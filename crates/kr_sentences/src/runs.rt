@@ -51,7 +51,7 @@ pub fn write_run<P: Protocol>(
     write_run_head(alloc, protocol, out, case, script)?;
     write_steps(alloc, protocol, out, script)?;
     write_line(out, "")?;
-    write_seen(alloc, out, script)?;
+    write_paragraph(out, seen(alloc, script)?.as_str(), INDENT, 0)?;
     write_verdict(alloc, protocol, out, script)?;
     write_share(alloc, out, tries)
 }
@@ -70,11 +70,6 @@ fn write_run_head<P: Protocol>(
         out,
         "\n   A run that goes wrong by {case}, on {opening}:\n\n"
     )
-}
-
-/// Writes what is seen at the end of a run.
-fn write_seen(alloc: Global, out: &mut String, script: &Counterexample) -> Result<(), Memory> {
-    write_paragraph(out, seen(alloc, script)?.as_str(), INDENT, 0)
 }
 
 /// Writes how many of the cause's cases gave a run, unless all did.

@@ -52,14 +52,6 @@ impl Columns {
         Ok(Line { cells })
     }
 
-    /// The lines above the steps.
-    fn first_lines(&self, alloc: Global) -> Result<Vec<Line>, Memory> {
-        let head = self.head(alloc)?;
-        let mut lines = Vec::new(alloc);
-        lines.push(head)?;
-        Ok(lines)
-    }
-
     /// The line of a step.
     fn line(
         &self,
@@ -165,7 +157,8 @@ fn lines_by<P: Protocol>(
 ) -> Result<Vec<Line>, Memory>
     requires { machine.old.pending ≡ None }
 {
-    let mut lines = columns.first_lines(alloc)?;
+    let mut lines = Vec::new(alloc);
+    lines.push(columns.head(alloc)?)?;
     for (at, event) in script.events.as_slice().iter().enumerate() {
         let number = at.saturating_add(1);
         let mark = mark(script, at);
