@@ -1,7 +1,12 @@
 //! The bundled tables as text. Each is the file of its name in the folder `tables/` at the top of the repository.
 
-/// Key-value locking.
-pub const KVL: &str = r#"format = 1
+/// Key-value locking in a format, with these lines at the end.
+macro_rules! key_value_locking {
+    ($format:literal, $more:literal) => {
+        concat!(
+            "format = ",
+            $format,
+            r#"
 modes = ["IS", "IX", "S", "SIX", "X"]
 
 [compatible]
@@ -37,49 +42,20 @@ current = [{ own = ["S", "SIX", "X"], mode = "X", span = "commit" }, { mode = "I
 [rules.delete]
 next = [{ mode = "X", span = "commit" }]
 current = [{ mode = "X", span = "instant" }]
-"#;
+"#,
+            $more
+        )
+    };
+}
+
+/// Key-value locking.
+pub const KVL: &str = key_value_locking!("1", "");
 
 /// Key-value locking with updates.
-pub const KVL_UPDATE: &str = r#"format = 2
-modes = ["IS", "IX", "S", "SIX", "X"]
-
-[compatible]
-IS = ["IS", "IX", "S", "SIX"]
-IX = ["IS", "IX"]
-S = ["IS", "S"]
-SIX = ["IS"]
-X = []
-
-[convert]
-IS = { IS = "IS", IX = "IX", S = "S", SIX = "SIX", X = "X" }
-IX = { IS = "IX", IX = "IX", S = "SIX", SIX = "SIX", X = "X" }
-S = { IS = "S", IX = "SIX", S = "S", SIX = "SIX", X = "X" }
-SIX = { IS = "SIX", IX = "SIX", S = "SIX", SIX = "SIX", X = "X" }
-X = { IS = "X", IX = "X", S = "X", SIX = "X", X = "X" }
-
-[rules.fetch-hit]
-current = [{ mode = "S", span = "commit" }]
-
-[rules.fetch-miss]
-next = [{ mode = "S", span = "commit" }]
-
-[rules.scan-key]
-current = [{ mode = "S", span = "commit" }]
-
-[rules.scan-stop]
-next = [{ mode = "S", span = "commit" }]
-
-[rules.insert]
-next = [{ mode = "IX", span = "instant" }]
-current = [{ own = ["S", "SIX", "X"], mode = "X", span = "commit" }, { mode = "IX", span = "commit" }]
-
-[rules.delete]
-next = [{ mode = "X", span = "commit" }]
-current = [{ mode = "X", span = "instant" }]
-
-[rules.update]
-current = [{ mode = "X", span = "commit" }]
-"#;
+pub const KVL_UPDATE: &str = key_value_locking!(
+    "2",
+    "\n[rules.update]\ncurrent = [{ mode = \"X\", span = \"commit\" }]\n"
+);
 
 /// Index-specific locking.
 pub const IM: &str = r#"format = 1
