@@ -1,17 +1,14 @@
 //! The band of a step: what was asked and answered in words, and its drawing.
 
-use crate::asked::Asked;
-use crate::bar::mode_name;
-use crate::columns::Columns;
 use crate::drawing::write_drawing;
 use crate::escape;
-use crate::layout::Layout;
-use crate::run::Difference;
-use crate::scene::Scene;
-use crate::words::{kind_of, write_name, write_numbers, write_op, write_reply};
 use kr_locks::Memory;
 use kr_model::Span;
 use kr_protocol::Protocol;
+use kr_scenes::{
+    Asked, Columns, Difference, Layout, Scene, kind_of, mode_name, write_name, write_numbers,
+    write_op, write_reply,
+};
 use std::alloc::Global;
 
 /// Writes the band of a step.

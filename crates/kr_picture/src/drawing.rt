@@ -1,12 +1,9 @@
 //! The drawing of a step: the line of names, and below it the locks, with a row for each transaction.
 
-use crate::bar::{Bar, BarKind, Row, colour_of};
-use crate::columns::Columns;
-use crate::layout::{Layout, bar_width};
-use crate::scene::{KeyState, Scene};
 use crate::svg;
 use crate::svg::at;
 use kr_locks::Memory;
+use kr_scenes::{Bar, BarKind, Columns, KeyState, Layout, Row, Scene, bar_width, colour_of};
 use std::alloc::{AllocError, Global};
 use std::collections::BTreeSet;
 

@@ -1,13 +1,10 @@
 //! The transactions as lanes over time.
 
-use crate::bar::colour_of;
-use crate::layout::{digits, text_width};
-use crate::run::Run;
 use crate::svg;
 use crate::svg::{Point, at};
-use crate::words::{kind_of, letter_of};
 use kr_locks::Memory;
 use kr_model::{Event, Reply, Txn};
+use kr_scenes::{Run, colour_of, digits, kind_of, letter_of, text_width};
 use std::alloc::{AllocError, Global};
 use std::collections::BTreeSet;
 

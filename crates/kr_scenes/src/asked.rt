@@ -73,7 +73,7 @@ impl Scans {
     }
 
     /// What a step asks for on an index with these locks, and whose locks conflict with it.
-    pub fn asked<P: Protocol>(
+    pub(crate) fn asked<P: Protocol>(
         &self,
         alloc: Global,
         protocol: &P,

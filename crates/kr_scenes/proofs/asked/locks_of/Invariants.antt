@@ -1,5 +1,5 @@
 use Rattle.kr_model.specs.Locks.{AreWithin}
-use Rattle.kr_picture.proofs.asked.locks_of.Given as goal
+use Rattle.kr_scenes.proofs.asked.locks_of.Given as goal
 
 -- the locks so far are of modes of the protocol
 abbrev pub invariant-loop-lock : goal.invariant-loop-lock

@@ -78,7 +78,7 @@ pub struct Scene {
 
 /// The map and the locks that a step finds or leaves.
 #[derive(Clone, Copy)]
-pub struct Standing<'a> {
+pub(crate) struct Standing<'a> {
     /// The pairs before the step, and after it.
     pub before: &'a [(u64, u64)],
     pub after: &'a [(u64, u64)],
@@ -88,7 +88,7 @@ pub struct Standing<'a> {
 
 impl Scene {
     /// The scene of a step that was answered so.
-    pub fn new<P: Protocol>(
+    pub(crate) fn new<P: Protocol>(
         alloc: Global,
         protocol: &P,
         columns: &Columns,

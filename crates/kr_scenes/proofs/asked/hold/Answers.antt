@@ -1,7 +1,7 @@
 use Rattle.std.proofs.Common.{sym, subst, arith}
 use Rattle.kr_model.specs.Locks.{AreWithin}
 use Rattle.kr_model.proofs.Keep.{AreWithin-keep}
-use Rattle.kr_picture.proofs.asked.hold.Goals as goal
+use Rattle.kr_scenes.proofs.asked.hold.Goals as goal
 
 pub returns : goal.returns
 returns g c =

@@ -1,0 +1,26 @@
+//! What is shown of a run: a scene for each step, with the bars of its locks, the columns of its keys and the lengths of its
+//! drawing; and in words the steps, the answers and the commits.
+#![tactic(auto)]
+
+mod asked;
+mod bar;
+mod columns;
+mod commits;
+mod layout;
+mod run;
+mod scene;
+mod scenes;
+mod summary;
+mod words;
+
+pub use asked::{Asked, Scans};
+pub use bar::{Bar, BarKind, Row, colour_of, mode_name};
+pub use columns::{Columns, keys_that_may_return};
+pub use commits::write_commits;
+pub use kr_locks::Memory;
+pub use layout::{Layout, bar_width, digits, text_width};
+pub use run::{Difference, Run, STEPS_DRAWN};
+pub use scene::{KeyState, Scene};
+pub use scenes::scenes_of;
+pub use summary::write_summary;
+pub use words::{kind_of, letter_of, write_name, write_numbers, write_op, write_reply};
