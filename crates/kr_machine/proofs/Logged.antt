@@ -15,7 +15,8 @@ use Rattle.kr_model.specs.Step.{step, IsStep}
 use Rattle.kr_model.specs.WellFormed.{IsState}
 use Rattle.kr_model.specs.Log.{logged}
 use Rattle.kr_model.proofs.LogLaws.{unfinished_after}
-use Rattle.kr_model.proofs.WellFormedLaws.{step_keeps_state, abort_of_active, commit_of_active, back_of_active}
+use Rattle.kr_model.proofs.WellFormedLaws.{step_keeps_state}
+use Rattle.kr_model.proofs.EndLaws.{abort_of_active, commit_of_active, back_of_active}
 use Rattle.kr_txn.specs.Logs.{LogWithRoom}
 use Rattle.kr_machine.specs.declared.pending.DueReply.{DueReply}
 use Rattle.kr_machine.specs.Logged.{IsLogged}

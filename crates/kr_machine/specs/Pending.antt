@@ -29,6 +29,10 @@ use Rattle.kr_machine.specs.Pins.{changes_of, all_changes_of, taken_pins}
 use Rattle.kr_machine.specs.declared.parts.Ending.{Ending}
 use Rattle.kr_machine.specs.declared.parts.Ending.TheVariants as ending
 use Rattle.kr_machine.specs.declared.pending.Pending.{Pending}
+use Rattle.kr_machine.specs.declared.pending.PendingPart.{PendingPart}
+use Rattle.kr_machine.specs.declared.pending.PendingPart.TheVariants as part
+use Rattle.kr_machine.specs.declared.pending.GrantedTouch.{GrantedTouch}
+use Rattle.kr_machine.specs.Parts.{ended_by, op_of_touch}
 
 -- What an operation answers that ends its transaction.
 abbrev pub end_reply : Op → Reply
@@ -144,10 +148,20 @@ abbrev pub put_back : Locks → ℕ → Option Request → ℕ → Locks
 put_back real t None was = real
 put_back real t (Some (n, q, s)) was = put_back_mode real t n was s
 
+-- The locks before the requests of what t was granted were kept.
+abbrev pub put_back_both : Locks → ℕ → GrantedTouch → Locks
+put_back_both real t g = put_back (put_back real t g.plan.next g.next_was) t g.plan.current g.current_was
+
+-- The locks before a pending step of t, by what it comes to: only one that asked for locks keeps some.
+abbrev pub locks_before : Locks → ℕ → PendingPart → Locks
+locks_before real t (part.End x) = real
+locks_before real t part.Back = real
+locks_before real t (part.Touch g) = put_back_both real t g
+
 -- The locks as contracts see them: those before a pending step.
 abbrev pub shown_locks : Option Pending → Locks → Locks
 shown_locks None real = real
-shown_locks (Some p) real = put_back (put_back real p.event.txn p.plan.next p.next_was) p.event.txn p.plan.current p.current_was
+shown_locks (Some p) real = locks_before real p.event.txn p.part
 
 -- The active transactions as contracts see them: those before a pending step.
 abbrev pub shown_active : Option Pending → List (ℕ × Active) → List (ℕ × Active)
@@ -179,12 +193,36 @@ abbrev pub HasFirstRoom : Vec (ℕ × ℕ) Global → Op → Type 0
 HasFirstRoom rows (op.Scan lo hi) = (rows.items ≡ []) × (vec_len rows < vec_capacity rows)
 HasFirstRoom rows o = Unit {0}
 
--- There is room for what an operation adds, and for its transaction in the list.
-abbrev pub HasRoom : Vec Standing Global → Standing → Vec (ℕ × ℕ) Global → Op → Type 0
-HasRoom active s rows op.Commit = Unit {0}
-HasRoom active s rows op.Abort = Unit {0}
-HasRoom active s rows op.Back = vec_len active < vec_capacity active
-HasRoom active s rows o = (vec_len active < vec_capacity active) × (HasRoomIn s o × HasFirstRoom rows o)
+-- What t asked for, who stands as s says, is granted, and has its memory.
+pub record IsGranted (m : Map) (real : Locks) (t : ℕ) (s : Standing) (g : GrantedTouch) : Type 0 where
+  -- the plan's row is that of the index
+  pub row : IsRowOf m (active_of s).scan (op_of_touch g.touch) g.plan.row
+  -- the lock that the step keeps on the next name, if it keeps one, is held
+  pub next_held : HoldsSide real t g.plan.next
+  -- and so is that on the current name
+  pub current_held : HoldsSide (put_back real t g.plan.next g.next_was) t g.plan.current
+  -- there is room for what the operation adds
+  pub room : HasRoomIn s (op_of_touch g.touch)
+  -- and for the first row of a scan that begins
+  pub first_room : HasFirstRoom g.first_rows (op_of_touch g.touch)
+
+-- The operation of a pending step, by what it comes to.
+abbrev pub pending_op : PendingPart → Op
+pending_op (part.End x) = ended_by x
+pending_op part.Back = op.Back
+pending_op (part.Touch g) = op_of_touch g.touch
+
+-- Finish has what it needs, by what the pending step comes to: room in the list for a transaction that goes on, and what was granted.
+abbrev pub CanFinish : Map → Locks → Vec Standing Global → ℕ → Standing → PendingPart → Type 0
+CanFinish m real active t s (part.End x) = Unit {0}
+CanFinish m real active t s part.Back = vec_len active < vec_capacity active
+CanFinish m real active t s (part.Touch g) = (vec_len active < vec_capacity active) × IsGranted m real t s g
+
+-- The pins that a pending step has taken, by what it comes to.
+abbrev pub pending_pins : PendingPart → ℕ → ℕ
+pending_pins (part.End x) q = 0
+pending_pins part.Back q = 0
+pending_pins (part.Touch g) q = taken_pins (op_of_touch g.touch) g.plan.row q
 
 -- A pending step is granted, and has all its memory.
 pub record IsReserved (p : Protocol) (m : Map) (pins : ℕ → ℕ) (real : Locks) (ended : EndedNumbers) (active : Vec Standing Global) (d : Pending) : Type 0 where
@@ -192,14 +230,10 @@ pub record IsReserved (p : Protocol) (m : Map) (pins : ℕ → ℕ) (real : Lock
   pub stepped : ◌≡◌ {A = State} (let o = step p (shown (Some d) m real ended.numbers (entries active.items)) d.event.txn d.event.op in o.1) (after_op m real ended.numbers (entries active.items) d.event.txn (active_of d.standing) d.event.op)
   -- the transaction that was taken out is that of the event
   pub itself : d.standing.txn ≡ d.event.txn
-  -- the plan's row is that of the index
-  pub row : IsRowOf m (active_of d.standing).scan d.event.op d.plan.row
+  -- and so is the operation, by what it comes to
+  pub same_op : pending_op d.part ≡ d.event.op
   -- the transaction isn't in the list meanwhile
   pub apart : find nat_cmp d.event.txn (entries active.items) ≡ None
-  -- the lock that the step keeps on the next name, if it keeps one, is held
-  pub next_held : HoldsSide real d.event.txn d.plan.next
-  -- and so is that on the current name
-  pub current_held : HoldsSide (put_back real d.event.txn d.plan.next d.next_was) d.event.txn d.plan.current
   -- the modes of the locks before the step are at most the protocol's count
   pub within : AreWithin p.count (shown_locks (Some d) real)
   -- and above 0
@@ -212,13 +246,13 @@ pub record IsReserved (p : Protocol) (m : Map) (pins : ℕ → ℕ) (real : Lock
   pub room_ended : vec_len active + 1 ≤ ended.room
   -- cancel has room to put it back in the list
   pub room_back : IsTrue d.was_active → vec_len active < vec_capacity active
-  -- finish has room for what the step adds
-  pub room : HasRoom active d.standing d.first_rows d.event.op
+  -- finish has what the step needs
+  pub can_finish : CanFinish m real active d.event.txn d.standing d.part
 
 -- Each change of an active transaction has a pin of its key, and a pending step has one of the key that it may change.
 abbrev pub HasPins : Option Pending → (ℕ → ℕ) → List (ℕ × Active) → Type 0
 HasPins None pins es = (q : ℕ) → pins q ≡ all_changes_of es q
-HasPins (Some p) pins es = (q : ℕ) → pins q ≡ all_changes_of es q + changes_of (active_of p.standing).changes q + taken_pins p.event.op p.plan.row q
+HasPins (Some p) pins es = (q : ℕ) → pins q ≡ all_changes_of es q + changes_of (active_of p.standing).changes q + pending_pins p.part q
 
 -- What always holds of a machine's parts.
 pub record IsMachine (p : Protocol) (m : Map) (pins : ℕ → ℕ) (real : Locks) (ended : EndedNumbers) (active : Vec Standing Global) (pending : Option Pending) : Type 0 where

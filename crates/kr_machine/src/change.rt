@@ -7,6 +7,7 @@ ghost use Rattle.kr_machine.specs.Pending.{IsRowOf, HasRoomIn, HasFirstRoom, eff
 ghost use Rattle.kr_machine.specs.Pins.{changed_key, changes_of, taken_pins};
 
 use crate::parts::{Ending, KeyTouch, Touch};
+use crate::pending::GrantedTouch;
 use crate::scans;
 use kr_index::{Memory, Ordered};
 use kr_model::{Op, Row};
@@ -54,26 +55,31 @@ pub(crate) fn unpin_change<I: Ordered>(index: &mut I, op: Op, row: Row)
 pub(crate) fn perform<I: Ordered>(
     index: &mut I,
     standing: Standing,
-    first_rows: Vec<(u64, u64)>,
-    touch: Touch,
-    row: Row,
+    granted: GrantedTouch,
 ) -> Standing
-    requires row { IsRowOf (I.map index.old) (active_of standing).scan (op_of_touch touch) row }
-    requires pins { (q : ℕ) → taken_pins (op_of_touch touch) row q ≤ I.pins index.old q }
-    requires room { HasRoomIn standing (op_of_touch touch) }
-    requires first_room { HasFirstRoom first_rows (op_of_touch touch) }
-    ensures map { I.map index.new ≡ (effect_of (I.map index.old) (active_of standing) (op_of_touch touch)).map }
-    ensures pins { (q : ℕ) → I.pins index.new q + taken_pins (op_of_touch touch) row q + changes_of (active_of standing).changes q ≡ I.pins index.old q + changes_of (active_of result).changes q }
+    requires row { IsRowOf (I.map index.old) (active_of standing).scan (op_of_touch granted.touch) granted.plan.row }
+    requires pins { (q : ℕ) → taken_pins (op_of_touch granted.touch) granted.plan.row q ≤ I.pins index.old q }
+    requires room { HasRoomIn standing (op_of_touch granted.touch) }
+    requires first_room { HasFirstRoom granted.first_rows (op_of_touch granted.touch) }
+    ensures map { I.map index.new ≡ (effect_of (I.map index.old) (active_of standing) (op_of_touch granted.touch)).map }
+    ensures pins { (q : ℕ) → I.pins index.new q + taken_pins (op_of_touch granted.touch) granted.plan.row q + changes_of (active_of standing).changes q ≡ I.pins index.old q + changes_of (active_of result).changes q }
     ensures txn { result.txn ≡ standing.txn }
-    ensures standing { active_of result ≡ (effect_of (I.map index.old) (active_of standing) (op_of_touch touch)).standing }
+    ensures standing { active_of result ≡ (effect_of (I.map index.old) (active_of standing) (op_of_touch granted.touch)).standing }
 {
+    let GrantedTouch {
+        touch,
+        plan,
+        current_was: _,
+        next_was: _,
+        first_rows,
+    } = granted;
     match touch {
         Touch::Scan(lo, hi) => {
             let rows = first_rows;
             scans::begin(index, standing, Scan { lo, hi, rows })
         }
         Touch::Go => scans::go_on(index, standing),
-        Touch::Key(touch) => change(index, standing, touch, row),
+        Touch::Key(touch) => change(index, standing, touch, plan.row),
     }
 }
 

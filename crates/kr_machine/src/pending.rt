@@ -1,27 +1,48 @@
 //! A step that has its memory and is not done yet.
 ghost use Rattle.std.specs.Prelude.{◌≡◌};
 
+use crate::parts::{Ending, Touch};
 use kr_model::{Event, Mode, Plan, Reply};
 use kr_txn::Standing;
 use std::marker::Model;
 
 /// What the machine keeps of the step.
 #[derive(Drop)]
-pub struct Pending {
+pub(crate) struct Pending {
     /// What is attempted, and by which transaction.
-    pub event: Event,
-    /// The locks that the step asked for, of which those to commit are held by now; a commit asks for none.
-    pub plan: Plan,
-    /// The mode that the transaction had on the current name, where the step keeps a lock there.
-    pub current_was: Mode,
-    /// The mode that the transaction had on the next name, where the step keeps a lock there.
-    pub next_was: Mode,
+    pub(crate) event: Event,
     /// How the transaction stands before the step; it isn't in the machine's list meanwhile.
-    pub standing: Standing,
+    pub(crate) standing: Standing,
     /// Whether the transaction was active before the step.
-    pub was_active: bool,
+    pub(crate) was_active: bool,
+    /// What the operation of the event comes to, with what it was granted.
+    pub(crate) part: PendingPart,
+}
+
+/// What a pending step comes to.
+#[derive(Drop)]
+pub(crate) enum PendingPart {
+    /// Its transaction ends.
+    End(Ending),
+    /// The newest change is taken back.
+    Back,
+    /// It asked for locks, and was granted them.
+    Touch(GrantedTouch),
+}
+
+/// What asked for locks, and what it was granted.
+#[derive(Drop)]
+pub(crate) struct GrantedTouch {
+    /// What asked for locks.
+    pub(crate) touch: Touch,
+    /// The locks that it asked for, of which those to commit are held by now.
+    pub(crate) plan: Plan,
+    /// The mode that the transaction had on the current name, where the step keeps a lock there.
+    pub(crate) current_was: Mode,
+    /// The mode that the transaction had on the next name, where the step keeps a lock there.
+    pub(crate) next_was: Mode,
     /// No rows yet, with room for the first, where the step begins a scan.
-    pub first_rows: Vec<(u64, u64)>,
+    pub(crate) first_rows: Vec<(u64, u64)>,
 }
 
 /// A step that is ready, with its reply. The machine that gave it must do it or give it up: it can't be dropped.

@@ -1,5 +1,5 @@
 //! All memory of a granted step.
-ghost use Rattle.std.specs.Prelude.{None, Some, ◌≡◌, ◌≢◌, ℕ, ◌<◌, ◌≤◌, [], IfOk, IfErr, IsOk, OnErr, OnOk, true, false, unwrap_or, IfSome, ◌-◌, vec_len, option_map};
+ghost use Rattle.std.specs.Prelude.{None, Some, ◌≡◌, ◌≢◌, ℕ, ◌+◌, ◌<◌, ◌≤◌, [], IfOk, IfErr, IsOk, OnErr, OnOk, true, false, unwrap_or, IfSome, ◌-◌, vec_len, option_map};
 ghost use Rattle.std.specs.Ordering.{nat_cmp};
 ghost use Rattle.std.specs.FinMap.{find};
 ghost use Rattle.kr_model.specs.Locks.{blockers, AreWithin};
@@ -11,14 +11,15 @@ ghost use Rattle.kr_model.specs.declared.Reply.TheVariants as reply_is;
 ghost use Rattle.kr_plan.specs.Modes.{ArePlanModes};
 ghost use Rattle.kr_txn.specs.Standings.{entries};
 ghost use Rattle.kr_machine.specs.Parts.{ended_by, op_of_touch};
-ghost use Rattle.kr_machine.specs.Pending.{IsMachine, attempt_of, shown, shown_locks, shown_active};
+ghost use Rattle.kr_machine.specs.Pending.{HoldsSide, IsMachine, attempt_of, put_back, put_back_both, shown, shown_locks, shown_active};
+ghost use Rattle.kr_machine.specs.Pins.{taken_pins};
 
 use crate::parts::{Ending, Touch};
-use crate::pending::Pending;
+use crate::pending::{GrantedTouch, Pending, PendingPart};
 use crate::{change, holds, room, scans};
 use kr_index::Ordered;
 use kr_locks::{Holdings, Memory};
-use kr_model::{Event, Op, Plan, Row, Txn};
+use kr_model::{Event, Op, Plan, Txn};
 use kr_protocol::Protocol;
 use kr_txn::{Ended, Standing, take_out};
 
@@ -60,12 +61,15 @@ pub(crate) fn reserve<P: Protocol, I: Ordered, L: Holdings>(
     match holds::hold_both(protocol, locks, txn, plan) {
         Ok((current_was, next_was)) => Ok(Pending {
             event: Event { txn, op },
-            plan,
-            current_was,
-            next_was,
             standing,
             was_active,
-            first_rows,
+            part: PendingPart::Touch(GrantedTouch {
+                touch,
+                plan,
+                current_was,
+                next_was,
+                first_rows,
+            }),
         }),
         Err(refused) => {
             change::unpin_change(index, op, plan.row);
@@ -75,12 +79,31 @@ pub(crate) fn reserve<P: Protocol, I: Ordered, L: Holdings>(
     }
 }
 
-/// The plan of a commit or an abort, which asks for no lock; its row doesn't matter.
-const NO_LOCKS: Plan = Plan {
-    row: Row::FetchHit,
-    current: None,
-    next: None,
-};
+/// Gives up what was granted: the pin of the key that it would change, and the modes that it keeps. Takes no memory.
+pub(crate) fn give_up<I: Ordered, L: Holdings>(
+    index: &mut I,
+    locks: &mut L,
+    txn: Txn,
+    granted: GrantedTouch,
+)
+    requires pins { (q : ℕ) → taken_pins (op_of_touch granted.touch) granted.plan.row q ≤ I.pins index.old q }
+    requires next_held { HoldsSide (L.locks locks.old) txn granted.plan.next }
+    requires current_held { HoldsSide (put_back (L.locks locks.old) txn granted.plan.next granted.next_was) txn granted.plan.current }
+    ensures map { I.map index.new ≡ I.map index.old }
+    ensures pins { (q : ℕ) → I.pins index.new q + taken_pins (op_of_touch granted.touch) granted.plan.row q ≡ I.pins index.old q }
+    ensures locks { L.locks locks.new ≡ put_back_both (L.locks locks.old) txn granted }
+{
+    let GrantedTouch {
+        touch,
+        plan,
+        current_was,
+        next_was,
+        first_rows: _,
+    } = granted;
+    change::unpin_change(index, touch.op(), plan.row);
+    holds::give_back(locks, txn, plan.next, next_was);
+    holds::give_back(locks, txn, plan.current, current_was);
+}
 
 /// Takes the memory of a commit or an abort, which is none where the transaction is active, and takes it out of the list.
 pub(crate) fn reserve_end<P: Protocol, I: Ordered, L: Holdings>(
@@ -105,29 +128,23 @@ pub(crate) fn reserve_end<P: Protocol, I: Ordered, L: Holdings>(
 {
     let op = ending.op();
     let event = Event { txn, op };
-    let alloc = *active.allocator();
+    let part = PendingPart::End(ending);
     match take_out(active, txn) {
         Some(standing) => Ok(Pending {
             event,
-            plan: NO_LOCKS,
-            current_was: 0,
-            next_was: 0,
             standing,
             was_active: true,
-            first_rows: Vec::new(alloc),
+            part,
         }),
         None => {
             let more = active.len() + 1;
             ended.make_room(more)?;
-            let standing = Standing::new(alloc, txn);
+            let standing = Standing::new(*active.allocator(), txn);
             Ok(Pending {
                 event,
-                plan: NO_LOCKS,
-                current_was: 0,
-                next_was: 0,
                 standing,
                 was_active: false,
-                first_rows: Vec::new(alloc),
+                part,
             })
         }
     }
@@ -153,16 +170,12 @@ pub(crate) fn reserve_back<P: Protocol, I: Ordered, L: Holdings>(
     ensures some { IfSome result (λ p. 0 < vec_len p.standing.changes) }
     ensures there { result ≡ None → ⊥ }
 {
-    let alloc = *active.allocator();
     match take_out(active, txn) {
         Some(standing) => Some(Pending {
             event: Event { txn, op: Op::Back },
-            plan: NO_LOCKS,
-            current_was: 0,
-            next_was: 0,
             standing,
             was_active: true,
-            first_rows: Vec::new(alloc),
+            part: PendingPart::Back,
         }),
         None => None,
     }

@@ -7,8 +7,8 @@ ghost use Rattle.kr_model.specs.declared.Op.TheVariants as op_is;
 ghost use Rattle.kr_machine.specs.Parts.{ended_by, op_of_touch};
 
 use crate::parts::{Ending, Part, Touch};
-use crate::pending::{Pending, Ready};
-use crate::{change, holds, refusals, replies, reserve, room};
+use crate::pending::{Pending, PendingPart, Ready};
+use crate::{change, refusals, replies, reserve, room};
 use kr_index::Ordered;
 use kr_locks::{Holdings, Memory};
 use kr_model::{Event, Mode, Name, Op, Pairs, Refusal, Reply, Txn, Txns};
@@ -256,20 +256,19 @@ impl<P: Protocol, I: Ordered, L: Holdings> Stepper<P, I, L> {
         ensures { self.new ≡ record { protocol = self.old.protocol; state = self.old.state; pending = None } }
     {
         let Ready { event, reply: _ } = ready;
-        if let Some(pending) = self.pending.take() {
-            let Pending {
-                plan,
-                current_was,
-                next_was,
-                standing,
-                was_active,
-                ..
-            } = pending;
-            change::unpin_change(&mut self.index, event.op, plan.row);
-            holds::give_back(&mut self.locks, event.txn, plan.next, next_was);
-            holds::give_back(&mut self.locks, event.txn, plan.current, current_was);
-            room::put_down(&mut self.active, event.txn, standing, was_active);
+        let Pending {
+            event: _,
+            standing,
+            was_active,
+            part,
+        } = self.pending.take().unwrap();
+        match part {
+            PendingPart::End(_) | PendingPart::Back => {}
+            PendingPart::Touch(granted) => {
+                reserve::give_up(&mut self.index, &mut self.locks, event.txn, granted);
+            }
         }
+        room::put_down(&mut self.active, event.txn, standing, was_active);
     }
 
     /// Does the step of this event, which is ready. Takes no memory.
@@ -277,27 +276,19 @@ impl<P: Protocol, I: Ordered, L: Holdings> Stepper<P, I, L> {
         requires { self.old.pending ≡ Some event }
         ensures { self.new ≡ record { protocol = self.old.protocol; state = (step (P.table self.old.protocol) self.old.state event.txn event.op).1; pending = None } }
     {
-        if let Some(pending) = self.pending.take() {
-            let Pending {
-                plan,
-                standing,
-                first_rows,
-                ..
-            } = pending;
-            match Part::of(event.op) {
-                Part::End(ending) => {
-                    change::end(&mut self.index, standing, ending);
-                    room::leave(&mut self.locks, &mut self.ended, event.txn);
-                }
-                Part::Back => {
-                    let left = change::take_back(&mut self.index, standing);
-                    put_in(&mut self.active, left);
-                }
-                Part::Touch(touch) => {
-                    let row = plan.row;
-                    let done = change::perform(&mut self.index, standing, first_rows, touch, row);
-                    put_in(&mut self.active, done);
-                }
+        let Pending { standing, part, .. } = self.pending.take().unwrap();
+        match part {
+            PendingPart::End(ending) => {
+                change::end(&mut self.index, standing, ending);
+                room::leave(&mut self.locks, &mut self.ended, event.txn);
+            }
+            PendingPart::Back => {
+                let left = change::take_back(&mut self.index, standing);
+                put_in(&mut self.active, left);
+            }
+            PendingPart::Touch(granted) => {
+                let done = change::perform(&mut self.index, standing, granted);
+                put_in(&mut self.active, done);
             }
         }
     }

@@ -13,6 +13,10 @@ use Rattle.std.proofs.Common.{sym, ◌∙◌, ap, arith}
 use Rattle.kr_model.specs.Locks.{add_once}
 use Rattle.kr_model.proofs.MapLaws.{keys_apart, key_tie}
 
+-- A test is not both.
+pub false_true : (b : Bool) → b ≡ false → b ≡ true → ⊥
+false_true b e f = cc
+
 -- tests on numbers
 pub tied : (t : ℕ) → (t == t) ≡ true
 tied t = grind (arith, nat_tests)

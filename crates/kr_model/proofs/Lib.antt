@@ -9,6 +9,7 @@ pub mod LogReads
 pub mod KindsOfSteps
 pub mod Ends
 pub mod ProgramLaws
+pub mod LogSteps
 pub mod LogLaws
 pub mod SerialLaws
 pub mod DifferenceLaws
@@ -17,12 +18,14 @@ pub mod Bundled
 pub mod WorkedCovers
 pub mod WorkedEntries
 pub mod WorkedRuns
+pub mod WorkedRefusals
 pub mod Asymmetric
 pub mod Entries
 pub mod Keep
 pub mod Actives
 pub mod Requests
 pub mod WellFormedLaws
+pub mod EndLaws
 pub mod Numbers
 pub mod Retained
 pub mod SortedSearch

@@ -1,5 +1,5 @@
 -- How the operations of a transaction are read from a history so far, and what a granted step adds to them.
-use Rattle.std.specs.Prelude.{◌≡◌, ℕ, Bool, true, false, not, ◌==◌, ◌&&◌, cond, nat_le, List, [], ◌∷◌, ◌++◌, Option, Some, None, is_some, unwrap_or, map, refl, if◌then◌else◌}
+use Rattle.std.specs.Prelude.{◌≡◌, ℕ, Bool, true, false, not, ◌==◌, ◌&&◌, cond, nat_le, List, [], ◌∷◌, ◌++◌, Option, Some, None, is_some, unwrap_or, refl, if◌then◌else◌}
 use Rattle.std.proofs.lemmas.Bool.Decides.{nat_tests}
 use Rattle.std.proofs.Common.{sym, ◌∙◌, ap, ap₂, subst, arith, append_assoc, append-nil}
 use Rattle.kr_model.specs.declared.Name.{Name}
@@ -10,7 +10,7 @@ use Rattle.kr_model.specs.declared.Event.{Event}
 use Rattle.kr_model.specs.declared.Reply.{Reply}
 use Rattle.kr_model.specs.declared.Reply.TheVariants as reply
 use Rattle.kr_model.specs.Map.{Map, get}
-use Rattle.kr_model.specs.State.{Active, Scan, standing}
+use Rattle.kr_model.specs.State.{Active, Scan}
 use Rattle.kr_model.specs.Step.{Effect, looked, row_read, fetched, inserted, deleted, updated, is_back}
 use Rattle.kr_model.specs.Run.{Entry, Answered, operations_of, answer_of, first_rows, is_rows, is_committed, is_operation, is_granted}
 use Rattle.kr_model.specs.Log.{Log, without_backs, last_answered, with_step, step_logged, logged}

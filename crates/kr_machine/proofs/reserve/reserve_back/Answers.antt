@@ -1,4 +1,4 @@
-use Rattle.std.proofs.Common.{ℕ, ◌+◌, ◌-◌, List, ap, sym, ◌∙◌, subst, arith}
+use Rattle.std.proofs.Common.{ℕ, ◌+◌, ◌-◌, List, ap, sym, ◌∙◌, refl, subst, arith}
 use Rattle.std.proofs.lemmas.Grind.{common_steps}
 use Rattle.std.specs.Prelude.{IsTrue, unwrap_or, ◌≡◌}
 use Rattle.std.specs.Ordering.{nat_cmp}
@@ -64,16 +64,14 @@ returns-in-Some-clause-ok g c =
       reserved = record {
         stepped = stepped;
         itself = c.in-Some.ensures.txn;
-        row = tt;
+        same_op = refl;
         apart = rw c.take_out.ensures.rest (find-without c.args.txn es);
-        next_held = tt;
-        current_held = tt;
         within = rest.within;
         no_none = rest.no_none;
         in_order = rest.in_order;
         noted = λ q. ap (λ xs. all_changes_of xs q) seen ∙ noted q;
         room_ended = omega (arith, rest.room, c.in-Some.ensures.some);
         room_back = λ _. grind (arith, common_steps, c.in-Some.ensures.some, c.take_out.ensures.capacity);
-        room = grind (arith, common_steps, c.in-Some.ensures.some, c.take_out.ensures.capacity);
+        can_finish = grind (arith, common_steps, c.in-Some.ensures.some, c.take_out.ensures.capacity);
       };
     }

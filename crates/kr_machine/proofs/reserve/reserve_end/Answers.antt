@@ -9,11 +9,9 @@ use Rattle.kr_txn.specs.Standings.{active_of, entries}
 use Rattle.kr_txn.proofs.Lists.{find-without, put_back, in_order-without}
 use Rattle.kr_machine.specs.Parts.{ended_by}
 use Rattle.kr_machine.specs.Pending.{after_op}
-use Rattle.kr_machine.specs.Pins.{changes_of, all_changes_of, taken_pins}
+use Rattle.kr_machine.specs.Pins.{changes_of, all_changes_of}
 use Rattle.kr_machine.proofs.Steps.{stepped_end}
 use Rattle.kr_machine.proofs.Pins.{noted-without}
-use Rattle.kr_model.specs.declared.Row.TheVariants.{FetchHit}
-use Rattle.kr_machine.proofs.Finish.{end_pins, end_row, room_end}
 use Rattle.kr_machine.proofs.reserve.reserve_end.Goals as goal
 
 pub returns-in-Some-clause-seen_active : goal.returns-in-Some-clause-seen_active
@@ -44,21 +42,18 @@ returns-in-Some-clause-ok g c =
       has_pins = λ q.
           let x = rest.has_pins q in
           let y = noted q in
-          let z : taken_pins c.op-op.result FetchHit q ≡ 0 = rw c.op-op.ensures (end_pins c.args.ending FetchHit q) in
-          omega (arith, x, y, z);
+          omega (arith, x, y);
       reserved = record {
         stepped = rw c.op-op.ensures stepped;
         itself = c.in-Some.ensures.txn;
-        row = rw c.op-op.ensures (end_row m a.scan c.args.ending FetchHit);
+        same_op = sym c.op-op.ensures;
         apart = rw c.take_out.ensures.rest (find-without c.args.txn es);
-        next_held = tt;
-        current_held = tt;
         within = rest.within;
         no_none = rest.no_none;
         in_order = rest.in_order;
         noted = λ q. ap (λ xs. all_changes_of xs q) seen ∙ noted q;
         room_ended = omega (arith, rest.room, c.in-Some.ensures.some);
         room_back = λ _. grind (arith, common_steps, c.in-Some.ensures.some, c.take_out.ensures.capacity);
-        room = rw c.op-op.ensures (room_end c.take_out.new.list c.in-Some.standing c.new.result c.args.ending);
+        can_finish = tt;
       };
     }

@@ -1,7 +1,7 @@
 use Rattle.std.proofs.Common.{◌≡◌, sym, ap, inl, refl, ◌∙◌}
 use Rattle.kr_model.specs.declared.Event.{Event}
 use Rattle.kr_model.specs.Step.{step}
-use Rattle.kr_model.proofs.LogLaws.{logged_silent}
+use Rattle.kr_model.proofs.LogSteps.{logged_silent}
 use Rattle.kr_machine.proofs.Logged.{abort_told, commit_told, back_told}
 use Rattle.kr_machine.proofs.machine.Machine.step.Goals as goal
 
