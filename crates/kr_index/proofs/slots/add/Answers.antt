@@ -9,18 +9,17 @@ pub returns-clause-in_order : goal.returns-clause-in_order
 returns-clause-in_order c =
     let es = c.args.entries.now.items in
     let s : Slot = record { value = None; pins = 1 } in
-    subst IsInOrder (sym (c.in_ok-insert.ensures.items ∙ added_at_gap es (t_in_order es c.requires.in_order) c.args.key c.args.place c.requires.gap s)) (in_order-put es c.args.key s c.requires.in_order)
+    subst IsInOrder (sym (c.in_ok-insert.ensures.items ∙ added_at_gap es c.args.key c.args.place c.requires.gap s)) (in_order-put es c.args.key s c.requires.in_order)
 
 pub returns-clause-map : goal.returns-clause-map
 returns-clause-map c =
     let es = c.args.entries.now.items in
     let s : Slot = record { value = None; pins = 1 } in
-    let sorted = t_in_order es c.requires.in_order in
-    ap pairs_of (c.in_ok-insert.ensures.items ∙ added_at_gap es sorted c.args.key c.args.place c.requires.gap s)
-    ∙ pairs-put_same es c.args.key s c.requires.in_order (ap value_in (absent_at_gap es sorted c.args.key c.args.place c.requires.gap))
+    ap pairs_of (c.in_ok-insert.ensures.items ∙ added_at_gap es c.args.key c.args.place c.requires.gap s)
+    ∙ pairs-put_same es c.args.key s c.requires.in_order (ap value_in (absent_at_gap es c.args.key c.args.place c.requires.gap (t_in_order es c.requires.in_order)))
 
 pub returns-clause-ok : goal.returns-clause-ok
 returns-clause-ok c q =
     let es = c.args.entries.now.items in
     let s : Slot = record { value = None; pins = 1 } in
-    ap (λ l. pins_of l q) (c.in_ok-insert.ensures.items ∙ added_at_gap es (t_in_order es c.requires.in_order) c.args.key c.args.place c.requires.gap s) ∙ pins-put es c.args.key s q
+    ap (λ l. pins_of l q) (c.in_ok-insert.ensures.items ∙ added_at_gap es c.args.key c.args.place c.requires.gap s) ∙ pins-put es c.args.key s q

@@ -29,4 +29,4 @@ returns-in-Err-clause-absent c =
     let es = c.args.entries.now in
     let by_key = c.in-Err.ensures.position (λ e. e.0) (answers_always _ _ _ (λ f a r g called. search rules)) in
     let gap = (searched es (t_in_order es c.requires) c.args.key (Err c.in-Err.place) c.in-Err.ensures.bound by_key).absent in
-    absent_at_gap es (t_in_order es c.requires) c.args.key c.in-Err.place gap
+    absent_at_gap es c.args.key c.in-Err.place gap (t_in_order es c.requires)
