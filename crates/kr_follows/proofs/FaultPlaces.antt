@@ -26,9 +26,6 @@ earlier_apart a i t n h = grind (arith, nat_tests)
 later_apart : (a i b j t n : ℕ) → earlier a i t n ≡ false → earlier a i b j ≡ true → ((b == t) && (j == n)) ≡ false
 later_apart a i b j t n h k = grind (arith, nat_tests)
 
-same_apart : (a i t n : ℕ) → ((a == t) && (i == n)) ≡ true → earlier a i t n ≡ false
-same_apart a i t n h = grind (arith, nat_tests)
-
 -- Rising faults --
 
 -- One fault more that comes after the one before it.

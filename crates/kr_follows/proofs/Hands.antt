@@ -221,10 +221,6 @@ dealt_again events t start end txns m w u v run hands found longer put =
       each = each_more so_far more t m w v hands.each some run.of_one (longer ∙ ap (λ (os : List Op). os ++ map (λ e. e.op) more) (some_are (ops_of t so_far) u.items there)) put;
     })
 
--- A transaction that the map doesn't find has no operations.
-pub dealt_none : (events : List Event) (t : ℕ) (txns : List ℕ) (m : Hands) → AreHands events txns m → None ≡ get nat_cmp m t → ops_of t events ≡ []
-dealt_none events t txns m hands found = none_are (ops_of t events) (ap (option_map (λ (h : Hand). h.items)) found ∙ hands.each t)
-
 -- The first run of a transaction.
 pub dealt_first : (events : List Event) (t start end : ℕ) (txns : List ℕ) (m w : Hands) (v : Hand)
     → IsRun t start end events

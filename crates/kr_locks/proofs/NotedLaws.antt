@@ -1,6 +1,6 @@
 -- What notes of names are left, and which locks they cover.
 use Rattle.std.proofs.Common.{◌≡◌, ℕ, Bool, true, false, cond, not, List, [], ◌∷◌, ◌++◌, Option, Some, None, sym, ap, ◌∙◌, refl, subst, arith}
-use Rattle.std.specs.Prelude.{◌≢◌, ◌||◌, ◌==◌, unwrap_or, Vec}
+use Rattle.std.specs.Prelude.{◌≢◌, ◌||◌, ◌==◌, Vec}
 use mathlib.Core.Bool.{false≢true}
 use Rattle.std.specs.Global.{Global}
 use Rattle.std.specs.BTreeMap as tree
@@ -10,7 +10,7 @@ use Rattle.std.specs.FinMap.{find}
 use Rattle.std.specs.FinMap.Entries.{find-put}
 use Rattle.std.proofs.lemmas.Bool.Decides.{nat_tests}
 use Rattle.kr_model.specs.declared.Name.{Name}
-use Rattle.kr_model.specs.Locks.{Locks, Holder, name_cmp, holder_cmp, own, keep, forget, release}
+use Rattle.kr_model.specs.Locks.{Locks, Holder, name_cmp, holder_cmp, keep, forget, release}
 use Rattle.kr_model.proofs.LockLaws.{name_total, holder_total, find-release}
 use Rattle.kr_model.proofs.Keep.{same, same_holder}
 use Rattle.kr_locks.specs.Noted.{names_in, noted, IsNoted, AreNoted}
@@ -103,7 +103,3 @@ AreNoted-keep m h t n q all here x u some = by (same (x, u) (n, t)) refl
         let is : ◌≡◌ {A = Holder} (x, u) (n, t) = same_holder (x, u) (n, t) e in
         subst (λ (k : Holder). IsNoted m k.1 k.0) (sym is) here
     by false e = all x u (λ none. some (find-put holder_cmp holder_total (x, u) (n, t) q h ∙ ap (λ b. cond b (Some q) (find holder_cmp (x, u) h)) e ∙ none))
-
--- where an own mode is held, there is a lock
-pub held_there : (h : Locks) (t : ℕ) (n : Name) → own h t n ≢ 0 → find holder_cmp (n, t) h ≢ None
-held_there h t n some none = some (ap (λ o. unwrap_or o 0) none)

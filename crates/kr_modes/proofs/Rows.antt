@@ -21,28 +21,11 @@ one_more_test h n e = grind (arith, nat_tests)
 here_test : (n : ℕ) → nat_lt n (n + 1) ≡ true
 here_test n = grind (arith, nat_tests)
 
-not_yet : (n : ℕ) → nat_lt n n ≡ false
-not_yet n = grind (arith, nat_tests)
-
 some_test : (n : ℕ) → 0 < n → nat_lt 0 n ≡ true
 some_test n lt = grind (arith, nat_tests)
 
 at_end : (h n : ℕ) → nat_lt h (n + 1) ≡ nat_le h n
 at_end h n = grind (arith, nat_tests)
-
--- none at first
-pub no_row : (f : ℕ → Bool) → IsRowTo f 1 0
-no_row f h = bit_at-zero h ∙ sym (by (nat_lt 0 h) (nat_lt h 1) (not (f h)) (apart h))
-  where
-    apart : (h : ℕ) → (nat_lt 0 h && nat_lt h 1) ≡ false
-    apart zero = refl
-    apart (suc h) = later (suc h) (omega arith)
-      where
-        later : (h : ℕ) → 0 < h → (nat_lt 0 h && nat_lt h 1) ≡ false
-        later h lt = grind (arith, nat_tests)
-
-    by : (a b c : Bool) → (a && b) ≡ false → ◌≡◌ {A = ℕ} (cond ((a && b) && c) 1 0) 0
-    by a b c e = ap (λ (x : Bool). cond (x && c) 1 0) e
 
 -- a bit that is set
 pub row_set : (f : ℕ → Bool) (n r : ℕ) → 0 < n → n < 16 → f n ≡ false → IsRowTo f n r → IsRowTo f (n + 1) (bit_or r (1 * 2 ^ n % 2 ^ 16))
@@ -71,10 +54,6 @@ row_clear f n r e is h = by (same_or_other h n)
     by : (h ≡ n) ⊎ (h ≢ n) → bit_at r h ≡ cond ((nat_lt 0 h && nat_lt h (n + 1)) && not (f h)) 1 0
     by (inl s) = is h ∙ none (nat_lt 0 h) (nat_lt h n) (f h) (ap f s ∙ e) ∙ sym (none (nat_lt 0 h) (nat_lt h (n + 1)) (f h) (ap f s ∙ e))
     by (inr o) = is h ∙ ap (λ (x : Bool). cond ((nat_lt 0 h && x) && not (f h)) 1 0) (sym (one_more_test h n o))
-
--- all bits, where n is the count
-pub row_at_end : (f : ℕ → Bool) (n r : ℕ) → IsRowTo f (n + 1) r → (h : ℕ) → bit_at r h ≡ cond ((nat_lt 0 h && nat_le h n) && not (f h)) 1 0
-row_at_end f n r is h = is h ∙ ap (λ (x : Bool). cond ((nat_lt 0 h && x) && not (f h)) 1 0) (at_end h n)
 
 -- Rows by their modes --
 

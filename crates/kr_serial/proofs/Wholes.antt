@@ -10,7 +10,7 @@ use Rattle.kr_model.specs.Map.{Map, IsMap, get, without, pairs_between}
 use Rattle.kr_model.specs.Run.{Program}
 use Rattle.kr_model.specs.Serial.{AreSerial, whole_delete}
 use Rattle.kr_model.specs.Difference.{Difference, same_pairs, first_difference}
-use Rattle.kr_model.proofs.MapLaws.{t_of, true_of, sorted_where}
+use Rattle.kr_model.proofs.MapLaws.{t_of, sorted_where}
 use Rattle.kr_model.proofs.SerialLaws.{serial_if, none_if_serial}
 use Rattle.kr_model.proofs.Trees.{first, second}
 use Rattle.kr_machine.proofs.Absent.{without_absent}
@@ -71,10 +71,6 @@ up_to-past m e hi h lt = ap (λ b. cond b (e ∷ up_to hi m) (up_to hi m)) (past
 -- Where it isn't, it is the first of them.
 pub up_to-within : (m : Map) (e : ℕ × ℕ) (hi : ℕ) → e.0 ≤ hi → up_to hi (e ∷ m) ≡ e ∷ up_to hi m
 up_to-within m e hi le = ap (λ b. cond b (e ∷ up_to hi m) (up_to hi m)) (within_test e.0 hi le)
-
--- The pairs after the first are a map.
-pub is_map-rest : (m : Map) (e : ℕ × ℕ) → IsMap (e ∷ m) → IsMap m
-is_map-rest m e h = true_of _ (second _ _ (t_of _ h))
 
 -- Rows that are left are none exactly at their end.
 pub same_at_end : (rows : Map) (i : ℕ) → i ≤ length rows → same_pairs (drop i rows) [] ≡ (i == length rows)
