@@ -193,9 +193,6 @@ places_more m w ns n a new is = record { each = each; true_of = λ t i found. to
         let r = a.true_of t i found in
         (omega (arith, longer, r.0), ap (λ (x : Number). x.txn) (at_old ns n i r.0) ∙ r.1)
 
-pub no_places : (m : BTreeMap ℕ ℕ) → ((u : ℕ) → get nat_cmp m u ≡ None) → ArePlaces m []
-no_places m none = record { each = λ i l. absurd (omega arith); true_of = λ t i found. absurd (cc (none t, found)) }
-
 -- A change at one place that leaves the number.
 txn_stays : (ns : List Number) (p : ℕ) (n : Number) → n.txn ≡ (number_at ns p).txn → (i : ℕ) → (number_at (slice_set ns p n) i).txn ≡ (number_at ns i).txn
 txn_stays [] p n same i = refl

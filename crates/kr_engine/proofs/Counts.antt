@@ -1,5 +1,5 @@
 -- The counts of the seats.
-use Rattle.std.proofs.Common.{◌≡◌, ◌≢◌, ℕ, zero, suc, ◌+◌, ◌<◌, ◌≤◌, ◌==◌, List, [], ◌∷◌, ◌++◌, length, Bool, true, false, cond, refl, ap, sym, ◌∙◌, arith, ⊎_elim}
+use Rattle.std.proofs.Common.{◌≡◌, ◌≢◌, ℕ, suc, ◌+◌, ◌<◌, ◌≤◌, ◌==◌, List, [], ◌∷◌, ◌++◌, length, Bool, true, false, cond, ap, sym, ◌∙◌, arith, ⊎_elim}
 use Rattle.std.specs.Prelude.{slice_index_or, slice_set}
 use Rattle.std.proofs.lemmas.List.{get_or-set_same, get_or-set_other}
 use Rattle.std.proofs.lemmas.Bool.Decides.{eqb_tells}
@@ -52,16 +52,6 @@ counts_stay seats es seat n n' are within read same k = ⊎_elim mine others (eq
 
     others : ((seat == k) ≡ false) × (seat ≢ k) → (seat_at (slice_set seats seat n') k).count ≡ entries_of k es
     others t = ap (λ (m : SeatNote). m.count) (get_or-set_other seats seat k n' no_seat (λ (there : k ≡ seat). t.1 (sym there))) ∙ are k
-
--- A new seat has no entries.
-pub counts_new : (seats : List SeatNote) (es : List Entry) → CountsAre seats es → CountsAre (seats ++ no_seat ∷ []) es
-counts_new seats es are k = ap (λ (m : SeatNote). m.count) (go seats k) ∙ are k
-  where
-    go : (seats : List SeatNote) (k : ℕ) → seat_at (seats ++ no_seat ∷ []) k ≡ seat_at seats k
-    go [] zero = refl
-    go [] (suc k) = refl
-    go (x ∷ xs) zero = refl
-    go (x ∷ xs) (suc k) = go xs k
 
 -- A seat has no more entries than there are.
 pub counts_within : (seats : List SeatNote) (es : List Entry) (seat : ℕ) (n : SeatNote) → CountsAre seats es → seat < length seats → n ≡ slice_index_or seats seat n → n.count ≤ length es

@@ -24,7 +24,7 @@ use Rattle.kr_model.proofs.Actives.{any_add_once, tied, untied}
 use Rattle.kr_model.proofs.KindsOfSteps.{not_refused}
 use Rattle.kr_engine.specs.declared.numbers.Number.{Number}
 use Rattle.kr_places.specs.declared.name.Entry.{Entry}
-use Rattle.kr_engine.specs.Numbers.{begun_by, was_begun, is_begun, number_at, nobody, IsPlace, HaveEnds, ends_kept}
+use Rattle.kr_engine.specs.Numbers.{begun_by, was_begun, is_begun, nobody, IsPlace, HaveEnds, ends_kept}
 use Rattle.kr_engine.specs.Cores.{unended}
 use Rattle.kr_engine.proofs.Ends.{begun_more}
 use Rattle.kr_engine.proofs.Begun.{still_begun, still_begun_by}
@@ -115,10 +115,6 @@ nobody_ended state_of (Ok x) old new after ok err same = ap (λ (s : State). s.e
 nobody_ended state_of (Err e) old new after ok err same = ap (λ (m : _). (state_of m).ended) err
 
 -- The memory of ends --
-
--- a number whose transaction hasn't ended has the memory of its end's entry
-pub has_end : (s : State) (ns : List Number) (t i : ℕ) → IsPlace ns t i → HaveEnds s ns → has_ended s t ≡ false → is_some (number_at ns i).end ≡ true
-has_end s ns t i p all live = all i nobody p.within ∙ ap not (ap (has_ended s) p.here ∙ live)
 
 -- one number changes, and whether its transaction has ended
 ends_set : (s new : State) (ns : List Number) (t i : ℕ) (n : Number) → IsPlace ns t i → n.txn ≡ t → is_some n.end ≡ not (has_ended new t)

@@ -1,6 +1,6 @@
 -- One entry more.
 use Rattle.std.proofs.Common.{◌≡◌, ℕ, List, [], ◌∷◌, ◌++◌, true, refl, ap, sym, ◌∙◌, subst}
-use Rattle.std.proofs.lemmas.List.Elements.{All-push, All-nil}
+use Rattle.std.proofs.lemmas.List.Elements.{All-push}
 use Rattle.kr_model.specs.Protocol.{Protocol}
 use Rattle.kr_model.specs.Map.{Map}
 use Rattle.kr_model.specs.State.{State, start}
@@ -72,10 +72,6 @@ programs_of_history p opening es s l h is =
     let log = log_of_run p opening (model.events_of (events_with_replies es)) in
     ap (λ (m : Log). m.committed) is
     ∙ subst (λ (r : model.Trace). (log_after no_log r.history).committed ≡ model.programs r.history) h.run log.committed
-
--- At the start there is no history.
-pub no_history : (p : Protocol) (opening : Map) → IsHistory p opening [] (start opening)
-no_history p opening = record { run = refl; granted = All-nil (λ (e : Entry). model.is_granted e.reply ≡ true) }
 
 -- A history under a covered protocol is serial.
 pub serial_history : (p : Protocol) → IsLawful p → IsCovered p → (opening : Map) (es : List Entry) (s : State) → IsMap opening → IsHistory p opening es s → IsSerialHistory opening es s

@@ -1,5 +1,5 @@
 -- For whom the seats speak.
-use Rattle.std.proofs.Common.{◌≡◌, ◌≢◌, ℕ, zero, suc, ◌<◌, ◌==◌, ◌&&◌, ◌||◌, List, [], ◌∷◌, ◌++◌, length, Some, Bool, true, false, refl, ap, sym, ◌∙◌, subst, ⊎_elim}
+use Rattle.std.proofs.Common.{◌≡◌, ◌≢◌, ℕ, ◌<◌, ◌==◌, ◌&&◌, ◌||◌, List, [], ◌∷◌, ◌++◌, length, Some, Bool, true, false, refl, ap, sym, ◌∙◌, ⊎_elim}
 use Rattle.std.specs.Prelude.{slice_index_or, slice_set}
 use Rattle.std.proofs.lemmas.List.{get_or-set_same, get_or-set_other}
 use Rattle.std.proofs.lemmas.Bool.{eq-eqb}
@@ -23,16 +23,6 @@ own_stay numbers seats seat n n' own within read same k t is = own k t (sym (⊎
 
     others : ((seat == k) ≡ false) × (seat ≢ k) → (seat_at (slice_set seats seat n') k).last ≡ (seat_at seats k).last
     others h = ap (λ (m : SeatNote). m.last) (get_or-set_other seats seat k n' no_seat (λ (there : k ≡ seat). h.1 (sym there)))
-
--- A new seat began none.
-pub own_new : (numbers : List (ℕ × ℕ)) (seats : List SeatNote) → LastAreOwn numbers seats → LastAreOwn numbers (seats ++ no_seat ∷ [])
-own_new numbers seats own k t is = own k t (sym (ap (λ (m : SeatNote). m.last) (go seats k)) ∙ is)
-  where
-    go : (seats : List SeatNote) (k : ℕ) → seat_at (seats ++ no_seat ∷ []) k ≡ seat_at seats k
-    go [] zero = refl
-    go [] (suc k) = refl
-    go (x ∷ xs) zero = refl
-    go (x ∷ xs) (suc k) = go xs k
 
 begun_last : (ns : List (ℕ × ℕ)) (t k : ℕ) → is_begun (ns ++ (t, k) ∷ []) t k ≡ true
 begun_last [] t k = ap (λ (b : Bool). (b && (k == k)) || false) (eq-eqb t t refl) ∙ ap (λ (b : Bool). b || false) (eq-eqb k k refl)

@@ -3,7 +3,7 @@ use Rattle.std.specs.Prelude.{◌==◌}
 use Rattle.std.specs.List.{insert, list_any}
 use Rattle.std.specs.List.Sorted.{IsStrictlyIncreasing, IsBinarySearchResult}
 use Rattle.std.specs.Ordering.{nat_cmp}
-use Rattle.std.proofs.Common.{◌≡◌, ℕ, zero, suc, ◌+◌, ◌<◌, ◌≤◌, length, get_or, take, Bool, true, false, Result, Ok, Err, List, [], ◌||◌, ◌⊎◌, ⊎_elim, sym, ◌∙◌, ap, refl, subst, arith, MatchResult}
+use Rattle.std.proofs.Common.{◌≡◌, ℕ, zero, suc, ◌+◌, ◌<◌, ◌≤◌, length, get_or, take, Bool, true, false, Result, Ok, Err, List, ◌||◌, ◌⊎◌, ⊎_elim, sym, ◌∙◌, ap, refl, subst, arith, MatchResult}
 use Rattle.std.proofs.Math.Numerals.{add-one}
 use Rattle.std.proofs.lemmas.List.{take_all}
 use Rattle.std.proofs.lemmas.List.Edits.{insert_end}
@@ -66,10 +66,6 @@ or_comm true true = refl
 or_comm true false = refl
 or_comm false true = refl
 or_comm false false = refl
-
--- None of no operation.
-pub txns_none : (es : List Event) → AreTxnsOf [] (take 0 es)
-txns_none es = record { rising = λ k lt. absurd (omega arith); each = λ t. refl }
 
 -- One operation more.
 pub txns_more : (es : List Event) (i : ℕ) (d : Event) (ts us : List ℕ) → AreTxnsOf ts (take i es) → i < length es → us ≡ add_once (get_or es i d).txn ts → AreTxnsOf us (take (i + 1) es)

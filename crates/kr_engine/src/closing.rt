@@ -6,8 +6,8 @@ ghost use Rattle.kr_model.specs.Run.{programs};
 ghost use Rattle.kr_engine.specs.Histories.{events_with_replies};
 ghost use Rattle.kr_engine.specs.Closed.{lent, fits, StandsIn, IsClosed};
 
+use crate::hand::Hand;
 use crate::kernel::{Core, SeatNote};
-use crate::seat::Hand;
 use kr_model::{Mode, Name, Pairs, Programs, Txn, Txns};
 use kr_places::{EngineName, Entry, Known, PlaceRow, Seen};
 use kr_protocol::Covered;

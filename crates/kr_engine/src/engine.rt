@@ -1,9 +1,9 @@
-//! One lock over the core, and the seats that threads hold.
-ghost use Rattle.std.specs.Prelude.{◌≡◌, ◌≢◌, true, false, length, IfOk, IfErr, OnOk, OnErr, Some, None, Err, []};
+//! One lock over the core.
+ghost use Rattle.std.specs.Prelude.{◌≡◌, ◌≢◌, true, false, IfOk, IfErr, OnOk, OnErr, Some, None, Err, []};
 ghost use mathlib.Core.List.{IsPrefix};
 ghost use Rattle.kr_model.specs.Map.{IsMap};
 ghost use Rattle.kr_model.specs.Step.{is_end as ends};
-ghost use Rattle.kr_places.specs.Notes.{KnowsAll, KnowsNoneFrom};
+ghost use Rattle.kr_places.specs.Notes.{KnowsNoneFrom};
 ghost use Rattle.kr_engine.specs.declared.faults.EngineFault.TheVariants as fault;
 ghost use Rattle.kr_engine.specs.Faults.{is_unbegun, is_blocked, is_of_begin, is_of_try, is_of_call};
 ghost use Rattle.std.specs.List.Sorted.{IsStrictlyIncreasing};
@@ -12,24 +12,24 @@ ghost use Rattle.kr_engine.specs.Closed.{lent, IsClosed};
 ghost use Rattle.kr_engine.specs.Seats.{Shows, SeesFault, ToldFault, IsOpen, IsIdle};
 
 use crate::closing::{CloseFault, History, Share};
-use crate::faults::{EngineFault, Receipt};
+use crate::faults::{Attempted, EngineFault};
+use crate::hand::Hand;
 use crate::kernel::Core;
 use crate::queues::Queues;
-use crate::seat::Hand;
+use crate::seat::Seat;
 use crate::wakes::{Change, change_of};
 use kr_model::{Op, Txn, Txns};
 use kr_places::{EngineName, PlaceRow, Watch};
 use kr_protocol::Covered;
 use std::alloc::{AllocError, Global};
-use std::marker::Model;
 use std::sync::{Mutex, Wait};
 
 /// A machine under one lock, with a row of places for its history. Threads do the steps of transactions by its seats, and
 /// read the row by watches.
 #[derive(Drop)]
 pub struct Engine<P: Covered, K: EngineName> {
-    alloc: Global,
-    row: PlaceRow,
+    pub(crate) alloc: Global,
+    pub(crate) row: PlaceRow,
     pub(crate) core: Mutex<Core<P, K>>,
     /// Where calls sleep whose steps are blocked.
     queues: Queues,
@@ -121,7 +121,7 @@ impl<P: Covered, K: EngineName> Engine<P, K> {
     }
 
     /// Notes that a seat left, and gives out its share.
-    fn part<R: Wait>(&self, rt: &R, hand: Hand<K>) -> Share<K>
+    pub(crate) fn part<R: Wait>(&self, rt: &R, hand: Hand<K>) -> Share<K>
         ensures { result ≡ lent hand }
     {
         let mut core = self.core.lock(rt);
@@ -132,7 +132,12 @@ impl<P: Covered, K: EngineName> Engine<P, K> {
     }
 
     /// Begins a number for a seat.
-    fn begin<R: Wait>(&self, rt: &R, hand: &mut Hand<K>, txn: Txn) -> Result<(), EngineFault>
+    pub(crate) fn begin<R: Wait>(
+        &self,
+        rt: &R,
+        hand: &mut Hand<K>,
+        txn: Txn,
+    ) -> Result<(), EngineFault>
         ensures ok { OnOk result (hand.new ≡ record hand.old { speaks = Some txn }) }
         ensures err { OnErr result (hand.new ≡ hand.old) }
         ensures faults { IfErr result (λ f. f ≢ fault.PlaceTaken → is_of_begin f ≡ true) }
@@ -154,7 +159,7 @@ impl<P: Covered, K: EngineName> Engine<P, K> {
     }
 
     /// One attempt of a seat.
-    fn attempt<R: Wait>(&self, rt: &R, hand: &mut Hand<K>, op: Op) -> Result<Receipt, EngineFault>
+    pub(crate) fn attempt<R: Wait>(&self, rt: &R, hand: &mut Hand<K>, op: Op) -> Attempted
         ensures seat { (hand.new.seat ≡ hand.old.seat) × (hand.new.speaks ≡ hand.old.speaks) }
         ensures begins { IsPrefix hand.old.view hand.new.view }
         ensures done { IfOk result (λ r. Shows K.table K.opening hand.old hand.new op r) }
@@ -174,7 +179,7 @@ impl<P: Covered, K: EngineName> Engine<P, K> {
     }
 
     /// Attempts of a seat, one each time that it is woken, until one isn't blocked.
-    fn attend<R: Wait>(&self, rt: &R, hand: &mut Hand<K>, op: Op) -> Result<Receipt, EngineFault>
+    pub(crate) fn attend<R: Wait>(&self, rt: &R, hand: &mut Hand<K>, op: Op) -> Attempted
         ensures seat { (hand.new.seat ≡ hand.old.seat) × (hand.new.speaks ≡ hand.old.speaks) }
         ensures begins { IsPrefix hand.old.view hand.new.view }
         ensures done { IfOk result (λ r. Shows K.table K.opening hand.old hand.new op r) }
@@ -230,108 +235,5 @@ impl<P: Covered, K: EngineName> Engine<P, K> {
                 Err(_) => self.queues.wake_all(),
             }
         }
-    }
-}
-
-/// A seat of an engine, by which one thread does the steps of transactions, one transaction after another. Contracts see
-/// what it keeps of its own.
-#[derive(Drop)]
-pub struct Seat<'a, P: Covered, K: EngineName> {
-    engine: &'a Engine<P, K>,
-    hand: Hand<K>,
-}
-
-impl<'a, P: Covered, K: EngineName> Model for Seat<'a, P, K> {
-    ghost use Rattle.kr_engine.specs.Seats.{Held};
-
-    ghost Value = { Held };
-
-    ghost view = { λ s. s.hand };
-}
-
-impl<'a, P: Covered, K: EngineName> Seat<'a, P, K> {
-    /// Begins a transaction's number, for which the seat speaks from then on. It waits for the lock alone.
-    ///
-    /// The first of these that applies is answered, and nothing has changed:
-    ///
-    /// - `Open`: the transaction that the seat speaks for is active.
-    /// - `Taken`: the number was begun before, by whichever seat.
-    /// - `RowFull`: the used and the kept places are all places of the row.
-    /// - `Memory`: a growth was refused.
-    ///
-    /// `PlaceTaken`, where the core's record of the seat isn't the seat's, comes before these, and only by a fault of the
-    /// engine.
-    pub fn begin<R: Wait>(&mut self, rt: &R, txn: Txn) -> Result<(), EngineFault>
-        ensures ok { OnOk result (self.new ≡ record self.old { speaks = Some txn }) }
-        ensures err { OnErr result (self.new ≡ self.old) }
-        ensures faults { IfErr result (λ f. f ≢ fault.PlaceTaken → is_of_begin f ≡ true) }
-        ensures only_open { result ≡ Err fault.Open → IsOpen K.table K.opening self.old }
-    {
-        let engine = self.engine;
-        engine.begin(rt, &mut self.hand, txn)
-    }
-
-    /// One attempt at an operation of the transaction that the seat speaks for. It waits for the lock alone: where the step
-    /// is blocked it answers `Refused`.
-    ///
-    /// At Ok the step is done and its entry written, and at a refusal nothing was done; in both the seat has then seen the
-    /// whole history. At any other fault the seat is as it was:
-    ///
-    /// - `NotBegun`: the seat has begun no number.
-    /// - `RowFull`: the used and the kept places are all places, and the operation is neither commit nor abort.
-    /// - `Memory`: a growth was refused. The end of an active transaction never answers so.
-    /// - `PlaceTaken`: the next place refused the write, or the core's record of the seat isn't the seat's.
-    pub fn try_call<R: Wait>(&mut self, rt: &R, op: Op) -> Result<Receipt, EngineFault>
-        ensures seat { (self.new.seat ≡ self.old.seat) × (self.new.speaks ≡ self.old.speaks) }
-        ensures begins { IsPrefix self.old.view self.new.view }
-        ensures done { IfOk result (λ r. Shows K.table K.opening self.old self.new op r) }
-        ensures fault { IfErr result (λ f. SeesFault K.table K.opening self.old self.new op f) }
-        ensures faults { IfErr result (λ f. is_of_try f ≡ true) }
-        ensures unbegun { self.old.speaks ≡ None → result ≡ Err fault.NotBegun }
-        ensures only_unbegun { IfErr result (λ f. is_unbegun f ≡ true → self.old.speaks ≡ None) }
-        ensures only_full { result ≡ Err fault.RowFull → ends op ≡ false }
-        ensures memory { result ≡ Err fault.Memory → ends op ≡ true → IsIdle K.table K.opening self.old }
-    {
-        let engine = self.engine;
-        engine.attempt(rt, &mut self.hand, op)
-    }
-
-    /// The same, but while the step is blocked it waits, and attempts it again when a step of another seat may have let it
-    /// go on, or closed a cycle. Where the wait would close a cycle of waiting transactions it answers `Deadlock` at once.
-    /// At a fault that isn't a refusal the seat may have seen more. It never answers that the step is blocked.
-    pub fn call<R: Wait>(&mut self, rt: &R, op: Op) -> Result<Receipt, EngineFault>
-        ensures seat { (self.new.seat ≡ self.old.seat) × (self.new.speaks ≡ self.old.speaks) }
-        ensures begins { IsPrefix self.old.view self.new.view }
-        ensures done { IfOk result (λ r. Shows K.table K.opening self.old self.new op r) }
-        ensures fault { IfErr result (λ f. ToldFault K.table K.opening self.old self.new op f) }
-        ensures faults { IfErr result (λ f. is_of_call f ≡ true) }
-        ensures unbegun { self.old.speaks ≡ None → result ≡ Err fault.NotBegun }
-        ensures only_unbegun { IfErr result (λ f. is_unbegun f ≡ true → self.old.speaks ≡ None) }
-        ensures only_full { result ≡ Err fault.RowFull → ends op ≡ false }
-        ensures memory { result ≡ Err fault.Memory → ends op ≡ true → IsIdle K.table K.opening self.old }
-        ensures free { IfErr result (λ f. is_blocked f ≡ false) }
-    {
-        let engine = self.engine;
-        engine.attend(rt, &mut self.hand, op)
-    }
-
-    /// A watch that knows what the seat has seen, and nothing else yet. It takes no lock; an error where a growth is
-    /// refused.
-    pub fn watch(&self) -> Result<Watch<'a, K>, AllocError>
-        ensures all { IfOk result (λ w. KnowsAll w self.now.view) }
-        ensures others { IfOk result (λ w. KnowsNoneFrom w (length self.now.view)) }
-    {
-        let engine = self.engine;
-        Watch::of(engine.alloc, &engine.row, &self.hand.view)
-    }
-
-    /// Leaves the engine, which notes it, and gives out the seat's share of the history: its number, how many receipts it
-    /// has, the place of the last, and what it has seen. A transaction that it leaves active stays so, and its locks are
-    /// held for good. It waits for the lock alone.
-    pub fn leave<R: Wait>(self, rt: &R) -> Share<K>
-        ensures { result ≡ lent self.entry }
-    {
-        let Seat { engine, hand } = self;
-        engine.part(rt, hand)
     }
 }

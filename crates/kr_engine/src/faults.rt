@@ -50,6 +50,9 @@ pub struct Receipt {
     pub reply: Reply,
 }
 
+/// What an attempt of a seat comes to.
+pub(crate) type Attempted = Result<Receipt, EngineFault>;
+
 /// The fault that tells a reply which wasn't granted.
 pub(crate) fn fault_of(reply: Reply) -> EngineFault
     ensures { result ≡ the_fault reply }

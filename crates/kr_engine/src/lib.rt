@@ -5,6 +5,7 @@
 mod closing;
 mod engine;
 mod faults;
+mod hand;
 mod kernel;
 mod numbers;
 mod queues;
@@ -14,8 +15,9 @@ mod wakes;
 mod writes;
 
 pub use closing::{CloseFault, History, Share};
-pub use engine::{Engine, Seat};
+pub use engine::Engine;
 pub use faults::{EngineFault, Receipt};
 pub use kernel::{Core, SeatNote};
 pub use kr_model::{Event, Mode, Name, Op, Pairs, Programs, Reply, Txn, Txns};
 pub use kr_places::{EngineName, Entry, NewFault, PlaceRow, Watch};
+pub use seat::Seat;

@@ -1,177 +1,123 @@
-//! A seat's own part, and what is done for a seat under the lock.
-ghost use Rattle.std.specs.Prelude.{◌≡◌, ◌<◌, ◌≤◌, [], true, false, length, None, Err, IfOk, IfErr};
+//! A seat, which one thread holds.
+ghost use Rattle.std.specs.Prelude.{◌≡◌, ◌≢◌, true, false, length, IfOk, IfErr, OnOk, OnErr, Some, None, Err};
 ghost use mathlib.Core.List.{IsPrefix};
-ghost use Rattle.kr_engine.specs.declared.faults.EngineFault.TheVariants as fault;
-ghost use Rattle.kr_engine.specs.Faults.{is_refusal, is_blocked, is_unbegun, is_of_try, is_of_call};
 ghost use Rattle.kr_model.specs.Step.{is_end as ends};
-ghost use Rattle.kr_engine.specs.Histories.{IsHistory, entries_of};
-ghost use Rattle.kr_engine.specs.Cores.{seat_at};
-ghost use Rattle.kr_engine.specs.Waits.{IsNoted};
-ghost use Rattle.kr_engine.specs.Seats.{Shows, SeesFault, ToldFault, IsIdle};
+ghost use Rattle.kr_places.specs.Notes.{KnowsAll, KnowsNoneFrom};
+ghost use Rattle.kr_engine.specs.declared.faults.EngineFault.TheVariants as fault;
+ghost use Rattle.kr_engine.specs.Faults.{is_unbegun, is_blocked, is_of_begin, is_of_try, is_of_call};
+ghost use Rattle.kr_engine.specs.Closed.{lent};
+ghost use Rattle.kr_engine.specs.Seats.{Shows, SeesFault, ToldFault, IsOpen, IsIdle};
 
+use crate::closing::Share;
+use crate::engine::Engine;
 use crate::faults::{EngineFault, Receipt};
-use crate::kernel::Core;
+use crate::hand::Hand;
 use kr_model::{Op, Txn};
-use kr_places::{EngineName, PlaceRow, Seen};
+use kr_places::{EngineName, Watch};
 use kr_protocol::Covered;
+use std::alloc::AllocError;
 use std::marker::Model;
+use std::sync::Wait;
 
-/// What a seat keeps of its own. It takes no memory.
+/// A seat of an engine, by which one thread does the steps of transactions, one transaction after another. Contracts see
+/// what it keeps of its own.
 #[derive(Drop)]
-pub(crate) struct Hand<K: EngineName> {
-    /// Its number.
-    pub seat: usize,
-    /// The transaction that it speaks for.
-    pub speaks: Option<Txn>,
-    /// How many receipts it has.
-    pub count: u64,
-    /// The place of its last receipt.
-    pub last: Option<usize>,
-    /// What it has seen of the history.
-    pub view: Seen<K>,
+pub struct Seat<'a, P: Covered, K: EngineName> {
+    pub(crate) engine: &'a Engine<P, K>,
+    pub(crate) hand: Hand<K>,
 }
 
-impl<K: EngineName> Model for Hand<K> {
-    ghost use Rattle.std.specs.Prelude.{◌≡◌};
-    ghost use Rattle.kr_engine.specs.Histories.{entries_of};
+impl<'a, P: Covered, K: EngineName> Model for Seat<'a, P, K> {
     ghost use Rattle.kr_engine.specs.Seats.{Held};
 
     ghost Value = { Held };
 
-    ghost view = { λ h. record { seat = h.seat; speaks = h.speaks; count = h.count; last = h.last; view = h.view } };
-
-    ghost invariant = { λ h. entries_of h.seat h.view ≡ h.count };
+    ghost view = { λ s. s.hand };
 }
 
-impl<K: EngineName> Hand<K> {
-    /// That of a seat that has done nothing and seen nothing.
-    pub fn new(seat: usize, row: &PlaceRow) -> Hand<K>
-        requires { row.now ≡ K.places }
-        ensures { result ≡ record { seat = seat; speaks = None; count = 0; last = None; view = [] } }
+impl<'a, P: Covered, K: EngineName> Seat<'a, P, K> {
+    /// Begins a transaction's number, for which the seat speaks from then on. It waits for the lock alone.
+    ///
+    /// The first of these that applies is answered, and nothing has changed:
+    ///
+    /// - `Open`: the transaction that the seat speaks for is active.
+    /// - `Taken`: the number was begun before, by whichever seat.
+    /// - `RowFull`: the used and the kept places are all places of the row.
+    /// - `Memory`: a growth was refused.
+    ///
+    /// `PlaceTaken`, where the core's record of the seat isn't the seat's, comes before these, and only by a fault of the
+    /// engine.
+    pub fn begin<R: Wait>(&mut self, rt: &R, txn: Txn) -> Result<(), EngineFault>
+        ensures ok { OnOk result (self.new ≡ record self.old { speaks = Some txn }) }
+        ensures err { OnErr result (self.new ≡ self.old) }
+        ensures faults { IfErr result (λ f. f ≢ fault.PlaceTaken → is_of_begin f ≡ true) }
+        ensures only_open { result ≡ Err fault.Open → IsOpen K.table K.opening self.old }
     {
-        Hand {
-            seat,
-            speaks: None,
-            count: 0,
-            last: None,
-            view: Seen::new(row),
-        }
+        let engine = self.engine;
+        engine.begin(rt, &mut self.hand, txn)
     }
-}
 
-impl<P: Covered, K: EngineName> Core<P, K> {
-    /// One attempt of a seat, in one hold. What the seat keeps is held against what is noted of it, the step is attempted,
-    /// and where it was done or refused the seat has then seen the whole history.
-    pub(crate) fn serve(
-        &mut self,
-        row: &PlaceRow,
-        hand: &mut Hand<K>,
-        op: Op,
-    ) -> Result<Receipt, EngineFault>
-        requires row { row.now ≡ K.places }
-        ensures seat { (hand.new.seat ≡ hand.old.seat) × (hand.new.speaks ≡ hand.old.speaks) }
-        ensures begins { IsPrefix hand.old.view hand.new.view }
-        ensures done { IfOk result (λ r. Shows K.table K.opening hand.old hand.new op r) }
-        ensures fault { IfErr result (λ f. SeesFault K.table K.opening hand.old hand.new op f) }
+    /// One attempt at an operation of the transaction that the seat speaks for. It waits for the lock alone: where the step
+    /// is blocked it answers `Refused`.
+    ///
+    /// At Ok the step is done and its entry written, and at a refusal nothing was done; in both the seat has then seen the
+    /// whole history. At any other fault the seat is as it was:
+    ///
+    /// - `NotBegun`: the seat has begun no number.
+    /// - `RowFull`: the used and the kept places are all places, and the operation is neither commit nor abort.
+    /// - `Memory`: a growth was refused. The end of an active transaction never answers so.
+    /// - `PlaceTaken`: the next place refused the write, or the core's record of the seat isn't the seat's.
+    pub fn try_call<R: Wait>(&mut self, rt: &R, op: Op) -> Result<Receipt, EngineFault>
+        ensures seat { (self.new.seat ≡ self.old.seat) × (self.new.speaks ≡ self.old.speaks) }
+        ensures begins { IsPrefix self.old.view self.new.view }
+        ensures done { IfOk result (λ r. Shows K.table K.opening self.old self.new op r) }
+        ensures fault { IfErr result (λ f. SeesFault K.table K.opening self.old self.new op f) }
         ensures faults { IfErr result (λ f. is_of_try f ≡ true) }
-        ensures unbegun { hand.old.speaks ≡ None → result ≡ Err fault.NotBegun }
-        ensures only_unbegun { IfErr result (λ f. is_unbegun f ≡ true → hand.old.speaks ≡ None) }
+        ensures unbegun { self.old.speaks ≡ None → result ≡ Err fault.NotBegun }
+        ensures only_unbegun { IfErr result (λ f. is_unbegun f ≡ true → self.old.speaks ≡ None) }
         ensures only_full { result ≡ Err fault.RowFull → ends op ≡ false }
-        ensures memory { result ≡ Err fault.Memory → ends op ≡ true → IsIdle K.table K.opening hand.old }
-        ensures seen { IfErr result (λ f. is_refusal f ≡ true → hand.new.view ≡ self.new.entries) }
+        ensures memory { result ≡ Err fault.Memory → ends op ≡ true → IsIdle K.table K.opening self.old }
     {
-        let Some(txn) = hand.speaks else {
-            return Err(EngineFault::NotBegun);
-        };
-        if !self.fits(hand) {
-            return Err(EngineFault::PlaceTaken);
-        }
-        self.compare(&hand.view);
-        self.law();
-        let result = self.perform(row, hand.seat, txn, op);
-        match result {
-            Ok(receipt) => {
-                self.teach(&mut hand.view);
-                hand.count += 1;
-                hand.last = Some(receipt.place);
-                Ok(receipt)
-            }
-            Err(fault) => {
-                if fault.is_refusal() {
-                    self.teach(&mut hand.view);
-                    return Err(fault);
-                }
-                Err(fault)
-            }
-        }
+        let engine = self.engine;
+        engine.attempt(rt, &mut self.hand, op)
     }
 
-    /// The same. Where the step is blocked its operation is noted as waiting in the same hold, and the answer is that it
-    /// is blocked; or a deadlock is told.
-    pub(crate) fn serve_or_wait(
-        &mut self,
-        row: &PlaceRow,
-        hand: &mut Hand<K>,
-        op: Op,
-    ) -> Result<Receipt, EngineFault>
-        requires row { row.now ≡ K.places }
-        ensures seat { (hand.new.seat ≡ hand.old.seat) × (hand.new.speaks ≡ hand.old.speaks) }
-        ensures begins { IsPrefix hand.old.view hand.new.view }
-        ensures done { IfOk result (λ r. Shows K.table K.opening hand.old hand.new op r) }
-        ensures fault { IfErr result (λ f. ToldFault K.table K.opening hand.old hand.new op f) }
+    /// The same, but while the step is blocked it waits, and attempts it again when a step of another seat may have let it
+    /// go on, or closed a cycle. Where the wait would close a cycle of waiting transactions it answers `Deadlock` at once.
+    /// At a fault that isn't a refusal the seat may have seen more. It never answers that the step is blocked.
+    pub fn call<R: Wait>(&mut self, rt: &R, op: Op) -> Result<Receipt, EngineFault>
+        ensures seat { (self.new.seat ≡ self.old.seat) × (self.new.speaks ≡ self.old.speaks) }
+        ensures begins { IsPrefix self.old.view self.new.view }
+        ensures done { IfOk result (λ r. Shows K.table K.opening self.old self.new op r) }
+        ensures fault { IfErr result (λ f. ToldFault K.table K.opening self.old self.new op f) }
         ensures faults { IfErr result (λ f. is_of_call f ≡ true) }
-        ensures unbegun { hand.old.speaks ≡ None → result ≡ Err fault.NotBegun }
-        ensures only_unbegun { IfErr result (λ f. is_unbegun f ≡ true → hand.old.speaks ≡ None) }
+        ensures unbegun { self.old.speaks ≡ None → result ≡ Err fault.NotBegun }
+        ensures only_unbegun { IfErr result (λ f. is_unbegun f ≡ true → self.old.speaks ≡ None) }
         ensures only_full { result ≡ Err fault.RowFull → ends op ≡ false }
-        ensures memory { result ≡ Err fault.Memory → ends op ≡ true → IsIdle K.table K.opening hand.old }
-        ensures noted { IfErr result (λ f. is_blocked f ≡ true → IsNoted self.new.waiting hand.old.speaks op) }
+        ensures memory { result ≡ Err fault.Memory → ends op ≡ true → IsIdle K.table K.opening self.old }
+        ensures free { IfErr result (λ f. is_blocked f ≡ false) }
     {
-        let Some(txn) = hand.speaks else {
-            return Err(EngineFault::NotBegun);
-        };
-        match self.serve(row, hand, op) {
-            Ok(receipt) => Ok(receipt),
-            Err(fault) => {
-                if fault.is_blocked() {
-                    self.law();
-                    if let Err(stuck) = self.wait(txn, op) {
-                        return Err(stuck);
-                    }
-                    return Err(fault);
-                }
-                Err(fault)
-            }
-        }
+        let engine = self.engine;
+        engine.attend(rt, &mut self.hand, op)
     }
 
-    /// Whether what a seat keeps fits what is noted of it: it was given, its count is that of its entries, it speaks for the
-    /// number that it began last, and its view is no longer than the history.
-    pub(crate) fn fits(&self, hand: &Hand<K>) -> bool
-        ensures { result ≡ true → (length hand.now.view ≤ length self.now.entries) × (hand.now.seat < length self.now.seats) × (entries_of hand.now.seat self.now.entries ≡ hand.now.count) × ((seat_at self.now.seats hand.now.seat).last ≡ hand.now.speaks) }
+    /// A watch that knows what the seat has seen, and nothing else yet. It takes no lock; an error where a growth is
+    /// refused.
+    pub fn watch(&self) -> Result<Watch<'a, K>, AllocError>
+        ensures all { IfOk result (λ w. KnowsAll w self.now.view) }
+        ensures others { IfOk result (λ w. KnowsNoneFrom w (length self.now.view)) }
     {
-        let seen = hand.view.len();
-        let seat = hand.seat;
-        seen <= self.history.len()
-            && seat < self.seats.len()
-            && self.seats[seat].count == hand.count
-            && self.seats[seat].last == hand.speaks
+        let engine = self.engine;
+        Watch::of(engine.alloc, &engine.row, &self.hand.view)
     }
 
-    /// What a seat has seen is where the history begins.
-    pub(crate) fn compare(&self, view: &Seen<K>)
-        requires { length view.now ≤ length self.now.entries }
-        ensures { IsPrefix view.now self.now.entries }
+    /// Leaves the engine, which notes it, and gives out the seat's share of the history: its number, how many receipts it
+    /// has, the place of the last, and what it has seen. A transaction that it leaves active stays so, and its locks are
+    /// held for good. It waits for the lock alone.
+    pub fn leave<R: Wait>(self, rt: &R) -> Share<K>
+        ensures { result ≡ lent self.entry }
     {
-        view.begins(&self.history);
-    }
-
-    /// Shows a seat the whole history.
-    pub(crate) fn teach(&self, view: &mut Seen<K>)
-        requires { length view.old ≤ length self.now.entries }
-        ensures begins { IsPrefix view.old view.new }
-        ensures all { view.new ≡ self.now.entries }
-        ensures run { IsHistory K.table K.opening self.now.entries self.now.state }
-    {
-        view.learn(&self.history);
+        let Seat { engine, hand } = self;
+        engine.part(rt, hand)
     }
 }

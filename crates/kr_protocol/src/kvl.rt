@@ -1,5 +1,6 @@
 //! Key-value locking: its tables and its rules.
-ghost use Rattle.kr_model.specs.ModeNames.{kvl_names};
+ghost use Rattle.std.specs.Prelude.{◌≡◌, ◌≤◌};
+ghost use Rattle.kr_model.specs.ModeNames.{kvl_names, name_of};
 ghost use Rattle.kr_model.specs.Kvl.{kvl};
 ghost use Rattle.kr_model.proofs.Bundled.{kvl_lawful, kvl_named, kvl_covered};
 
@@ -10,16 +11,16 @@ use kr_model::{Mode, Row, Side, Span};
 const NONE: Mode = 0;
 
 /// Intention shared.
-pub(crate) const IS: Mode = 1;
+const IS: Mode = 1;
 
 /// Intention exclusive.
-pub(crate) const IX: Mode = 2;
+const IX: Mode = 2;
 
 /// Shared.
-pub(crate) const S: Mode = 3;
+const S: Mode = 3;
 
 /// Shared, and intention exclusive.
-pub(crate) const SIX: Mode = 4;
+const SIX: Mode = 4;
 
 /// Exclusive.
 pub(crate) const X: Mode = 5;
@@ -95,6 +96,21 @@ static CONVERTED: [[Mode; 6]; 6] = [
 /// The modes that a request may not stand beside, each as a bit, by the mode requested.
 static ROWS: [u16; 6] = [0, 32, 56, 52, 60, 62];
 
+/// The name of a mode.
+pub(crate) fn mode_name(mode: Mode) -> &'static str
+    requires { mode ≤ 5 }
+    ensures { result.now ≡ name_of kvl_names mode }
+{
+    match mode {
+        IS => "IS",
+        IX => "IX",
+        S => "S",
+        SIX => "SIX",
+        X => "X",
+        _ => "none",
+    }
+}
+
 impl Protocol for Kvl {
     ghost table = { λ _. kvl };
 
@@ -117,14 +133,7 @@ impl Protocol for Kvl {
     }
 
     fn name(&self, mode: Mode) -> &str {
-        match mode {
-            IS => "IS",
-            IX => "IX",
-            S => "S",
-            SIX => "SIX",
-            X => "X",
-            _ => "none",
-        }
+        mode_name(mode)
     }
 
     fn ask(&self, row: Row, side: Side, own_next: Mode) -> Option<(Mode, Span)> {

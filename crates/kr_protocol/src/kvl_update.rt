@@ -3,7 +3,7 @@ ghost use Rattle.kr_model.specs.ModeNames.{kvl_names};
 ghost use Rattle.kr_model.specs.KvlUpdate.{kvl_update};
 ghost use Rattle.kr_model.proofs.Bundled.{kvl_update_lawful, kvl_named, kvl_update_covered};
 
-use crate::kvl::{IS, IX, Kvl, S, SIX, X};
+use crate::kvl::{Kvl, X, mode_name};
 use crate::protocol::{Covered, Protocol};
 use crate::request::for_commit;
 use kr_model::{Mode, Row, Side, Span};
@@ -35,14 +35,7 @@ impl Protocol for KvlUpdate {
     }
 
     fn name(&self, mode: Mode) -> &str {
-        match mode {
-            IS => "IS",
-            IX => "IX",
-            S => "S",
-            SIX => "SIX",
-            X => "X",
-            _ => "none",
-        }
+        mode_name(mode)
     }
 
     fn ask(&self, row: Row, side: Side, own_next: Mode) -> Option<(Mode, Span)> {

@@ -6,6 +6,7 @@ mod faults;
 mod parts;
 mod plain;
 mod reading;
+mod replies;
 mod reports;
 mod script;
 mod sink;

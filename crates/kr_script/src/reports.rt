@@ -3,9 +3,8 @@ ghost use Rattle.std.specs.Prelude.{◌≡◌, IfOk, string_bytes};
 ghost use Rattle.kr_model.specs.ModeNames.{name_of};
 ghost use Rattle.kr_script.specs.Report.{run_text, verdict_text};
 
-use crate::writing::{
-    quoted, write_locks, write_numbers, write_pairs, write_replies, write_verdict,
-};
+use crate::replies::{write_replies, write_verdict};
+use crate::writing::{quoted, write_locks, write_numbers, write_pairs};
 use kr_model::Mode;
 use kr_protocol::Protocol;
 use kr_serial::{Ran, Verdict};

@@ -3,10 +3,10 @@ ghost use Rattle.std.specs.Prelude.{◌≡◌, ◌++◌, IfOk, OnOk, string_byte
 ghost use Rattle.serde_json.specs.Written.{compact_text};
 ghost use Rattle.kr_script.specs.ThreadsReport.{answered_data, history_data, cause_data, fault_data, faults_data, threads_text};
 
+use crate::replies::{write_reply, write_verdict};
 use crate::threaded::{Answered, Threaded};
 use crate::writing::{
-    separator, write_numbers, write_pairs, write_place, write_reply, write_step, write_verdict,
-    write_with_numbers,
+    separator, write_numbers, write_pairs, write_place, write_step, write_with_numbers,
 };
 use kr_follows::{Cause, StepFault};
 use kr_serial::Verdict;

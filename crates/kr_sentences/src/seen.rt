@@ -87,18 +87,13 @@ fn seen_by_reader(
 
 /// The intruder `u` sees what the holder `t` has inserted.
 fn seen_of_inserted(alloc: Global, ending: Ending, t: Txn, u: Txn) -> Result<String, Memory> {
-    match ending {
-        Ending::InsertFetched => {
-            format!(in alloc; "T{u} reads {A}, which T{t} has inserted and takes back.")
-        }
-        Ending::InsertScanned => {
-            format!(in alloc; "T{u} scans {A}, which T{t} has inserted and takes back.")
-        }
-        Ending::InsertUpdated => {
-            format!(in alloc; "T{u} updates {A}, which T{t} has inserted and takes back.")
-        }
-        _ => { format!(in alloc; "T{u} deletes {A}, which T{t} has inserted and takes back.") }
-    }
+    let does = match ending {
+        Ending::InsertFetched => "reads",
+        Ending::InsertScanned => "scans",
+        Ending::InsertUpdated => "updates",
+        _ => "deletes",
+    };
+    format!(in alloc; "T{u} {does} {A}, which T{t} has inserted and takes back.")
 }
 
 /// The third `v` comes through below what the holder `t` has inserted, where the intruder `u` was.
@@ -115,32 +110,16 @@ fn seen_below_inserted(
                 "T{u} finds nothing at {C}; its lock on that gap is on {A}, which T{t} has inserted and takes back. Nothing is locked where T{v} then inserts {C}."
             )
         }
-        Ending::InsertDeletedBelow => {
-            format!(in alloc;
-                "T{u} deletes {K}; its lock on that gap is on {A}, which T{t} has inserted and takes back. Nothing is locked where T{v} then misses {K}, which T{u} brings back."
-            )
-        }
         _ => {
+            let key = if ending == Ending::InsertDeletedBelow {
+                K
+            } else {
+                P
+            };
             format!(in alloc;
-                "T{u} deletes {P}; its lock on that gap is on {A}, which T{t} has inserted and takes back. Nothing is locked where T{v} then misses {P}, which T{u} brings back."
+                "T{u} deletes {key}; its lock on that gap is on {A}, which T{t} has inserted and takes back. Nothing is locked where T{v} then misses {key}, which T{u} brings back."
             )
         }
-    }
-}
-
-/// The intruder `u` misses what the holder `t` has deleted, or fills its place.
-fn seen_of_deleted(alloc: Global, ending: Ending, t: Txn, u: Txn) -> Result<String, Memory> {
-    match ending {
-        Ending::DeleteMissed => {
-            format!(in alloc; "T{u} finds nothing at {P}, which T{t} has deleted and brings back.")
-        }
-        Ending::DeleteScanned => {
-            format!(in alloc; "T{u} scans over {P}, which T{t} has deleted and brings back.")
-        }
-        Ending::DeleteStopped => {
-            format!(in alloc; "T{u} scans {P}, which T{t} has deleted and brings back.")
-        }
-        _ => { format!(in alloc; "T{u} inserts {P}, which T{t} has deleted and brings back.") }
     }
 }
 
@@ -174,26 +153,22 @@ fn seen_by_deleted(
 
 /// The intruder `u` sees a value that the holder `t` takes back.
 fn seen_of_updated(alloc: Global, ending: Ending, t: Txn, u: Txn) -> Result<String, Memory> {
-    match ending {
-        Ending::UpdateFetched => {
-            format!(in alloc;
-                "T{u} reads {A} with the value that T{t} has given it and takes back."
-            )
-        }
-        Ending::UpdateScanned => {
-            format!(in alloc;
-                "T{u} scans {A} with the value that T{t} has given it and takes back."
-            )
-        }
-        Ending::UpdateDeleted => {
-            format!(in alloc;
-                "T{u} deletes {A} with the value that T{t} has given it and takes back."
-            )
-        }
-        _ => {
-            format!(in alloc;
-                "T{u} updates {A} and is told the value that T{t} has given it and takes back."
-            )
-        }
-    }
+    let (does, sees) = match ending {
+        Ending::UpdateFetched => ("reads", "with"),
+        Ending::UpdateScanned => ("scans", "with"),
+        Ending::UpdateDeleted => ("deletes", "with"),
+        _ => ("updates", "and is told"),
+    };
+    format!(in alloc; "T{u} {does} {A} {sees} the value that T{t} has given it and takes back.")
+}
+
+/// The intruder `u` misses what the holder `t` has deleted, or fills its place.
+fn seen_of_deleted(alloc: Global, ending: Ending, t: Txn, u: Txn) -> Result<String, Memory> {
+    let does = match ending {
+        Ending::DeleteMissed => "finds nothing at",
+        Ending::DeleteScanned => "scans over",
+        Ending::DeleteStopped => "scans",
+        _ => "inserts",
+    };
+    format!(in alloc; "T{u} {does} {P}, which T{t} has deleted and brings back.")
 }

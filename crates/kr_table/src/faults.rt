@@ -4,6 +4,9 @@ ghost use Rattle.kr_table.specs.Faults.{fault_number, fault_name};
 
 use thiserror::Error;
 
+/// A table has no more bytes, as it is read and as it is written.
+pub(crate) const MAX_BYTES: usize = 65_536;
+
 /// Why bytes are no table: the first of all their faults. They come in this order: those of the
 /// bytes as TOML, of `format`, of unknown members (the least name in the order of bytes), of
 /// `modes`, `compatible`, `convert` and `rules` as an array and tables, of the number of modes, of
@@ -52,25 +55,6 @@ pub enum TableFault {
 }
 
 impl TableFault {
-    /// The number of the kind of fault, 1 to 11.
-    pub fn number(&self) -> u8
-        ensures { result ≡ fault_number self.now }
-    {
-        match self {
-            TableFault::TooLong => 1,
-            TableFault::NotToml => 2,
-            TableFault::Format => 3,
-            TableFault::Field(_) => 4,
-            TableFault::ModeCount => 5,
-            TableFault::ModeName(_) => 6,
-            TableFault::Compatible(_) => 7,
-            TableFault::Convert(_) => 8,
-            TableFault::Rule(_) => 9,
-            TableFault::OwnNotAllowed(_) => 10,
-            TableFault::Memory => 11,
-        }
-    }
-
     /// The name of the kind of fault.
     pub fn name(&self) -> &'static str
         ensures { result.now ≡ fault_name self.now }
@@ -87,6 +71,25 @@ impl TableFault {
             TableFault::Rule(_) => "Rule",
             TableFault::OwnNotAllowed(_) => "OwnNotAllowed",
             TableFault::Memory => "Memory",
+        }
+    }
+
+    /// The number of the kind of fault, 1 to 11.
+    pub fn number(&self) -> u8
+        ensures { result ≡ fault_number self.now }
+    {
+        match self {
+            TableFault::TooLong => 1,
+            TableFault::NotToml => 2,
+            TableFault::Format => 3,
+            TableFault::Field(_) => 4,
+            TableFault::ModeCount => 5,
+            TableFault::ModeName(_) => 6,
+            TableFault::Compatible(_) => 7,
+            TableFault::Convert(_) => 8,
+            TableFault::Rule(_) => 9,
+            TableFault::OwnNotAllowed(_) => 10,
+            TableFault::Memory => 11,
         }
     }
 }

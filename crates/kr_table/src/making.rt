@@ -8,9 +8,10 @@ ghost use Rattle.kr_table.specs.Reading as spec;
 ghost use Rattle.kr_table.specs.Shown.{data_of};
 
 use crate::table::Parts;
+use kr_model::Memory;
 use kr_modes::{Mode, Modes};
 use kr_protocol::Span;
-use std::alloc::{AllocError, Global};
+use std::alloc::Global;
 use toml::Value;
 
 /// The number of a mode's name, 0 where it isn't there.
@@ -76,7 +77,7 @@ fn stand_in_line(
     modes: &[String],
     entries: &Value,
     requested: &str,
-) -> Result<(), AllocError>
+) -> Result<(), Memory>
     ensures { OnOk result (line.new.items ≡ line.old.items ++ map (spec.stands (view entries.now) requested.now) (map string_bytes modes.now)) }
 {
     let list = items_at(entries, requested);
@@ -87,7 +88,7 @@ fn stand_in_line(
 }
 
 /// Which modes stand together: a line for each requested mode.
-fn compatible_of(alloc: Global, modes: &[String], entries: &Value) -> Result<Vec<bool>, AllocError>
+fn compatible_of(alloc: Global, modes: &[String], entries: &Value) -> Result<Vec<bool>, Memory>
     ensures { IfOk result (λ v. v.items ≡ spec.square (spec.stands (view entries.now)) (map string_bytes modes.now) (map string_bytes modes.now)) }
 {
     let mut compatible = Vec::new(alloc);
@@ -103,7 +104,7 @@ fn convert_in_line(
     modes: &[String],
     entries: &Value,
     held: &str,
-) -> Result<(), AllocError>
+) -> Result<(), Memory>
     requires { length modes.now ≤ 15 }
     ensures { OnOk result (line.new.items ≡ line.old.items ++ map (spec.converts (map string_bytes modes.now) (view entries.now) held.now) (map string_bytes modes.now)) }
 {
@@ -114,7 +115,7 @@ fn convert_in_line(
 }
 
 /// What modes convert to: a line for each held mode.
-fn conversion_of(alloc: Global, modes: &[String], entries: &Value) -> Result<Vec<Mode>, AllocError>
+fn conversion_of(alloc: Global, modes: &[String], entries: &Value) -> Result<Vec<Mode>, Memory>
     requires { length modes.now ≤ 15 }
     ensures { IfOk result (λ v. v.items ≡ spec.square (spec.converts (map string_bytes modes.now) (view entries.now)) (map string_bytes modes.now) (map string_bytes modes.now)) }
 {
@@ -188,7 +189,7 @@ fn asked_each(
     alloc: Global,
     modes: &[String],
     clauses: &[Value],
-) -> Result<Vec<Option<(Mode, Span)>>, AllocError>
+) -> Result<Vec<Option<(Mode, Span)>>, Memory>
     requires { length modes.now ≤ 15 }
     ensures { IfOk result (λ v. v.items ≡ spec.asked_each (map string_bytes modes.now) (items_view clauses.now)) }
 {
@@ -227,7 +228,7 @@ fn each_at(
     rules: &Value,
     row: &str,
     side: &str,
-) -> Result<Vec<Option<(Mode, Span)>>, AllocError>
+) -> Result<Vec<Option<(Mode, Span)>>, Memory>
     requires { length modes.now ≤ 15 }
     ensures { IfOk result (λ v. v.items ≡ spec.asked_each (map string_bytes modes.now) (spec.clauses_of (view rules.now) row.now side.now)) }
 {
@@ -240,7 +241,7 @@ fn modes_of(
     names: Vec<String>,
     compatible: &Value,
     convert: &Value,
-) -> Result<Modes, AllocError>
+) -> Result<Modes, Memory>
     requires few { length names.items ≤ 15 }
     requires matrix { IsMatrix (spec.matrix_in (map string_bytes names.items) (view compatible.now) (view convert.now)) }
     ensures { IfOk result (λ m. m ≡ spec.matrix_in (map string_bytes names.items) (view compatible.now) (view convert.now)) }
@@ -258,7 +259,7 @@ pub fn parts_of(
     compatible: &Value,
     convert: &Value,
     rules: &Value,
-) -> Result<Parts, AllocError>
+) -> Result<Parts, Memory>
     requires few { length names.items ≤ 15 }
     requires matrix { IsMatrix (spec.matrix_in (map string_bytes names.items) (view compatible.now) (view convert.now)) }
     ensures { IfOk result (λ p. data_of p ≡ spec.table_of_parts updates (map string_bytes names.items) (view compatible.now) (view convert.now) (view rules.now)) }

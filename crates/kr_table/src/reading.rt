@@ -6,14 +6,12 @@ ghost use Rattle.kr_table.specs.declared.faults.TableFault.TheVariants as told_a
 ghost use Rattle.kr_table.specs.Reading as spec;
 ghost use Rattle.kr_table.specs.Answer.{Gives};
 
-use crate::faults::TableFault;
+use crate::faults::{MAX_BYTES, TableFault};
 use crate::making::parts_of;
 use crate::table::Table;
 use crate::walk::{list_at, modes_of, table_at, test_content, test_count, test_format, test_names};
 use std::alloc::Global;
 use toml::Value;
-
-const MAX_BYTES: usize = 65_536;
 
 /// The table that the bytes are, or the first of their faults. `Memory` comes only where a growth
 /// was refused, and so at no text that is too long.

@@ -14,14 +14,14 @@ ghost use Rattle.kr_table.specs.Writing.{IsTextOf, IsTooLong, IsLongText};
 mod entries;
 mod rules;
 
+use crate::faults::MAX_BYTES;
 use crate::table::{Parts, Table};
-use crate::writing::entries::{compatible_entries, conversion_entries, put_in, texts_of};
+use crate::writing::entries::{compatibility, conversions, put_in, texts_of};
 use crate::writing::rules::rules_of;
-use std::alloc::{AllocError, Global};
+use kr_model::Memory;
+use std::alloc::Global;
 use thiserror::Error;
 use toml::{Table as Document, Value};
-
-const MAX_BYTES: usize = 65_536;
 
 /// Why a table isn't written.
 #[derive(Clone, Copy, Debug, PartialEq, Eq, Error)]
@@ -45,7 +45,7 @@ fn format_of(p: &Parts) -> i64
 }
 
 /// The document that is written for a table.
-fn document_of(alloc: Global, p: &Parts) -> Result<Document, AllocError>
+fn document_of(alloc: Global, p: &Parts) -> Result<Document, Memory>
     requires { IsTable (data_of p.now) }
     ensures { IfOk result (λ t. table_view t ≡ spec.written (data_of p.now)) }
 {
@@ -53,9 +53,9 @@ fn document_of(alloc: Global, p: &Parts) -> Result<Document, AllocError>
     let mut document = Document::new(alloc);
     put_in(alloc, &mut document, "format", Value::Integer(format_of(p)))?;
     put_in(alloc, &mut document, "modes", texts_of(alloc, names)?)?;
-    let compatible = compatible_entries(alloc, names, p.modes.compatible())?;
+    let compatible = compatibility(alloc, names, p.modes.compatible())?;
     put_in(alloc, &mut document, "compatible", Value::Table(compatible))?;
-    let conversion = conversion_entries(alloc, names, p.modes.conversion())?;
+    let conversion = conversions(alloc, names, p.modes.conversion())?;
     put_in(alloc, &mut document, "convert", Value::Table(conversion))?;
     put_in(
         alloc,

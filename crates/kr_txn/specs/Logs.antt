@@ -12,8 +12,8 @@ use Rattle.kr_model.specs.Run.{Answered}
 use Rattle.kr_model.specs.Log.{Log, step_logged, end_logged, operations_so_far}
 use Rattle.kr_txn.specs.declared.unfinished.Unfinished.{Unfinished}
 use Rattle.kr_txn.specs.declared.unfinished.Ready.{Ready}
-use Rattle.kr_txn.specs.declared.unfinished.Logging.{Logging}
-use Rattle.kr_txn.specs.declared.unfinished.Logging.TheVariants.{Operation, Committing, Aborting, Nothing}
+use Rattle.kr_txn.specs.declared.logging.Logging.{Logging}
+use Rattle.kr_txn.specs.declared.logging.Logging.TheVariants.{Operation, Committing, Aborting, Nothing}
 use Rattle.kr_txn.specs.Numbered as numbered
 
 -- A log, and the transaction whose next operation and end have their memory.

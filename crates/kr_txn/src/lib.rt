@@ -11,6 +11,7 @@ ghost use Rattle.kr_txn.specs.Standings.{number_of, active_of, entries, IsInOrde
 
 mod ended;
 mod log;
+mod logging;
 mod numbered;
 mod unfinished;
 

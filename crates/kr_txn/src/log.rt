@@ -4,9 +4,8 @@ ghost use Rattle.kr_model.specs.Log.{no_log, logged};
 ghost use Rattle.kr_txn.specs.Logs.{MayNote};
 
 use crate::Memory;
-use crate::unfinished::{
-    Logging, Ready, Unfinished, commit, do_step, get_ready, put_down, take_operations, what_to_log,
-};
+use crate::logging::{Logging, what_to_log};
+use crate::unfinished::{Ready, Unfinished, commit, do_step, get_ready, put_down, take_operations};
 use kr_model::{Event, Program, Programs, Reply, Txn};
 use std::alloc::Global;
 use std::marker::Model;

@@ -3,11 +3,10 @@ ghost use Rattle.std.specs.Prelude.{◌≡◌, ℕ, ◌+◌, ◌<◌, ◌≤◌,
 ghost use Rattle.std.specs.Option.{option_map};
 ghost use Rattle.std.specs.Ordering.{nat_cmp};
 ghost use Rattle.std.specs.FinMap.{find, put};
-ghost use Rattle.kr_model.specs.declared.Event.{Event};
 ghost use Rattle.kr_model.specs.declared.Op.TheVariants as op_is;
-ghost use Rattle.kr_model.specs.Log.{Log, logged, with_step, last_answered};
+ghost use Rattle.kr_model.specs.Log.{with_step, last_answered};
 ghost use Rattle.kr_txn.specs.Numbered.{IsPosition, IsPlace, AreOthers, without_txn};
-ghost use Rattle.kr_txn.specs.Logs.{number_of, operations_of, entries, shown, IsApart, IsInOrder, logged_as, LogWithRoom, MayNote, MayNoteAs};
+ghost use Rattle.kr_txn.specs.Logs.{number_of, operations_of, entries, shown, IsApart, IsInOrder};
 
 use crate::numbered::{Numbered, place, position};
 use kr_model::{Answers, Op, Program, Reply, Txn};
@@ -31,19 +30,6 @@ pub struct Ready {
     pub was_there: bool,
 }
 
-/// What a reply means to a log.
-#[derive(Clone, Copy, Debug, PartialEq, Eq)]
-pub enum Logging {
-    /// The transaction did an operation, or went on with one.
-    Operation,
-    /// It committed.
-    Committing,
-    /// It aborted.
-    Aborting,
-    /// Nothing happened.
-    Nothing,
-}
-
 impl Unfinished {
     /// A transaction that has done nothing. Takes no memory.
     pub fn new(alloc: Global, txn: Txn) -> Unfinished
@@ -54,29 +40,6 @@ impl Unfinished {
             txn,
             operations: Vec::new(alloc),
         }
-    }
-}
-
-/// What this reply means to a log.
-pub fn what_to_log(reply: &Reply) -> Logging
-    ensures logged { (l : Log) (e : Event) → logged l (e, reply.now) ≡ logged_as result l e reply.now }
-    ensures may_note { (l : LogWithRoom) (e : Event) → MayNote l e reply.now → MayNoteAs result l e }
-{
-    match reply {
-        Reply::Found(_) => Logging::Operation,
-        Reply::None => Logging::Operation,
-        Reply::Going(_) => Logging::Operation,
-        Reply::Rows(_) => Logging::Operation,
-        Reply::Done => Logging::Operation,
-        Reply::Duplicate => Logging::Operation,
-        Reply::Deleted(_) => Logging::Operation,
-        Reply::Absent => Logging::Operation,
-        Reply::Updated(_) => Logging::Operation,
-        Reply::Committed => Logging::Committing,
-        Reply::Aborted => Logging::Aborting,
-        Reply::Undone(_) => Logging::Nothing,
-        Reply::Blocked(_) => Logging::Nothing,
-        Reply::Refused(_) => Logging::Nothing,
     }
 }
 

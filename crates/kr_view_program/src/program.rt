@@ -58,13 +58,13 @@ fn view<R: std::rt::Files + AllocGlobal, F: Files, W: Sink>(
 ) -> Result<bool, Ending>
     ensures shows { IfOk result (ShowsAsked (F.may_give files.now) (map string_bytes words.now) (W.taken out.old) (W.taken out.new)) }
     ensures err { IfErr result (Explains (F.may_give files.now) (map string_bytes words.now)) }
-    ensures nothing { IfErr result (λ e. IsTrue (is_output e) ⊎ (out.new ≡ out.old)) }
     ensures cause { IfErr result (λ e. IsTrue (is_output e) → HasCause (W.failures out.old) (W.failures out.new)) }
+    ensures nothing { IfErr result (λ e. IsTrue (is_output e) ⊎ (out.new ≡ out.old)) }
 {
     let asked = read_words(words)?;
     let table = table_at(rt, asked.table, files)?;
-    are_laws_kept(&table);
     let script = script_at(rt, asked.script, files)?;
+    are_laws_kept(&table);
     write_page(rt.alloc(), &table, asked.table, &script, out)
 }
 
@@ -82,9 +82,9 @@ pub fn execute<R: std::rt::Files + AllocGlobal, F: Files, W: Sink, E: Sink>(
     ensures within { result ≤ 2 }
     ensures serial { result ≡ 0 → ShowsAsked (F.may_give files.now) (map string_bytes words.now) (W.taken out.old) (W.taken out.new) true }
     ensures not_serial { result ≡ 1 → ShowsAsked (F.may_give files.now) (map string_bytes words.now) (W.taken out.old) (W.taken out.new) false }
-    ensures fault { result ≡ 2 → HasCause (W.failures out.old) (W.failures out.new) ⊎ (out.new ≡ out.old) }
     ensures told { result ≡ 2 → (e : Ending) × (Explains (F.may_give files.now) (map string_bytes words.now) e
         × AppendsFront (E.taken err.old) (E.taken err.new) (ending_line NAME.now e)) }
+    ensures fault { result ≡ 2 → HasCause (W.failures out.old) (W.failures out.new) ⊎ (out.new ≡ out.old) }
     ensures silent { (err.new ≡ err.old) ⊎ (result ≡ 2) }
 {
     let done = view(rt, words, files, out);

@@ -5,17 +5,13 @@ ghost use Rattle.toml.specs.Data.{array, string as a_text, no_members};
 ghost use Rattle.kr_model.specs.ModeNames.{name_of};
 ghost use Rattle.kr_table.specs.Writing as spec;
 
+use kr_model::Memory;
 use kr_modes::Mode;
-use std::alloc::{AllocError, Global};
+use std::alloc::Global;
 use toml::{Table as Document, Value};
 
 /// Puts a value at a name.
-pub fn put_in(
-    alloc: Global,
-    table: &mut Document,
-    name: &str,
-    value: Value,
-) -> Result<(), AllocError>
+pub fn put_in(alloc: Global, table: &mut Document, name: &str, value: Value) -> Result<(), Memory>
     ensures { OnOk result (members_view table.new.entries ≡ spec.put name.now (view value) (members_view table.old.entries)) }
 {
     table.insert(String::from_str(alloc, name)?, value)?;
@@ -23,7 +19,7 @@ pub fn put_in(
 }
 
 /// The names, as an array of texts.
-pub fn texts_of(alloc: Global, names: &[String]) -> Result<Value, AllocError>
+pub fn texts_of(alloc: Global, names: &[String]) -> Result<Value, Memory>
     ensures { IfOk result (λ v. view v ≡ array (spec.strings (map string_bytes names.now))) }
 {
     let mut texts = Vec::new(alloc);
@@ -34,7 +30,7 @@ pub fn texts_of(alloc: Global, names: &[String]) -> Result<Value, AllocError>
 }
 
 /// The names at which the line says yes, as an array of texts.
-fn chosen(alloc: Global, names: &[String], line: &[bool]) -> Result<Value, AllocError>
+fn chosen(alloc: Global, names: &[String], line: &[bool]) -> Result<Value, Memory>
     requires { length line.now ≡ length names.now }
     ensures { IfOk result (λ v. view v ≡ array (spec.strings (spec.chosen (map string_bytes names.now) line.now))) }
 {
@@ -48,24 +44,16 @@ fn chosen(alloc: Global, names: &[String], line: &[bool]) -> Result<Value, Alloc
 }
 
 /// An entry for each requested mode: the modes that it may stand beside.
-pub fn compatible_entries(
-    alloc: Global,
-    names: &[String],
-    compatible: &[bool],
-) -> Result<Document, AllocError>
-    requires { length compatible.now ≡ length names.now * length names.now }
-    ensures { IfOk result (λ t. members_view t.entries ≡ spec.with_compatible (map string_bytes names.now) (map string_bytes names.now) compatible.now no_members) }
+pub fn compatibility(alloc: Global, names: &[String], matrix: &[bool]) -> Result<Document, Memory>
+    requires { length matrix.now ≡ length names.now * length names.now }
+    ensures { IfOk result (λ t. members_view t.entries ≡ spec.with_compatible (map string_bytes names.now) (map string_bytes names.now) matrix.now no_members) }
 {
     let mut entries = Document::new(alloc);
-    let mut rest = compatible;
+    let mut rest = matrix;
     for requested in names {
         let line = &rest[..names.len()];
-        put_in(
-            alloc,
-            &mut entries,
-            requested.as_str(),
-            chosen(alloc, names, line)?,
-        )?;
+        let beside = chosen(alloc, names, line)?;
+        put_in(alloc, &mut entries, requested.as_str(), beside)?;
         rest = &rest[names.len()..];
     }
     Ok(entries)
@@ -85,48 +73,36 @@ pub fn name_at(names: &[String], mode: Mode) -> &str
 }
 
 /// A text.
-pub fn text(alloc: Global, bytes: &str) -> Result<Value, AllocError>
+pub fn text(alloc: Global, bytes: &str) -> Result<Value, Memory>
     ensures { IfOk result (λ v. view v ≡ a_text bytes.now) }
 {
     Ok(Value::String(String::from_str(alloc, bytes)?))
 }
 
 /// A pair for each requested mode: the name of the mode in the line.
-fn pairs(alloc: Global, names: &[String], line: &[Mode]) -> Result<Document, AllocError>
+fn pairs(alloc: Global, names: &[String], line: &[Mode]) -> Result<Document, Memory>
     requires { length line.now ≡ length names.now }
     ensures { IfOk result (λ t. members_view t.entries ≡ spec.with_pairs (map string_bytes names.now) (map string_bytes names.now) line.now no_members) }
 {
     let mut entries = Document::new(alloc);
     for (i, requested) in names.iter().enumerate() {
-        put_in(
-            alloc,
-            &mut entries,
-            requested.as_str(),
-            text(alloc, name_at(names, line[i]))?,
-        )?;
+        let converted = text(alloc, name_at(names, line[i]))?;
+        put_in(alloc, &mut entries, requested.as_str(), converted)?;
     }
     Ok(entries)
 }
 
 /// An entry for each held mode, with its pairs.
-pub fn conversion_entries(
-    alloc: Global,
-    names: &[String],
-    conversion: &[Mode],
-) -> Result<Document, AllocError>
-    requires { length conversion.now ≡ length names.now * length names.now }
-    ensures { IfOk result (λ t. members_view t.entries ≡ spec.with_conversion (map string_bytes names.now) (map string_bytes names.now) conversion.now no_members) }
+pub fn conversions(alloc: Global, names: &[String], matrix: &[Mode]) -> Result<Document, Memory>
+    requires { length matrix.now ≡ length names.now * length names.now }
+    ensures { IfOk result (λ t. members_view t.entries ≡ spec.with_conversion (map string_bytes names.now) (map string_bytes names.now) matrix.now no_members) }
 {
     let mut entries = Document::new(alloc);
-    let mut rest = conversion;
+    let mut rest = matrix;
     for held in names {
         let line = &rest[..names.len()];
-        put_in(
-            alloc,
-            &mut entries,
-            held.as_str(),
-            Value::Table(pairs(alloc, names, line)?),
-        )?;
+        let converted = Value::Table(pairs(alloc, names, line)?);
+        put_in(alloc, &mut entries, held.as_str(), converted)?;
         rest = &rest[names.len()..];
     }
     Ok(entries)

@@ -8,9 +8,10 @@ ghost use Rattle.kr_table.specs.Writing as spec;
 
 use crate::table::Parts;
 use crate::writing::entries::{name_at, put_in, text};
+use kr_model::Memory;
 use kr_modes::Mode;
 use kr_protocol::Span;
-use std::alloc::{AllocError, Global};
+use std::alloc::Global;
 use toml::{Table as Document, Value};
 
 /// The word of a span.
@@ -24,12 +25,7 @@ fn word_of(span: Span) -> &'static str
 }
 
 /// A clause with no `own`.
-fn plain_clause(
-    alloc: Global,
-    names: &[String],
-    mode: Mode,
-    span: Span,
-) -> Result<Document, AllocError>
+fn plain_clause(alloc: Global, names: &[String], mode: Mode, span: Span) -> Result<Document, Memory>
     ensures { IfOk result (λ t. members_view t.entries ≡ spec.plain_clause (map string_bytes names.now) mode span) }
 {
     let mut clause = Document::new(alloc);
@@ -48,7 +44,7 @@ fn plain_clauses(
     alloc: Global,
     names: &[String],
     request: Option<(Mode, Span)>,
-) -> Result<Value, AllocError>
+) -> Result<Value, Memory>
     ensures { IfOk result (λ v. view v ≡ array (spec.plain_clauses (map string_bytes names.now) request)) }
 {
     let mut clauses = Vec::new(alloc);
@@ -59,7 +55,7 @@ fn plain_clauses(
 }
 
 /// An array of one name.
-fn own_text(alloc: Global, own: &str) -> Result<Value, AllocError>
+fn own_text(alloc: Global, own: &str) -> Result<Value, Memory>
     ensures { IfOk result (λ v. view v ≡ array (spec.strings (own.now ∷ []))) }
 {
     let mut texts = Vec::new(alloc);
@@ -74,7 +70,7 @@ fn own_clause(
     own: &str,
     mode: Mode,
     span: Span,
-) -> Result<Document, AllocError>
+) -> Result<Document, Memory>
     ensures { IfOk result (λ t. members_view t.entries ≡ spec.own_clause (map string_bytes names.now) own.now mode span) }
 {
     let mut clause = plain_clause(alloc, names, mode, span)?;
@@ -89,7 +85,7 @@ fn push_clause(
     names: &[String],
     own: &str,
     request: Option<(Mode, Span)>,
-) -> Result<(), AllocError>
+) -> Result<(), Memory>
     ensures { OnOk result (map view clauses.new.items ≡ map view clauses.old.items ++ spec.own_one (map string_bytes names.now) own.now request) }
 {
     if let Some((mode, span)) = request {
@@ -103,7 +99,7 @@ fn own_clauses(
     alloc: Global,
     names: &[String],
     requests: &[Option<(Mode, Span)>],
-) -> Result<Value, AllocError>
+) -> Result<Value, Memory>
     requires { length requests.now ≡ length names.now + 1 }
     ensures { IfOk result (λ v. view v ≡ array (spec.own_clauses (map string_bytes names.now) (codes "none" ∷ map string_bytes names.now) requests.now)) }
 {
@@ -116,7 +112,7 @@ fn own_clauses(
 }
 
 /// A row of one side.
-fn one_side(alloc: Global, side: &str, clauses: Value) -> Result<Value, AllocError>
+fn one_side(alloc: Global, side: &str, clauses: Value) -> Result<Value, Memory>
     ensures { IfOk result (λ v. view v ≡ a_table (spec.put side.now (view clauses) no_members)) }
 {
     let mut sides = Document::new(alloc);
@@ -125,7 +121,7 @@ fn one_side(alloc: Global, side: &str, clauses: Value) -> Result<Value, AllocErr
 }
 
 /// A row of both sides.
-fn both_sides(alloc: Global, current: Value, next: Value) -> Result<Value, AllocError>
+fn both_sides(alloc: Global, current: Value, next: Value) -> Result<Value, Memory>
     ensures { IfOk result (λ v. view v ≡ a_table (spec.put (codes "next") (view next) (spec.put (codes "current") (view current) no_members))) }
 {
     let mut sides = Document::new(alloc);
@@ -142,7 +138,7 @@ fn put_one_side(
     side: &str,
     names: &[String],
     request: Option<(Mode, Span)>,
-) -> Result<(), AllocError>
+) -> Result<(), Memory>
     ensures { OnOk result (members_view rules.new.entries ≡ spec.put row.now (a_table (spec.one_side side.now (spec.plain_clauses (map string_bytes names.now) request))) (members_view rules.old.entries)) }
 {
     let clauses = plain_clauses(alloc, names, request)?;
@@ -157,7 +153,7 @@ fn put_both_sides(
     names: &[String],
     current: &[Option<(Mode, Span)>],
     next: &[Option<(Mode, Span)>],
-) -> Result<(), AllocError>
+) -> Result<(), Memory>
     requires current { length current.now ≡ length names.now + 1 }
     requires next { length next.now ≡ length names.now + 1 }
     ensures { OnOk result (members_view rules.new.entries ≡ spec.put row.now (a_table (spec.changing_row (map string_bytes names.now) current.now next.now)) (members_view rules.old.entries)) }
@@ -168,7 +164,7 @@ fn put_both_sides(
 }
 
 /// The rows that every table has.
-fn all_rows(alloc: Global, p: &Parts) -> Result<Document, AllocError>
+fn all_rows(alloc: Global, p: &Parts) -> Result<Document, Memory>
     requires { IsTable (data_of p.now) }
     ensures { IfOk result (λ t. members_view t.entries ≡ spec.all_rows (data_of p.now)) }
 {
@@ -205,7 +201,7 @@ fn all_rows(alloc: Global, p: &Parts) -> Result<Document, AllocError>
 }
 
 /// The member `rules`: the row of updates is there where they are offered.
-pub fn rules_of(alloc: Global, p: &Parts) -> Result<Document, AllocError>
+pub fn rules_of(alloc: Global, p: &Parts) -> Result<Document, Memory>
     requires { IsTable (data_of p.now) }
     ensures { IfOk result (λ t. members_view t.entries ≡ spec.written_rules (data_of p.now)) }
 {

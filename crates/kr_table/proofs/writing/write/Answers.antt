@@ -3,7 +3,8 @@ use Rattle.std.specs.Prelude.{IfOk}
 use Rattle.toml.specs.Data.{table, members_depth, members_have_valid_dates}
 use Rattle.kr_table.specs.Shown.{data_of}
 use Rattle.kr_table.specs.Reading.{judged, reading}
-use Rattle.kr_table.proofs.Written.{written_reads_back, written_depth, written_dates}
+use Rattle.kr_table.proofs.Written.{written_reads_back}
+use Rattle.kr_table.proofs.WrittenForm.{written_depth, written_dates}
 use Rattle.kr_table.proofs.writing.write.Goals as goal
 
 pub printed-requires-clause-depth : goal.printed-requires-clause-depth

@@ -2,7 +2,7 @@ use Rattle.std.proofs.Common.{◌≡◌, ◌∙◌, sym, ap, subst, Some, Option
 use Rattle.std.specs.Option.{option_map, IfSome}
 use Rattle.kr_model.specs.Log.{Log, step_logged}
 use Rattle.kr_txn.specs.declared.unfinished.Ready.{Ready}
-use Rattle.kr_txn.specs.declared.unfinished.Logging.TheVariants.{Committing}
+use Rattle.kr_txn.specs.declared.logging.Logging.TheVariants.{Committing}
 use Rattle.kr_txn.specs.Logs.{entries, shown, MayNoteAs, LogWithRoom, IsReady}
 use Rattle.kr_txn.proofs.LogSteps.{room_to_commit, is_taken_out, step_noted}
 use Rattle.kr_txn.proofs.log.Log.note.Goals as goal

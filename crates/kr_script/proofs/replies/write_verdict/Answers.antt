@@ -4,7 +4,7 @@ use Rattle.serde_json.proofs.OnLiterals.{serde_json_on_literals}
 use Rattle.kr_script.specs.Report.{reply_data, verdict_data}
 use Rattle.std.proofs.lemmas.Result.{on_ok_weaker}
 use Rattle.kr_script.proofs.Writes.{after_place}
-use Rattle.kr_script.proofs.writing.write_verdict.Goals as goal
+use Rattle.kr_script.proofs.replies.write_verdict.Goals as goal
 
 pub returns-in_ok-write_place-in-NotSerial : goal.returns-in_ok-write_place-in-NotSerial
 unfolding serde_json_on_literals
