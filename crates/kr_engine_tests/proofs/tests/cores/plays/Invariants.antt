@@ -1,6 +1,0 @@
-use Rattle.kr_model.specs.Kvl.{kvl}
-use Rattle.kr_engine_tests.proofs.tests.cores.plays.Given as goal
-
--- this core's row, its opening and its table
-abbrev pub ghosts-has_answers : goal.ghosts-has_answers
-ghosts-has_answers a = record { places = a.row.now; opening = a.opening.now; table = kvl }

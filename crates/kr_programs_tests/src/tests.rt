@@ -1,0 +1,6 @@
+mod explain_program;
+mod explanation;
+mod picture;
+mod program;
+mod shell;
+mod view_program;

@@ -1,0 +1,6 @@
+//! Tests of runs, scripts and reports, from outside: they call what `kr_serial`, `kr_counterexample`, `kr_follows`, `kr_script`
+//! and `kr_batch` offer.
+#![tactic(auto)]
+
+#[cfg(test)]
+mod tests;

@@ -1,0 +1,5 @@
+mod batch;
+mod counterexample;
+mod follows;
+mod script;
+mod serial;

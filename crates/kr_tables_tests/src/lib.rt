@@ -1,0 +1,6 @@
+//! Tests of definitions and lock tables, from outside: they call what `kr_model`, `kr_modes`, `kr_protocol`, `kr_table`, `kr_cases`
+//! and `kr_causes` offer.
+#![tactic(auto)]
+
+#[cfg(test)]
+mod tests;

@@ -1,0 +1,3 @@
+mod engine;
+mod places;
+mod threads;
