@@ -1,4 +1,5 @@
-//! Tables, and what is explained of them, compared with what an independent program wrote of the same tables.
+//! Tables, and what is explained of them: whole texts that an independent program wrote of the same tables, or that were worked
+//! by hand; and how much is tried, as the program says it.
 mod accepted;
 mod bounds;
 mod one_cause;
