@@ -1,5 +1,6 @@
 pub mod Protocol
 pub mod Covers
+pub mod Safe
 pub mod ModeNames
 pub mod Matrices
 pub mod Kvl

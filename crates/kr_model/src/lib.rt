@@ -135,6 +135,41 @@ pub struct FailedCase {
     pub hole: Place,
 }
 
+/// What a transaction has done with a key so far: what its lock on the key has to protect.
+#[derive(Clone, Copy, Debug, PartialEq, Eq)]
+pub enum KeyUse {
+    /// Nothing that is left to protect.
+    Free,
+    /// It has read the key.
+    Read,
+    /// It has updated the key.
+    Updated,
+    /// It has inserted the key.
+    Inserted,
+}
+
+/// What a transaction has done in the gap below a name so far: what its lock on the name has to protect there.
+#[derive(Clone, Copy, Debug, PartialEq, Eq)]
+pub enum GapUse {
+    /// Nothing that is left to protect.
+    Free,
+    /// It has read the gap.
+    Read,
+    /// It has deleted a key in the gap.
+    Deleted,
+}
+
+/// What a transaction has on a name: the mode that it holds, and what its lock has to protect there.
+#[derive(Clone, Copy, Debug, PartialEq, Eq)]
+pub struct LockState {
+    /// The mode that it holds, 0 for no lock.
+    pub mode: Mode,
+    pub key: KeyUse,
+    pub gap: GapUse,
+    /// Whether it has deleted the key, which is absent until the transaction inserts it again or rolls back.
+    pub deleted: bool,
+}
+
 /// Why a step was refused. A refusal changes nothing.
 #[derive(Clone, Copy, Debug, PartialEq, Eq)]
 pub enum Refusal {
