@@ -14,5 +14,5 @@ pub use im::Im;
 pub use kr_model::{Mode, Row, Side, Span};
 pub use kvl::Kvl;
 pub use kvl_update::KvlUpdate;
-pub use protocol::{Covered, Protocol};
+pub use protocol::{Covered, Protocol, SafeProtocol};
 pub use range_key::RangeKey;

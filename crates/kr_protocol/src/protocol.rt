@@ -2,6 +2,7 @@
 ghost use Rattle.std.specs.Prelude.{◌≡◌, ℕ, ◌≤◌, List};
 ghost use Rattle.kr_model.specs.Protocol.{Protocol, IsLawful};
 ghost use Rattle.kr_model.specs.Covers.{IsCovered};
+ghost use Rattle.kr_model.specs.Safe.{IsSafe};
 ghost use Rattle.kr_model.specs.ModeNames.{name_of, AreModeNames};
 ghost use Rattle.kr_protocol.specs.Rows.{IsRow};
 
@@ -70,6 +71,13 @@ pub trait Covered: Protocol {
     ghost covered: { (p : Self) → IsCovered (Self.table p) };
 }
 
+/// A protocol under which every run is serializable in commit order: of all that another transaction can come to request
+/// beside a lock, the lock blocks what it has to keep out. Every covered protocol is safe, and some are safe that fail cases.
+pub trait SafeProtocol: Protocol {
+    /// Its tables are safe.
+    ghost safe: { (p : Self) → IsSafe (Self.table p) };
+}
+
 impl<P: Protocol> Protocol for &P {
     ghost table = { λ p. P.table p.now };
 
@@ -110,4 +118,8 @@ impl<P: Protocol> Protocol for &P {
 
 impl<P: Covered> Covered for &P {
     ghost covered = { λ p. P.covered p.now };
+}
+
+impl<P: SafeProtocol> SafeProtocol for &P {
+    ghost safe = { λ p. P.safe p.now };
 }
