@@ -1,4 +1,4 @@
--- Safe protocols: lock states beside the locks of a run, under one fixed protocol that keeps out whom they must.
+-- Safe protocols: lock states beside the locks of a run, and one fixed protocol that stands for what they have to protect.
 pub mod Shape
 pub mod KeptOut
 pub mod Stays

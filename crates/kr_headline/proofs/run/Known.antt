@@ -1,4 +1,4 @@
--- What is known of the run so far, with holds beside its locks, and how a step that changes nothing, a granted operation and an end keep it.
+-- What is known of the run so far, with lock states beside its locks, and how a step that changes nothing, a granted operation and an end keep it.
 use Rattle.std.specs.Prelude.{◌≡◌, ℕ, true, false, not, ◌==◌, ◌||◌, List, [], ◌∷◌, ◌++◌, unwrap_or}
 use Rattle.std.specs.Ordering.{nat_cmp}
 use Rattle.std.specs.FinMap.{find, put, is_sorted}
@@ -33,10 +33,10 @@ pub record Known (p : Protocol) (opening : Map) (h : List Entry) (s : State) : T
   pub part : Parts
   pub hold : Holds
   pub done : Programs
-  -- they are serial, and the invariant holds with the map that they leave as the committed one
+  -- they are serial, and the invariant holds, under the fixed protocol and the modes of the lock states, with the map that they leave as the committed one
   pub answered : AreAnswered opening (joined done)
   pub inv : Invariant shape s.map (modes hold) part (map_left opening (joined done))
-  -- the holds stand beside the locks
+  -- the lock states fit the locks and the map
   pub sim : Sim p s.map s.locks part hold
   -- what each transaction did that hasn't ended and doesn't roll back reads as its part says, and each stands so in the state
   pub reads : (t : ℕ) → has_ended s t ≡ false → (part t).rolling ≡ false → ReadsAs t h (part t).program (part t).scan

@@ -1,4 +1,4 @@
--- The end of a run: its committed programs are serial in commit order, and with the unfinished rolled back the index is the map that they leave.
+-- The end of a run: it is serializable in commit order, and with the unfinished rolled back the index is the map that the committed transactions leave.
 use Rattle.std.specs.Prelude.{◌≡◌, ℕ, Bool, true, false, List, [], ◌∷◌, ◌++◌, Option, Some, None, refl, unwrap_or}
 use Rattle.std.specs.Ordering.{nat_cmp}
 use Rattle.std.specs.FinMap.{find}

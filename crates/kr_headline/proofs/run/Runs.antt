@@ -1,4 +1,4 @@
--- Every run is serial, and what it leaves is the index with the unfinished rolled back.
+-- Every run is serializable in commit order, and the map that the committed transactions leave is the index with the unfinished rolled back.
 use Rattle.std.specs.Prelude.{◌≡◌, ℕ, ◌≤◌, ◌+◌, suc, Bool, true, false, not, ◌&&◌, nat_lt, if◌then◌else◌, List, [], ◌∷◌, ◌++◌, Option, Some, None, refl, is_some}
 use Rattle.std.proofs.lemmas.Bool.Decides.{nat_tests}
 use Rattle.std.proofs.Common.{sym, ◌∙◌, ap, subst, arith, inl, append_assoc, append-nil}
@@ -240,7 +240,7 @@ safe_runs_are_serial p laws safe opening events sorted =
     let r = run p (start opening) events in
     serial p opening r.history r.state (known_run p laws safe opening events [] (start opening) (opens p opening sorted))
 
--- A lawful protocol in which all cases hold is safe.
+-- A lawful protocol of which all cases hold is safe, so every run under it is, too.
 pub runs_are_serial : (p : Protocol) → IsLawful p → IsCovered p → (opening : Map) (events : List Event) → IsMap opening → IsSerialRun opening (run p (start opening) events)
 runs_are_serial p laws cov = safe_runs_are_serial p laws (covered_is_safe p laws cov)
 

@@ -1,4 +1,4 @@
--- Where all cases hold a protocol is safe: each hold that comes up is served by its mode.
+-- A protocol of which all cases hold is safe: in each reachable lock state the mode serves what it has to protect.
 use Rattle.std.proofs.Common.{ℕ, ◌≤◌, ◌≡◌, ◌⊎◌, inl, inr, ⊎_elim, refl, ap, Bool, true, false, subst, arith}
 use Rattle.std.specs.Prelude.{not, ◌||◌, [], ◌∷◌, Option, Some, None}
 use Rattle.kr_model.specs.declared.Row.{Row}
@@ -39,7 +39,7 @@ pub record Served (p : Protocol) (x : LockState) : Type 0 where
   pub key : KeyServed p x.key x.mode
   pub gap : GapServed p x.gap x.mode
 
--- One more need --
+-- More to protect --
 
 read_too : (p : Protocol) (k : KeyUse) (m : ℕ) → KeyServed p k m → Serves p ReadKey m → KeyServed p (and_read k) m
 read_too p KeyFree m old new = new
@@ -148,7 +148,7 @@ module _ (p : Protocol) (laws : IsLawful p) (cov : IsCovered p) where
     moved : (r : Row) (s : Side) → MayAsk p r s x n → Served p (after p r s x n)
     moved r s may = record { range = after_range x.mode (asked p r s x n) (asks_mode r s) xs.range; key = key_moved r s may; gap = gap_moved r s may }
 
-  -- Each hold that comes up is served --
+  -- Each reachable lock state is served --
 
   both : (x y : LockState) → Beside p x y → Served p x × Served p y
   both _ _ start = (record { range = omega arith; key = tt; gap = tt }, record { range = omega arith; key = tt; gap = tt })
@@ -156,7 +156,7 @@ module _ (p : Protocol) (laws : IsLawful p) (cov : IsCovered p) where
   both _ _ (leave x y b) = let z = both x y b in (record { range = omega arith; key = tt; gap = tt }, z.1)
   both _ _ (move r s x y n b reached may mb passes) = let z = both x y b in let v = both n free reached in (moved x n z.0 v.0 r s may, z.1)
 
-  -- So it keeps out whom it must --
+  -- So it blocks whom it must --
 
   true_of : (h o : ℕ) (a : Option (ℕ × Span)) → Conflicts p h o a → conflicts_with p h o a ≡ true
   true_of h o None c = absurd c

@@ -1,4 +1,4 @@
--- A delete: it is granted, and the lock states stand beside the state after it.
+-- A delete: the fixed protocol grants it, and the lock states after it fit the state after it.
 use Rattle.std.proofs.Common.{ℕ, suc, ◌++◌, ◌≡◌, ◌≢◌, ◌⊎◌, inl, inr, ⊎_elim, refl, sym, ap, ◌∙◌, true, false, subst, true≢false, arith}
 use Rattle.std.proofs.lemmas.Bool.{cases_eq}
 use Rattle.std.specs.Prelude.{◌||◌, Some}
@@ -34,7 +34,7 @@ use Rattle.kr_headline.proofs.safe.Placed.{Stands, at_stands, IsClear, stands_ke
 use Rattle.kr_headline.proofs.safe.Sim.{rolls, Sim, rolls_same, after_serves, moved_out, gap_stays}
 use Rattle.kr_headline.proofs.safe.TwoRequests.{two_holds, two_locks, two_second, two_others, by_two, two_taken, two_paired, range, in_mode, reached}
 
--- What is protected on a key keeps a delete of it out.
+-- A lock that protects anything on a key has to block a delete of it.
 idle_or_out : (h : LockState) → IsIdle h ⊎ (keeps_out h Delete Current ≡ true)
 idle_or_out h = by h.key h.gap refl refl
   where

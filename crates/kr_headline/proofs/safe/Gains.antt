@@ -1,4 +1,4 @@
--- What a request is for is protected after it.
+-- After a request the fixed protocol's mode blocks all that the requested mode blocks.
 use Rattle.std.proofs.Common.{ℕ, ◌≡◌, refl, Bool, true}
 use Rattle.std.specs.Prelude.{Option, Some, None}
 use Rattle.kr_model.specs.declared.Row.{Row}
@@ -11,12 +11,12 @@ use Rattle.kr_model.specs.declared.KeyUse.TheVariants.{Free as KeyFree, Read as 
 use Rattle.kr_model.specs.declared.GapUse.{GapUse}
 use Rattle.kr_model.specs.declared.GapUse.TheVariants.{Free as GapFree, Read as GapRead, Deleted as GapDeleted}
 use Rattle.kr_model.specs.Safe.{key_after, gap_after}
-use Rattle.kr_headline.proofs.safe.Shape.{code, shape, refuses_all}
+use Rattle.kr_headline.proofs.safe.Shape.{code, shape, blocks_all}
 
--- Whether what is asked, if anything, refuses no more than b.
+-- Whether the mode b blocks all that the requested mode blocks, if one is requested.
 abbrev pub ask_within : Option (ℕ × Span) → ℕ → Bool
 ask_within None b = true
-ask_within (Some (q, span)) b = refuses_all q b
+ask_within (Some (q, span)) b = blocks_all q b
 
 pub gains : (r : Row) (s : Side) (k : KeyUse) (g : GapUse) (j : KeyUse) (h : GapUse) → ask_within (shape.ask r s (code j h)) (code (key_after r s k) (gap_after r s g h)) ≡ true
 gains FetchHit Current KeyFree GapFree j h = refl

@@ -1,4 +1,4 @@
--- Holds of all transactions, paired with the locks of a run: what a granted request, an end, and a change taken back do to them.
+-- The lock states of all transactions beside the locks of a run: what a granted request, an end and an undone change do to them.
 use Rattle.std.proofs.Common.{ℕ, ◌≤◌, ◌≡◌, ◌≢◌, ◌⊎◌, inl, inr, ⊎_elim, refl, sym, ap, ◌∙◌, Bool, true, false, subst, true≢false}
 use Rattle.std.specs.Prelude.{not, cond, ◌||◌, Option, Some, None, unwrap_or}
 use Rattle.std.specs.FinMap.{find}
@@ -26,20 +26,20 @@ use Rattle.kr_headline.proofs.safe.Shape.{code, shape, more, in_count}
 use Rattle.kr_headline.proofs.safe.KeptOut.{MayKeepOut, kept_out}
 use Rattle.kr_headline.proofs.safe.Stays.{stays}
 
--- What each transaction has on each name.
+-- The lock state of each transaction on each name.
 abbrev pub Holds : Type 0
 Holds = ℕ → Name → LockState
 
--- The modes for what is protected.
+-- Their modes in the fixed protocol.
 abbrev pub modes : Holds → Modes
 modes hold t n = code (hold t n).key (hold t n).gap
 
--- One hold replaced --
+-- One lock state replaced --
 
 pub here_or_not : (t u : ℕ) (n x : Name) → ((u ≡ t) × (x ≡ n)) ⊎ ((u ≡ t) × (x ≡ n) → ⊥)
 here_or_not t u n x = ⊎_elim (λ e. ⊎_elim (λ f. inl (e, f)) (λ g. inr (λ h. g h.1)) (name_or_not x n)) (λ d. inr (λ h. d h.0)) (cases_eq u t)
 
--- The first where it holds, else the second.
+-- The first lock state where P holds, else the second.
 abbrev pub pick : {P Q : Type 0} → P ⊎ Q → LockState → LockState → LockState
 pick (inl a) y z = y
 pick (inr b) y z = z
@@ -52,7 +52,7 @@ pub pick_second : {P : Type 0} (d : P ⊎ (P → ⊥)) (y z : LockState) → (P 
 pick_second (inl a) y z h = absurd (h a)
 pick_second (inr b) y z h = refl
 
--- The holds, with that of t on n replaced.
+-- The lock states, with that of t on n replaced.
 abbrev pub with_hold : Holds → ℕ → Name → LockState → Holds
 with_hold hold t n z u x = pick (here_or_not t u n x) z (hold u x)
 
@@ -62,14 +62,14 @@ with_same hold t n z = pick_first (here_or_not t t n n) z (hold t n) (refl, refl
 pub with_other : (hold : Holds) (t : ℕ) (n : Name) (z : LockState) (u : ℕ) (x : Name) → ((u ≡ t) × (x ≡ n) → ⊥) → with_hold hold t n z u x ≡ hold u x
 with_other hold t n z u x d = pick_second (here_or_not t u n x) z (hold u x) d
 
--- What holds of t on n with the new hold, and of each other with its own, holds of all.
+-- A property of the new lock state of t on n and of each other lock state is one of all.
 pub by_hold : (P : ℕ → Name → LockState → Type 0) (hold : Holds) (t : ℕ) (n : Name) (z : LockState) → P t n z → ((u : ℕ) (x : Name) → ((u ≡ t) × (x ≡ n) → ⊥) → P u x (hold u x)) → (u : ℕ) (x : Name) → P u x (with_hold hold t n z u x)
 by_hold P hold t n z mine others u x = ⊎_elim
     (λ e. subst (λ w. P w x (with_hold hold t n z w x)) (sym e.0) (subst (λ w. P t w (with_hold hold t n z t w)) (sym e.1) (subst (λ w. P t n w) (sym (with_same hold t n z)) mine)))
     (λ d. subst (λ w. P u x w) (sym (with_other hold t n z u x d)) (others u x d))
     (here_or_not t u n x)
 
--- The holds, with those of t given up.
+-- The lock states, with those of t released.
 abbrev pub without_holds : Holds → ℕ → Holds
 without_holds hold t u x = pick (cases_eq u t) free (hold u x)
 
@@ -81,11 +81,11 @@ without_other hold t u x d = pick_second (cases_eq u t) free (hold u x) d
 
 -- Paired with locks --
 
--- One who rolls back has a hold that protects nothing.
+-- The lock state of one who rolls back, which protects nothing.
 abbrev pub IsVoid : Bool → LockState → Type 0
 IsVoid rolls x = (rolls ≡ true) × IsIdle x
 
--- The holds have the modes of the locks, and stand beside each other as the protocol says; of those who roll back some are void.
+-- The lock states have the modes of the locks. Any two on one name are in the relation `Beside`, and so is each with no lock; but those of transactions that roll back may be void instead.
 pub record Paired (p : Protocol) (rolls : ℕ → Bool) (l : Locks) (hold : Holds) : Type 0 where
   pub mode : (t : ℕ) (n : Name) → (hold t n).mode ≡ own l t n
   pub alone : (t : ℕ) (n : Name) → (Beside p (hold t n) free) ⊎ IsVoid (rolls t) (hold t n)
@@ -94,13 +94,10 @@ pub record Paired (p : Protocol) (rolls : ℕ → Bool) (l : Locks) (hold : Hold
 rolls_not : {A : Type 0} (b : Bool) (x : LockState) → b ≡ false → IsVoid b x → A
 rolls_not b x live void = absurd (true≢false (sym void.0 ∙ live))
 
-pub beside_live : (p : Protocol) (rolls : ℕ → Bool) (l : Locks) (hold : Holds) → Paired p rolls l hold → (t u : ℕ) (n : Name) → rolls t ≡ false → rolls u ≡ false → u ≢ t → Beside p (hold t n) (hold u n)
-beside_live p rolls l hold k t u n live live_u ne = ⊎_elim (λ b. b) (λ void. rolls_not (rolls u) (hold u n) live_u void) (k.beside t u n live ne)
-
 pub alone_live : (p : Protocol) (rolls : ℕ → Bool) (l : Locks) (hold : Holds) → Paired p rolls l hold → (t : ℕ) (n : Name) → rolls t ≡ false → Beside p (hold t n) free
 alone_live p rolls l hold k t n live = ⊎_elim (λ b. b) (λ void. rolls_not (rolls t) (hold t n) live void) (k.alone t n)
 
--- What isn't in conflict isn't refused.
+-- A request without a conflict isn't blocked, and one that is blocked has a conflict.
 open_of : (p : Protocol) (h o : ℕ) (a : Option (ℕ × Span)) → (Conflicts p h o a → ⊥) → conflicts_with p h o a ≡ false
 open_of p h o None none = refl
 open_of p h o (Some (q, span)) none = by (p.ok (p.convert o q) h) none
@@ -117,7 +114,7 @@ conflict_of p h o (Some (q, span)) e = by (p.ok (p.convert o q) h) e
     by true f = absurd (cc)
     by false f = refl
 
--- A request stands beside no lock.
+-- No request is blocked where no lock is held.
 free_open : (p : Protocol) → IsLawful p → (r : Row) (s : Side) (x n : LockState) → x.mode ≤ p.count → given r s x n ≤ p.count → is_blocked p r s x n free ≡ false
 free_open p laws r s x n io in_given = by (asked p r s x n) (λ q span e. laws.ask-mode r s (given r s x n) q span in_given e)
   where
@@ -138,7 +135,7 @@ free_beside Insert Next = tt
 free_beside Delete s = tt
 free_beside Update s = tt
 
--- An idle hold keeps nobody out.
+-- A lock with nothing to protect has to keep nobody out.
 pub idle_lets : (r : Row) (s : Side) → (by_key KeyFree r s || by_gap GapFree r s) ≡ false
 idle_lets FetchHit s = refl
 idle_lets FetchMiss s = refl
@@ -152,7 +149,7 @@ pub idle_out : (x : LockState) (r : Row) (s : Side) → IsIdle x → keeps_out x
 idle_out x r s i = ap (λ k. by_key k r s || by_gap x.gap r s) i.key ∙ ap (λ g. by_key KeyFree r s || by_gap g r s) i.gap ∙ idle_lets r s
 
 module _ (p : Protocol) (laws : IsLawful p) (rolls : ℕ → Bool) (l : Locks) (hold : Holds) (k : Paired p rolls l hold) (t : ℕ) (live : rolls t ≡ false) where
-  -- A request of t that the protocol grants is none that a hold of another has to keep out.
+  -- Under a safe protocol a granted request of t is none that another's lock has to keep out.
   pub granted_out : IsSafe p → (r : Row) (s : Side) (name : Name) (n : LockState) → Beside p n free → MayAsk p r s (hold t name) n → Granted p (own l) t r s name (given r s (hold t name) n)
       → (u : ℕ) → u ≢ t → keeps_out (hold u name) r s ≡ true → ⊥
   granted_out safe r s name n reached may granted u ne out =
@@ -169,7 +166,7 @@ module _ (p : Protocol) (laws : IsLawful p) (rolls : ℕ → Bool) (l : Locks) (
   granted_shape safe r s name n reached may granted keep on u ne conflict =
       granted_out safe r s name n reached may granted u ne (kept_out r s on (modes hold t name) (hold u name).key (hold u name).gap keep conflict)
 
-  -- It keeps the pairing.
+  -- A granted request keeps the lock states beside the locks.
   pub move_at : (r : Row) (s : Side) (name : Name) (n : LockState) → Beside p n free → MayAsk p r s (hold t name) n
       → ((u : ℕ) → u ≢ t → MayBeside r s (hold u name) ⊎ IsVoid (rolls u) (hold u name))
       → Granted p (own l) t r s name (given r s (hold t name) n)
@@ -201,7 +198,7 @@ module _ (p : Protocol) (laws : IsLawful p) (rolls : ℕ → Bool) (l : Locks) (
             v w) u live_v ne;
       }
 
--- More is served by it.
+-- After it the fixed protocol's mode serves more.
 pub taken_at : (p : Protocol) (hold : Holds) (t : ℕ) (r : Row) (s : Side) (name : Name) (n : LockState) → Taken shape (modes hold) (modes (with_hold hold t name (after p r s (hold t name) n))) t
 taken_at p hold t r s name n =
     let x = hold t name in
@@ -213,7 +210,7 @@ taken_at p hold t r s name n =
           (λ e sv. more (code x.key x.gap) (code z.key z.gap) (stays r s x.key x.gap n.gap) c sv) (λ v w d e sv. sv) t w) refl sv;
     }
 
--- The holds of t given up.
+-- So does an end.
 pub end_at : (p : Protocol) (rolls rolls' : ℕ → Bool) (l : Locks) (hold : Holds) (t : ℕ) → Paired p rolls l hold → rolls' t ≡ false → ((u : ℕ) → u ≢ t → rolls' u ≡ rolls u) → Paired p rolls' (release l t) (without_holds hold t)
 end_at p rolls rolls' l hold t k live same =
     let gone : (x : Name) → own (release l t) t x ≡ 0 = λ x.
@@ -242,7 +239,7 @@ end_at p rolls rolls' l hold t k live same =
           (cases_eq v t);
     }
 
--- One begins to roll back, or goes on.
+-- So does one who begins to roll back, or goes on.
 pub roll_at : (p : Protocol) (rolls rolls' : ℕ → Bool) (l : Locks) (hold : Holds) (t : ℕ) → Paired p rolls l hold → rolls' t ≡ true → ((u : ℕ) → u ≢ t → rolls' u ≡ rolls u) → Paired p rolls' l hold
 roll_at p rolls rolls' l hold t k rolling same =
     let void : (u : ℕ) (x : LockState) → IsVoid (rolls u) x → IsVoid (rolls' u) x = λ u x v. (⊎_elim (λ e. ap rolls' e ∙ rolling) (λ ne. same u ne ∙ v.0) (cases_eq u t), v.1) in
@@ -254,7 +251,7 @@ roll_at p rolls rolls' l hold t k rolling same =
           ⊎_elim (λ b. inl b) (λ w. inr (void u (hold u x) w)) (k.beside v u x (sym (same v vt) ∙ live_v) ne);
     }
 
--- The same modes and marks.
+-- So do marks that are the same.
 pub same_rolls : (p : Protocol) (rolls rolls' : ℕ → Bool) (l : Locks) (hold : Holds) → Paired p rolls l hold → ((u : ℕ) → rolls' u ≡ rolls u) → Paired p rolls' l hold
 same_rolls p rolls rolls' l hold k same = record {
   mode = k.mode;
@@ -264,26 +261,24 @@ same_rolls p rolls rolls' l hold k same = record {
 
 -- Voided --
 
--- The same mode, and nothing protected.
+-- The same mode, with nothing to protect.
 abbrev pub idle : LockState → LockState
 idle x = record { mode = x.mode; key = KeyFree; gap = GapFree; deleted = x.deleted }
 
 pub rolls_here : (rolls : ℕ → Bool) (n : Name) (u : ℕ) (x : Name) → ((rolls u ≡ true) × (x ≡ n)) ⊎ ((rolls u ≡ true) × (x ≡ n) → ⊥)
 rolls_here rolls n u x = ⊎_elim (λ e. ⊎_elim (λ f. inl (e, f)) (λ g. inr (λ h. g h.1)) (name_or_not x n)) (λ e. inr (λ h. true≢false (sym h.0 ∙ e))) (cases_Bool (rolls u))
 
--- The holds on n of those who roll back protect nothing any more.
+-- The lock states, with those voided that transactions which roll back have on n.
 abbrev pub voided : Holds → (ℕ → Bool) → Name → Holds
 voided hold rolls n u x = pick (rolls_here rolls n u x) (idle (hold u x)) (hold u x)
 
 pub voided_live : (hold : Holds) (rolls : ℕ → Bool) (n : Name) (u : ℕ) (x : Name) → rolls u ≡ false → voided hold rolls n u x ≡ hold u x
 voided_live hold rolls n u x live = pick_second (rolls_here rolls n u x) (idle (hold u x)) (hold u x) (λ h. true≢false (sym h.0 ∙ live))
 
-pub voided_other : (hold : Holds) (rolls : ℕ → Bool) (n : Name) (u : ℕ) (x : Name) → (x ≡ n → ⊥) → voided hold rolls n u x ≡ hold u x
-voided_other hold rolls n u x d = pick_second (rolls_here rolls n u x) (idle (hold u x)) (hold u x) (λ h. d h.1)
-
 pub voided_at : (hold : Holds) (rolls : ℕ → Bool) (n : Name) (u : ℕ) → rolls u ≡ true → IsVoid (rolls u) (voided hold rolls n u n)
 voided_at hold rolls n u rolling = (rolling, subst (λ h. IsIdle h) (sym (pick_first (rolls_here rolls n u n) (idle (hold u n)) (hold u n) (rolling, refl))) (record { key = refl; gap = refl }))
 
+-- With these voided the lock states are still beside the locks.
 pub void_at : (p : Protocol) (rolls : ℕ → Bool) (l : Locks) (hold : Holds) (n : Name) → Paired p rolls l hold → Paired p rolls l (voided hold rolls n)
 void_at p rolls l hold n k =
     let either : (u : ℕ) (x : Name) (P : LockState → Type 0) → ((rolls u ≡ true) → P (idle (hold u x))) → P (hold u x) → P (voided hold rolls n u x) = λ u x P a b.

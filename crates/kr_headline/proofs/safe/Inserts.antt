@@ -1,4 +1,4 @@
--- An insert: it is granted, nobody else protects its key, and the lock states stand beside the state after it.
+-- An insert: the fixed protocol grants it, nobody else protects its key, and the lock states after it fit the state after it.
 use Rattle.std.proofs.Common.{ℕ, ◌++◌, ◌≡◌, ◌≢◌, ◌⊎◌, inl, inr, ⊎_elim, refl, sym, ap, ◌∙◌, true, false, subst, true≢false}
 use Rattle.std.proofs.lemmas.Bool.{cases_eq, cases_Bool}
 use Rattle.std.specs.Prelude.{Some}
@@ -47,7 +47,7 @@ module _ (p : Protocol) (laws : IsLawful p) (safe : IsSafe p) (m : Map) (l : Loc
     pub next_granted : Granted shape (modes hold) t Insert Next x (modes hold t x)
     next_granted = granted_shape p laws (rolls part) l hold sim.paired t live safe Insert Next x free start there granted_next tt (modes hold t x)
 
-    -- So no other guards or has moved the key.
+    -- So no other transaction guards the key or has moved it.
     unguarded : (u : ℕ) → u ≢ t → Guard m (part u).changes k → ⊥
     unguarded u ne g = insert_unguarded shape m i.is_map (modes hold) part i.guarded i.undoable t u k next_granted absent ne g
 
@@ -61,7 +61,7 @@ module _ (p : Protocol) (laws : IsLawful p) (safe : IsSafe p) (m : Map) (l : Loc
         (λ e. let d = w.gone u (Key k) lu e in absurd (unmoved u ne (subst (λ z. Moved (part u) z) (sym (key_is k d.0 d.1)) d.3))) (λ e. e) (cases_Bool (hold u (Key k)).deleted) in
         (⊎_elim (λ z. z) (λ z. absurd (true≢false (sym z ∙ absent))) (w.there u (Key k) lu kept), kept)
 
-    -- The holds of those who roll back are void there.
+    -- The lock states on the key of those who roll back are voided.
     abbrev pub now_void : Holds
     now_void = voided hold (rolls part) (Key k)
 
@@ -78,9 +78,6 @@ module _ (p : Protocol) (laws : IsLawful p) (safe : IsSafe p) (m : Map) (l : Loc
     pub void_sim : Sim p m l part now_void
     void_sim = record { locks = sim.locks; paired = void_at p (rolls part) l hold (Key k) sim.paired; placed = placed_voided m part hold (Key k) sim.placed }
 
-    pub void_same : (n : Name) → now_void t n ≡ hold t n
-    void_same n = voided_live hold (rolls part) (Key k) t n live
-
     pub void_clear : (u : ℕ) → u ≢ t → ((part u).rolling ≡ false → IsClear (now_void u (Key k))) × (MayBeside Insert Current (now_void u (Key k)) ⊎ IsVoid (rolls part u) (now_void u (Key k)))
     void_clear u ne = ⊎_elim
         (λ rolling. ((λ lu. absurd (true≢false (sym rolling ∙ lu))), inr (voided_at hold (rolls part) (Key k) u rolling)))
@@ -89,7 +86,7 @@ module _ (p : Protocol) (laws : IsLawful p) (safe : IsSafe p) (m : Map) (l : Loc
         ((λ y. subst (λ h. IsClear h) (sym same) z), inl (subst (λ h. MayBeside Insert Current h) (sym same) (z.1, z.0))))
         (cases_Bool (part u).rolling)
 
-    -- It may ask on its key.
+    -- The transaction may request on the key.
     pub may_insert : MayAsk p Insert Current (hold t (Key k)) (hold t x)
     may_insert =
         let w = sim.placed in (
@@ -100,7 +97,7 @@ module _ (p : Protocol) (laws : IsLawful p) (safe : IsSafe p) (m : Map) (l : Loc
               (cases_Bool (hold t (Key k)).deleted),
         )
 
--- Where others protect nothing on the key, an insert of it keeps the holds beside the state.
+-- Where others protect nothing on the key, the lock states after an insert of it fit the state after it.
 module _ (p : Protocol) (laws : IsLawful p) (safe : IsSafe p) (m n : Map) (l : Locks) (part : Parts) (hold : Holds) (c : Map) (i : Invariant shape m (modes hold) part c) (sim : Sim p m l part hold) (t : ℕ) (live : (part t).rolling ≡ false) (k : ℕ)
     (hn : IsMap n) (absent : has m k ≡ false) (present : has n k ≡ true) (alike : Alike k m n) (granted_next : Granted p (own l) t Insert Next (at m k) (hold t (at m k)).mode) (granted_key : Granted p (own l) t Insert Current (Key k) (hold t (at m k)).mode)
     (clear : (u : ℕ) → u ≢ t → ((part u).rolling ≡ false → IsClear (hold u (Key k))) × (MayBeside Insert Current (hold u (Key k)) ⊎ IsVoid (rolls part u) (hold u (Key k))))

@@ -1,4 +1,4 @@
--- What the fixed protocol refuses has to be kept out.
+-- What the fixed protocol blocks has to be kept out.
 use Rattle.std.proofs.Common.{ℕ, ◌≡◌, inl, inr, refl, true, false, arith}
 use Rattle.std.specs.Prelude.{◌||◌}
 use Rattle.kr_model.specs.declared.Row.{Row}
@@ -14,7 +14,7 @@ use Rattle.kr_model.specs.declared.GapUse.TheVariants.{Free as GapFree, Read as 
 use Rattle.kr_model.specs.Safe.{by_key, by_gap}
 use Rattle.kr_headline.proofs.safe.Shape.{code, shape}
 
--- Nothing keeps out the request of an insert on its key.
+-- No lock has to keep out an insert's request on its own key.
 abbrev pub MayKeepOut : Row → Side → Type 0
 MayKeepOut Insert Current = ⊥
 MayKeepOut _ _ = Unit {0}
@@ -25,7 +25,7 @@ no e = cc
 no' : true ≡ false → ⊥
 no' e = cc
 
--- What is refused by what is protected has to be kept out.
+-- What a mode of the fixed protocol blocks, the lock state that it stands for has to keep out.
 pub kept_out : (r : Row) (s : Side) (on o : ℕ) (k : KeyUse) (g : GapUse) → MayKeepOut r s → Conflicts shape (code k g) o (shape.ask r s on) → (by_key k r s || by_gap g r s) ≡ true
 kept_out FetchHit Current on o KeyFree GapFree may h = absurd (no' h)
 kept_out FetchHit Current on o KeyFree GapRead may h = absurd (no' h)
@@ -130,7 +130,7 @@ kept_out ScanStop Current on o k g may h = absurd h
 kept_out Update Next on o k g may h = absurd h
 kept_out Insert Current on o k g may h = absurd may
 
--- What serves as the cover of an inserted key keeps out whatever that must keep out.
+-- A lock that serves as the cover of an inserted key has to keep out whatever that cover must conflict with.
 pub inserted_keeps_out : (r : Row) (s : Side) (k : KeyUse) (g : GapUse) → by_key KeyInserted r s ≡ true → Serves shape InsertedKey (code k g) → (by_key k r s || by_gap g r s) ≡ true
 inserted_keeps_out FetchHit Current k g listed sv = kept_out FetchHit Current 0 0 k g tt (conflicts_current shape InsertedKey (code k g) FetchHit sv (inl refl) 0 0 (omega arith) (omega arith))
 inserted_keeps_out FetchMiss Next k g listed sv = kept_out FetchMiss Next 0 0 k g tt (conflicts_next shape InsertedKey (code k g) FetchMiss sv (inr (inl refl)) 0 (omega arith))

@@ -1,4 +1,4 @@
--- The lock states beside the state where a transaction ends, and where a change is taken back.
+-- The lock states fit the state after a transaction ends, and after it takes a change back.
 use Rattle.std.specs.Prelude.{◌≡◌, ℕ, ◌∷◌, Option, refl}
 use Rattle.kr_model.specs.Protocol.{Protocol}
 use Rattle.kr_model.specs.declared.Name.TheVariants.{Key}
@@ -20,7 +20,7 @@ use Rattle.kr_model.specs.Locks.{Locks, release}
 use Rattle.kr_headline.proofs.step.Parts.{Part, Parts, Moved, moved_or_not, with_same, with_other}
 
 module _ (p : Protocol) (m : Map) (l : Locks) (part : Parts) (hold : Holds) (c : Map) (i : Invariant shape m (modes hold) part c) (sim : Sim p m l part hold) (t : ℕ) where
-  -- The holds of t are given up, and only keys that it moved come or go.
+  -- t releases its locks, and only keys that it moved come or go.
   pub left_sim : (n : Map) → IsMap n → ((y : ℕ) → (has n y ≡ has m y) ⊎ Moved (part t) y) → Sim p n (release l t) (with_part part t blank) (without_holds hold t)
   left_sim n hm only =
       let gd = i.guarded in
@@ -39,7 +39,7 @@ module _ (p : Protocol) (m : Map) (l : Locks) (part : Parts) (hold : Holds) (c :
             (λ lq j e. absurd (true≢false (sym e ∙ ap (λ z. z.deleted) (without_same hold t (Key j)))));
       }
 
-  -- The holds stay where a change is taken back.
+  -- The lock states stay where a change is taken back.
   pub back_sim : (x : ℕ × Option ℕ) (cs : Changes) → (part t).changes ≡ x ∷ cs → Sim p (restore m x.0 x.1) l (with_part part t (rolling_with (restore m x.0 x.1) cs)) hold
   back_sim x cs is =
       let w = sim.placed in

@@ -1,4 +1,4 @@
--- Holds and the keys that are there: what a transaction that doesn't roll back protects is there, or it has deleted it; and nobody else protects a key that another has moved.
+-- Lock states and the keys of the map: a transaction that doesn't roll back protects keys of the map and keys that it has deleted, and nobody protects a key that another has moved.
 use Rattle.std.proofs.Common.{ℕ, ◌≡◌, ◌≢◌, ◌⊎◌, inl, inr, ⊎_elim, sym, ap, ◌∙◌, true, false, subst, true≢false}
 use Rattle.std.proofs.lemmas.Bool.{cases_eq, cases_Bool}
 use Rattle.kr_model.specs.declared.Name.{Name}
@@ -12,7 +12,7 @@ use Rattle.kr_model.specs.Safe.{IsIdle}
 use Rattle.kr_headline.proofs.safe.Regrant.{key_is}
 use Rattle.kr_headline.proofs.safe.Holding.{Holds, voided, voided_live}
 
--- A name that stands: a key that is there, or the end.
+-- A name of the map: a key that is present, or the end.
 abbrev pub Stands : Map → Name → Type 0
 Stands m End = Unit {0}
 Stands m (Key k) = has m k ≡ true
@@ -20,21 +20,21 @@ Stands m (Key k) = has m k ≡ true
 pub at_stands : (m : Map) (y : ℕ) → IsMap m → Stands m (at m y)
 at_stands m y hm = ⊎_elim (λ e. subst (λ z. Stands m z) (sym e) tt) (λ d. subst (λ z. Stands m z) (sym d.1) (let z = at-key m y d.0 hm d.1 in z.1)) (cases_name (at m y))
 
--- It protects nothing, and hasn't deleted the key.
+-- The lock protects nothing, and its transaction hasn't deleted the key.
 abbrev pub IsClear : LockState → Type 0
 IsClear x = IsIdle x × (x.deleted ≡ false)
 
 pub record Placed (m : Map) (part : Parts) (hold : Holds) : Type 0 where
-  -- what is protected is there
+  -- a protected name is a name of the map
   pub there : (t : ℕ) (n : Name) → (part t).rolling ≡ false → (hold t n).deleted ≡ false → IsIdle (hold t n) ⊎ Stands m n
-  -- what is marked as deleted is an own deleted key
+  -- a key marked as deleted is absent, and its transaction has moved it
   pub gone : (t : ℕ) (n : Name) → (part t).rolling ≡ false → (hold t n).deleted ≡ true → (k : ℕ) × (n ≡ Key k) × (has m k ≡ false) × Moved (part t) k
   -- nobody protects a key that another has moved
   pub mine : (t u k : ℕ) → u ≢ t → (part u).rolling ≡ false → Moved (part t) k → IsClear (hold u (Key k))
-  -- the gap of an own deleted key is protected as such
+  -- the gap in which a transaction has deleted a key is protected as such
   pub guard : (t k : ℕ) → (part t).rolling ≡ false → (hold t (Key k)).deleted ≡ true → (hold t (at m k)).gap ≡ GapDeleted
 
--- On a name that stands nothing is marked as deleted.
+-- A name of the map isn't marked as deleted.
 pub stands_kept : (m : Map) (part : Parts) (hold : Holds) → Placed m part hold → (t : ℕ) (n : Name) → (part t).rolling ≡ false → Stands m n → (hold t n).deleted ≡ false
 stands_kept m part hold w t n live stands = ⊎_elim
     (λ e. let d = w.gone t n live e in absurd (true≢false (sym (subst (λ z. Stands m z) d.1 stands) ∙ d.2)))
@@ -84,7 +84,7 @@ placed_stepped m n part hold hold' t q w others changes there gone moves moved n
     still u ne live End (inr s) = inr tt
     still u ne live (Key k) (inr s) = ⊎_elim (λ same. inr (same ∙ s)) (λ clear. inl clear.0) (changes u k ne live)
 
--- Only those who roll back are voided.
+-- It is kept where lock states of those who roll back are voided.
 pub placed_voided : (m : Map) (part : Parts) (hold : Holds) (n : Name) → Placed m part hold → Placed m part (voided hold (λ u. (part u).rolling) n)
 placed_voided m part hold n w =
     let same : (u : ℕ) (x : Name) → (part u).rolling ≡ false → voided hold (λ v. (part v).rolling) n u x ≡ hold u x = λ u x live. voided_live hold (λ v. (part v).rolling) n u x live in

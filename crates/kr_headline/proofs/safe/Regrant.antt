@@ -1,4 +1,4 @@
--- The invariant speaks of no hold on a key that isn't there and that no change left guards: such a hold may be anything.
+-- The invariant says nothing of a lock state on an absent key that no change left guards: such a lock state can be put to anything.
 use Rattle.std.proofs.Common.{ℕ, [], ◌∷◌, ◌≤◌, ◌≡◌, ◌⊎◌, inl, inr, ⊎_elim, sym, ap, ◌∙◌, false, true, subst, true≢false}
 use Rattle.kr_model.specs.declared.Name.{Name}
 use Rattle.kr_model.specs.declared.Name.TheVariants.{Key}
@@ -16,7 +16,7 @@ use Rattle.kr_headline.proofs.step.Invariant.{Invariant}
 pub key_is : (x y : ℕ) → Key x ≡ Key y → x ≡ y
 key_is x y e = cc
 
--- The mode on a name stays, or the name is a key that no change left guards.
+-- The mode on each name stays, or the name is a key that no change left guards.
 abbrev pub StaysAt : Map → Changes → (Name → ℕ) → (Name → ℕ) → Type 0
 StaysAt m l own own' = (n : Name) → (own' n ≡ own n) ⊎ ((k : ℕ) × (n ≡ Key k) × (Guard m l k → ⊥))
 

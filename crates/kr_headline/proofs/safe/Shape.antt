@@ -1,4 +1,4 @@
--- A protocol of its own for what holds protect: its modes are what can be protected on a name (0 to 11) and what can be asked for (12 to 22). A request stands beside a hold exactly where the hold needn't keep it out.
+-- One fixed protocol for all tables. Its modes are what a lock can have to protect on a name (0 to 11) and the requests (12 to 22), and a mode blocks exactly the requests that it has to keep out.
 use Rattle.std.proofs.Common.{ℕ, List, [], ◌∷◌, ◌≤◌, ◌≡◌, refl, sym, Bool, true, false, subst, arith}
 use Rattle.std.specs.Prelude.{not, ◌||◌, ◌==◌, cond, filter, if◌then◌else◌, Option, Some, None, slice_index_or}
 use Rattle.std.specs.List.{flat_map, list_all}
@@ -21,7 +21,7 @@ use Rattle.kr_model.specs.declared.KeyUse.TheVariants.{Free as KeyFree, Read as 
 use Rattle.kr_model.specs.declared.GapUse.{GapUse}
 use Rattle.kr_model.specs.declared.GapUse.TheVariants.{Free as GapFree, Read as GapRead, Deleted as GapDeleted}
 
--- The mode for what is protected.
+-- The mode for what has been done with the key and the gap.
 abbrev pub code : KeyUse → GapUse → ℕ
 code KeyFree GapFree = 0
 code KeyFree GapRead = 1
@@ -36,7 +36,7 @@ code KeyInserted GapFree = 9
 code KeyInserted GapRead = 10
 code KeyInserted GapDeleted = 11
 
--- The requests that each mode refuses.
+-- The requests that each mode blocks.
 abbrev lines : List (List ℕ)
 lines =
     ([])
@@ -64,10 +64,10 @@ lines =
     ∷ (12 ∷ 14 ∷ 20 ∷ 22 ∷ [])
     ∷ []
 
-abbrev pub refusing : ℕ → List ℕ
-refusing h = slice_index_or lines h []
+abbrev pub blocked_by : ℕ → List ℕ
+blocked_by h = slice_index_or lines h []
 
--- What an insert asks for on its key, by the mode on the next name.
+-- What an insert requests on its key, by the mode on the next name.
 abbrev splits : List ℕ
 splits = 16 ∷ 17 ∷ 18 ∷ 16 ∷ 17 ∷ 18 ∷ 16 ∷ 17 ∷ 18 ∷ 16 ∷ 17 ∷ 18 ∷ 16 ∷ 17 ∷ 17 ∷ 17 ∷ 16 ∷ 18 ∷ 18 ∷ 16 ∷ 16 ∷ 18 ∷ 16 ∷ []
 
@@ -89,13 +89,13 @@ asks _ _ on = None
 abbrev pub shape : Protocol
 shape = record {
   count = 22;
-  ok = λ q h. not (stands_in (refusing h) q);
+  ok = λ q h. not (stands_in (blocked_by h) q);
   convert = λ h q. if q == 0 then h else q;
   ask = asks;
   updates = true;
 }
 
--- More is served where more is refused --
+-- More is served where more is blocked --
 
 all_fewer : {A : Type 0} (f g : A → Bool) (xs : List A) → ((x : A) → f x ≡ false → g x ≡ false) → is_empty (filter f xs) ≡ true → is_empty (filter g xs) ≡ true
 all_fewer f g [] fewer h = refl
@@ -120,9 +120,9 @@ within (x ∷ xs) ys all q h = head (q == x) refl h (λ k. within xs ys (and_sec
     head true e h rest = subst (λ z. stands_in ys z ≡ true) (sym (same_number q x e)) (and_first (stands_in ys x) _ all)
     head false e h rest = rest h
 
--- Whether all that the mode a refuses is refused by b.
-abbrev pub refuses_all : ℕ → ℕ → Bool
-refuses_all a b = list_all (λ x. stands_in (refusing b) x) (refusing a)
+-- Whether the mode b blocks all that a blocks.
+abbrev pub blocks_all : ℕ → ℕ → Bool
+blocks_all a b = list_all (λ x. stands_in (blocked_by b) x) (blocked_by a)
 
 not_false : (b : Bool) → not b ≡ false → b ≡ true
 not_false true h = refl
@@ -132,14 +132,14 @@ not_true : (b : Bool) → b ≡ true → not b ≡ false
 not_true true h = refl
 not_true false h = absurd (cc)
 
-pub more : (a b : ℕ) → refuses_all a b ≡ true → (c : Cover) → Serves shape c a → Serves shape c b
+pub more : (a b : ℕ) → blocks_all a b ≡ true → (c : Cover) → Serves shape c a → Serves shape c b
 more a b all c s = all_fewer (is_open shape a) (is_open shape b) (flat_map (places_of shape) (must_conflict shape c)) (λ x. by (shape.ask x.row x.side x.own_next) x.own) s
   where
     by : (q : Option (ℕ × Span)) (o : ℕ) → not (conflicts_with shape a o q) ≡ false → not (conflicts_with shape b o q) ≡ false
     by None o h = h
     by (Some (q, span)) o h =
         let w = shape.convert o q in
-        not_true (not (not (stands_in (refusing b) w))) (still (stands_in (refusing b) w) (within (refusing a) (refusing b) all w (was (stands_in (refusing a) w) h)))
+        not_true (not (not (stands_in (blocked_by b) w))) (still (stands_in (blocked_by b) w) (within (blocked_by a) (blocked_by b) all w (was (stands_in (blocked_by a) w) h)))
       where
         was : (b : Bool) → not (not (not b)) ≡ false → b ≡ true
         was true h = refl
@@ -183,7 +183,7 @@ in_count KeyInserted GapFree = omega arith
 in_count KeyInserted GapRead = omega arith
 in_count KeyInserted GapDeleted = omega arith
 
--- A row that moves no key asks the same whatever is held.
+-- A row that moves no key requests the same whatever is held.
 pub same_asks : (row : Row) (side : Side) (own : ℕ) → MovesNoKey row → own ≤ shape.count → shape.ask row side own ≡ shape.ask row side 0
 same_asks FetchHit Current own no_move le = refl
 same_asks FetchHit Next own no_move le = refl

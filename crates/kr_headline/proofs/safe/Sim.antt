@@ -1,4 +1,4 @@
--- Holds beside a state of a run, and a granted request of a row that moves no key.
+-- Lock states that fit a state of a run, and a granted request of a row that moves no key.
 use Rattle.std.proofs.Common.{ℕ, ◌≤◌, ◌≡◌, ◌≢◌, ◌⊎◌, inl, inr, ⊎_elim, refl, sym, ap, ◌∙◌, Bool, true, false, subst, true≢false}
 use Rattle.std.specs.Prelude.{◌==◌, if◌then◌else◌, Option, Some, None}
 use Rattle.kr_model.specs.declared.Name.{Name}
@@ -26,7 +26,7 @@ use Rattle.kr_model.specs.declared.GapUse.{GapUse}
 use Rattle.kr_model.specs.declared.GapUse.TheVariants.{Free as GapFree, Read as GapRead, Deleted as GapDeleted}
 use Rattle.kr_model.specs.declared.LockState.{LockState}
 use Rattle.kr_model.specs.Safe.{and_gap, free, start, IsIdle, by_key, keeps_out, given, asked, key_after, gap_after, deleted_after, after, MayAsk, MayBeside, IsSafe}
-use Rattle.kr_headline.proofs.safe.Shape.{code, shape, more, refuses_all}
+use Rattle.kr_headline.proofs.safe.Shape.{code, shape, more, blocks_all}
 use Rattle.kr_headline.proofs.safe.KeptOut.{MayKeepOut, inserted_keeps_out}
 use Rattle.kr_headline.proofs.safe.Stays.{stays}
 use Rattle.kr_headline.proofs.safe.Gains.{gains, ask_within}
@@ -34,7 +34,7 @@ use Rattle.kr_headline.proofs.safe.Holding.{Holds, modes, with_hold, with_same, 
 use Rattle.kr_headline.proofs.safe.Placed.{Stands, IsClear, Placed, placed_stepped}
 use Rattle.kr_headline.proofs.safe.Kept.{here, elsewhere}
 
--- A gap stays protected as one with a deleted key.
+-- A gap with a deleted key stays protected as such.
 gap_deleted : (r : Row) (s : Side) (h : GapUse) → gap_after r s GapDeleted h ≡ GapDeleted
 gap_deleted FetchHit Current h = refl
 gap_deleted FetchHit Next h = refl
@@ -54,7 +54,7 @@ gap_deleted Update Next h = refl
 pub gap_stays : (r : Row) (s : Side) (g h : GapUse) → g ≡ GapDeleted → gap_after r s g h ≡ GapDeleted
 gap_stays r s g h e = ap (λ z. gap_after r s z h) e ∙ gap_deleted r s h
 
--- So does a part of it that is split off.
+-- So does the part of it that an insert splits off.
 pub gap_split : (g h : GapUse) → h ≡ GapDeleted → and_gap g h ≡ GapDeleted
 gap_split g h e = ap (λ z. and_gap g z) e ∙ by g
   where
@@ -67,7 +67,7 @@ gap_split g h e = ap (λ z. and_gap g z) e ∙ by g
 abbrev pub rolls : Parts → ℕ → Bool
 rolls part u = (part u).rolling
 
--- The locks are locks of the protocol, and the holds stand beside them and the map.
+-- The locks are locks of the protocol, and the lock states fit them and the map.
 pub record Sim (p : Protocol) (m : Map) (l : Locks) (part : Parts) (hold : Holds) : Type 0 where
   pub locks : AreLocks p l
   pub paired : Paired p (rolls part) l hold
@@ -77,8 +77,8 @@ pub record Sim (p : Protocol) (m : Map) (l : Locks) (part : Parts) (hold : Holds
 pub rolls_same : (part : Parts) (t : ℕ) (q : Part) → q.rolling ≡ (part t).rolling → (u : ℕ) → rolls (with_part part t q) u ≡ rolls part u
 rolls_same part t q same = by_part (λ u x. x.rolling ≡ (part u).rolling) part t q same (λ u ne. refl)
 
--- What is served after a request of the fixed protocol is served by what is then protected.
-pub after_serves : (a : Option (ℕ × Span)) (o b : ℕ) → ask_within a b ≡ true → refuses_all o b ≡ true → (c : Cover) → Serves shape c (mode_after shape o a) → Serves shape c b
+-- What the fixed protocol's mode serves after a request, the mode of the new lock state serves.
+pub after_serves : (a : Option (ℕ × Span)) (o b : ℕ) → ask_within a b ≡ true → blocks_all o b ≡ true → (c : Cover) → Serves shape c (mode_after shape o a) → Serves shape c b
 after_serves None o b w all c s = more o b all c s
 after_serves (Some (q, Instant)) o b w all c s = more o b all c s
 after_serves (Some (q, Commit)) o b w all c s = by (q == 0) s
@@ -87,7 +87,7 @@ after_serves (Some (q, Commit)) o b w all c s = by (q == 0) s
     by true s = more o b all c s
     by false s = more q b w c s
 
--- A key that a transaction has moved and that is there keeps out whomever an inserted one must.
+-- On a present key that a transaction has moved, its lock has to keep out whomever that of an inserted key must.
 pub moved_out : (m : Map) (hold : Holds) (part : Parts) (c : Map) → Invariant shape m (modes hold) part c → (v k : ℕ) → Moved (part v) k → has m k ≡ true
     → (r : Row) (s : Side) → by_key KeyInserted r s ≡ true → keeps_out (hold v (Key k)) r s ≡ true
 moved_out m hold part c i v k moved there r s listed =

@@ -9,10 +9,10 @@ use Rattle.kr_model.specs.declared.KeyUse.TheVariants.{Free as KeyFree, Read as 
 use Rattle.kr_model.specs.declared.GapUse.{GapUse}
 use Rattle.kr_model.specs.declared.GapUse.TheVariants.{Free as GapFree, Read as GapRead, Deleted as GapDeleted}
 use Rattle.kr_model.specs.Safe.{key_after, gap_after}
-use Rattle.kr_headline.proofs.safe.Shape.{code, refuses_all}
+use Rattle.kr_headline.proofs.safe.Shape.{code, blocks_all}
 
--- What was served stays served after each request, and so is what the request serves by itself.
-pub stays : (r : Row) (s : Side) (k : KeyUse) (g h : GapUse) → refuses_all (code k g) (code (key_after r s k) (gap_after r s g h)) ≡ true
+-- After a request the fixed protocol's mode blocks all that it blocked before.
+pub stays : (r : Row) (s : Side) (k : KeyUse) (g h : GapUse) → blocks_all (code k g) (code (key_after r s k) (gap_after r s g h)) ≡ true
 stays FetchHit Current KeyFree GapFree h = refl
 stays FetchHit Current KeyFree GapRead h = refl
 stays FetchHit Current KeyFree GapDeleted h = refl

@@ -66,7 +66,7 @@ module _ (p : Protocol) (laws : IsLawful p) (rolling : ℕ → Bool) (l : Locks)
   pub two_others : (u : ℕ) (n : Name) → u ≢ t → two_holds u n ≡ hold u n
   two_others u n ne = with_other one_hold t x second u n (λ e. ne e.0) ∙ with_other hold t y first u n (λ e. ne e.0)
 
-  -- What holds of both new holds of t, and of all others.
+  -- A property of both new lock states of t and of all its others is one of every lock state of t.
   pub by_two : (P : Name → LockState → Type 0) → P y first → P x second → ((n : Name) → (n ≡ y → ⊥) → (n ≡ x → ⊥) → P n (hold t n)) → (n : Name) → P n (two_holds t n)
   by_two P a b others n =
       (by_hold (λ u w h. u ≡ t → P w h) one_hold t x second (λ e. b)
@@ -100,7 +100,7 @@ module _ (p : Protocol) (laws : IsLawful p) (rolling : ℕ → Bool) (l : Locks)
         (kept p one_lock t (request_at (Some x) (asked p r Next (one_hold t x) free)))
         (here p one_lock t x (asked p r Next (one_hold t x) free)) (λ u n d. elsewhere p one_lock t x (asked p r Next (one_hold t x) free) u n d)))
 
--- The one that requests --
+-- The transaction that requests --
 
 module _ (p : Protocol) (laws : IsLawful p) (safe : IsSafe p) (m : Map) (l : Locks) (part : Parts) (hold : Holds) (c : Map) (i : Invariant shape m (modes hold) part c) (sim : Sim p m l part hold) (t : ℕ) (live : (part t).rolling ≡ false) (k : ℕ) where
   pub range : (u : ℕ) (n : Name) → own l u n ≤ p.count
