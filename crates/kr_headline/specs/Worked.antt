@@ -13,8 +13,8 @@ use Rattle.kr_model.specs.Kvl.{kvl, kvl_ask, IS, IX, S, SIX, X}
 use Rattle.kr_model.specs.RangeKey.{range_key, S-N, I-X}
 
 -- A lawful table that fails cases and is safe.
-abbrev pub IsSafeOnly : Protocol → Type 0
-IsSafeOnly p = IsLawful p × (IsCovered p → ⊥) × IsSafe p
+abbrev pub IsSafeUncovered : Protocol → Type 0
+IsSafeUncovered p = IsLawful p × (IsCovered p → ⊥) × IsSafe p
 
 -- A lawful table that isn't safe.
 abbrev pub IsUnsafe : Protocol → Type 0

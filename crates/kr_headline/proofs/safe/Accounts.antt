@@ -61,7 +61,7 @@ both_is true false h = absurd (cc)
 both_is false true h = absurd (cc)
 both_is false false h = refl
 
--- The tests of whether two lock states are the same, and whether they are.
+-- What is tested of two lock states, and whether they are the same.
 abbrev same_tests : LockState → LockState → List Bool
 same_tests x y = (x.mode == y.mode) ∷ (key_number x.key == key_number y.key) ∷ (gap_number x.gap == gap_number y.gap) ∷ both_or_none x.deleted y.deleted ∷ []
 
@@ -108,9 +108,6 @@ may_ask p _ _ x n = false
 abbrev may_beside : Row → Side → LockState → Bool
 may_beside Insert Current y = not y.deleted && is_idle y.key y.gap
 may_beside _ _ y = true
-
-not_deleted : (b : Bool) → b ≡ false → not b ≡ true
-not_deleted b e = ap not e
 
 and_both : (a b : Bool) → a ≡ true → b ≡ true → (a && b) ≡ true
 and_both a b e f = ap (λ z. z && b) e ∙ f
@@ -187,7 +184,7 @@ fixed_tests p pairs x y =
     ∷ step_ok p pairs x y free Update Current
     ∷ []
 
--- The list has the pair turned, and what is left where one ends; one who stands alone is among those that may be on the next name; and each request is as it should be.
+-- The list has the pair turned, and what is left where one ends; one who stands alone is among those that may be on the next name; and each request is blocked, or needn't be and leads to a pair of the list.
 abbrev pair_tests : Protocol → Pairs → List LockState → LockState × LockState → List Bool
 pair_tests p pairs nexts z =
     has pairs z.1 z.0

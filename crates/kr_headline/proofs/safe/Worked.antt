@@ -15,7 +15,7 @@ use Rattle.kr_model.specs.Kvl.{IX, S, SIX, X}
 use Rattle.kr_model.specs.RangeKey.{N-S, S-N, S-S, I-X, X-N, X-X}
 use Rattle.kr_model.specs.Safe.{free, after, Beside, start, turn, move}
 use Rattle.kr_model.proofs.Tested.{lawful_by_test}
-use Rattle.kr_headline.specs.Worked.{IsSafeOnly, IsUnsafe, six_to_is, six_beside_ix, insert_beside_read, requests_nothing, miss_at_once}
+use Rattle.kr_headline.specs.Worked.{IsSafeUncovered, IsUnsafe, six_to_is, six_beside_ix, insert_beside_read, requests_nothing, miss_at_once}
 use Rattle.kr_headline.proofs.safe.Accounts.{Pairs, is_account, account_safe}
 
 -- Lists of pairs --
@@ -63,10 +63,10 @@ abbrev kvl_pairs : Pairs
 kvl_pairs =
     both (free ∷ []) kvl_states ++ both (gone free ∷ []) (gone free ∷ and_gone (kvl_reads ++ kvl_deletes)) ++ each kvl_reads kvl_reads ++ both kvl_reads (map gone kvl_reads)
 
-pub six_to_is-safe : IsSafeOnly six_to_is
+pub six_to_is-safe : IsSafeUncovered six_to_is
 six_to_is-safe = (lawful_by_test six_to_is refl, uncovered six_to_is refl, account_safe six_to_is kvl_pairs kvl_states refl)
 
-pub six_beside_ix-safe : IsSafeOnly six_beside_ix
+pub six_beside_ix-safe : IsSafeUncovered six_beside_ix
 six_beside_ix-safe = (lawful_by_test six_beside_ix refl, uncovered six_beside_ix refl, account_safe six_beside_ix kvl_pairs kvl_states refl)
 
 -- Range-key locking --
@@ -95,7 +95,7 @@ range_pairs =
     both (free ∷ []) range_states ++ both (gone free ∷ []) (gone free ∷ and_gone (range_reads ++ range_deletes)) ++ each range_reads range_reads ++ both range_reads (map gone range_reads)
     ++ both (key_read ∷ []) (and_gone range_deletes) ++ both (gone key_read ∷ []) range_deletes
 
-pub insert_beside_read-safe : IsSafeOnly insert_beside_read
+pub insert_beside_read-safe : IsSafeUncovered insert_beside_read
 insert_beside_read-safe = (lawful_by_test insert_beside_read refl, uncovered insert_beside_read refl, account_safe insert_beside_read range_pairs range_states refl)
 
 -- Not safe --
