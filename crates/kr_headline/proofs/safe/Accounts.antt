@@ -1,5 +1,5 @@
 -- A list of pairs of lock states that has every pair that comes up, and in each of which the one blocks whom it must keep out of the other's requests, shows that a protocol is safe. Whether it does is a computation.
-use Rattle.std.proofs.Common.{ℕ, zero, suc, List, [], ◌∷◌, ◌≡◌, ◌⊎◌, inl, inr, ⊎_elim, refl, sym, ap, ◌∙◌, Bool, true, false, subst, arith, true≢false}
+use Rattle.std.proofs.Common.{ℕ, zero, suc, List, [], ◌∷◌, ◌≡◌, inl, inr, refl, sym, ap, ◌∙◌, Bool, true, false, subst, true≢false}
 use Rattle.std.specs.Prelude.{not, slice_index_or, ◌&&◌, ◌||◌, ◌==◌}
 use Rattle.std.specs.List.{list_all, list_any}
 use Rattle.kr_model.specs.declared.Row.{Row}

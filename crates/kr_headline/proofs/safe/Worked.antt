@@ -1,5 +1,5 @@
 -- Worked examples: tables that fail cases and are safe, by the pairs of lock states that come up under them, and tables that aren't safe, by a pair that does.
-use Rattle.std.proofs.Common.{ℕ, List, [], ◌∷◌, ◌++◌, ◌≡◌, refl, sym, ap, ◌∙◌, Bool, true, false, true≢false}
+use Rattle.std.proofs.Common.{ℕ, List, [], ◌∷◌, ◌++◌, ◌≡◌, refl, sym, ap, ◌∙◌, true, false, true≢false}
 use Rattle.std.specs.Prelude.{map}
 use Rattle.std.specs.List.{flat_map}
 use Rattle.kr_model.specs.declared.Row.TheVariants.{FetchHit, FetchMiss, Insert, Delete}
@@ -13,10 +13,10 @@ use Rattle.kr_model.specs.Protocol.{Protocol}
 use Rattle.kr_model.specs.Covers.{failed_cases, is_empty, IsCovered}
 use Rattle.kr_model.specs.Kvl.{IX, S, SIX, X}
 use Rattle.kr_model.specs.RangeKey.{N-S, S-N, S-S, I-X, X-N, X-X}
-use Rattle.kr_model.specs.Safe.{free, after, Beside, start, turn, move}
+use Rattle.kr_model.specs.Safe.{free, after, start, turn, move}
 use Rattle.kr_model.proofs.Tested.{lawful_by_test}
 use Rattle.kr_headline.specs.Worked.{IsSafeUncovered, IsUnsafe, six_to_is, six_beside_ix, insert_beside_read, requests_nothing, miss_at_once}
-use Rattle.kr_headline.proofs.safe.Accounts.{Pairs, is_account, account_safe}
+use Rattle.kr_headline.proofs.safe.Accounts.{Pairs, account_safe}
 
 -- Lists of pairs --
 
