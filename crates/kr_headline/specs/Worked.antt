@@ -22,13 +22,13 @@ IsUnsafe p = IsLawful p × (IsSafe p → ⊥)
 
 -- Safe --
 
--- Key-value locking in which SIX and IX convert to IS. A transaction that holds SIX requests IX only at once, for an insert below, and keeps its SIX; and nobody else holds a lock beside SIX, which the weaker request could have to conflict with.
+-- Key-value locking in which SIX and IX convert to IS. A transaction that holds SIX on a name requests IX there only for an instant, when it inserts a key below, and keeps SIX. Nobody else has a lock on that name that protects anything, so it doesn't matter that IS conflicts with less.
 abbrev pub six_to_is : Protocol
 six_to_is = record kvl {
   convert = convert_by ((IS ∷ IX ∷ S ∷ SIX ∷ X ∷ []) ∷ (IX ∷ IX ∷ SIX ∷ SIX ∷ X ∷ []) ∷ (S ∷ SIX ∷ S ∷ SIX ∷ X ∷ []) ∷ (SIX ∷ IS ∷ SIX ∷ SIX ∷ X ∷ []) ∷ (X ∷ X ∷ X ∷ X ∷ X ∷ []) ∷ []);
 }
 
--- Key-value locking in which SIX is granted beside IX. Two transactions hold locks on one key of which one is IX and the other becomes SIX only where one of them has rolled back its insert of the key, and its lock protects nothing any more.
+-- Key-value locking in which SIX is granted beside IX. A transaction comes to request SIX on a key beside another's IX only where both have inserted the key, and the other has rolled back its insert: its lock protects nothing any more.
 abbrev pub six_beside_ix : Protocol
 six_beside_ix = record kvl { ok = λ q h. (q == SIX && h == IX) || kvl.ok q h }
 
@@ -38,7 +38,7 @@ insert_beside_read = record range_key { ok = λ q h. (q == I-X && h == S-N) || r
 
 -- Not safe --
 
--- A table that requests nothing: a key that one has read is deleted by another.
+-- A table that requests nothing. A key that one transaction has read, another deletes.
 abbrev pub requests_nothing : Protocol
 requests_nothing = record kvl { ask = λ row side own. None }
 
@@ -47,6 +47,6 @@ abbrev pub miss_at_once_ask : Row → Side → ℕ → Option (ℕ × Span)
 miss_at_once_ask FetchMiss Next own = at_once S
 miss_at_once_ask r s own = kvl_ask r s own
 
--- Key-value locking with these requests: into the gap that one has read another inserts.
+-- Key-value locking with these requests. Into the gap that one transaction has read, another inserts.
 abbrev pub miss_at_once : Protocol
 miss_at_once = record kvl { ask = miss_at_once_ask }
