@@ -34,8 +34,9 @@ fn report_of<P: Protocol>(
 }
 
 /// Runs the script that the bytes are under a protocol, writes the report of the run with its verdict and a line feed, and
-/// answers whether the run is serializable in commit order; under a safe protocol it is, and so under a covered one. Where the bytes are no script, or a growth was
-/// refused, nothing is written; where printing fails, a beginning of the report was.
+/// answers whether the run is serializable in commit order; under a safe protocol it is, and so under a covered one. Where
+/// the bytes are no script, or a growth was refused, nothing is written; where printing fails, a beginning of the report
+/// was.
 pub fn run_over<P: Protocol, W: Sink>(
     alloc: Global,
     protocol: &P,

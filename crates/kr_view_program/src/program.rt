@@ -28,9 +28,9 @@ fn are_laws_kept<P: Protocol>(protocol: &P)
     let _ = protocol;
 }
 
-/// Writes the page of a script's run under a protocol, whose table this word names, and answers whether the run is serial;
-/// under a covered protocol it is. Where a growth was refused, nothing is written; where printing fails, a beginning of the
-/// page was.
+/// Writes the page of a script's run under a protocol, whose table this word names, and answers whether the run is
+/// serializable in commit order; under a safe protocol it is, and so under a covered one. Where a growth was refused,
+/// nothing is written; where printing fails, a beginning of the page was.
 pub fn write_page<P: Protocol, W: Sink>(
     alloc: Global,
     protocol: &P,
