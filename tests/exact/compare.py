@@ -3,14 +3,15 @@
 condition.py, and for each table that is rejected a schedule has to go wrong.
 
     compare.py KR KR_EXPLAIN [--count N | --all]   N tables spread over the kinds, 100 if nothing is said, or all
-    compare.py --self [N]                          condition.py beside walks.py, on so many tables
+    compare.py --self [N]                          condition.py beside walks.py and schedules.py, on so many tables
 
 Prints a line for each kind: how many tables, which of them `kr check` accepts and rejects, how many of those that are
 rejected are safe, and how many have a schedule; `undecided` are those that aren't safe and have none. A contradiction is
 whatever the programs say otherwise than condition.py, and a schedule that doesn't go wrong, or of which a step is blocked
-or refused; each is printed with the table. Status 1 where there is one, or one that is undecided. With `--self` a
-schedule is what a walk finds, so that some may be undecided; a contradiction is a wrong run under a table that is safe,
-or a table that the cases accept and that isn't safe."""
+or refused; each is printed with the table. Status 1 where there is one, or one that is undecided.
+
+With `--self` no program is run. A schedule is then what schedules.py makes, which the runner of tests/second runs, and what
+a search by random walks finds is counted beside it. A contradiction is also a wrong run under a table that is safe."""
 
 import collections
 import concurrent.futures
@@ -27,10 +28,12 @@ sys.dont_write_bytecode = True
 
 import corpus
 from condition import is_safe
+from runner import Run
+from schedules import schedule
 from table import Table
 from walks import wrong_run
 
-COLUMNS = ['tables', 'accepted', 'rejected', 'safe', 'with a schedule', 'undecided', 'contradictions']
+COLUMNS = ['tables', 'accepted', 'rejected', 'safe', 'with a schedule', 'undecided', 'contradictions', 'by a walk']
 WALKS = 1000
 FIRST_WORDS = {'accepted': 0, 'safe': 0, 'rejected': 1}  # of what is explained, with the status
 
@@ -94,16 +97,29 @@ class Programs:
         expect('blocked' not in replies and 'refused' not in replies, 'a step of the schedule is blocked or refused')
 
 
-def decide_by_walks(entry):
+def decide_by_itself(entry):
     """The same, without the programs."""
     table = Table(entry.text)
     is_accepted, safe = corpus.failed(table) == 0, is_safe(table)
     expect(safe or not is_accepted, 'accepted, and not safe')
-    found = wrong_run(random.Random(entry.name), table, WALKS)
-    expect(not (safe and found), f'safe, and a run goes wrong: {json.dumps(found)}')
+    walked = wrong_run(random.Random(entry.name), table, WALKS)
+    expect(not (safe and walked), f'safe, and a run goes wrong: {json.dumps(walked)}')
     if is_accepted or safe:
         return ['accepted'] if is_accepted else ['rejected', 'safe']
-    return ['rejected', 'with a schedule' if found else 'undecided']
+    built = schedule(table)
+    if built:
+        expect_granted_and_wrong(table, *built)
+    return ['rejected', 'with a schedule' if built else 'undecided', *(['by a walk'] if walked else [])]
+
+
+def expect_granted_and_wrong(table, opening, steps):
+    run = Run(table, opening)
+    for step in steps:
+        reply = run.step(*step)
+        while reply[0] == 'going':
+            reply = run.step(step[0], 'go')
+    expect(all(it[0] not in ('blocked', 'refused') for _, it in run.history), f'a step is blocked: {json.dumps(steps)}')
+    expect(run.verdict() != ['serial'], f'the schedule goes well: {json.dumps(steps)}')
 
 
 def counted(decide, entry):
@@ -113,20 +129,20 @@ def counted(decide, entry):
         return entry, ['contradictions'], str(it)
 
 
-def compare(decide, entries, pool):
+def compare(decide, entries, pool, columns=COLUMNS[:-1]):
     """Prints the table of kinds. Whether nothing is undecided or contradicts."""
     counts = collections.defaultdict(collections.Counter)
-    for entry, columns, fault in pool.map(counted, itertools.repeat(decide), entries):
-        counts[entry.kind].update(['tables', *columns])
+    for entry, found, fault in pool.map(counted, itertools.repeat(decide), entries):
+        counts[entry.kind].update(['tables', *found])
         if fault:
             print(f'exact: {entry.kind}: {entry.name}: {fault}\n{entry.text}', flush=True)
-        if 'undecided' in columns:
+        if 'undecided' in found:
             print(f'exact: undecided: {entry.kind}: {entry.name}', flush=True)
-    print('| ' + ' | '.join(['kind', *COLUMNS]) + ' |')
-    print('|---' * (len(COLUMNS) + 1) + '|')
+    print('| ' + ' | '.join(['kind', *columns]) + ' |')
+    print('|---' * (len(columns) + 1) + '|')
     for kind, count in [*counts.items(), ('all', sum(counts.values(), collections.Counter()))]:
-        print('| ' + ' | '.join([kind, *(str(count[it]) for it in COLUMNS)]) + ' |')
-    return count['contradictions'] == 0, count['undecided'] == 0
+        print('| ' + ' | '.join([kind, *(str(count[it]) for it in columns)]) + ' |')
+    return count['contradictions'] == 0 and count['undecided'] == 0
 
 
 def main(*words):
@@ -136,7 +152,7 @@ def main(*words):
         case ['--self', *count]:
             entries = corpus.sample(int(*count or ['100']))
             with concurrent.futures.ProcessPoolExecutor(workers) as pool:
-                return 0 if compare(decide_by_walks, entries, pool)[0] else 1
+                return 0 if compare(decide_by_itself, entries, pool, COLUMNS) else 1
         case [program, explainer, '--all']:
             entries = every
         case [program, explainer, '--count', count]:
@@ -146,7 +162,7 @@ def main(*words):
         case _:
             sys.exit(__doc__)
     with concurrent.futures.ProcessPoolExecutor(workers) as pool:
-        return 0 if all(compare(Programs(program, explainer).decide, entries, pool)) else 1
+        return 0 if compare(Programs(program, explainer).decide, entries, pool) else 1
 
 
 if __name__ == '__main__':
