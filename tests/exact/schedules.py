@@ -3,18 +3,14 @@ that stands all the while; or one alone on A and the next name, where A may come
 one has something to protect and the other's request is let in, the steps on the way there and an ending are the schedule.
 That each of these goes wrong isn't shown here; whoever calls runs them."""
 
-from collections import deque
 from typing import NamedTuple
 
 from condition import (
     DELETE,
     DELETE_NEXT,
-    GAP_ADDED,
     GAP_DELETED,
-    HIT,
     INSERT,
     INSERT_NEXT,
-    KEY_ADDED,
     KEY_INSERTED,
     KEY_READ,
     MISS,
@@ -24,11 +20,11 @@ from condition import (
     UPDATE,
     State,
 )
+from moves import Moves, walked, way
 from scripts import STEP, Script
 
 READS_GAP = (MISS, READ, STOP)
 LEVELS = 2  # how many names above A one transaction is followed on
-MOST = 20000  # states of one walk
 
 
 class Standing(NamedTuple):
@@ -61,62 +57,11 @@ class Seed(NamedTuple):
     read: bool = False
 
 
-def walked(starts, moves, most=MOST):
-    """What the moves lead to, breadth first, each with the way there. `moves` gives moves with what they lead to."""
-    before = dict.fromkeys(starts)
-    todo = deque(before)
-    while todo:
-        state = todo.popleft()
-        yield state, before
-        for move, after in moves(state):
-            if after not in before and len(before) < most:
-                before[after] = state, move
-                todo.append(after)
-
-
-def way(before, state):
-    """Where the walk began, and the moves from there."""
-    moves = []
-    while before[state] is not None:
-        state, move = before[state]
-        moves.append(move)
-    return state, moves[::-1]
-
-
 def with_at(pair, who, value):
     return (value, pair[1]) if who == 0 else (pair[0], value)
 
 
-class Schedules:
-    def __init__(self, table):
-        self.table = table
-        reads = [HIT, MISS, READ, STOP]
-        self.reads = reads + [UPDATE] * table.updates  # what leaves the gap below as it is
-        self.standing = [*self.reads, DELETE_NEXT, INSERT_NEXT]
-
-    def asked(self, place, x, n=NOTHING):
-        return self.table.ask(*place, n.mode if place in (INSERT, DELETE) else x.mode)
-
-    def lets_in(self, place, x, y, n=NOTHING):
-        asked = self.asked(place, x, n)
-        return asked is None or self.table.ok(self.table.convert(x.mode, asked[0]), y.mode)
-
-    def moved(self, place, x, n=NOTHING):
-        mode = self.table.mode_after(x.mode, self.asked(place, x, n))
-        if place == DELETE:  # what was only read is no more at risk
-            key, gap = (use if use > KEY_READ else 0 for use in (x.key, x.gap))
-            return State(mode, key, gap, True)
-        if place == INSERT:
-            return State(mode, KEY_INSERTED, max(x.gap, n.gap), False)
-        return State(mode, max(x.key, KEY_ADDED.get(place, 0)), max(x.gap, GAP_ADDED.get(place, 0)), x.deleted)
-
-    def kept_out(self, y):
-        return [place for place in y.keeps_out() if place != UPDATE or self.table.updates]
-
-    def may_move(self, place, x, y):
-        """Whether the request is let in beside y, and need not be kept out."""
-        return place not in y.keeps_out() and self.lets_in(place, x, y)
-
+class Schedules(Moves):
     # Two on a key that stands
 
     def standing_moves(self, at):
@@ -159,13 +104,12 @@ class Schedules:
         else:
             above = Script(script.key + STEP)
             above.value = 5000
-            self.come_to(above, U, next(it for it in ways if it.n == n), ways)
+            self.build(above, U, *ways[next(it for it in ways if it.n == n)])
             script.extend(above)
         for mover, move in way(before, at)[1]:
             script.move(mover + 1, move)
-        other = 1 - who
-        done = {'deleted': at.deleted[other], 'read': at.read[other], 'put_in': len(at.put_in)}
-        if script.end(place, at.states[other], T, U, **done):
+        done = {'deleted': at.deleted[1 - who], 'read': at.read[1 - who], 'put_in': len(at.put_in)}
+        if script.end(place, at.states[1 - who], T, U, **done):
             yield script
 
     # One alone on A and the next name
@@ -197,17 +141,12 @@ class Schedules:
                 yield ('Y', place), self.in_gap(at, place, after)
 
     @staticmethod
-    def in_gap(at, place, after):
-        """What is so of the gap after a move there."""
+    def in_gap(at, place, after):  # what is so of the gap after a move there
         if place == INSERT_NEXT:
             return after._replace(put_in=at.put_in + 1)
         if place == DELETE_NEXT:
             return after._replace(deleted=at.deleted or not at.put_in, put_in=max(at.put_in - 1, 0))
         return after._replace(read=at.read or place in READS_GAP)
-
-    def come_to(self, script, txn, seed, ways):
-        """The transaction comes to have this on the script's key."""
-        self.build(script, txn, *ways[seed])
 
     def build(self, script, txn, at, before, ways):
         """The transaction comes to this state alone. `ways` has those to what it has on the next name at first."""
@@ -220,9 +159,8 @@ class Schedules:
             upper.value = script.value + 1000
             if not start.stands:
                 upper.gap = script.gap
-            found = (it for it in ways if it.n == start.n)
-            seed = next(found) if start.stands else Seed(start.n, start.deleted, start.read)
-            self.come_to(upper, txn, seed, ways)
+            seeds = (it for it in ways if it.n == start.n)
+            self.build(upper, txn, *ways[next(seeds) if start.stands else Seed(start.n, start.deleted, start.read)])
             script.extend(upper)
         if start.stood:
             script.opening[script.key] = 1
@@ -281,7 +219,7 @@ class Schedules:
                 if self.is_let_in(DELETE, u, at, n, above):
                     script, upper = Script(), Script(2 * STEP)
                     upper.value = 5000
-                    self.come_to(upper, 2, next(it for it in ways if it.n == seed.n), ways)
+                    self.build(upper, 2, *ways[next(it for it in ways if it.n == seed.n)])
                     script.steps += upper.steps
                     self.build(script, 1, at, before, ways)
                     del script.opening[2 * STEP]
