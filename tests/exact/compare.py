@@ -1,6 +1,6 @@
 #!/usr/bin/env python3
-"""Holds that kr's decision is exact on the tables of corpus.py: what `kr check` and `kr_explain` say of each is compared with
-condition.py, and for each table that is rejected a schedule has to go wrong.
+"""Holds that kr's decision is exact on the tables of corpus.py: what `kr check` and `kr_explain` say of each is compared
+with condition.py, and for each table that is rejected a schedule has to go wrong.
 
     compare.py KR KR_EXPLAIN [--count N | --all]   N tables spread over the kinds, 100 if nothing is said, or all
     compare.py --self [N]                          condition.py beside walks.py and schedules.py, on so many tables

@@ -90,7 +90,8 @@ class Closure:
         self.all = (1 << len(self.states)) - 1
         self.idle = self.of(it.is_idle() and not it.deleted for it in self.states)
         self.lets_in = [self.of(table.ok(q, it.mode) for it in self.states) for q in table.with_none]
-        self.steps = [sorted({(it.tested, it.place == INSERT, self.number[it.after]) for it in moves}) for moves in self.moves]
+        step = lambda it: (it.tested, it.place == INSERT, self.number[it.after])
+        self.steps = [sorted({step(it) for it in moves}) for moves in self.moves]
         self.beside = [self.all if n == 0 else 1 for n in everything]
         self.find_pairs()
 
@@ -195,7 +196,8 @@ class Closure:
             for who in (0, 1):
                 x, y = pair[who], pair[1 - who]
                 for move in [*self.moves[x], None]:
-                    beside = self.all if not move else self.lets_in[move.tested] & (self.idle if move.place == INSERT else self.all)
+                    beside = self.lets_in[move.tested] if move else self.all
+                    beside &= self.idle if move and move.place == INSERT else self.all
                     if not beside >> y & 1:
                         continue
                     z = self.number[move.after] if move else 0

@@ -48,7 +48,8 @@ def with_entry(draft, change):
 def pair_changes(draft):
     for asked in draft.modes:
         for held in draft.modes:
-            yield f'compatible {asked} {held}', lambda it, pair=(asked, held): it.compatible.symmetric_difference_update({pair})
+            pair = {(asked, held)}
+            yield f'compatible {asked} {held}', lambda it, pair=pair: it.compatible.symmetric_difference_update(pair)
 
 
 def conversion_changes(draft):
@@ -117,7 +118,8 @@ def drawn_at_random(draws, count, format, density):
     for row, sides in SIDES.items():
         for side in sides if row != 'update' or format == 2 else []:
             if is_own and row in CHANGING:
-                asked = [{'own': [own], 'mode': draws.choice(modes), 'span': draws.choice(SPANS)} for own in ['none', *modes]]
+                owns = ['none', *modes]
+                asked = [{'own': [it], 'mode': draws.choice(modes), 'span': draws.choice(SPANS)} for it in owns]
             else:
                 asked = [draft.clause(draws, row) for _ in range(draws.choice([1, 1, 1, 2, 3]))]
             draft.rules[row, side] = asked
@@ -154,8 +156,8 @@ def changed(draws, draft):
 
 
 def nearly_accepted(draws, format):
-    """A table drawn at random, but that its last mode lets nobody in and is mostly what changes ask for, and that of two modes
-    the later one is the converted mode, and lets in fewer."""
+    """A table drawn at random, but that its last mode lets nobody in and is mostly what changes ask for, and that of two
+    modes the later one is the converted mode, and lets in fewer."""
     draft = drawn_at_random(draws, draws.choice([1, 2, 2, 3, 3, 4, 4, 5, 5]), format, 0)
     modes = draft.modes
     order = {mode: place for place, mode in enumerate(modes)}

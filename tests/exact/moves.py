@@ -1,5 +1,5 @@
-"""What one transaction's lock state becomes on a key that stands or that it inserts or deletes, and walks over what such moves
-lead to."""
+"""What one transaction's lock state becomes on a key that stands or that it inserts or deletes, and walks over what such
+moves lead to."""
 
 from collections import deque
 

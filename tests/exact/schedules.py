@@ -1,5 +1,5 @@
-"""From a table to schedules that go wrong, by the lock states alone: no run is tried. Two transactions are followed on a key A
-that stands all the while; or one alone on A and the next name, where A may come and go, and then another comes to A. Where
+"""From a table to schedules that go wrong, by the lock states alone: no run is tried. Two transactions are followed on a key
+A that stands all the while; or one alone on A and the next name, where A may come and go, and then another comes to A. Where
 one has something to protect and the other's request is let in, the steps on the way there and an ending are the schedule.
 That each of these goes wrong isn't shown here; whoever calls runs them."""
 

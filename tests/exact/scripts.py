@@ -88,8 +88,8 @@ class Script:
 
     def end(self, place, holder, T, U, *, from_opening=True, deleted=True, read=True, put_in=0):
         """The script with its ending, or None where what is protected isn't at risk. The holder is T's lock state on A, and
-        U the intruder; whether A was there in the opening, T has deleted a key below A, T has read the gap; and how many keys
-        put in stand in it."""
+        U the intruder; whether A was there in the opening, T has deleted a key below A, T has read the gap; and how many
+        keys put in stand in it."""
         if place in KEPT_OUT_BY_KEY[holder.key]:
             is_at_risk = self.end_at_key(place, holder.key, T, U, from_opening, deleted, put_in)
         elif read and ((holder.gap == GAP_READ and place in (INSERT_NEXT, DELETE)) or (holder.gap and place == INSERT_NEXT)):
