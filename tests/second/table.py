@@ -16,7 +16,9 @@ SIDES = {  # the rows, each with its sides
 
 class Table:
     def __init__(self, text):
-        document = tomllib.loads(text)
+        self.read(tomllib.loads(text))
+
+    def read(self, document):
         self.updates = document['format'] == 2  # whether it offers updates
         self.names = ['none', *document['modes']]
         self.modes = range(1, len(self.names))

@@ -1,0 +1,234 @@
+"""When a table is safe: what two transactions can have on one name at the same time, written from
+crates/kr_model/specs/Safe.antt alone. A set of lock states is a whole number, with a bit for each."""
+
+from collections import deque
+from typing import NamedTuple
+
+FREE = 0
+KEY_READ, KEY_UPDATED, KEY_INSERTED = 1, 2, 3  # what was done with the key; the greater one takes in the smaller
+GAP_READ, GAP_DELETED = 1, 2  # what was done in the gap below
+KEY_COVERS = {KEY_READ: 'RK', KEY_UPDATED: 'UK', KEY_INSERTED: 'IK'}
+GAP_COVERS = {GAP_READ: 'RG', GAP_DELETED: 'DG'}
+
+HIT, MISS, READ, STOP = ('fetch-hit', 'current'), ('fetch-miss', 'next'), ('scan-key', 'current'), ('scan-stop', 'next')
+INSERT, INSERT_NEXT = ('insert', 'current'), ('insert', 'next')
+DELETE, DELETE_NEXT = ('delete', 'current'), ('delete', 'next')
+UPDATE = ('update', 'current')
+PLACES = [HIT, MISS, READ, STOP, INSERT, INSERT_NEXT, DELETE, DELETE_NEXT, UPDATE]
+BY_NEXT = [INSERT, DELETE]  # what is requested there goes by the own mode on the next name
+
+KEPT_OUT_BY_KEY = {
+    FREE: [],
+    KEY_READ: [DELETE, UPDATE],
+    KEY_UPDATED: [HIT, READ, DELETE, UPDATE],
+    KEY_INSERTED: [HIT, MISS, READ, STOP, DELETE, DELETE_NEXT, UPDATE],
+}
+KEPT_OUT_BY_GAP = {
+    FREE: [],
+    GAP_READ: [INSERT_NEXT, DELETE],
+    GAP_DELETED: [MISS, READ, STOP, INSERT_NEXT, DELETE, DELETE_NEXT],
+}
+KEY_ADDED = {HIT: KEY_READ, READ: KEY_READ, INSERT: KEY_INSERTED, UPDATE: KEY_UPDATED}
+GAP_ADDED = {MISS: GAP_READ, READ: GAP_READ, STOP: GAP_READ, DELETE_NEXT: GAP_DELETED}
+
+
+class State(NamedTuple):
+    """A lock state: what a transaction has on a name."""
+
+    mode: int
+    key: int
+    gap: int
+    deleted: bool  # whether it has deleted the key itself
+
+    def is_idle(self):
+        return self.key == FREE and self.gap == FREE
+
+    def keeps_out(self):
+        """The places at which no other transaction may be granted a request."""
+        return dict.fromkeys(KEPT_OUT_BY_KEY[self.key] + KEPT_OUT_BY_GAP[self.gap])
+
+    def covers(self):
+        """What its lock has to protect."""
+        return [it[use] for it, use in ((KEY_COVERS, self.key), (GAP_COVERS, self.gap)) if use != FREE]
+
+
+NOTHING = State(0, FREE, FREE, False)
+
+
+class Move(NamedTuple):
+    place: tuple
+    tested: int  # the converted mode, or none where nothing is requested
+    after: State
+    next: State | None  # on the next name, where the request goes by it
+
+
+class Hole(NamedTuple):
+    place: tuple
+    asker: State
+    next: State | None
+    holder: State
+
+
+def bits(states):
+    while states:
+        low = states & -states
+        yield low.bit_length() - 1
+        states ^= low
+
+
+class Closure:
+    """All lock states that a transaction can have on a name, and which two can be on one name."""
+
+    def __init__(self, table):
+        self.table = table
+        self.places = [it for it in PLACES if it != UPDATE or table.updates]
+        self.states, self.moves = [], []
+        self.number = {}
+        self.nexts = {}  # of each mode and gap of a key that isn't deleted by itself, the first such state
+        self.find_states()
+        everything = range(len(self.states))
+        self.all = (1 << len(self.states)) - 1
+        self.idle = self.of(it.is_idle() and not it.deleted for it in self.states)
+        self.lets_in = [self.of(table.ok(q, it.mode) for it in self.states) for q in table.with_none]
+        step = lambda it: (it.tested, it.place == INSERT, self.number[it.after])
+        self.steps = [sorted({step(it) for it in moves}) for moves in self.moves]
+        self.beside = [self.all if n == 0 else 1 for n in everything]
+        self.find_pairs()
+
+    @staticmethod
+    def of(chosen):
+        return sum(1 << n for n, it in enumerate(chosen) if it)
+
+    def move(self, place, x, n):
+        """What is requested at a place, with the lock state x on the name and n on the next."""
+        own_next = n.mode if place in BY_NEXT else x.mode if place in (INSERT_NEXT, DELETE_NEXT) else 0
+        asked = self.table.ask(*place, own_next)
+        tested = self.table.convert(x.mode, asked[0]) if asked else 0
+        gap = n.gap if place == INSERT else GAP_ADDED.get(place, FREE)
+        key = max(x.key, KEY_ADDED.get(place, FREE))
+        after = State(self.table.mode_after(x.mode, asked), key, max(x.gap, gap), place == DELETE)
+        return Move(place, tested, after, n if place in BY_NEXT else None)
+
+    def may_ask(self, place, x, n):
+        """Whether one with the lock state x may come to request a lock there; n isn't that of a deleted key."""
+        if place == INSERT:
+            return n.gap == GAP_DELETED if x.deleted else x.is_idle()
+        return not x.deleted
+
+    def add(self, state):
+        if state not in self.number:
+            self.number[state] = len(self.states)
+            self.states.append(state)
+            self.moves.append([])
+            self.todo.append((state, [*self.nexts.values()]))
+            if not state.deleted and (state.mode, state.gap) not in self.nexts:
+                self.nexts[state.mode, state.gap] = state
+                self.todo.extend((it, [state]) for it in self.states)
+
+    def find_states(self):
+        """What one transaction can come to where nobody is beside it: then nothing is blocked. A state and a state on
+        the next name are put together once."""
+        self.todo = []
+        self.add(NOTHING)
+        done = set()
+        while self.todo:
+            x, nexts = self.todo.pop()
+            moves = self.moves[self.number[x]]
+            for place in self.places:
+                for n in nexts if place in BY_NEXT else [NOTHING]:
+                    if (place, x, n) in done or not self.may_ask(place, x, n):
+                        continue
+                    done.add((place, x, n))
+                    moves.append(self.move(place, x, n))
+                    self.add(moves[-1].after)
+
+    def find_pairs(self):
+        """Either may end, so that each can be beside one that has nothing; from there each pair leads to others."""
+        new = list(self.beside)  # pairs whose moves aren't followed yet
+        todo = [*range(len(self.states))]
+        while todo:
+            x = todo.pop()
+            beside, new[x] = new[x], 0
+            for tested, is_insert, z in self.steps[x]:
+                found = beside & self.lets_in[tested] & ~self.beside[z]
+                if is_insert:
+                    found &= self.idle
+                if not found:
+                    continue
+                self.beside[z] |= found
+                todo += [] if new[z] else [z]
+                new[z] |= found
+                for y in bits(found):
+                    if not self.beside[y] >> z & 1:
+                        self.beside[y] |= 1 << z
+                        todo += [] if new[y] else [y]
+                        new[y] |= 1 << z
+
+    def holes(self):
+        """Each request that isn't blocked, of one who may come to ask, beside a lock that has to block it."""
+        for place in self.places:
+            keep_out = self.of(place in it.keeps_out() for it in self.states)
+            for x, moves in enumerate(self.moves):
+                for move in moves:
+                    if move.place == place:
+                        for y in bits(self.beside[x] & keep_out & self.lets_in[move.tested]):
+                            yield Hole(place, self.states[x], move.next, self.states[y])
+
+    def is_safe(self):
+        return next(self.holes(), None) is None
+
+    def hole_beside(self, x, y):
+        """A request of one with the lock state x that isn't blocked, beside y, which has to block it."""
+        keeps_out = self.states[y].keeps_out()
+        moves = (it for it in self.moves[x] if it.place in keeps_out and self.lets_in[it.tested] >> y & 1)
+        return next((Hole(it.place, self.states[x], it.next, self.states[y]) for it in moves), None)
+
+    def first_hole(self):
+        """A hole that the fewest steps lead to, with these steps: each who takes it, the move or None where it ends, and the
+        two lock states after it. What it has on the next name by then isn't counted."""
+        before = {(0, 0): None}
+        todo = deque(before)
+        while todo:
+            pair = todo.popleft()
+            hole = self.hole_beside(*pair) or self.hole_beside(*pair[::-1])
+            if hole:
+                return hole, self.way(before, pair)
+            for who in (0, 1):
+                x, y = pair[who], pair[1 - who]
+                for move in [*self.moves[x], None]:
+                    beside = self.lets_in[move.tested] if move else self.all
+                    beside &= self.idle if move and move.place == INSERT else self.all
+                    if not beside >> y & 1:
+                        continue
+                    z = self.number[move.after] if move else 0
+                    after = (z, y) if who == 0 else (y, z)
+                    if after not in before:
+                        before[after] = pair, (who + 1, move)
+                        todo.append(after)
+        return None
+
+    def way(self, before, pair):
+        steps = []
+        while before[pair]:
+            steps.append((*before[pair][1], tuple(self.states[it] for it in pair)))
+            pair = before[pair][0]
+        return steps[::-1]
+
+    def held(self):
+        """Each mode with a cover that a lock in it can have to serve."""
+        return {(it.mode, cover) for it in self.states for cover in it.covers()}
+
+    def holes_by_cover(self):
+        """The holes of each mode and cover, of the covers that have to keep the request out."""
+        found = {}
+        for hole in self.holes():
+            y, covers = hole.holder, []
+            covers += [KEY_COVERS[y.key]] if hole.place in KEPT_OUT_BY_KEY[y.key] else []
+            covers += [GAP_COVERS[y.gap]] if hole.place in KEPT_OUT_BY_GAP[y.gap] else []
+            for cover in covers:
+                found.setdefault((y.mode, cover), []).append(hole)
+        return found
+
+
+def is_safe(table):
+    return Closure(table).is_safe()
