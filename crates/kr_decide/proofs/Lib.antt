@@ -1,0 +1,3 @@
+pub mod SameNumbers
+pub mod Growing
+pub mod Following
