@@ -1,3 +1,5 @@
 pub mod SameNumbers
 pub mod Growing
 pub mod Following
+pub mod Complete
+pub mod Openings

@@ -1,3 +1,5 @@
 pub mod Numbers
 pub mod Pairs
 pub mod Findings
+pub mod Protects
+pub mod Opens

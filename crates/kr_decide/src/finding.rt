@@ -28,7 +28,7 @@ pub(crate) struct Found {
 /// a place.
 #[derive(Clone, Copy)]
 pub(crate) struct Above {
-    place: usize,
+    pub(crate) place: usize,
     pub(crate) state: LockState,
 }
 
@@ -42,7 +42,7 @@ struct Spot {
 }
 
 /// Nothing on the next name, which is so in the first pair.
-const NOTHING_ABOVE: Above = Above {
+pub(crate) const NOTHING_ABOVE: Above = Above {
     place: 0,
     state: FREE,
 };

@@ -5,6 +5,7 @@
 mod finding;
 mod moves;
 mod numbers;
+mod opening;
 mod pair;
 
 pub use kr_model::{Cover, GapUse, KeyUse, LockState, Memory, Mode, Row, Side};
