@@ -6,7 +6,7 @@ use Rattle.kr_model.specs.Protocol.{Protocol}
 use Rattle.kr_decide.specs.declared.pair.Pair.{Pair}
 use Rattle.kr_decide.specs.declared.opening.Opening.{Opening}
 use Rattle.kr_decide.specs.Pairs.{pair_at, AreDerived}
-use Rattle.kr_decide.specs.Opens.{OpensAt, IsOpening}
+use Rattle.kr_decide.specs.Opens.{OpensAt, IsOpening, IsOpenedAt, NoneOpens}
 use Rattle.kr_decide.proofs.Complete.{above_alone}
 
 pub opens_at : (p : Protocol) (pairs : List Pair) (x : Pair) (o : Opening) → AreDerived p pairs → IsOpening p pairs x.own x.other o → OpensAt p x.own x.other
@@ -28,3 +28,15 @@ one_more_test P bs b n size old new k below = split (below_or_last (omega arith)
     split : (k < n) ⊎ (k ≡ n) → P k (get_or (bs ++ b ∷ []) k false)
     split (inl h) = subst (P k) (sym (get_or-append bs (b ∷ []) false k (omega arith))) (old k h)
     split (inr e) = subst (λ (i : ℕ). P i (get_or (bs ++ b ∷ []) i false)) (size ∙ sym e) (subst (λ (c : Bool). P (length bs) c) (sym (get_or-append_seam bs b [] false)) (subst (λ (i : ℕ). P i b) (sym size) new))
+
+pub opened_at : (p : Protocol) (pairs : List Pair) (at : ℕ) (x : Pair) (o : Opening) → at < length pairs → pair_at pairs at ≡ x → IsOpening p pairs x.own x.other o → IsOpenedAt p pairs at o
+opened_at p pairs at x o within is i = record { within = within; opening = subst (λ (z : Pair). IsOpening p pairs z.own z.other o) (sym is) i }
+
+pub none_step : (p : Protocol) (pairs : List Pair) (n : ℕ) (x : Pair) → NoneOpens p pairs n → pair_at pairs n ≡ x → (OpensAt p x.own x.other → ⊥) → NoneOpens p pairs (n + 1)
+none_step p pairs n x old is none k below = split (below_or_last (omega arith))
+  where
+    below_or_last : k < n + 1 → (k < n) ⊎ (k ≡ n)
+    below_or_last h = grind arith
+    split : (k < n) ⊎ (k ≡ n) → OpensAt p (pair_at pairs k).own (pair_at pairs k).other → ⊥
+    split (inl h) = old k h
+    split (inr e) = λ o. none (subst (λ (z : Pair). OpensAt p z.own z.other) (ap (pair_at pairs) e ∙ is) o)

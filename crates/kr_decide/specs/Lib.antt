@@ -3,3 +3,4 @@ pub mod Pairs
 pub mod Findings
 pub mod Protects
 pub mod Opens
+pub mod Survey

@@ -1,5 +1,6 @@
 -- Where a lock lets in what it has to keep out, among the pairs that were found.
 use Rattle.std.specs.Prelude.{◌≡◌, ℕ, ◌<◌, ◌↔◌, Bool, true, false, IsTrue, List, length, slice_index_or}
+use Rattle.std.specs.List.{Any}
 use Rattle.kr_model.specs.declared.Row.{Row}
 use Rattle.kr_model.specs.declared.Row.TheVariants.{Delete}
 use Rattle.kr_model.specs.declared.Side.TheVariants.{Current}
@@ -41,5 +42,30 @@ pub record IsOpening (p : Protocol) (pairs : List Pair) (x y : LockState) (o : O
   pub above : IsAbove pairs o.above
 
 -- Of each pair, the list says whether it opens.
-abbrev pub AreOpenings : Protocol → List Pair → List Bool → Type 0
-AreOpenings p pairs opens = (k : ℕ) → k < length pairs → IsTrue (slice_index_or opens k false) ↔ OpensAt p (pair_at pairs k).own (pair_at pairs k).other
+pub record AreOpenings (p : Protocol) (pairs : List Pair) (opens : List Bool) : Type 0 where
+  pub size : length opens ≡ length pairs
+  pub each : (k : ℕ) → k < length pairs → IsTrue (slice_index_or opens k false) ↔ OpensAt p (pair_at pairs k).own (pair_at pairs k).other
+
+-- Some pair opens, of which the second holds the mode and has the cover to protect.
+pub record IsHoledIn (pairs : List Pair) (opens : List Bool) (c : Cover) (m : ℕ) : Type 0 where
+  pub place : ℕ
+  pub within : place < length pairs
+  pub open_there : slice_index_or opens place false ≡ true
+  pub held : IsHeldBy c m (pair_at pairs place)
+
+-- Of each mode, the list says whether it is held.
+abbrev pub AreHeld : List Pair → Cover → ℕ → List Bool → Type 0
+AreHeld pairs c count list = (m : ℕ) → m < count → IsTrue (slice_index_or list m false) ↔ Any (IsHeldBy c m) pairs
+
+-- And whether it opens.
+abbrev pub AreHoled : List Pair → List Bool → Cover → ℕ → List Bool → Type 0
+AreHoled pairs opens c count list = (m : ℕ) → m < count → IsTrue (slice_index_or list m false) ↔ IsHoledIn pairs opens c m
+
+-- The pair at a place opens so.
+pub record IsOpenedAt (p : Protocol) (pairs : List Pair) (place : ℕ) (o : Opening) : Type 0 where
+  pub within : place < length pairs
+  pub opening : IsOpening p pairs (pair_at pairs place).own (pair_at pairs place).other o
+
+-- None of the first n pairs opens.
+abbrev pub NoneOpens : Protocol → List Pair → ℕ → Type 0
+NoneOpens p pairs n = (k : ℕ) → k < n → OpensAt p (pair_at pairs k).own (pair_at pairs k).other → ⊥

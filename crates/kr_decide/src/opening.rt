@@ -6,7 +6,7 @@ ghost use Rattle.kr_model.specs.Safe.{free};
 ghost use Rattle.kr_decide.specs.Protects.{of_key, of_gap, protects};
 ghost use Rattle.kr_decide.specs.Pairs.{pair_at, LetsIn};
 ghost use Rattle.kr_decide.specs.Findings.{IsFound, IsGoing, IsAbove, AreNexts};
-ghost use Rattle.kr_decide.specs.Opens.{LetsNoneIn, LetsNoDeleteIn, OpensAt, IsOpening, AreOpenings};
+ghost use Rattle.kr_decide.specs.Opens.{LetsNoneIn, LetsNoDeleteIn, OpensAt, IsOpening, AreOpenings, IsOpenedAt, NoneOpens};
 
 use crate::finding::{Above, Found, NOTHING_ABOVE};
 use crate::moves::{FREE, is_blocked, keeps_out, may_ask};
@@ -191,5 +191,20 @@ impl Found {
             list.push(self.opens(protocol, at))?;
         }
         Ok(list)
+    }
+
+    /// The first pair whose second lets in what it has to keep out, with the request.
+    pub(crate) fn first_opening<P: Protocol>(&self, protocol: &P) -> Option<(usize, Opening)>
+        requires { IsGoing (P.table protocol.now) self.now (length self.now.pairs.items) }
+        ensures some { IfSome result (λ o. IsOpenedAt (P.table protocol.now) self.now.pairs.items o.0 o.1) }
+        ensures none { IfNone result (NoneOpens (P.table protocol.now) self.now.pairs.items (length self.now.pairs.items)) }
+    {
+        for at in 0..self.pairs.len() {
+            let pair = self.pairs[at];
+            if let Some(opening) = self.opening(protocol, pair) {
+                return Some((at, opening));
+            }
+        }
+        None
     }
 }

@@ -15,4 +15,4 @@ loop-at-preserved g c =
     }
 
 pub returns : goal.returns
-returns g c = λ k within. c.loop-at.invariant.opens k (search rules)
+returns g c = record { size = search rules; each = λ k within. c.loop-at.invariant.opens k (search rules) }
