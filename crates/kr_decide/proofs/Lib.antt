@@ -3,3 +3,4 @@ pub mod Growing
 pub mod Following
 pub mod Complete
 pub mod Openings
+pub mod Surveyed

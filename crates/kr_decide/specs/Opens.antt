@@ -46,20 +46,26 @@ pub record AreOpenings (p : Protocol) (pairs : List Pair) (opens : List Bool) : 
   pub size : length opens ≡ length pairs
   pub each : (k : ℕ) → k < length pairs → IsTrue (slice_index_or opens k false) ↔ OpensAt p (pair_at pairs k).own (pair_at pairs k).other
 
--- Some pair opens, of which the second holds the mode and has the cover to protect.
-pub record IsHoledIn (pairs : List Pair) (opens : List Bool) (c : Cover) (m : ℕ) : Type 0 where
+-- Some pair of the first n opens, of which the second holds the mode and has the cover to protect.
+pub record IsHoledBelow (pairs : List Pair) (opens : List Bool) (c : Cover) (m n : ℕ) : Type 0 where
   pub place : ℕ
-  pub within : place < length pairs
+  pub within : place < n
   pub open_there : slice_index_or opens place false ≡ true
   pub held : IsHeldBy c m (pair_at pairs place)
 
--- Of each mode, the list says whether it is held.
-abbrev pub AreHeld : List Pair → Cover → ℕ → List Bool → Type 0
-AreHeld pairs c count list = (m : ℕ) → m < count → IsTrue (slice_index_or list m false) ↔ Any (IsHeldBy c m) pairs
+-- Some pair of all.
+abbrev pub IsHoledIn : List Pair → List Bool → Cover → ℕ → Type 0
+IsHoledIn pairs opens c m = IsHoledBelow pairs opens c m (length pairs)
+
+-- Of each of the first n modes, from 0 for no lock, the list says whether it is held.
+pub record AreHeld (pairs : List Pair) (c : Cover) (n : ℕ) (list : List Bool) : Type 0 where
+  pub size : length list ≡ n
+  pub each : (m : ℕ) → m < n → IsTrue (slice_index_or list m false) ↔ Any (IsHeldBy c m) pairs
 
 -- And whether it opens.
-abbrev pub AreHoled : List Pair → List Bool → Cover → ℕ → List Bool → Type 0
-AreHoled pairs opens c count list = (m : ℕ) → m < count → IsTrue (slice_index_or list m false) ↔ IsHoledIn pairs opens c m
+pub record AreHoled (pairs : List Pair) (opens : List Bool) (c : Cover) (n : ℕ) (list : List Bool) : Type 0 where
+  pub size : length list ≡ n
+  pub each : (m : ℕ) → m < n → IsTrue (slice_index_or list m false) ↔ IsHoledIn pairs opens c m
 
 -- The pair at a place opens so.
 pub record IsOpenedAt (p : Protocol) (pairs : List Pair) (place : ℕ) (o : Opening) : Type 0 where
