@@ -1,5 +1,5 @@
 -- Once all pairs have been followed, the list has exactly the pairs that two transactions can have.
-use Rattle.std.proofs.Common.{ℕ, zero, suc, Bool, true, false, ◌≡◌, ◌≤◌, ◌<◌, ◌∙◌, ◌||◌, List, length, ap, refl, sym, subst, arith}
+use Rattle.std.proofs.Common.{ℕ, zero, suc, Bool, true, false, ◌≡◌, ◌<◌, ◌∙◌, ◌||◌, List, length, ap, refl, sym, subst, arith}
 use Rattle.kr_model.specs.declared.Row.{Row}
 use Rattle.kr_model.specs.declared.Row.TheVariants as row
 use Rattle.kr_model.specs.declared.Side.{Side}
@@ -10,13 +10,13 @@ use Rattle.kr_model.specs.declared.GapUse.{GapUse}
 use Rattle.kr_model.specs.declared.GapUse.TheVariants as gap
 use Rattle.kr_model.specs.declared.LockState.{LockState}
 use Rattle.kr_model.specs.Protocol.{Protocol}
-use Rattle.kr_model.specs.Safe.{free, by_key, by_gap, after, MayAsk, MayBeside, is_blocked, Beside, start, turn, leave, move}
+use Rattle.kr_model.specs.Safe.{free, by_key, by_gap, after, MayAsk, is_blocked, Beside, start, turn, leave, move}
 use Rattle.kr_decide.specs.declared.pair.Pair.{Pair}
 use Rattle.kr_decide.specs.declared.pair.Way.{Way}
 use Rattle.kr_decide.specs.declared.pair.Way.TheVariants as way
 use Rattle.kr_decide.specs.declared.finding.Above.{Above}
 use Rattle.kr_decide.specs.declared.finding.Found.{Found}
-use Rattle.kr_decide.specs.Pairs.{pair_at, IsMoved, IsWay, AreDerived, LetsIn}
+use Rattle.kr_decide.specs.Pairs.{pair_at, IsWay, AreDerived, LetsIn}
 use Rattle.kr_decide.specs.Findings.{Has, MovesTo, goes_by_next, above_at, IsAlike, HasNext, IsFollowed, IsGoing, IsAbove}
 use Rattle.kr_decide.specs.Opens.{LetsNoneIn, LetsNoDeleteIn, OpensAt}
 
@@ -31,7 +31,7 @@ beside_way p pairs k x y (way.Moved i r s j) before h =
     let alone : Beside p (pair_at pairs j).own free = subst (λ (b : LockState). Beside p (pair_at pairs j).own b) m.alone (before j h.1) in
     subst (λ (a : LockState). Beside p a y) (sym m.own)
     (subst (λ (b : LockState). Beside p (after p r s (pair_at pairs i).own (pair_at pairs j).own) b) (sym m.other)
-      (move r s (pair_at pairs i).own (pair_at pairs i).other (pair_at pairs j).own (before i h.0) alone m.asks m.beside m.granted))
+    (move r s (pair_at pairs i).own (pair_at pairs i).other (pair_at pairs j).own (before i h.0) alone m.asks m.beside m.granted))
 
 beside_below : (p : Protocol) (pairs : List Pair) → AreDerived p pairs → (n k : ℕ) → k < n → k < length pairs → Beside p (pair_at pairs k).own (pair_at pairs k).other
 beside_below p pairs derived zero k below within = absurd (omega arith)

@@ -1,5 +1,5 @@
 -- What comes of a pair, request by request, and what is known once it has been followed.
-use Rattle.std.proofs.Common.{ℕ, Bool, zero, suc, true, false, ◌≡◌, ◌≤◌, ◌<◌, ◌+◌, ◌∙◌, List, [], ◌∷◌, ◌++◌, length, get_or, set, replicate, ap, refl, sym, subst, inl, inr, arith, ◌⊎◌}
+use Rattle.std.proofs.Common.{ℕ, Bool, true, false, ◌≡◌, ◌≤◌, ◌<◌, ◌+◌, ◌∙◌, List, [], ◌∷◌, ◌++◌, length, get_or, set, replicate, ap, refl, sym, subst, inl, inr, arith, ◌⊎◌}
 use Rattle.std.specs.List.{Any}
 use Rattle.std.proofs.Math.ListN.{get_or-append, length-append}
 use Rattle.std.proofs.Math.Seq.{get_or-append_seam}
@@ -16,8 +16,8 @@ use Rattle.kr_decide.specs.declared.finding.Found.{Found}
 use Rattle.std.proofs.lemmas.List.{get_or_default}
 use Rattle.kr_decide.specs.Numbers.{pair_number}
 use Rattle.kr_decide.specs.Pairs.{no_pair, pair_at}
-use Rattle.kr_decide.specs.Findings.{Has, left, AreFound, Grows, IsAbove, MovesTo, MovesPlainly, MovesByNext, MovesByNexts, AllMoveByNext, nothing_above, above_at, AreNexts, IsAlike, HasNext, HasAllOf, IsFollowed, IsFirst, IsGoing}
-use Rattle.kr_decide.proofs.Growing.{found_none, grown, Stays, has_grown, grows_on}
+use Rattle.kr_decide.specs.Findings.{Has, AreFound, Grows, IsAbove, MovesTo, MovesPlainly, MovesByNext, MovesByNexts, AllMoveByNext, nothing_above, above_at, AreNexts, IsAlike, HasNext, HasAllOf, IsFollowed, IsFirst, IsGoing}
+use Rattle.kr_decide.proofs.Growing.{found_none, grown, has_grown, grows_on}
 
 -- Where what is in one list is in the other, so is what one comes to.
 pub moves_grown : (p : Protocol) (a b : Found) (x y n : LockState) (r : Row) (s : Side) → Grows p a b → MovesTo p a.pairs.items x y n r s → MovesTo p b.pairs.items x y n r s
@@ -230,8 +230,8 @@ pub going_start : (p : Protocol) (f f' : Found) (n : ℕ) → p.count ≤ 15 →
 going_start p f f' n few none unseen no_nexts number pairs unseens nexts =
     let some : AreFound p f.pairs.items f.unseen.items = found_none p f none unseen in
     let g : Grows p f f' =
-      grown p f f' no_pair few some (refl, refl) (omega arith) (omega arith) (omega arith)
-      (subst (λ (us : List Bool). get_or us 0 true ≡ true) (sym unseen) refl) pairs (subst (λ (i : ℕ). f'.unseen.items ≡ set f.unseen.items i false) number unseens) nexts in
+    grown p f f' no_pair few some (refl, refl) (omega arith) (omega arith) (omega arith)
+    (subst (λ (us : List Bool). get_or us 0 true ≡ true) (sym unseen) refl) pairs (subst (λ (i : ℕ). f'.unseen.items ≡ set f.unseen.items i false) number unseens) nexts in
     going_none p f' no_pair refl refl g.found (pairs ∙ ap (λ (l : List Pair). l ++ no_pair ∷ []) none) (nexts ∙ no_nexts)
 
 -- What is read of a list is what stands there.

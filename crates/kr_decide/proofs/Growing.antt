@@ -1,9 +1,9 @@
 -- A list of pairs that grows: what is known of it stays, and one more pair keeps it.
 use Rattle.std.proofs.Common.{ℕ, zero, suc, Bool, true, false, ◌≡◌, ◌≤◌, ◌<◌, ◌+◌, ◌∙◌, Option, Some, None, List, [], ◌∷◌, ◌++◌, length, get_or, set, replicate, ap, refl, sym, subst, cond, add-zero, inl, inr, arith, ◌⊎◌}
 use Rattle.std.proofs.lemmas.Bool.{cases_eq}
-use Rattle.std.proofs.lemmas.List.{get_or-append-add, get_or-set_same, get_or-set_other, length-set, length-replicate}
+use Rattle.std.proofs.lemmas.List.{get_or-set_other, length-set, length-replicate}
 use Rattle.std.proofs.lemmas.List.Sums.{sum_by-set}
-use Rattle.std.proofs.Math.ListN.{get_or-append, get_or-eq_default, length-append}
+use Rattle.std.proofs.Math.ListN.{get_or-append, length-append}
 use Rattle.std.proofs.Math.Seq.{get_or-append_seam}
 use Rattle.kr_model.specs.declared.Row.{Row}
 use Rattle.kr_model.specs.declared.Row.TheVariants as row
@@ -14,14 +14,14 @@ use Rattle.kr_model.specs.Covers.{mode_after}
 use Rattle.kr_model.specs.declared.Side.{Side}
 use Rattle.kr_model.specs.declared.LockState.{LockState}
 use Rattle.kr_model.specs.Protocol.{Protocol, IsLawful, IsMode}
-use Rattle.kr_model.specs.Safe.{free, after, asked, given}
+use Rattle.kr_model.specs.Safe.{after, asked, given}
 use Rattle.kr_decide.specs.declared.pair.Pair.{Pair}
 use Rattle.kr_decide.specs.declared.pair.Way.{Way}
 use Rattle.kr_decide.specs.declared.pair.Way.TheVariants as way
 use Rattle.kr_decide.specs.declared.finding.Found.{Found}
 use Rattle.kr_decide.specs.Numbers.{pair_number}
 use Rattle.kr_decide.specs.Pairs.{no_pair, pair_at, IsMoved, IsWay, AreDerived}
-use Rattle.kr_decide.specs.Findings.{Has, left, AreFound, IsFound, Grows}
+use Rattle.kr_decide.specs.Findings.{Has, left, IsFound, Grows}
 use Rattle.kr_decide.proofs.SameNumbers.{same_pair}
 
 -- What stands before stays, and is the same in the longer list.

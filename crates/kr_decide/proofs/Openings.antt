@@ -25,6 +25,7 @@ one_more_test P bs b n size old new k below = split (below_or_last (omega arith)
   where
     below_or_last : k < n + 1 → (k < n) ⊎ (k ≡ n)
     below_or_last h = grind arith
+
     split : (k < n) ⊎ (k ≡ n) → P k (get_or (bs ++ b ∷ []) k false)
     split (inl h) = subst (P k) (sym (get_or-append bs (b ∷ []) false k (omega arith))) (old k h)
     split (inr e) = subst (λ (i : ℕ). P i (get_or (bs ++ b ∷ []) i false)) (size ∙ sym e) (subst (λ (c : Bool). P (length bs) c) (sym (get_or-append_seam bs b [] false)) (subst (λ (i : ℕ). P i b) (sym size) new))
@@ -37,6 +38,7 @@ none_step p pairs n x old is none k below = split (below_or_last (omega arith))
   where
     below_or_last : k < n + 1 → (k < n) ⊎ (k ≡ n)
     below_or_last h = grind arith
+
     split : (k < n) ⊎ (k ≡ n) → OpensAt p (pair_at pairs k).own (pair_at pairs k).other → ⊥
     split (inl h) = old k h
     split (inr e) = λ o. none (subst (λ (z : Pair). OpensAt p z.own z.other) (ap (pair_at pairs) e ∙ is) o)

@@ -1,5 +1,5 @@
 -- Lock states with the same number are the same, and so are pairs of them.
-use Rattle.std.proofs.Common.{ℕ, zero, suc, Bool, true, false, ◌≡◌, ◌≤◌, ◌<◌, ◌+◌, ◌*◌, ◌∙◌, ap, refl, sym, arith}
+use Rattle.std.proofs.Common.{ℕ, zero, suc, Bool, true, false, ◌≡◌, ◌≤◌, ◌<◌, ◌∙◌, ap, refl, sym, arith}
 use Rattle.kr_model.specs.declared.KeyUse.{KeyUse}
 use Rattle.kr_model.specs.declared.KeyUse.TheVariants as key
 use Rattle.kr_model.specs.declared.GapUse.{GapUse}

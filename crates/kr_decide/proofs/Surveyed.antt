@@ -1,5 +1,5 @@
 -- A survey says what schedules reach: what is told of the pairs that were found is so of all pairs that two transactions can have.
-use Rattle.std.proofs.Common.{ℕ, suc, not, Option, Some, None, inl, inr, ◌⊎◌, Bool, true, false, ◌≡◌, ◌≤◌, ◌<◌, ◌+◌, ◌∙◌, ◌↔◌, List, length, get_or, take, Vec, Global, ap, refl, sym, subst, arith}
+use Rattle.std.proofs.Common.{ℕ, not, Option, Some, None, inl, inr, ◌⊎◌, Bool, true, false, ◌≡◌, ◌≤◌, ◌<◌, ◌+◌, ◌∙◌, ◌↔◌, List, length, get_or, take, Vec, Global, ap, refl, sym, subst, arith}
 use Rattle.std.specs.List.{Any}
 use Rattle.std.proofs.lemmas.List.{get_or_default, get_or-take, length-take-le}
 use Rattle.kr_model.specs.declared.Cover.{Cover}
@@ -11,8 +11,8 @@ use Rattle.kr_decide.specs.declared.pair.Hole.{Hole}
 use Rattle.kr_decide.specs.declared.opening.Opening.{Opening}
 use Rattle.kr_decide.specs.declared.finding.Found.{Found}
 use Rattle.kr_decide.specs.Protects.{protects}
-use Rattle.kr_decide.specs.Pairs.{no_pair, pair_at, IsWay, AreDerived, LetsIn, IsReachedHole}
-use Rattle.kr_decide.specs.Findings.{Has, IsAbove, IsGoing}
+use Rattle.kr_decide.specs.Pairs.{no_pair, pair_at, IsWay, AreDerived, LetsIn}
+use Rattle.kr_decide.specs.Findings.{IsAbove, IsGoing}
 use Rattle.kr_decide.specs.Opens.{IsHeldBy, OpensAt, AreOpenings, IsHoledIn, AreHeld, AreHoled, IsOpenedAt, NoneOpens}
 use Rattle.kr_decide.specs.Survey.{IsHeld, HasHole, IsHole, of_cover, IsSurvey}
 use Rattle.kr_decide.specs.declared.survey.ByCover.{ByCover}
@@ -58,12 +58,16 @@ hole_there p pairs at x o v n derived opened is at_within next_within within ite
   where
     size : length (take n pairs) ≡ n
     size = length-take-le n pairs within
+
     here : pair_at (take n pairs) at ≡ x
     here = at_taken pairs n at at_within ∙ is
+
     above : IsAbove pairs o.above
     above = let i = opened.opening in i.above
+
     above_there : pair_at (take n pairs) o.above.place ≡ pair_at pairs o.above.place
     above_there = at_taken pairs n o.above.place next_within
+
     lets_in : LetsIn p o.row o.side x.own x.other o.above.state
     lets_in = let i = opened.opening in subst (λ (z : Pair). LetsIn p o.row o.side z.own z.other o.above.state) is i.lets_in
 
@@ -85,6 +89,7 @@ module _ (p : Protocol) (f : Found) (going : IsGoing p f (length f.pairs.items))
             held = subst (λ (z : Pair). z.other.mode ≡ m) (sym read) a.4.0;
             protects = subst (λ (z : Pair). protects z.other c ≡ true) (sym read) a.4.1;
           }
+
       back : IsHeld p c m → Any (IsHeldBy c m) f.pairs.items
       back h =
           let l = listed p f going h.own h.other h.beside in
@@ -108,6 +113,7 @@ module _ (p : Protocol) (f : Found) (going : IsGoing p f (length f.pairs.items))
             protects = i.held.1;
             reached = record { beside = beside_at p f.pairs.items i.place derived i.within; alone = o.alone; lets_in = o.lets_in };
           }
+
       back : HasHole p c m → IsHoledIn f.pairs.items opens c m
       back h =
           let r = h.reached in
@@ -129,7 +135,7 @@ module _ (p : Protocol) (f : Found) (going : IsGoing p f (length f.pairs.items))
       by_blocked false e =
           let l = listed p f going x y beside in
           absurd (none l.place l.within (subst (λ (u : LockState). OpensAt p u (pair_at f.pairs.items l.place).other) (sym l.own) (subst (λ (v : LockState). OpensAt p x v) (sym l.other)
-            (record { row = r; side = s; next = n; alone = alone; lets_in = record { asks = asks; kept_out = kept_out; granted = e } }))))
+          (record { row = r; side = s; next = n; alone = alone; lets_in = record { asks = asks; kept_out = kept_out; granted = e } }))))
 
   -- No mode past the last is held.
   none_past : (c : Cover) (m : ℕ) → p.count + 1 ≤ m → IsHeld p c m → ⊥
@@ -156,6 +162,7 @@ module _ (p : Protocol) (f : Found) (going : IsGoing p f (length f.pairs.items))
     where
       is_held : HasHole p c m → IsHeld p c m
       is_held h = let r = h.reached in record { own = h.own; other = h.other; beside = r.beside; held = h.held; protects = h.protects }
+
       split : (m < p.count + 1) ⊎ (p.count + 1 ≤ m) → get_or list m false ≡ true ↔ HasHole p c m
       split (inl h) = holed_both opens openings c m (get_or list m false) (row.each m h)
       split (inr h) = ((λ t. absurd (let e = past_end list m row.size h in cc)), (λ hole. absurd (none_past c m h (is_held hole))))

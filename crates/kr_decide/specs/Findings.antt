@@ -4,7 +4,7 @@ use Rattle.std.specs.List.{sum_by}
 use Rattle.kr_model.specs.declared.Row.{Row}
 use Rattle.kr_model.specs.declared.Row.TheVariants as row
 use Rattle.kr_model.specs.declared.Side.{Side}
-use Rattle.kr_model.specs.declared.Side.TheVariants.{Current, Next}
+use Rattle.kr_model.specs.declared.Side.TheVariants.{Current}
 use Rattle.kr_model.specs.declared.LockState.{LockState}
 use Rattle.kr_model.specs.Protocol.{Protocol}
 use Rattle.kr_model.specs.Safe.{free, after, MayAsk, MayBeside, is_blocked}

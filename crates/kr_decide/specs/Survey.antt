@@ -1,5 +1,5 @@
 -- What schedules reach under a protocol, and what a survey and a decision say of it.
-use Rattle.std.specs.Prelude.{◌≡◌, ℕ, ◌<◌, ◌≤◌, ◌↔◌, Bool, true, false, not, List, length, slice_index_or, IfSome}
+use Rattle.std.specs.Prelude.{◌≡◌, ℕ, ◌<◌, ◌↔◌, Bool, true, false, not, List, length, slice_index_or, IfSome}
 use Rattle.std.specs.Option.{is_some}
 use Rattle.kr_model.specs.declared.Row.{Row}
 use Rattle.kr_model.specs.declared.Side.{Side}

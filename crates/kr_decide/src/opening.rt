@@ -73,11 +73,7 @@ fn lets_in<P: Protocol>(
 }
 
 /// The request that a lock lets in and has to keep out, of those that don't go by the next name.
-fn plain_opening<P: Protocol>(
-    protocol: &P,
-    own: LockState,
-    other: LockState,
-) -> Option<(Row, Side)>
+fn plain_opening<P: Protocol>(protocol: &P, own: LockState, other: LockState) -> Option<(Row, Side)>
     requires own { own.mode ≤ (P.table protocol.now).count }
     requires other { other.mode ≤ (P.table protocol.now).count }
     ensures some { IfSome result (λ r. LetsIn (P.table protocol.now) r.0 r.1 own other free) }

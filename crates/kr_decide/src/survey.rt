@@ -51,7 +51,11 @@ impl ByCover {
     {
         let modes = self.of(cover);
         let mode = mode as usize;
-        if mode < modes.len() { modes[mode] } else { false }
+        if mode < modes.len() {
+            modes[mode]
+        } else {
+            false
+        }
     }
 }
 
@@ -129,12 +133,7 @@ fn is_holed_in(pairs: &[Pair], opens: &[bool], cover: Cover, mode: Mode) -> bool
 }
 
 /// Of each mode up to `count`, whether it can be held with a cover to protect.
-fn held_of(
-    alloc: Global,
-    pairs: &[Pair],
-    cover: Cover,
-    count: Mode,
-) -> Result<Vec<bool>, Memory>
+fn held_of(alloc: Global, pairs: &[Pair], cover: Cover, count: Mode) -> Result<Vec<bool>, Memory>
     requires { count ≤ 15 }
     ensures { IfOk result (λ list. AreHeld pairs.now cover (count + 1) list.items) }
 {
@@ -179,12 +178,7 @@ fn held(alloc: Global, pairs: &[Pair], count: Mode) -> Result<ByCover, Memory>
 }
 
 /// Of each cover and mode, whether it lets in what it has to keep out.
-fn holed(
-    alloc: Global,
-    pairs: &[Pair],
-    opens: &[bool],
-    count: Mode,
-) -> Result<ByCover, Memory>
+fn holed(alloc: Global, pairs: &[Pair], opens: &[bool], count: Mode) -> Result<ByCover, Memory>
     requires count { count ≤ 15 }
     requires opens { length opens.now ≡ length pairs.now }
     ensures { IfOk result (λ t. (c : Cover) → AreHoled pairs.now opens.now c (count + 1) (of_cover t c)) }

@@ -1,4 +1,4 @@
-use Rattle.std.proofs.Common.{ℕ, ◌≡◌, ◌<◌, true, false, set, get_or, ap, refl, sym, subst, ◌∙◌, rules}
+use Rattle.std.proofs.Common.{ℕ, ◌≡◌, ◌<◌, true, false, set, get_or, ap, refl, subst, rules}
 use Rattle.kr_decide.proofs.Growing.{grown}
 use Rattle.kr_decide.proofs.finding.Found.add.Goals as goal
 

@@ -1,6 +1,4 @@
-use Rattle.std.proofs.Common.{rules, sym, subst, ◌∙◌}
-use Rattle.kr_decide.specs.declared.pair.Pair.{Pair}
-use Rattle.kr_decide.specs.Findings.{Has}
+use Rattle.std.proofs.Common.{sym, ◌∙◌}
 use Rattle.kr_decide.proofs.Following.{all_of}
 use Rattle.kr_decide.proofs.finding.Found.add_all.Goals as goal
 

@@ -1,4 +1,4 @@
-use Rattle.std.proofs.Common.{◌≡◌, ◌∙◌, ap, arith, rules, length, sym, subst}
+use Rattle.std.proofs.Common.{◌≡◌, ◌∙◌, arith, rules, sym, subst}
 use Rattle.kr_decide.specs.declared.finding.Above.{Above}
 use Rattle.kr_decide.specs.Findings.{IsAbove, MovesByNext, above_at}
 use Rattle.kr_decide.proofs.Growing.{grows_on}
@@ -10,7 +10,7 @@ add_by_next-requires-clause-spot g c =
     let p = g.P.Protocol.table c.args.protocol.now in
     let i = c.loop-at.invariant.grows in
     let read : above_at c.args.self.now.nexts.items c.loop-at.at ≡ c.index-above.result.now =
-      above_read c.args.self.now.nexts.items c.loop-at.at c.index-above.result.now (search rules) (search (rules, i.nexts)) in
+    above_read c.args.self.now.nexts.items c.loop-at.at c.index-above.result.now (search rules) (search (rules, i.nexts)) in
     record {
       from = omega (arith, i.longer);
       pair = i.kept c.args.from c.requires.from ∙ c.requires.pair;
@@ -22,9 +22,9 @@ loop-at-preserved g c =
     let p = g.P.Protocol.table c.args.protocol.now in
     let i = c.loop-at.invariant.grows in
     let read : above_at c.args.self.now.nexts.items c.loop-at.at ≡ c.index-above.result.now =
-      above_read c.args.self.now.nexts.items c.loop-at.at c.index-above.result.now (search rules) (search (rules, i.nexts)) in
+    above_read c.args.self.now.nexts.items c.loop-at.at c.index-above.result.now (search rules) (search (rules, i.nexts)) in
     record {
       grows = grows_on p _ _ _ c.loop-at.invariant.grows c.in_ok-add_by_next.ensures.grows;
       moves = nexts_step p _ _ c.args.self.now.nexts.items c.loop-at.at c.args.pair.own c.args.pair.other c.in_ok-add_by_next.ensures.grows c.loop-at.invariant.moves
-        (subst (λ (q : Above). MovesByNext p c.add_by_next.new.self.pairs.items c.args.pair.own c.args.pair.other q.state) (sym read) c.in_ok-add_by_next.ensures.moves);
+          (subst (λ (q : Above). MovesByNext p c.add_by_next.new.self.pairs.items c.args.pair.own c.args.pair.other q.state) (sym read) c.in_ok-add_by_next.ensures.moves);
     }

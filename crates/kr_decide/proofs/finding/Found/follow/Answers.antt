@@ -1,9 +1,9 @@
-use Rattle.std.proofs.Common.{◌≡◌, ◌∙◌, List, ap, arith, rules, refl, sym, subst}
+use Rattle.std.proofs.Common.{◌≡◌, ◌∙◌, List, ap, arith, refl, subst}
 use Rattle.kr_decide.specs.declared.pair.Pair.{Pair}
 use Rattle.kr_decide.specs.declared.finding.Above.{Above}
 use Rattle.kr_decide.specs.Pairs.{pair_at}
 use Rattle.kr_decide.specs.Findings.{IsAbove, HasNext}
-use Rattle.kr_decide.proofs.Following.{going_same, going_next, pair_read, first_grown}
+use Rattle.kr_decide.proofs.Following.{going_same, going_next, pair_read}
 use Rattle.kr_decide.proofs.finding.Found.follow.Goals as goal
 
 pub returns-in_ok-push-clause-going : goal.returns-in_ok-push-clause-going
@@ -19,7 +19,7 @@ returns-in_ok-push-clause-going g c =
       alone = ap (λ (q : Pair). q.other) new ∙ c.if-is_next.ensures.alone refl;
     } in
     going_next p c.args.self.now _ _ _ c.args.at c.index-pair.result.now (record { place = c.args.at; state = c.index-pair.result.now.own }) c.requires.going c.requires.at read grows c.in_ok-add_everywhere.ensures.grows
-      all.all c.in_ok-add_everywhere.ensures.moves above refl refl refl c.in_ok-push.ensures.items
+    all.all c.in_ok-add_everywhere.ensures.moves above refl refl refl c.in_ok-push.ensures.items
 
 pub returns-else-is_next-clause-going : goal.returns-else-is_next-clause-going
 returns-else-is_next-clause-going g c =

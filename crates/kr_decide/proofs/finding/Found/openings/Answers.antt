@@ -1,4 +1,4 @@
-use Rattle.std.proofs.Common.{ℕ, Bool, ◌↔◌, ◌++◌, ◌∷◌, [], List, false, IsTrue, get_or, sym, subst, arith, rules}
+use Rattle.std.proofs.Common.{ℕ, Bool, ◌↔◌, List, false, IsTrue, get_or, sym, subst, rules}
 use Rattle.kr_decide.specs.Pairs.{pair_at}
 use Rattle.kr_decide.specs.Opens.{OpensAt}
 use Rattle.kr_decide.proofs.Openings.{one_more_test}
@@ -11,7 +11,7 @@ loop-at-preserved g c =
     record {
       count = search rules;
       opens = λ k below. subst (λ (l : List Bool). P k (get_or l k false)) (sym c.in_ok-push.ensures.items)
-        (one_more_test P c.loop-at.list.items c.opens.result c.loop-at.at c.loop-at.invariant.count c.loop-at.invariant.opens c.opens.ensures k below);
+          (one_more_test P c.loop-at.list.items c.opens.result c.loop-at.at c.loop-at.invariant.count c.loop-at.invariant.opens c.opens.ensures k below);
     }
 
 pub returns : goal.returns

@@ -1,6 +1,5 @@
-use Rattle.std.proofs.Common.{◌≡◌, ◌≤◌, subst, sym, rules}
+use Rattle.std.proofs.Common.{◌≤◌, subst}
 use Rattle.kr_decide.specs.declared.pair.Pair.{Pair}
-use Rattle.kr_decide.specs.Pairs.{pair_at}
 use Rattle.kr_decide.proofs.Following.{pair_read}
 use Rattle.kr_decide.proofs.Openings.{opens_some, opens_none}
 use Rattle.kr_decide.proofs.finding.Found.opens.Goals as goal
