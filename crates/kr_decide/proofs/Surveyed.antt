@@ -190,3 +190,8 @@ survey_right p f opens held holed hole going openings are_held are_holed some no
     by_hole : (h : Option Hole) → IfSome h (IsHole p) → IfNone h (NoneOpens p f.pairs.items (length f.pairs.items)) → not (is_some h) ≡ true ↔ IsSafe p
     by_hole None some none = ((λ t. safe_of_none p f going none), (λ safe. refl))
     by_hole (Some h) some none = ((λ t. absurd cc), (λ safe. absurd (hole_unsafe p h some safe)))
+
+-- Where all pairs have been followed and there is no first hole, the protocol is safe.
+pub safe_without_hole : (p : Protocol) (f : Found) (n : ℕ) (hole : Option Hole) → IsGoing p f n → n ≡ length f.pairs.items → IfNone hole (NoneOpens p f.pairs.items (length f.pairs.items)) → IfNone hole (IsSafe p)
+safe_without_hole p f n None going same none = safe_of_none p f (subst (IsGoing p f) same going) none
+safe_without_hole p f n (Some hole) going same none = tt

@@ -43,7 +43,7 @@ pub record LetsIn (p : Protocol) (r : Row) (s : Side) (x y n : LockState) : Type
   pub kept_out : keeps_out y r s ≡ true
   pub granted : is_blocked p r s x n y ≡ false
 
--- Schedules lead there.
+-- And two transactions can have these lock states, by the relation of which two can be on one name.
 pub record IsReachedHole (p : Protocol) (r : Row) (s : Side) (x y n : LockState) : Type 0 where
   pub beside : Beside p x y
   pub alone : Beside p n free

@@ -1,4 +1,4 @@
--- What schedules reach under a protocol, and what a survey and a decision say of it.
+-- Which modes can be held with what to protect, where a lock lets in what it has to keep out, and what a survey and a decision say of it.
 use Rattle.std.specs.Prelude.{◌≡◌, ℕ, ◌<◌, ◌↔◌, Bool, true, false, not, List, length, slice_index_or, IfSome}
 use Rattle.std.specs.Option.{is_some}
 use Rattle.kr_model.specs.declared.Row.{Row}
@@ -26,7 +26,7 @@ pub record IsHeld (p : Protocol) (c : Cover) (mode : ℕ) : Type 0 where
   pub held : other.mode ≡ mode
   pub protects : protects other c ≡ true
 
--- And another can be granted there what the lock has to keep out.
+-- And another can be granted there what the lock has to keep out, for the sake of this cover or of another that it has to protect.
 pub record HasHole (p : Protocol) (c : Cover) (mode : ℕ) : Type 0 where
   pub row : Row
   pub side : Side
@@ -47,7 +47,7 @@ pub record IsHole (p : Protocol) (h : Hole) : Type 0 where
   pub next : (pair_at h.pairs.items h.at_next).own ≡ h.next
   pub alone : (pair_at h.pairs.items h.at_next).other ≡ free
   pub lets_in : LetsIn p h.row h.side h.own h.other h.next
-  -- schedules lead there
+  -- two transactions can come there
   pub reached : IsReachedHole p h.row h.side h.own h.other h.next
 
 -- What is told of each mode, by the cover.

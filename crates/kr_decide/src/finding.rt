@@ -63,7 +63,7 @@ fn is_free(state: LockState) -> bool
 
 impl Found {
     /// At first no transaction has anything.
-    fn new<P: Protocol>(alloc: Global, protocol: &P) -> Result<Found, Memory>
+    pub(crate) fn new<P: Protocol>(alloc: Global, protocol: &P) -> Result<Found, Memory>
         ensures { IfOk result (λ f. IsGoing (P.table protocol.now) f 0) }
     {
         let mut found = Found {
@@ -257,7 +257,7 @@ impl Found {
     }
 
     /// Adds all that comes of the pair at a place, where this was done with those before it.
-    fn follow<P: Protocol>(&mut self, protocol: &P, at: usize) -> Result<(), Memory>
+    pub(crate) fn follow<P: Protocol>(&mut self, protocol: &P, at: usize) -> Result<(), Memory>
         requires going { IsGoing (P.table protocol.now) self.old at }
         requires at { at < length self.old.pairs.items }
         ensures going { OnOk result (IsGoing (P.table protocol.now) self.new (at + 1)) }

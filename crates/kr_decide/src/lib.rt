@@ -1,5 +1,6 @@
-//! The decision: whether every run under a lock protocol is serializable in commit order. It finds all pairs of lock states
-//! that two transactions can have on one name, and whether each one's lock blocks whom it must.
+//! The decision: whether a locking protocol is safe. It finds all pairs of lock states that two transactions can have on one
+//! name, and whether each one's lock blocks what it has to keep out. Every run under a safe protocol is serializable in
+//! commit order.
 #![tactic(auto)]
 
 mod decision;

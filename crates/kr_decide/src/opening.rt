@@ -5,7 +5,7 @@ ghost use Rattle.kr_model.specs.declared.Side.TheVariants as side;
 ghost use Rattle.kr_model.specs.Safe.{free};
 ghost use Rattle.kr_decide.specs.Protects.{of_key, of_gap, protects};
 ghost use Rattle.kr_decide.specs.Pairs.{pair_at, LetsIn};
-ghost use Rattle.kr_decide.specs.Findings.{IsFound, IsGoing, IsAbove, AreNexts};
+ghost use Rattle.kr_decide.specs.Findings.{IsFound, IsGoing, IsFirst, IsAbove, AreNexts};
 ghost use Rattle.kr_decide.specs.Opens.{LetsNoneIn, LetsNoDeleteIn, OpensAt, IsOpening, AreOpenings, IsOpenedAt, NoneOpens};
 
 use crate::finding::{Above, Found, NOTHING_ABOVE};
@@ -135,13 +135,17 @@ impl Found {
         None
     }
 
-    /// The first request that the second of a pair lets in and has to keep out, if the first may come to make one.
-    pub(crate) fn opening<P: Protocol>(&self, protocol: &P, pair: Pair) -> Option<Opening>
+    /// The first request that the second of a pair lets in and has to keep out, of those that the first may come to make with
+    /// what was found on the next name so far.
+    fn opening_so_far<P: Protocol>(&self, protocol: &P, pair: Pair) -> Option<Opening>
         requires own { pair.own.mode ≤ (P.table protocol.now).count }
         requires other { pair.other.mode ≤ (P.table protocol.now).count }
-        requires going { IsGoing (P.table protocol.now) self.now (length self.now.pairs.items) }
+        requires found { IsFound (P.table protocol.now) self.now }
+        requires first { IsFirst self.now.pairs.items }
+        requires nexts { AreNexts self.now.pairs.items self.now.nexts.items }
         ensures some { IfSome result (IsOpening (P.table protocol.now) self.now.pairs.items pair.own pair.other) }
-        ensures none { IfNone result (OpensAt (P.table protocol.now) pair.own pair.other → ⊥) }
+        ensures plain { IfNone result (LetsNoneIn (P.table protocol.now) pair.own pair.other) }
+        ensures deletes { IfNone result (LetsNoDeleteIn (P.table protocol.now) self.now.nexts.items (length self.now.nexts.items) pair.own pair.other) }
     {
         if let Some((row, side)) = plain_opening(protocol, pair.own, pair.other) {
             return Some(Opening {
@@ -156,6 +160,35 @@ impl Found {
                 side: Side::Current,
                 above,
             }),
+            None => None,
+        }
+    }
+
+    /// The same, once all has been found: of all that the first may come to make.
+    fn opening<P: Protocol>(&self, protocol: &P, pair: Pair) -> Option<Opening>
+        requires own { pair.own.mode ≤ (P.table protocol.now).count }
+        requires other { pair.other.mode ≤ (P.table protocol.now).count }
+        requires going { IsGoing (P.table protocol.now) self.now (length self.now.pairs.items) }
+        ensures some { IfSome result (IsOpening (P.table protocol.now) self.now.pairs.items pair.own pair.other) }
+        ensures none { IfNone result (OpensAt (P.table protocol.now) pair.own pair.other → ⊥) }
+    {
+        match self.opening_so_far(protocol, pair) {
+            Some(opening) => Some(opening),
+            None => None,
+        }
+    }
+
+    /// What the second of the pair at a place lets in and has to keep out, of what was found so far.
+    pub(crate) fn opening_at<P: Protocol>(&self, protocol: &P, at: usize) -> Option<Opening>
+        requires found { IsFound (P.table protocol.now) self.now }
+        requires first { IsFirst self.now.pairs.items }
+        requires nexts { AreNexts self.now.pairs.items self.now.nexts.items }
+        requires at { at < length self.now.pairs.items }
+        ensures { IfSome result (IsOpenedAt (P.table protocol.now) self.now.pairs.items at) }
+    {
+        let pair = self.pairs[at];
+        match self.opening_so_far(protocol, pair) {
+            Some(opening) => Some(opening),
             None => None,
         }
     }

@@ -1,7 +1,7 @@
 //! What schedules reach under a protocol, and where a lock doesn't block what it has to keep out.
 ghost use Rattle.std.specs.Prelude.{◌≡◌, ◌+◌, ◌≤◌, ◌↔◌, IsTrue, IfOk, IfSome, IfNone, length, slice_index_or, false};
 ghost use Rattle.std.specs.List.{Any};
-ghost use Rattle.kr_decide.specs.Findings.{IsGoing};
+ghost use Rattle.kr_decide.specs.Findings.{IsFound, IsGoing};
 ghost use Rattle.kr_decide.specs.Opens.{IsHeldBy, IsHoledIn, AreHeld, AreHoled, IsOpenedAt, NoneOpens};
 ghost use Rattle.kr_decide.specs.Survey.{IsHole, IsSurvey, of_cover, told, is_held, has_hole, is_safe};
 
@@ -76,11 +76,13 @@ impl Survey {
     }
 
     /// Whether the protocol is safe: no lock lets in what it has to keep out, and so every run under the protocol is
-    /// serializable in commit order.
+    /// serializable in commit order. Where it isn't, some run may still not go wrong: the lock states that two transactions
+    /// can have are found from one name and the next one, and no more.
     pub fn is_safe(&self) -> bool
         ensures { result ≡ is_safe self.now }
     {
-        self.hole.is_none()
+        let hole = &self.hole;
+        hole.is_none()
     }
 
     /// Whether some transaction can hold the mode on a name while its lock there has the cover to protect.
@@ -193,8 +195,8 @@ fn holed(alloc: Global, pairs: &[Pair], opens: &[bool], count: Mode) -> Result<B
 }
 
 /// The hole at a place, with the pairs that lead there.
-fn hole_of<P: Protocol>(protocol: &P, found: Found, at: usize, opening: Opening) -> Hole
-    requires going { IsGoing (P.table protocol.now) found (length found.pairs.items) }
+pub(crate) fn hole_of<P: Protocol>(protocol: &P, found: Found, at: usize, opening: Opening) -> Hole
+    requires found { IsFound (P.table protocol.now) found }
     requires opened { IsOpenedAt (P.table protocol.now) found.pairs.items at opening }
     ensures { IsHole (P.table protocol.now) result }
 {
@@ -216,8 +218,8 @@ fn hole_of<P: Protocol>(protocol: &P, found: Found, at: usize, opening: Opening)
     }
 }
 
-/// The first hole, if there is one.
-fn first_hole<P: Protocol>(protocol: &P, found: Found) -> Option<Hole>
+/// The first hole of all, if there is one.
+pub(crate) fn first_hole<P: Protocol>(protocol: &P, found: Found) -> Option<Hole>
     requires { IsGoing (P.table protocol.now) found (length found.pairs.items) }
     ensures some { IfSome result (IsHole (P.table protocol.now)) }
     ensures none { IfNone result (NoneOpens (P.table protocol.now) found.pairs.items (length found.pairs.items)) }

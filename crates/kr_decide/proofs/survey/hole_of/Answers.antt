@@ -6,8 +6,7 @@ use Rattle.kr_decide.proofs.survey.hole_of.Goals as goal
 pub returns : goal.returns
 returns g c =
     let p = g.P.Protocol.table c.args.protocol.now in
-    let going = c.requires.going in
-    let found = going.found in
+    let found = c.requires.found in
     let opened = c.requires.opened in
     let opening = opened.opening in
     let above = opening.above in
