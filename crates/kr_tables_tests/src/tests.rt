@@ -17,6 +17,7 @@ macro_rules! holds {
 
 mod cases;
 mod causes;
+mod decide;
 mod model;
 mod modes;
 mod protocol;
