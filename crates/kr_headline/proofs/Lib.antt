@@ -1,3 +1,4 @@
 pub mod gaps
 pub mod step
+pub mod safe
 pub mod run

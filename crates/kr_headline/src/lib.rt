@@ -1,11 +1,12 @@
-//! The main theorem, over the definitions alone: every run under a covered protocol is serial in commit order, with
-//! rollbacks taken whole or one change at a time; and laws of states, logs, runs and covers. Each function does nothing, and its contract is a law. `docs/HEADLINE.md`
-//! tells the proof.
+//! The main theorem, over the definitions alone: every run under a safe protocol is serializable in commit order, with
+//! rollbacks taken whole or one change at a time, and a protocol is safe where all its cases hold; and laws of states,
+//! logs, runs and covers. Each function does nothing, and its contract is a law. `docs/HEADLINE.md` tells the proof.
 #![tactic(auto)]
 
 ghost use Rattle.std.specs.Prelude.{◌≡◌, ℕ, IsTrue, Contains, map, List, Some, None, unwrap_or};
 ghost use Rattle.kr_model.specs.Protocol.{Protocol, IsLawful};
 ghost use Rattle.kr_model.specs.Covers.{Ask, must_conflict, serves, IsCovered};
+ghost use Rattle.kr_model.specs.Safe.{IsSafe};
 ghost use Rattle.kr_model.specs.Kvl.{kvl};
 ghost use Rattle.kr_model.specs.KvlUpdate.{kvl_update};
 ghost use Rattle.kr_model.specs.Im.{im};
@@ -23,8 +24,8 @@ ghost use Rattle.kr_model.specs.declared.Cover.TheVariants.{ReadKey, ReadGap, In
 ghost use Rattle.kr_headline.specs.Passes.{IsSplitting, IsMerging, RunsOfAreSerial};
 ghost use Rattle.kr_headline.specs.Needed.{IsNeeded};
 
-/// Under a lawful and covered protocol the committed transactions of every run of fetches, inserts and commits are
-/// serial in commit order, and the index with the unfinished rolled back, in any order, is the map that they leave.
+/// Under a lawful and covered protocol every run of fetches, inserts and commits is serializable in commit order, and the
+/// index with the unfinished rolled back, in any order, is the map that the committed transactions leave.
 pub fn splits_are_serial()
     ensures { (p : Protocol) → IsLawful p → IsCovered p → RunsOfAreSerial IsSplitting p }
 {}
@@ -34,15 +35,35 @@ pub fn merges_are_serial()
     ensures { (p : Protocol) → IsLawful p → IsCovered p → RunsOfAreSerial IsMerging p }
 {}
 
-/// The main theorem: the same of every run, with scans and updates too. For every list of steps that transactions
-/// attempt on any keys, with blocked steps, interleaved scans, rollbacks, and changes taken back one at a time between
-/// the steps of others, each committed transaction's fetches, scans, inserts, updates and deletes have the answers that
-/// they have when the committed transactions run whole, one after another in commit order, on the opening map.
+/// The main theorem: every run under a lawful and safe protocol is serializable in commit order. For every list of steps
+/// that transactions attempt on any keys, with blocked steps, interleaved scans, updates, rollbacks, and changes taken
+/// back one at a time between the steps of others, each committed transaction's fetches, scans, inserts, updates and
+/// deletes have the answers that they have when the committed transactions run whole, one after another in commit order,
+/// on the opening map. And the index with the unfinished rolled back, in any order, is the map that they leave.
+pub fn safe_runs_are_serial()
+    ensures { (p : Protocol) → IsLawful p → IsSafe p → RunsAreSerial p }
+{}
+
+/// A lawful protocol of which all cases hold is safe. So the cases are a simple check that suffices; some protocols are
+/// safe that fail cases.
+pub fn covered_is_safe()
+    ensures { (p : Protocol) → IsLawful p → IsCovered p → IsSafe p }
+{}
+
+/// So every run under a lawful and covered protocol is serializable in commit order.
 pub fn runs_are_serial()
     ensures { (p : Protocol) → IsLawful p → IsCovered p → RunsAreSerial p }
 {}
 
-/// The main theorem of the bundled tables, with no premise left.
+/// The bundled tables are safe.
+pub fn bundled_are_safe()
+    ensures kvl { IsSafe kvl }
+    ensures kvl_update { IsSafe kvl_update }
+    ensures im { IsSafe im }
+    ensures range_key { IsSafe range_key }
+{}
+
+/// Every run under a bundled table is serializable in commit order, with no premise left.
 pub fn bundled_runs_are_serial()
     ensures kvl { RunsAreSerial kvl }
     ensures kvl_update { RunsAreSerial kvl_update }
@@ -51,7 +72,7 @@ pub fn bundled_runs_are_serial()
 {}
 
 /// None of the nine rules can be left out: a lawful protocol that fails no case but those of the rule has a run that
-/// isn't serial.
+/// isn't serializable in commit order.
 pub fn each_rule_is_needed()
     ensures { (rule : Rule) → IsNeeded rule }
 {}

@@ -1,5 +1,5 @@
 -- A fetch, an insert, a delete and an update keep what is known of the run.
-use Rattle.std.specs.Prelude.{◌≡◌, ℕ, suc, ◌≤◌, true, false, ◌&&◌, if◌then◌else◌, List, [], ◌∷◌, ◌++◌, Option, Some, None, refl, ◌⊎◌, is_some}
+use Rattle.std.specs.Prelude.{◌≡◌, ℕ, ◌≤◌, true, false, ◌&&◌, if◌then◌else◌, List, [], ◌∷◌, ◌++◌, Option, Some, None, refl, ◌⊎◌, is_some}
 use Rattle.std.specs.Ordering.{nat_cmp}
 use Rattle.std.specs.FinMap.{put}
 use Rattle.std.proofs.Common.{sym, ap, subst, arith, inr}
@@ -13,57 +13,48 @@ use Rattle.kr_model.specs.declared.Op.TheVariants as op
 use Rattle.kr_model.specs.declared.Reply.{Reply}
 use Rattle.kr_model.specs.declared.Reply.TheVariants as reply
 use Rattle.kr_model.specs.Protocol.{Protocol, IsLawful}
-use Rattle.kr_model.specs.Covers.{IsCovered}
-use Rattle.kr_model.specs.Locks.{Request, own, blockers, kept}
-use Rattle.kr_model.specs.Map.{Map, get, set, without, at, after}
-use Rattle.kr_model.specs.State.{State, Active, has_ended, standing}
+use Rattle.kr_model.specs.Locks.{own, blockers, kept}
+use Rattle.kr_model.specs.Map.{Map, IsMap, get, set, without, at, after}
+use Rattle.kr_model.specs.State.{State, has_ended, standing}
 use Rattle.kr_model.specs.Plan.{access, access_of}
 use Rattle.kr_model.specs.Step.{changed, granted_or_blocked, fetched, inserted, deleted, updated, performed}
 use Rattle.kr_model.specs.Run.{Entry, is_operation, is_granted, is_committed, answer_of}
 use Rattle.kr_model.specs.Serial.{whole_insert, whole_delete, whole_update, found_or_none, map_left}
+use Rattle.std.proofs.Common.{◌∙◌, inl, ⊎_elim}
+use Rattle.std.proofs.lemmas.Bool.{cases_eq}
 use Rattle.kr_model.proofs.Guarantees.{in_left, in_right}
-use Rattle.kr_model.proofs.Requests.{request_at, AskModes, asks_one, asks_both}
-use Rattle.kr_headline.proofs.gaps.Gaps.{at-key}
-use Rattle.kr_headline.proofs.step.Covers.{Covered, covered}
+use Rattle.kr_model.proofs.Requests.{request_at}
+use Rattle.kr_model.proofs.UndoLaws.{IsMap-restore}
+use Rattle.kr_headline.proofs.gaps.Gaps.{has, Alike}
 use Rattle.kr_headline.proofs.gaps.Maps.{has_none, has_some}
-use Rattle.kr_headline.proofs.step.Parts.{Part, Points, Touched, Scanned, finished, with_part}
+use Rattle.kr_headline.proofs.gaps.Moves.{has_apart}
+use Rattle.kr_headline.proofs.gaps.Undo.{restore_here}
+use Rattle.kr_headline.proofs.step.Covers.{Granted}
+use Rattle.kr_headline.proofs.step.Parts.{Part, Points, Moved, Scanned, finished, with_part}
 use Rattle.kr_headline.proofs.step.Replay.{answer, after_op}
 use Rattle.kr_headline.proofs.step.Invariant.{Invariant}
-use Rattle.kr_headline.proofs.step.ReadRows.{MayTouch, hit_touches, miss_touches}
-use Rattle.kr_headline.proofs.step.ReadKeeps.{read_keeps}
+use Rattle.kr_headline.proofs.step.ReadRows.{hit_touches, miss_touches}
 use Rattle.kr_headline.proofs.step.WriteKeeps.{insert_keeps, delete_keeps, update_keeps}
-use Rattle.kr_headline.proofs.run.Keeping.{kept_first, kept_only, kept_second, taken}
 use Rattle.kr_headline.proofs.run.Grants.{requests_of, granted_at}
 use Rattle.kr_headline.proofs.run.Reading.{entry, ReadsAs, reads_answer}
-use Rattle.kr_headline.proofs.run.Known.{Known, KnownAfter, StandsScan, joined, stays, goes, state_after}
+use Rattle.kr_headline.proofs.run.Programs.{StandsScan, joined, state_after}
+use Rattle.kr_model.specs.Safe.{IsSafe, MayAsk, free as nothing}
+use Rattle.kr_headline.proofs.safe.Shape.{shape, shape_covered, same_asks}
+use Rattle.kr_headline.proofs.safe.Holding.{Holds, modes}
+use Rattle.kr_headline.proofs.safe.Placed.{at_stands, stands_kept}
+use Rattle.kr_headline.proofs.safe.Kept.{kept_append}
+use Rattle.kr_headline.proofs.safe.Sim.{Sim, sim_keys, row_holds, row_granted, row_taken, row_after, row_sim}
+use Rattle.kr_headline.proofs.safe.Inserts.{now_void, void_inv, void_sim, void_clear, next_granted, insert_holds, insert_taken, insert_after, insert_sim}
+use Rattle.kr_headline.proofs.safe.Deletes.{delete_holds, delete_taken, delete_after, delete_sim, key_granted, above_granted}
+use Rattle.kr_headline.proofs.run.Known.{Known, KnownAfter, stays, goes}
+use Rattle.kr_headline.proofs.run.ReadDone.{read_done}
 
-module _ (p : Protocol) (laws : IsLawful p) (cov : IsCovered p) (opening : Map) (h : List Entry) (s : State) (g : Known p opening h s) (t : ℕ) (live_t : has_ended s t ≡ false) (unrolled : (g.part t).rolling ≡ false) where
+module _ (p : Protocol) (laws : IsLawful p) (safe : IsSafe p) (opening : Map) (h : List Entry) (s : State) (g : Known p opening h s) (t : ℕ) (live_t : has_ended s t ≡ false) (unrolled : (g.part t).rolling ≡ false) where
   range : (u : ℕ) (name : Name) → own s.locks u name ≤ p.count
-  range u name = let i = g.inv in let k = i.guarded in k.range u name
+  range u name = let k = g.sim in let a = k.locks in a.within u name
 
-  cases : Covered p
-  cases = covered p cov
-
-  -- An operation that changes nothing is done; it may be the whole of a scan.
-  pub read_done : (o d : Op) (a : Reply) (rs : List Request) (x : Active) (New : ℕ → Type 0)
-      → AskModes p rs
-      → after_op s.map d ≡ s.map
-      → a ≡ answer s.map d
-      → ((q : ℕ) → Scanned (g.part t).scan q → Points d q)
-      → ((q : ℕ) → Points d q → (Touched (g.part t) q) ⊎ New q)
-      → MayTouch p s.map (own (kept p s.locks t rs)) g.part t New
-      → ReadsAs t (h ++ entry t o a ∷ []) ((g.part t).program ++ (d, a) ∷ []) None
-      → x.scan ≡ None → x.changes ≡ (g.part t).changes → x.rolling ≡ (g.part t).rolling → is_committed a ≡ false
-      → KnownAfter p opening h t o (a, state_after s s.map (kept p s.locks t rs) (put nat_cmp t x s.active))
-  read_done o d a rs x New asked still a_is inside new may reads no_scan_now same_changes same_rolling no_commit =
-      let k = taken p laws cov s.locks t rs range asked in
-      let was = g.part t in
-      let q : Part = finished was d a was.changes was.moved in
-      let i = read_keeps p s.map (own s.locks) g.part (map_left opening (joined g.done)) g.inv t (own (kept p s.locks t rs)) k New may d still inside new in
-      goes p opening h s s.map (kept p s.locks t rs) x t o a g q live_t no_commit
-      (subst (λ z. Invariant p s.map (own (kept p s.locks t rs)) (with_part g.part t (finished was d z was.changes was.moved)) (map_left opening (joined g.done))) (sym a_is) i)
-      (λ live. reads)
-      (record { scan = subst (λ z. StandsScan None z) (sym no_scan_now) tt; changes = same_changes; rolling = same_rolling })
+  abbrev c : Map
+  c = map_left opening (joined g.done)
 
   module _ (quiet : (g.part t).scan ≡ None) (idle_now : (standing s t).scan ≡ None) where
     -- No scan is in progress.
@@ -90,11 +81,19 @@ module _ (p : Protocol) (laws : IsLawful p) (cov : IsCovered p) (opening : Map) 
     hit o a k w there still a_is points granted same no_commit free =
         let q = p.ask row.FetchHit Current 0 in
         let rs = request_at (Some (Key k)) q ++ [] in
-        let asked = asks_both p (request_at (Some (Key k)) q) [] (asks_one p laws (Some (Key k)) row.FetchHit Current 0 (omega arith)) tt in
-        let may = hit_touches p laws cases s.map (own s.locks) g.part (map_left opening (joined g.done)) g.inv t (own (kept p s.locks t rs)) k (has_some s.map k w there)
-        (granted_at p laws s.locks t rs free range row.FetchHit Current (Key k) 0 (omega arith) (λ r j. in_left r (request_at (Some (Key k)) q) [] j))
-        (λ c sv. kept_first p laws cov s.locks t (Key k) q [] asked (range t) c sv) in
-        read_done o o a rs (standing s t) (λ y. y ≡ k) asked still a_is (nothing_scanned o) (λ y here. inr (points y here)) may
+        let i = g.inv in
+        let z = g.sim in
+        let is = has_some s.map k w there in
+        let ask = stands_kept s.map g.part g.hold z.placed t (Key k) unrolled is in
+        let grant = granted_at p laws s.locks t rs free range row.FetchHit Current (Key k) 0 (omega arith) (λ r j. in_left r (request_at (Some (Key k)) q) [] j) in
+        let may = hit_touches shape same_asks shape_covered s.map (modes g.hold) g.part c g.inv t (modes (row_holds p laws safe s.map s.locks g.part g.hold c i z t unrolled row.FetchHit Current (Key k) ask (omega arith) grant)) k is
+        (row_granted p laws safe s.map s.locks g.part g.hold c i z t unrolled row.FetchHit Current (Key k) ask (omega arith) grant tt 0)
+        (row_after p laws safe s.map s.locks g.part g.hold c i z t unrolled row.FetchHit Current (Key k) ask (omega arith) grant) in
+        read_done p laws safe opening h s g t live_t unrolled o o a rs (standing s t) (λ y. y ≡ k) (row_holds p laws safe s.map s.locks g.part g.hold c i z t unrolled row.FetchHit Current (Key k) ask (omega arith) grant)
+        (row_taken p laws safe s.map s.locks g.part g.hold c i z t unrolled row.FetchHit Current (Key k) ask (omega arith) grant)
+        (λ x m r. subst (λ l. Sim p s.map l (with_part g.part t x) (row_holds p laws safe s.map s.locks g.part g.hold c i z t unrolled row.FetchHit Current (Key k) ask (omega arith) grant)) (sym (kept_append p s.locks t (request_at (Some (Key k)) q) []))
+        (row_sim p laws safe s.map s.locks g.part g.hold c i z t unrolled row.FetchHit Current (Key k) ask (omega arith) grant (λ u ne. tt) is refl refl x m r))
+        still a_is (nothing_scanned o) (λ y here. inr (points y here)) may
         (reads_one o a granted same) idle_now same_changes same_rolling no_commit
 
     -- A key that is absent is looked for.
@@ -106,11 +105,18 @@ module _ (p : Protocol) (laws : IsLawful p) (cov : IsCovered p) (opening : Map) 
         let n = at s.map k in
         let q = p.ask row.FetchMiss Next 0 in
         let rs = request_at (Some n) q in
-        let asked = asks_one p laws (Some n) row.FetchMiss Next 0 (omega arith) in
-        let may = miss_touches p laws cases s.map (own s.locks) g.part (map_left opening (joined g.done)) g.inv t (own (kept p s.locks t rs)) k (has_none s.map k none)
-        (granted_at p laws s.locks t rs free range row.FetchMiss Next n 0 (omega arith) (λ r j. j))
-        (λ c sv. kept_only p laws cov s.locks t n q asked (range t) c sv) in
-        read_done o o a rs (standing s t) (λ y. y ≡ k) asked still a_is (nothing_scanned o) (λ y here. inr (points y here)) may
+        let i = g.inv in
+        let z = g.sim in
+        let is = at_stands s.map k i.is_map in
+        let ask = stands_kept s.map g.part g.hold z.placed t n unrolled is in
+        let grant = granted_at p laws s.locks t rs free range row.FetchMiss Next n 0 (omega arith) (λ r j. j) in
+        let may = miss_touches shape same_asks shape_covered s.map (modes g.hold) g.part c g.inv t (modes (row_holds p laws safe s.map s.locks g.part g.hold c i z t unrolled row.FetchMiss Next n ask (omega arith) grant)) k (has_none s.map k none)
+        (row_granted p laws safe s.map s.locks g.part g.hold c i z t unrolled row.FetchMiss Next n ask (omega arith) grant tt 0)
+        (row_after p laws safe s.map s.locks g.part g.hold c i z t unrolled row.FetchMiss Next n ask (omega arith) grant) in
+        read_done p laws safe opening h s g t live_t unrolled o o a rs (standing s t) (λ y. y ≡ k) (row_holds p laws safe s.map s.locks g.part g.hold c i z t unrolled row.FetchMiss Next n ask (omega arith) grant)
+        (row_taken p laws safe s.map s.locks g.part g.hold c i z t unrolled row.FetchMiss Next n ask (omega arith) grant)
+        (λ x m r. row_sim p laws safe s.map s.locks g.part g.hold c i z t unrolled row.FetchMiss Next n ask (omega arith) grant (λ u ne. tt) is refl refl x m r)
+        still a_is (nothing_scanned o) (λ y here. inr (points y here)) may
         (reads_one o a granted same) idle_now same_changes same_rolling no_commit
 
     -- A key that is absent is inserted.
@@ -125,15 +131,36 @@ module _ (p : Protocol) (laws : IsLawful p) (cov : IsCovered p) (opening : Map) 
         let a = p.ask row.Insert Current n in
         let b = p.ask row.Insert Next n in
         let rs = request_at (Some (Key k)) a ++ request_at (Some x) b in
-        let asked = asks_both p (request_at (Some (Key k)) a) (request_at (Some x) b) (asks_one p laws (Some (Key k)) row.Insert Current n (range t x)) (asks_one p laws (Some x) row.Insert Next n (range t x)) in
-        let k0 = taken p laws cov s.locks t rs range asked in
+        let i = g.inv in
+        let z = g.sim in
+        let pr = z.paired in
+        let absent = has_none s.map k none in
+        let m' : Map = set s.map k v in
+        let hn : IsMap m' = IsMap-restore s.map k (Some v) i.is_map in
+        let there : has m' k ≡ true = has_some m' k v (restore_here s.map k (Some v)) in
+        let alike : Alike k s.map m' = λ y ne. has_apart s.map k (Some v) y ne in
+        let grant_n = granted_at p laws s.locks t rs free range row.Insert Next x n (range t x) (λ r j. in_right r (request_at (Some (Key k)) a) (request_at (Some x) b) j) in
+        let grant_k = granted_at p laws s.locks t rs free range row.Insert Current (Key k) n (range t x) (λ r j. in_left r (request_at (Some (Key k)) a) (request_at (Some x) b) j) in
+        let first = subst (λ w. Granted p (own s.locks) t row.Insert Next x w) (sym (pr.mode t x)) grant_n in
+        let hold2 : Holds = now_void p laws safe s.map s.locks g.part g.hold c i z t unrolled k absent first in
+        let inv2 = void_inv p laws safe s.map s.locks g.part g.hold c i z t unrolled k absent first in
+        let sim2 = void_sim p laws safe s.map s.locks g.part g.hold c i z t unrolled k absent first in
+        let same : (hold2 t x).mode ≡ n = (let w = sim2.paired in w.mode t x) in
+        let g_n = subst (λ w. Granted p (own s.locks) t row.Insert Next x w) (sym same) grant_n in
+        let g_k = subst (λ w. Granted p (own s.locks) t row.Insert Current (Key k) w) (sym same) grant_k in
+        let clear = void_clear p laws safe s.map s.locks g.part g.hold c i z t unrolled k absent first in
         let q : Part = finished (g.part t) (op.Insert k v) reply.Done ((k, None) ∷ (g.part t).changes) (k ∷ (g.part t).moved) in
+        let into : (y : ℕ) → Moved q y → (Moved (g.part t) y) ⊎ (y ≡ k) = λ y h. ⊎_elim (λ e. inr e) (λ older. inl older) h in
+        let hold' : Holds = insert_holds p laws safe s.map m' s.locks g.part hold2 c inv2 sim2 t unrolled k hn absent there alike g_n g_k clear q into (λ y h. inr h) refl in
         let a_is : reply.Done ≡ answer s.map (op.Insert k v) = sym (ap (λ o. (whole_insert s.map k v o).0) none) in
-        goes p opening h s (set s.map k v) (kept p s.locks t rs) (changed (standing s t) k None) t (op.Insert k v) reply.Done g q live_t refl
-        (subst (λ z. Invariant p (set s.map k v) (own (kept p s.locks t rs)) (with_part g.part t (finished (g.part t) (op.Insert k v) z ((k, None) ∷ (g.part t).changes) (k ∷ (g.part t).moved))) (map_left opening (joined g.done))) (sym a_is)
-        (insert_keeps p s.map (own s.locks) g.part (map_left opening (joined g.done)) g.inv t unscanned (own (kept p s.locks t rs)) k0 cases k v none
-        (granted_at p laws s.locks t rs free range row.Insert Next x n (range t x) (λ r j. in_right r (request_at (Some (Key k)) a) (request_at (Some x) b) j))
-        (λ c sv. kept_first p laws cov s.locks t (Key k) a (request_at (Some x) b) asked (range t) c sv)))
+        goes p opening h s m' (kept p s.locks t rs) (changed (standing s t) k None) t (op.Insert k v) reply.Done g q hold' live_t refl
+        (subst (λ z. Invariant shape m' (modes hold') (with_part g.part t (finished (g.part t) (op.Insert k v) z ((k, None) ∷ (g.part t).changes) (k ∷ (g.part t).moved))) c) (sym a_is)
+        (insert_keeps shape s.map (modes hold2) g.part c inv2 t unscanned (modes hold')
+        (insert_taken p laws safe s.map m' s.locks g.part hold2 c inv2 sim2 t unrolled k hn absent there alike g_n g_k clear q into (λ y h. inr h) refl) shape_covered k v none
+        (next_granted p laws safe s.map s.locks g.part hold2 c inv2 sim2 t unrolled k absent g_n)
+        (insert_after p laws safe s.map m' s.locks g.part hold2 c inv2 sim2 t unrolled k hn absent there alike g_n g_k clear q into (λ y h. inr h) refl)))
+        (subst (λ w. Sim p m' (kept p s.locks t (request_at (Some (Key k)) (p.ask row.Insert Current w) ++ request_at (Some x) (p.ask row.Insert Next w))) (with_part g.part t q) hold') same
+        (insert_sim p laws safe s.map m' s.locks g.part hold2 c inv2 sim2 t unrolled k hn absent there alike g_n g_k clear q into (λ y h. inr h) refl))
         (λ live. reads_one (op.Insert k v) reply.Done refl (λ f. refl))
         (record { scan = subst (λ z. StandsScan None z) (sym idle_now) tt; changes = ap (λ l. (k, None) ∷ l) same_changes; rolling = same_rolling })
 
@@ -149,18 +176,32 @@ module _ (p : Protocol) (laws : IsLawful p) (cov : IsCovered p) (opening : Map) 
         let a = p.ask row.Delete Current n in
         let b = p.ask row.Delete Next n in
         let rs = request_at (Some (Key k)) a ++ request_at (Some x) b in
-        let asked = asks_both p (request_at (Some (Key k)) a) (request_at (Some x) b) (asks_one p laws (Some (Key k)) row.Delete Current n (range t x)) (asks_one p laws (Some x) row.Delete Next n (range t x)) in
-        let k0 = taken p laws cov s.locks t rs range asked in
         let i = g.inv in
-        let above : x ≡ Key k → ⊥ = λ e. let z = at-key s.map (suc k) k i.is_map e in omega (arith, z.0) in
+        let z = g.sim in
+        let pr = z.paired in
+        let is = has_some s.map k v there in
+        let m' : Map = without s.map k in
+        let hn : IsMap m' = IsMap-restore s.map k None i.is_map in
+        let gone : has m' k ≡ false = has_none m' k (restore_here s.map k None) in
+        let alike : Alike k s.map m' = λ y ne. has_apart s.map k None y ne in
+        let grant_n = granted_at p laws s.locks t rs free range row.Delete Next x n (range t x) (λ r j. in_right r (request_at (Some (Key k)) a) (request_at (Some x) b) j) in
+        let grant_k = granted_at p laws s.locks t rs free range row.Delete Current (Key k) n (range t x) (λ r j. in_left r (request_at (Some (Key k)) a) (request_at (Some x) b) j) in
+        let same : (g.hold t x).mode ≡ n = pr.mode t x in
+        let g_n = subst (λ w. Granted p (own s.locks) t row.Delete Next x w) (sym same) grant_n in
+        let g_k = subst (λ w. Granted p (own s.locks) t row.Delete Current (Key k) w) (sym same) grant_k in
         let q : Part = finished (g.part t) (op.Delete k) (reply.Deleted v) ((k, Some v) ∷ (g.part t).changes) (k ∷ (g.part t).moved) in
+        let into : (y : ℕ) → Moved q y → (Moved (g.part t) y) ⊎ (y ≡ k) = λ y h. ⊎_elim (λ e. inr e) (λ older. inl older) h in
+        let hold' : Holds = delete_holds p laws safe s.map m' s.locks g.part g.hold c i z t unrolled k hn is gone alike g_k g_n q into (λ y h. inr h) (inl refl) refl in
         let a_is : reply.Deleted v ≡ answer s.map (op.Delete k) = sym (ap (λ o. (whole_delete s.map k o).0) there) in
-        goes p opening h s (without s.map k) (kept p s.locks t rs) (changed (standing s t) k (Some v)) t (op.Delete k) (reply.Deleted v) g q live_t refl
-        (subst (λ z. Invariant p (without s.map k) (own (kept p s.locks t rs)) (with_part g.part t (finished (g.part t) (op.Delete k) z ((k, Some v) ∷ (g.part t).changes) (k ∷ (g.part t).moved))) (map_left opening (joined g.done))) (sym a_is)
-        (delete_keeps p s.map (own s.locks) g.part (map_left opening (joined g.done)) g.inv t unscanned (own (kept p s.locks t rs)) k0 cases k v there
-        (granted_at p laws s.locks t rs free range row.Delete Current (Key k) n (range t x) (λ r j. in_left r (request_at (Some (Key k)) a) (request_at (Some x) b) j))
-        (granted_at p laws s.locks t rs free range row.Delete Next x n (range t x) (λ r j. in_right r (request_at (Some (Key k)) a) (request_at (Some x) b) j))
-        (λ c sv. kept_second p laws cov s.locks t (Key k) a x b asked (range t) above c sv)))
+        goes p opening h s m' (kept p s.locks t rs) (changed (standing s t) k (Some v)) t (op.Delete k) (reply.Deleted v) g q hold' live_t refl
+        (subst (λ z. Invariant shape m' (modes hold') (with_part g.part t (finished (g.part t) (op.Delete k) z ((k, Some v) ∷ (g.part t).changes) (k ∷ (g.part t).moved))) c) (sym a_is)
+        (delete_keeps shape s.map (modes g.hold) g.part c i t unscanned (modes hold')
+        (delete_taken p laws safe s.map m' s.locks g.part g.hold c i z t unrolled k hn is gone alike g_k g_n q into (λ y h. inr h) (inl refl) refl) shape_covered k v there
+        (key_granted p laws safe s.map m' s.locks g.part g.hold c i z t unrolled k hn is gone alike g_k g_n q into (λ y h. inr h) (inl refl) refl)
+        (above_granted p laws safe s.map m' s.locks g.part g.hold c i z t unrolled k hn is gone alike g_k g_n q into (λ y h. inr h) (inl refl) refl)
+        (delete_after p laws safe s.map m' s.locks g.part g.hold c i z t unrolled k hn is gone alike g_k g_n q into (λ y h. inr h) (inl refl) refl)))
+        (subst (λ w. Sim p m' (kept p s.locks t (request_at (Some (Key k)) (p.ask row.Delete Current w) ++ request_at (Some x) (p.ask row.Delete Next w))) (with_part g.part t q) hold') same
+        (delete_sim p laws safe s.map m' s.locks g.part g.hold c i z t unrolled k hn is gone alike g_k g_n q into (λ y h. inr h) (inl refl) refl))
         (λ live. reads_one (op.Delete k) (reply.Deleted v) refl (λ f. refl))
         (record { scan = subst (λ z. StandsScan None z) (sym idle_now) tt; changes = ap (λ l. (k, Some v) ∷ l) same_changes; rolling = same_rolling })
 
@@ -172,15 +213,25 @@ module _ (p : Protocol) (laws : IsLawful p) (cov : IsCovered p) (opening : Map) 
     new_value k v w up there free =
         let a = p.ask row.Update Current 0 in
         let rs = request_at (Some (Key k)) a ++ [] in
-        let asked = asks_both p (request_at (Some (Key k)) a) [] (asks_one p laws (Some (Key k)) row.Update Current 0 (omega arith)) tt in
-        let k0 = taken p laws cov s.locks t rs range asked in
+        let i = g.inv in
+        let z = g.sim in
+        let is = has_some s.map k w there in
+        let m' : Map = set s.map k v in
+        let ask : MayAsk p row.Update Current (g.hold t (Key k)) nothing = (stands_kept s.map g.part g.hold z.placed t (Key k) unrolled is, up) in
+        let grant = granted_at p laws s.locks t rs free range row.Update Current (Key k) 0 (omega arith) (λ r j. in_left r (request_at (Some (Key k)) a) [] j) in
+        let hold' : Holds = row_holds p laws safe s.map s.locks g.part g.hold c i z t unrolled row.Update Current (Key k) ask (omega arith) grant in
         let q : Part = finished (g.part t) (op.Update k v) (reply.Updated w) ((k, Some w) ∷ (g.part t).changes) (g.part t).moved in
         let a_is : reply.Updated w ≡ answer s.map (op.Update k v) = sym (ap (λ o. (whole_update s.map k v o).0) there) in
-        goes p opening h s (set s.map k v) (kept p s.locks t rs) (changed (standing s t) k (Some w)) t (op.Update k v) (reply.Updated w) g q live_t refl
-        (subst (λ z. Invariant p (set s.map k v) (own (kept p s.locks t rs)) (with_part g.part t (finished (g.part t) (op.Update k v) z ((k, Some w) ∷ (g.part t).changes) (g.part t).moved)) (map_left opening (joined g.done))) (sym a_is)
-        (update_keeps p s.map (own s.locks) g.part (map_left opening (joined g.done)) g.inv t unscanned (own (kept p s.locks t rs)) k0 cases up k v w there
-        (granted_at p laws s.locks t rs free range row.Update Current (Key k) 0 (omega arith) (λ r j. in_left r (request_at (Some (Key k)) a) [] j))
-        (λ c sv. kept_first p laws cov s.locks t (Key k) a [] asked (range t) c sv)))
+        let keys : (y : ℕ) → has m' y ≡ has s.map y = λ y. ⊎_elim (λ e. ap (has m') e ∙ has_some m' k v (restore_here s.map k (Some v)) ∙ sym (ap (has s.map) e ∙ is)) (λ ne. has_apart s.map k (Some v) y ne) (cases_eq y k) in
+        goes p opening h s m' (kept p s.locks t rs) (changed (standing s t) k (Some w)) t (op.Update k v) (reply.Updated w) g q hold' live_t refl
+        (subst (λ z. Invariant shape m' (modes hold') (with_part g.part t (finished (g.part t) (op.Update k v) z ((k, Some w) ∷ (g.part t).changes) (g.part t).moved)) c) (sym a_is)
+        (update_keeps shape s.map (modes g.hold) g.part c i t unscanned (modes hold')
+        (row_taken p laws safe s.map s.locks g.part g.hold c i z t unrolled row.Update Current (Key k) ask (omega arith) grant) shape_covered refl k v w there
+        (row_granted p laws safe s.map s.locks g.part g.hold c i z t unrolled row.Update Current (Key k) ask (omega arith) grant tt 0)
+        (row_after p laws safe s.map s.locks g.part g.hold c i z t unrolled row.Update Current (Key k) ask (omega arith) grant)))
+        (sim_keys p s.map m' (kept p s.locks t rs) (with_part g.part t q) hold' i.is_map (IsMap-restore s.map k (Some v) i.is_map) keys
+        (subst (λ l. Sim p s.map l (with_part g.part t q) hold') (sym (kept_append p s.locks t (request_at (Some (Key k)) a) []))
+        (row_sim p laws safe s.map s.locks g.part g.hold c i z t unrolled row.Update Current (Key k) ask (omega arith) grant (λ u ne. tt) is refl refl q refl refl)))
         (λ live. reads_one (op.Update k v) (reply.Updated w) refl (λ f. refl))
         (record { scan = subst (λ z. StandsScan None z) (sym idle_now) tt; changes = ap (λ l. (k, Some w) ∷ l) same_changes; rolling = same_rolling })
 

@@ -1,81 +1,29 @@
--- What is known of the run so far, and how a step that changes nothing, a granted operation and an end keep it.
-use Rattle.std.specs.Prelude.{◌≡◌, ℕ, suc, true, false, not, ◌==◌, ◌||◌, List, [], ◌∷◌, ◌++◌, Option, Some, None, refl, unwrap_or}
+-- What is known of the run so far, with lock states beside its locks, and how a step that changes nothing, a granted operation and an end keep it.
+use Rattle.std.specs.Prelude.{◌≡◌, ℕ, true, false, not, ◌==◌, ◌||◌, List, [], ◌∷◌, ◌++◌, unwrap_or}
 use Rattle.std.specs.Ordering.{nat_cmp}
 use Rattle.std.specs.FinMap.{find, put, is_sorted}
-use Rattle.std.proofs.Common.{sym, ◌∙◌, ap, subst, append_assoc, append-nil, ◌≢◌, ⊎_elim}
+use Rattle.std.proofs.Common.{sym, ◌∙◌, ap, subst, ◌≢◌, ⊎_elim}
 use Rattle.std.proofs.lemmas.Bool.{cases_eq}
 use Rattle.kr_model.specs.declared.Op.{Op}
 use Rattle.kr_model.specs.declared.Reply.{Reply}
 use Rattle.kr_model.specs.Protocol.{Protocol}
-use Rattle.kr_model.specs.Map.{Map, at}
-use Rattle.kr_model.specs.Locks.{Locks, own, release}
-use Rattle.kr_model.specs.State.{State, Active, Scan, has_ended, idle, standing}
-use Rattle.kr_model.specs.Step.{Outcome, ended_with, name_after}
-use Rattle.kr_model.specs.Run.{Entry, Answered, committed, is_rows, is_committed, is_granted}
+use Rattle.kr_model.specs.Map.{Map}
+use Rattle.kr_model.specs.Locks.{Locks, release}
+use Rattle.kr_model.specs.State.{State, Active, has_ended, idle, standing}
+use Rattle.kr_model.specs.Step.{Outcome, ended_with}
+use Rattle.kr_model.specs.Run.{Entry, committed, is_rows, is_committed, is_granted}
 use Rattle.kr_model.specs.Serial.{AreAnswered, map_left}
 use Rattle.kr_model.proofs.Guarantees.{In}
 use Rattle.kr_model.proofs.MapLaws.{sorted_put, sorted_where}
 use Rattle.kr_model.proofs.Actives.{tied, untied, any_add_once, find_put_same, find_put_other, find_filter_other}
 use Rattle.kr_headline.proofs.run.Actives.{true_not_false, or_left, or_right, or_false, in_put, in_filter}
-use Rattle.kr_headline.proofs.step.Parts.{Progress, Part, Parts, blank, with_part, with_same, with_other}
+use Rattle.kr_headline.proofs.step.Parts.{Part, Parts, blank, with_part, with_same, with_other}
 use Rattle.kr_headline.proofs.step.Invariant.{Invariant}
-use Rattle.kr_headline.proofs.run.Reading.{entry, ReadsAs, IsSilent, silent_other, silent_refused, reads_silent, committed_none}
-
--- What the state keeps of a transaction, and its part --
-
--- The scan in progress is the same, and looks next above the key read last.
-abbrev pub StandsScan : Option Progress → Option Scan → Type 0
-StandsScan None None = Unit {0}
-StandsScan (Some g) (Some c) = (g.low ≡ c.lo) × (g.high ≡ c.hi) × (c.rows ≡ g.pairs) × ((m : Map) → name_after m c.lo c.rows ≡ at m (suc g.last))
-StandsScan None (Some c) = ⊥
-StandsScan (Some g) None = ⊥
-
--- The scan and the changes are the same, and both roll back or neither does.
-pub record Stands (q : Part) (a : Active) : Type 0 where
-  pub scan : StandsScan q.scan a.scan
-  pub changes : a.changes ≡ q.changes
-  pub rolling : a.rolling ≡ q.rolling
-
--- The programs of the committed --
-
--- The operations of each committed transaction, in commit order.
-abbrev pub Programs : Type 0
-Programs = List (ℕ × List Answered)
-
--- Their numbers.
-abbrev pub txns : Programs → List ℕ
-txns [] = []
-txns (c ∷ cs) = c.0 ∷ txns cs
-
--- Their operations, one program after another.
-abbrev pub joined : Programs → List Answered
-joined [] = []
-joined (c ∷ cs) = c.1 ++ joined cs
-
--- One program more.
-pub txns_push : (cs : Programs) (c : ℕ × List Answered) → txns (cs ++ c ∷ []) ≡ txns cs ++ c.0 ∷ []
-txns_push [] c = refl
-txns_push (x ∷ cs) c = ap (λ z. x.0 ∷ z) (txns_push cs c)
-
-pub joined_push : (cs : Programs) (c : ℕ × List Answered) → joined (cs ++ c ∷ []) ≡ joined cs ++ c.1
-joined_push [] c = append-nil c.1
-joined_push (x ∷ cs) c = ap (λ z. x.1 ++ z) (joined_push cs c) ∙ sym (append_assoc x.1 (joined cs) c.1)
-
--- Each has ended, and its operations are these whatever comes after.
-abbrev pub Fixed : Programs → List Entry → State → Type 0
-Fixed [] h s = Unit {0}
-Fixed (c ∷ cs) h s = ((has_ended s c.0 ≡ true) × ReadsAs c.0 h c.1 None) × Fixed cs h s
-
--- They stay so after an entry that is silent for each of them, and with one more of which it is known.
-pub fixed_more : (cs : Programs) (h : List Entry) (s s' : State) (x : Entry) → ((u : ℕ) → has_ended s u ≡ true → (has_ended s' u ≡ true) × IsSilent u x) → Fixed cs h s → Fixed cs (h ++ x ∷ []) s'
-fixed_more [] h s s' x f g = tt
-fixed_more (c ∷ cs) h s s' x f g =
-    let z = f c.0 g.0.0 in
-    ((z.0, reads_silent c.0 h x c.1 None z.1 g.0.1), fixed_more cs h s s' x f g.1)
-
-pub fixed_push : (cs : Programs) (h : List Entry) (s : State) (c : ℕ × List Answered) → has_ended s c.0 ≡ true → ReadsAs c.0 h c.1 None → Fixed cs h s → Fixed (cs ++ c ∷ []) h s
-fixed_push [] h s c a b g = ((a, b), tt)
-fixed_push (x ∷ cs) h s c a b g = (g.0, fixed_push cs h s c a b g.1)
+use Rattle.kr_headline.proofs.run.Reading.{entry, ReadsAs, silent_other, silent_refused, reads_silent, committed_none}
+use Rattle.kr_headline.proofs.run.Programs.{Stands, Programs, txns, joined, Fixed, fixed_more, state_after}
+use Rattle.kr_headline.proofs.safe.Shape.{shape}
+use Rattle.kr_headline.proofs.safe.Holding.{Holds, modes}
+use Rattle.kr_headline.proofs.safe.Sim.{Sim}
 
 -- The run so far --
 
@@ -83,10 +31,13 @@ fixed_push (x ∷ cs) h s c a b g = (g.0, fixed_push cs h s c a b g.1)
 pub record Known (p : Protocol) (opening : Map) (h : List Entry) (s : State) : Type 0 where
   -- the part of each transaction, and the programs committed so far
   pub part : Parts
+  pub hold : Holds
   pub done : Programs
-  -- they are serial, and the invariant holds with the map that they leave as the committed one
+  -- they are serial, and the invariant holds, under the fixed protocol and the modes of the lock states, with the map that they leave as the committed one
   pub answered : AreAnswered opening (joined done)
-  pub inv : Invariant p s.map (own s.locks) part (map_left opening (joined done))
+  pub inv : Invariant shape s.map (modes hold) part (map_left opening (joined done))
+  -- the lock states fit the locks and the map
+  pub sim : Sim p s.map s.locks part hold
   -- what each transaction did that hasn't ended and doesn't roll back reads as its part says, and each stands so in the state
   pub reads : (t : ℕ) → has_ended s t ≡ false → (part t).rolling ≡ false → ReadsAs t h (part t).program (part t).scan
   pub stands : (t : ℕ) → has_ended s t ≡ false → Stands (part t) (standing s t)
@@ -111,7 +62,9 @@ stays p opening h s t o a g no_grant no_rows no_commit =
       part = g.part;
       done = g.done;
       answered = g.answered;
+      hold = g.hold;
       inv = g.inv;
+      sim = g.sim;
       reads = λ u lu ru. reads_silent u h x (g.part u).program (g.part u).scan (silent_refused u x.0 a no_grant no_rows) (g.reads u lu ru);
       stands = g.stands;
       over = g.over;
@@ -121,21 +74,18 @@ stays p opening h s t o a g no_grant no_rows no_commit =
       live = g.live;
     }
 
--- The state with this map, locks and active transactions.
-abbrev pub state_after : State → Map → Locks → List (ℕ × Active) → State
-state_after s m l a = record { map = m; locks = l; ended = s.ended; active = a }
-
 first_is : (a c : ℕ) (b d : Active) → ◌≡◌ {A = ℕ × Active} (a, b) (c, d) → a ≡ c
 first_is a c b d e = ap (λ (x : ℕ × Active). x.0) e
 
 -- A granted operation of t.
-pub goes : (p : Protocol) (opening : Map) (h : List Entry) (s : State) (m : Map) (l : Locks) (x : Active) (t : ℕ) (o : Op) (a : Reply) (g : Known p opening h s) (q : Part)
+pub goes : (p : Protocol) (opening : Map) (h : List Entry) (s : State) (m : Map) (l : Locks) (x : Active) (t : ℕ) (o : Op) (a : Reply) (g : Known p opening h s) (q : Part) (hold' : Holds)
     → has_ended s t ≡ false → is_committed a ≡ false
-    → Invariant p m (own l) (with_part g.part t q) (map_left opening (joined g.done))
+    → Invariant shape m (modes hold') (with_part g.part t q) (map_left opening (joined g.done))
+    → Sim p m l (with_part g.part t q) hold'
     → (q.rolling ≡ false → ReadsAs t (h ++ entry t o a ∷ []) q.program q.scan)
     → Stands q x
     → KnownAfter p opening h t o (a, state_after s m l (put nat_cmp t x s.active))
-goes p opening h s m l x t o a g q live_t no_commit inv reads stands =
+goes p opening h s m l x t o a g q hold' live_t no_commit inv sim reads stands =
     let e = entry t o a in
     let part' : Parts = with_part g.part t q in
     let active' : List (ℕ × Active) = put nat_cmp t x s.active in
@@ -145,7 +95,9 @@ goes p opening h s m l x t o a g q live_t no_commit inv reads stands =
       part = part';
       done = g.done;
       answered = g.answered;
+      hold = hold';
       inv = inv;
+      sim = sim;
       reads = λ u lu. ⊎_elim
           (λ same. subst (λ z. (part' z).rolling ≡ false → ReadsAs z h' (part' z).program (part' z).scan) (sym same) (subst (λ z. z.rolling ≡ false → ReadsAs t h' z.program z.scan) (sym (with_same g.part t q)) reads))
           (λ ne. subst (λ z. z.rolling ≡ false → ReadsAs u h' z.program z.scan) (sym (with_other g.part t q u ne))
@@ -165,14 +117,15 @@ goes p opening h s m l x t o a g q live_t no_commit inv reads stands =
     }
 
 -- The end of t.
-pub ends : (p : Protocol) (opening : Map) (h : List Entry) (s : State) (m : Map) (t : ℕ) (o : Op) (a : Reply) (g : Known p opening h s) (done : Programs)
+pub ends : (p : Protocol) (opening : Map) (h : List Entry) (s : State) (m : Map) (t : ℕ) (o : Op) (a : Reply) (g : Known p opening h s) (done : Programs) (hold' : Holds)
     → has_ended s t ≡ false
     → AreAnswered opening (joined done)
-    → Invariant p m (own (release s.locks t)) (with_part g.part t blank) (map_left opening (joined done))
+    → Invariant shape m (modes hold') (with_part g.part t blank) (map_left opening (joined done))
+    → Sim p m (release s.locks t) (with_part g.part t blank) hold'
     → Fixed done (h ++ entry t o a ∷ []) (ended_with s t m)
     → txns done ≡ committed (h ++ entry t o a ∷ [])
     → KnownAfter p opening h t o (a, ended_with s t m)
-ends p opening h s m t o a g done live_t answered inv fixed order =
+ends p opening h s m t o a g done hold' live_t answered inv sim fixed order =
     let e = entry t o a in
     let part' : Parts = with_part g.part t blank in
     let s' : State = ended_with s t m in
@@ -184,7 +137,9 @@ ends p opening h s m t o a g done live_t answered inv fixed order =
       part = part';
       done = done;
       answered = answered;
+      hold = hold';
       inv = inv;
+      sim = sim;
       reads = λ u lu. subst (λ z. z.rolling ≡ false → ReadsAs u h' z.program z.scan) (sym (with_other g.part t blank u (not_t u lu)))
           (λ ru. reads_silent u h e (g.part u).program (g.part u).scan (silent_other u e.0 a (untied t u (λ d. not_t u lu (sym d)))) (g.reads u (was u lu) ru));
       stands = λ u lu. subst (λ z. Stands z (standing s' u)) (sym (with_other g.part t blank u (not_t u lu)))

@@ -13,7 +13,6 @@ use Rattle.kr_model.specs.declared.Op.{Op}
 use Rattle.kr_model.specs.declared.Op.TheVariants as op
 use Rattle.kr_model.specs.declared.Reply.TheVariants as reply
 use Rattle.kr_model.specs.Protocol.{Protocol, IsLawful}
-use Rattle.kr_model.specs.Covers.{IsCovered}
 use Rattle.kr_model.specs.Locks.{Request, own, blockers, kept}
 use Rattle.kr_model.specs.Map.{Map, get, at, pairs_between}
 use Rattle.kr_model.specs.State.{State, Active, Scan, has_ended, standing}
@@ -22,19 +21,26 @@ use Rattle.kr_model.specs.Step.{granted_or_blocked, after_effect, looked, row_re
 use Rattle.kr_model.specs.Run.{Entry}
 use Rattle.kr_model.specs.Serial.{map_left}
 use Rattle.kr_model.proofs.Guarantees.{in_left}
-use Rattle.kr_headline.proofs.gaps.Gaps.{at-key}
-use Rattle.kr_headline.proofs.step.Covers.{covered}
+use Rattle.kr_headline.proofs.gaps.Gaps.{at-key, has}
+use Rattle.kr_headline.proofs.step.Covers.{Granted}
+use Rattle.kr_headline.proofs.step.Guarded.{Taken}
 use Rattle.kr_headline.proofs.gaps.Maps.{has-get, none_has}
-use Rattle.kr_headline.proofs.step.Parts.{Progress, Part}
+use Rattle.kr_headline.proofs.step.Parts.{Progress, Part, with_part}
 use Rattle.kr_headline.proofs.step.ReadRows.{MayTouch, key_touches, stop_touches}
 use Rattle.kr_headline.proofs.step.ReadKeeps.{scanning, going_keeps}
-use Rattle.kr_model.proofs.Requests.{request_at, AskModes, asks_one, asks_both}
-use Rattle.kr_headline.proofs.run.Keeping.{kept_first, kept_only, taken}
+use Rattle.kr_model.proofs.Requests.{request_at}
 use Rattle.kr_headline.proofs.run.Grants.{requests_of, granted_at}
 use Rattle.kr_headline.proofs.step.Scans.{LooksFrom, one_more, no_more, from_in_range, scanned_below, below_scanned, gap_reach}
 use Rattle.kr_headline.proofs.run.Reading.{entry, ReadsAs}
-use Rattle.kr_headline.proofs.run.Known.{Known, KnownAfter, joined, stays, goes, state_after}
-use Rattle.kr_headline.proofs.run.Attempts.{read_done}
+use Rattle.kr_headline.proofs.run.Programs.{joined, state_after}
+use Rattle.kr_model.specs.Safe.{IsSafe}
+use Rattle.kr_headline.proofs.safe.Shape.{shape, shape_covered, same_asks}
+use Rattle.kr_headline.proofs.safe.Holding.{Holds, modes}
+use Rattle.kr_headline.proofs.safe.Placed.{at_stands, stands_kept}
+use Rattle.kr_headline.proofs.safe.Kept.{kept_append}
+use Rattle.kr_headline.proofs.safe.Sim.{Sim, row_holds, row_granted, row_taken, row_after, row_sim}
+use Rattle.kr_headline.proofs.run.Known.{Known, KnownAfter, stays, goes}
+use Rattle.kr_headline.proofs.run.ReadDone.{read_done}
 
 -- The name after the row read last.
 name_after_last : (m : Map) (lo : ℕ) (rows : List (ℕ × ℕ)) (x v : ℕ) → name_after m lo (rows ++ (x, v) ∷ []) ≡ at m (suc x)
@@ -65,12 +71,15 @@ key_is x y e = cc
 end_not_key : (x : ℕ) → End ≡ Key x → ⊥
 end_not_key x e = cc
 
-module _ (p : Protocol) (laws : IsLawful p) (cov : IsCovered p) (opening : Map) (h : List Entry) (s : State) (g : Known p opening h s) (t : ℕ) (live_t : has_ended s t ≡ false) (unrolled : (g.part t).rolling ≡ false)
+module _ (p : Protocol) (laws : IsLawful p) (safe : IsSafe p) (opening : Map) (h : List Entry) (s : State) (g : Known p opening h s) (t : ℕ) (live_t : has_ended s t ≡ false) (unrolled : (g.part t).rolling ≡ false)
     (o : Op) (c : Scan) (from : ℕ) (f : LooksFrom (g.part t).scan c.lo c.hi from c.rows)
     (rows_read : (rows : List (ℕ × ℕ)) → ReadsAs t (h ++ entry t o (reply.Rows rows) ∷ []) ((g.part t).program ++ (op.Scan c.lo c.hi, reply.Rows rows) ∷ []) None)
     (going_read : (k last : ℕ) (pairs : List (ℕ × ℕ)) → ReadsAs t (h ++ entry t o (reply.Going k) ∷ []) (g.part t).program (Some (record { low = c.lo; high = c.hi; last = last; pairs = pairs }))) where
   range : (u : ℕ) (name : Name) → own s.locks u name ≤ p.count
-  range u name = let i = g.inv in let k = i.guarded in k.range u name
+  range u name = let k = g.sim in let a = k.locks in a.within u name
+
+  abbrev committed_map : Map
+  committed_map = map_left opening (joined g.done)
 
   same_changes : (standing s t).changes ≡ (g.part t).changes
   same_changes = let z = g.stands t live_t in z.changes
@@ -89,13 +98,20 @@ module _ (p : Protocol) (laws : IsLawful p) (cov : IsCovered p) (opening : Map) 
       let n = at s.map from in
       let q = p.ask row.ScanStop Next 0 in
       let rs = request_at (Some n) q in
-      let asked = asks_one p laws (Some n) row.ScanStop Next 0 (omega arith) in
       let i = g.inv in
+      let z = g.sim in
+      let is = at_stands s.map from i.is_map in
+      let ask = stands_kept s.map g.part g.hold z.placed t n unrolled is in
+      let grant = granted_at p laws s.locks t rs free range row.ScanStop Next n 0 (omega arith) (λ r j. j) in
       let low = from_in_range c.lo c.hi from c.rows s.map (g.part t).scan f (i.scan t) in
-      let may = stop_touches p laws (covered p cov) s.map (own s.locks) g.part (map_left opening (joined g.done)) i t (own (kept p s.locks t rs)) from c.hi far
-      (granted_at p laws s.locks t rs free range row.ScanStop Next n 0 (omega arith) (λ r j. j))
-      (λ k sv. kept_only p laws cov s.locks t n q asked (range t) k sv) in
-      read_done p laws cov opening h s g t live_t unrolled o (op.Scan c.lo c.hi) (reply.Rows c.rows) rs ended_scan (λ y. (from ≤ y) × (y ≤ c.hi)) asked refl
+      let hold' : Holds = row_holds p laws safe s.map s.locks g.part g.hold committed_map i z t unrolled row.ScanStop Next n ask (omega arith) grant in
+      let may = stop_touches shape same_asks shape_covered s.map (modes g.hold) g.part committed_map i t (modes hold') from c.hi far
+      (row_granted p laws safe s.map s.locks g.part g.hold committed_map i z t unrolled row.ScanStop Next n ask (omega arith) grant tt 0)
+      (row_after p laws safe s.map s.locks g.part g.hold committed_map i z t unrolled row.ScanStop Next n ask (omega arith) grant) in
+      read_done p laws safe opening h s g t live_t unrolled o (op.Scan c.lo c.hi) (reply.Rows c.rows) rs ended_scan (λ y. (from ≤ y) × (y ≤ c.hi)) hold'
+      (row_taken p laws safe s.map s.locks g.part g.hold committed_map i z t unrolled row.ScanStop Next n ask (omega arith) grant)
+      (λ x m r. row_sim p laws safe s.map s.locks g.part g.hold committed_map i z t unrolled row.ScanStop Next n ask (omega arith) grant (λ u ne. tt) is refl refl x m r)
+      refl
       (ap (λ z. reply.Rows z) (no_more c.lo c.hi from c.rows s.map i.is_map (g.part t).scan f (i.scan t) (λ y a b. let z = gap_reach s.map i.is_map from c.hi y far a b in none_has s.map y z.1)))
       (λ y sc. let z = scanned_below c.lo c.hi from c.rows (g.part t).scan f y sc in (z.0, omega (arith, z.1, low.1)))
       (λ y here. ⊎_elim (λ lt. inl (inr (inl (below_scanned c.lo c.hi from c.rows (g.part t).scan f y here.0 lt)))) (λ ge. inr (ge, here.1)) (cases_lt y from))
@@ -107,13 +123,29 @@ module _ (p : Protocol) (laws : IsLawful p) (cov : IsCovered p) (opening : Map) 
     abbrev key_requests : List Request
     key_requests = request_at (Some (Key x)) (p.ask row.ScanKey Current 0) ++ []
 
-    key_asked : AskModes p key_requests
-    key_asked = asks_both p (request_at (Some (Key x)) (p.ask row.ScanKey Current 0)) [] (asks_one p laws (Some (Key x)) row.ScanKey Current 0 (omega arith)) tt
+    key_there : has s.map x ≡ true
+    key_there = let i = g.inv in let k = at-key s.map from x i.is_map found in k.1
 
-    key_may : MayTouch p s.map (own (kept p s.locks t key_requests)) g.part t (λ y. (from ≤ y) × (y ≤ x))
-    key_may = key_touches p laws (covered p cov) s.map (own s.locks) g.part (map_left opening (joined g.done)) g.inv t (own (kept p s.locks t key_requests)) from x found
-        (granted_at p laws s.locks t key_requests free range row.ScanKey Current (Key x) 0 (omega arith) (λ r j. in_left r (request_at (Some (Key x)) (p.ask row.ScanKey Current 0)) [] j))
-        (λ k sv. kept_first p laws cov s.locks t (Key x) (p.ask row.ScanKey Current 0) [] key_asked (range t) k sv)
+    key_ask : (g.hold t (Key x)).deleted ≡ false
+    key_ask = let z = g.sim in stands_kept s.map g.part g.hold z.placed t (Key x) unrolled key_there
+
+    key_grant : Granted p (own s.locks) t row.ScanKey Current (Key x) 0
+    key_grant = granted_at p laws s.locks t key_requests free range row.ScanKey Current (Key x) 0 (omega arith) (λ r j. in_left r (request_at (Some (Key x)) (p.ask row.ScanKey Current 0)) [] j)
+
+    abbrev key_holds : Holds
+    key_holds = row_holds p laws safe s.map s.locks g.part g.hold committed_map g.inv g.sim t unrolled row.ScanKey Current (Key x) key_ask (omega arith) key_grant
+
+    key_taken : Taken shape (modes g.hold) (modes key_holds) t
+    key_taken = row_taken p laws safe s.map s.locks g.part g.hold committed_map g.inv g.sim t unrolled row.ScanKey Current (Key x) key_ask (omega arith) key_grant
+
+    key_sim : (q : Part) → q.moved ≡ (g.part t).moved → q.rolling ≡ (g.part t).rolling → Sim p s.map (kept p s.locks t key_requests) (with_part g.part t q) key_holds
+    key_sim q m r = subst (λ l. Sim p s.map l (with_part g.part t q) key_holds) (sym (kept_append p s.locks t (request_at (Some (Key x)) (p.ask row.ScanKey Current 0)) []))
+        (row_sim p laws safe s.map s.locks g.part g.hold committed_map g.inv g.sim t unrolled row.ScanKey Current (Key x) key_ask (omega arith) key_grant (λ u ne. tt) key_there refl refl q m r)
+
+    key_may : MayTouch shape s.map (modes key_holds) g.part t (λ y. (from ≤ y) × (y ≤ x))
+    key_may = key_touches shape same_asks shape_covered s.map (modes g.hold) g.part committed_map g.inv t (modes key_holds) from x found
+        (row_granted p laws safe s.map s.locks g.part g.hold committed_map g.inv g.sim t unrolled row.ScanKey Current (Key x) key_ask (omega arith) key_grant tt 0)
+        (row_after p laws safe s.map s.locks g.part g.hold committed_map g.inv g.sim t unrolled row.ScanKey Current (Key x) key_ask (omega arith) key_grant)
 
     from_to : from ≤ x
     from_to = let i = g.inv in let k = at-key s.map from x i.is_map found in k.0
@@ -128,7 +160,7 @@ module _ (p : Protocol) (laws : IsLawful p) (cov : IsCovered p) (opening : Map) 
     last_key : x ≡ c.hi → KnownAfter p opening h t o (reply.Rows (c.rows ++ (x, v) ∷ []), state_after s s.map (kept p s.locks t key_requests) (put nat_cmp t ended_scan s.active))
     last_key e =
         let i = g.inv in
-        read_done p laws cov opening h s g t live_t unrolled o (op.Scan c.lo c.hi) (reply.Rows (c.rows ++ (x, v) ∷ [])) key_requests ended_scan (λ y. (from ≤ y) × (y ≤ x)) key_asked refl
+        read_done p laws safe opening h s g t live_t unrolled o (op.Scan c.lo c.hi) (reply.Rows (c.rows ++ (x, v) ∷ [])) key_requests ended_scan (λ y. (from ≤ y) × (y ≤ x)) key_holds key_taken key_sim refl
         (ap (λ z. reply.Rows z) (rows_are ∙ ap (λ z. pairs_between s.map c.lo z) e))
         (λ y sc. let z = scanned_below c.lo c.hi from c.rows (g.part t).scan f y sc in (z.0, omega (arith, z.1, from_to, e)))
         (λ y here. ⊎_elim (λ lt. inl (inr (inl (below_scanned c.lo c.hi from c.rows (g.part t).scan f y here.0 lt)))) (λ ge. inr (ge, omega (arith, here.1, e))) (cases_lt y from))
@@ -146,13 +178,13 @@ module _ (p : Protocol) (laws : IsLawful p) (cov : IsCovered p) (opening : Map) 
         let rows : List (ℕ × ℕ) = c.rows ++ (x, v) ∷ [] in
         let pr : Progress = record { low = c.lo; high = c.hi; last = x; pairs = rows } in
         let q : Part = scanning (g.part t) pr in
-        let k = taken p laws cov s.locks t key_requests range key_asked in
         let low = from_in_range c.lo c.hi from c.rows s.map (g.part t).scan f (i.scan t) in
-        goes p opening h s s.map (kept p s.locks t key_requests) (record (standing s t) { scan = Some (record { lo = c.lo; hi = c.hi; rows = rows }) }) t o (reply.Going x) g q live_t refl
-        (going_keeps p s.map (own s.locks) g.part (map_left opening (joined g.done)) g.inv t (own (kept p s.locks t key_requests)) k (λ y. (from ≤ y) × (y ≤ x)) key_may pr
+        goes p opening h s s.map (kept p s.locks t key_requests) (record (standing s t) { scan = Some (record { lo = c.lo; hi = c.hi; rows = rows }) }) t o (reply.Going x) g q key_holds live_t refl
+        (going_keeps shape s.map (modes g.hold) g.part committed_map g.inv t (modes key_holds) key_taken (λ y. (from ≤ y) × (y ≤ x)) key_may pr
         (λ y sc. let z = scanned_below c.lo c.hi from c.rows (g.part t).scan f y sc in (z.0, omega (arith, z.1, from_to)))
         (λ y here. ⊎_elim (λ less. inl (inr (inl (below_scanned c.lo c.hi from c.rows (g.part t).scan f y here.0 less)))) (λ ge. inr (ge, here.1)) (cases_lt y from))
         (omega (arith, low.0, from_to), lt, rows_are))
+        (key_sim q refl refl)
         (λ live. going_read x x rows)
         (record { scan = (refl, refl, refl, λ m. name_after_last m c.lo c.rows x v); changes = same_changes; rolling = same_rolling })
 

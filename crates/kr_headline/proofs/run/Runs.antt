@@ -1,11 +1,7 @@
--- Every run is serial, and what it leaves is the index with the unfinished rolled back.
-use Rattle.std.specs.Prelude.{◌≡◌, ℕ, ◌≤◌, ◌+◌, suc, Bool, true, false, not, ◌&&◌, nat_lt, if◌then◌else◌, List, [], ◌∷◌, ◌++◌, Option, Some, None, refl, is_some, unwrap_or}
-use Rattle.std.specs.Ordering.{nat_cmp}
-use Rattle.std.specs.FinMap.{find}
-use Rattle.std.specs.List.{flat_map}
-use Rattle.std.specs.List.Sorted.{IsPermutation}
+-- Every run is serializable in commit order, and the map that the committed transactions leave is the index with the unfinished rolled back.
+use Rattle.std.specs.Prelude.{◌≡◌, ℕ, ◌≤◌, ◌+◌, suc, Bool, true, false, not, ◌&&◌, nat_lt, if◌then◌else◌, List, [], ◌∷◌, ◌++◌, Option, Some, None, refl, is_some}
 use Rattle.std.proofs.lemmas.Bool.Decides.{nat_tests}
-use Rattle.std.proofs.Common.{sym, ◌∙◌, ap, ap₂, subst, arith, inl, inr, append_assoc, append-nil, ⊎_elim}
+use Rattle.std.proofs.Common.{sym, ◌∙◌, ap, subst, arith, inl, append_assoc, append-nil}
 use Rattle.kr_model.specs.declared.Op.{Op}
 use Rattle.kr_model.specs.declared.Op.TheVariants as op
 use Rattle.kr_model.specs.declared.Event.{Event}
@@ -13,25 +9,28 @@ use Rattle.kr_model.specs.declared.Reply.TheVariants as reply
 use Rattle.kr_model.specs.declared.Refusal.{Refusal}
 use Rattle.kr_model.specs.declared.Refusal.TheVariants as refusal
 use Rattle.kr_model.specs.Protocol.{Protocol, IsLawful}
-use Rattle.kr_model.specs.Covers.{IsCovered}
-use Rattle.kr_model.specs.Map.{Map, IsMap, get, restore_all}
-use Rattle.kr_model.specs.State.{State, Active, Scan, start, has_ended, is_scanning, is_rolling, has_nothing_left, idle, standing}
+use Rattle.kr_model.specs.declared.KeyUse.TheVariants.{Free as KeyFree}
+use Rattle.kr_model.specs.declared.GapUse.TheVariants.{Free as GapFree}
+use Rattle.kr_model.specs.Safe.{IsSafe, start as beside, free as nothing}
+use Rattle.kr_headline.proofs.safe.Shape.{in_count}
+use Rattle.kr_model.specs.Map.{Map, IsMap}
+use Rattle.kr_model.specs.State.{State, Scan, start, has_ended, is_scanning, is_rolling, has_nothing_left, standing}
 use Rattle.kr_model.specs.Step.{step, performed, unless_refused, refusal_of, is_full, goes_on, takes_back, is_go, is_bad_range, is_update, is_back, attempted_scan}
-use Rattle.kr_model.specs.Run.{Entry, operations_of, programs, run}
-use Rattle.kr_model.specs.Serial.{AreAnswered, map_left, all_operations, rolled_back, IsSerialRun}
-use Rattle.kr_model.proofs.Guarantees.{In}
-use Rattle.kr_headline.specs.Passes.{RunsOfAreSerial}
-use Rattle.kr_headline.proofs.gaps.Maps.{same_map}
-use Rattle.kr_headline.proofs.gaps.Undo.{ChangedIn, restore_all_same}
-use Rattle.kr_headline.proofs.step.Parts.{Progress, Changed, blank, blank_untouched}
+use Rattle.kr_model.specs.Run.{Entry, run}
+use Rattle.kr_model.specs.Serial.{IsSerialRun}
+use Rattle.kr_headline.proofs.step.Parts.{Progress, blank, blank_untouched}
 use Rattle.kr_headline.proofs.step.Scans.{LooksFrom}
-use Rattle.kr_headline.proofs.run.Actives.{sorted_finds}
-use Rattle.kr_headline.proofs.run.Reading.{ReadsAs, reads_answer, reads_begins, reads_goes_on, reads_ends, reads_whole, all_operations_programs}
-use Rattle.kr_headline.proofs.run.Known.{Known, KnownAfter, Programs, Fixed, txns, joined, StandsScan, stays}
+use Rattle.kr_headline.proofs.run.Reading.{ReadsAs, reads_answer, reads_begins, reads_goes_on, reads_ends}
+use Rattle.kr_headline.proofs.run.Actives.{true_not_false}
+use Rattle.kr_headline.proofs.run.Programs.{StandsScan}
+use Rattle.kr_headline.proofs.run.Known.{Known, KnownAfter, stays}
 use Rattle.kr_headline.proofs.run.Ends.{commits, aborts, backs}
 use Rattle.kr_headline.proofs.run.Attempts.{fetches, inserts, deletes, updates}
 use Rattle.kr_headline.proofs.run.Looks.{looks}
-use Rattle.kr_headline.proofs.run.Rollback.{SomeChanged, some_changed, changed_some, IsMap-rolled_back, rolled, in_order, in_other_order, some_changed_in, found_in}
+use Rattle.kr_model.specs.Covers.{IsCovered}
+use Rattle.kr_headline.specs.Passes.{RunsOfAreSerial}
+use Rattle.kr_headline.proofs.safe.AllCases.{covered_is_safe}
+use Rattle.kr_headline.proofs.run.Outcome.{serial}
 
 -- No refusal --
 
@@ -98,24 +97,24 @@ in_range lo hi h = grind (arith, nat_tests)
 
 -- Each step --
 
-module _ (p : Protocol) (laws : IsLawful p) (cov : IsCovered p) (opening : Map) (h : List Entry) (s : State) (g : Known p opening h s) (t : ℕ) (live_t : has_ended s t ≡ false) (unrolled : (g.part t).rolling ≡ false) where
+module _ (p : Protocol) (laws : IsLawful p) (safe : IsSafe p) (opening : Map) (h : List Entry) (s : State) (g : Known p opening h s) (t : ℕ) (live_t : has_ended s t ≡ false) (unrolled : (g.part t).rolling ≡ false) where
   module _ (quiet : (g.part t).scan ≡ None) (idle_now : (standing s t).scan ≡ None) where
     -- A scan begins.
     scans : (lo hi : ℕ) → lo ≤ hi → KnownAfter p opening h t (op.Scan lo hi) (performed p s t (op.Scan lo hi))
     scans lo hi le =
         let c : Scan = record { lo = lo; hi = hi; rows = [] } in
         let none : ReadsAs t h (g.part t).program None = subst (λ z. ReadsAs t h (g.part t).program z) quiet (g.reads t live_t unrolled) in
-        looks p laws cov opening h s g t live_t unrolled (op.Scan lo hi) c lo (subst (λ z. LooksFrom z lo hi lo []) (sym quiet) (refl, le, refl))
+        looks p laws safe opening h s g t live_t unrolled (op.Scan lo hi) c lo (subst (λ z. LooksFrom z lo hi lo []) (sym quiet) (refl, le, refl))
         (λ rows. reads_answer t h (op.Scan lo hi) (reply.Rows rows) (g.part t).program refl (λ f. refl) none)
         (λ k last pairs. reads_begins t h lo hi k last pairs (g.part t).program none)
         refl
 
     -- An operation of a transaction without a scan in progress.
     unscanned : (o : Op) → IsFit p o → not (goes_on o) ≡ true → KnownAfter p opening h t o (performed p s t o)
-    unscanned (op.Fetch k) r n = fetches p laws cov opening h s g t live_t unrolled quiet idle_now k
-    unscanned (op.Insert k v) r n = inserts p laws cov opening h s g t live_t unrolled quiet idle_now k v
-    unscanned (op.Delete k) r n = deletes p laws cov opening h s g t live_t unrolled quiet idle_now k
-    unscanned (op.Update k v) r n = updates p laws cov opening h s g t live_t unrolled quiet idle_now (offered p.updates r.update) k v
+    unscanned (op.Fetch k) r n = fetches p laws safe opening h s g t live_t unrolled quiet idle_now k
+    unscanned (op.Insert k v) r n = inserts p laws safe opening h s g t live_t unrolled quiet idle_now k v
+    unscanned (op.Delete k) r n = deletes p laws safe opening h s g t live_t unrolled quiet idle_now k
+    unscanned (op.Update k v) r n = updates p laws safe opening h s g t live_t unrolled quiet idle_now (offered p.updates r.update) k v
     unscanned (op.Scan lo hi) r n = scans lo hi (in_range lo hi r.range)
     unscanned op.Commit r n = commits p opening h s g t live_t unrolled quiet
     unscanned op.Go r n = absurd (cc)
@@ -129,7 +128,7 @@ module _ (p : Protocol) (laws : IsLawful p) (cov : IsCovered p) (opening : Map) 
   go_on (Some r) (Some c) e z =
       let reads : ReadsAs t h (g.part t).program (Some r) = subst (λ z. ReadsAs t h (g.part t).program z) e (g.reads t live_t unrolled) in
       let after : r.last + 1 ≡ suc r.last = omega arith in
-      looks p laws cov opening h s g t live_t unrolled op.Go c (suc r.last) (subst (λ z. LooksFrom z c.lo c.hi (suc r.last) c.rows) (sym e) (z.0, z.1, after, z.2))
+      looks p laws safe opening h s g t live_t unrolled op.Go c (suc r.last) (subst (λ z. LooksFrom z c.lo c.hi (suc r.last) c.rows) (sym e) (z.0, z.1, after, z.2))
       (λ rows. reads_ends t h r c.lo c.hi rows (g.part t).program z.0 z.1 reads)
       (λ k last pairs. reads_goes_on t h r c.lo c.hi k last pairs (g.part t).program z.0 z.1 reads)
       (z.3 s.map)
@@ -153,12 +152,12 @@ module _ (p : Protocol) (laws : IsLawful p) (cov : IsCovered p) (opening : Map) 
   works op.Abort n b r = absurd (cc)
   works op.Back n b r = absurd (cc)
 
-module _ (p : Protocol) (laws : IsLawful p) (cov : IsCovered p) (opening : Map) (h : List Entry) (s : State) (g : Known p opening h s) (t : ℕ) (live_t : has_ended s t ≡ false) where
+module _ (p : Protocol) (laws : IsLawful p) (safe : IsSafe p) (opening : Map) (h : List Entry) (s : State) (g : Known p opening h s) (t : ℕ) (live_t : has_ended s t ≡ false) where
   -- Only to take changes back is allowed once one was taken back.
   forward : (o : Op) → not (takes_back o) ≡ true → (is_rolling s t && not (takes_back o)) ≡ false → (is_scanning s t && not (goes_on o)) ≡ false → IsFit p o → KnownAfter p opening h t o (performed p s t o)
   forward o n rolls b r =
       let st = g.stands t live_t in
-      works p laws cov opening h s g t live_t (sym st.rolling ∙ and_true (is_rolling s t) (ap (λ b. is_rolling s t && b) (sym n) ∙ rolls)) o n b r
+      works p laws safe opening h s g t live_t (sym st.rolling ∙ and_true (is_rolling s t) (ap (λ b. is_rolling s t && b) (sym n) ∙ rolls)) o n b r
 
   -- An operation of a transaction that hasn't ended.
   live_step : (o : Op) → (is_rolling s t && not (takes_back o)) ≡ false → (is_scanning s t && not (goes_on o)) ≡ false → IsFit p o → KnownAfter p opening h t o (performed p s t o)
@@ -173,19 +172,22 @@ module _ (p : Protocol) (laws : IsLawful p) (cov : IsCovered p) (opening : Map) 
   live_step op.Go rolls b r = forward op.Go refl rolls b r
 
 -- Each step, refused or not.
-known_step : (p : Protocol) → IsLawful p → IsCovered p → (opening : Map) (h : List Entry) (s : State) → Known p opening h s → (t : ℕ) (o : Op) (x : Option Refusal) → refusal_of p s t o ≡ x → KnownAfter p opening h t o (unless_refused p s t o x)
-known_step p laws cov opening h s g t o (Some r) e = stays p opening h s t o (reply.Refused r) g refl refl refl
-known_step p laws cov opening h s g t o None e = let a = allowed p s t o e in live_step p laws cov opening h s g t a.0 o a.1 a.2 a.3
+known_step : (p : Protocol) → IsLawful p → IsSafe p → (opening : Map) (h : List Entry) (s : State) → Known p opening h s → (t : ℕ) (o : Op) (x : Option Refusal) → refusal_of p s t o ≡ x → KnownAfter p opening h t o (unless_refused p s t o x)
+known_step p laws safe opening h s g t o (Some r) e = stays p opening h s t o (reply.Refused r) g refl refl refl
+known_step p laws safe opening h s g t o None e = let a = allowed p s t o e in live_step p laws safe opening h s g t a.0 o a.1 a.2 a.3
 
 -- Each run --
 
 -- By induction on the events.
-pub known_run : (p : Protocol) → IsLawful p → IsCovered p → (opening : Map) (es : List Event) (h : List Entry) (s : State) → Known p opening h s → Known p opening (h ++ (let r = run p s es in r.history)) (let r = run p s es in r.state)
-known_run p laws cov opening [] h s g = subst (λ l. Known p opening l s) (sym (append-nil h)) g
-known_run p laws cov opening (e ∷ es) h s g =
+pub known_run : (p : Protocol) → IsLawful p → IsSafe p → (opening : Map) (es : List Event) (h : List Entry) (s : State) → Known p opening h s → Known p opening (h ++ (let r = run p s es in r.history)) (let r = run p s es in r.state)
+known_run p laws safe opening [] h s g = subst (λ l. Known p opening l s) (sym (append-nil h)) g
+known_run p laws safe opening (e ∷ es) h s g =
     let o = step p s e.txn e.op in
     subst (λ l. Known p opening l (run p (step p s e.txn e.op).1 es).state) (append_assoc h ((e, o.0) ∷ []) (run p o.1 es).history)
-    (known_run p laws cov opening es (h ++ (e, o.0) ∷ []) o.1 (known_step p laws cov opening h s g e.txn e.op (refusal_of p s e.txn e.op) refl))
+    (known_run p laws safe opening es (h ++ (e, o.0) ∷ []) o.1 (known_step p laws safe opening h s g e.txn e.op (refusal_of p s e.txn e.op) refl))
+
+none_found : ◌≡◌ {A = Option ℕ} None (Some 0) → ⊥
+none_found e = cc
 
 -- At the start nothing has been done.
 opens : (p : Protocol) (opening : Map) → IsMap opening → Known p opening [] (start opening)
@@ -193,11 +195,12 @@ opens p opening sorted = record {
   part = λ u. blank;
   done = [];
   answered = tt;
+  hold = λ t n. nothing;
   inv = record {
     is_map = sorted;
     is_committed_map = sorted;
     guarded = record {
-      range = λ t n. omega arith;
+      range = λ t n. in_count KeyFree GapFree;
       cover = λ t k touch. absurd (blank_untouched k touch);
       change = λ t k b. absurd b;
       apart = λ t u k c ne touch b reach. b;
@@ -212,6 +215,16 @@ opens p opening sorted = record {
     scan = λ t. tt;
     committed = record { before = λ t k b. absurd b; now = λ k out. refl };
   };
+  sim = record {
+    locks = record { rise = refl; within = λ t n. omega arith; no_none = λ k e. none_found e };
+    paired = record { mode = λ t n. refl; alone = λ t n. inl beside; beside = λ t u n live ne. inl beside };
+    placed = record {
+      there = λ t n live e. inl (record { key = refl; gap = refl });
+      gone = λ t n live e. absurd (true_not_false (sym e));
+      mine = λ t u k ne live h. absurd h;
+      guard = λ t k live e. absurd (true_not_false (sym e));
+    };
+  };
   reads = λ t live unrolled f. refl;
   stands = λ t live. record { scan = tt; changes = refl; rolling = refl };
   over = λ t ended. refl;
@@ -221,60 +234,15 @@ opens p opening sorted = record {
   live = λ t a i. absurd i;
 }
 
--- The end of a run --
-
-joined_programs : (cs : Programs) (h : List Entry) (s : State) → Fixed cs h s → flat_map (λ t. operations_of t h) (txns cs) ≡ joined cs
-joined_programs [] h s f = refl
-joined_programs (c ∷ cs) h s f = ap₂ (λ a z. a ++ z) (reads_whole c.0 h c.1 f.0.1) (joined_programs cs h s f.1)
-
-module _ (p : Protocol) (opening : Map) (h : List Entry) (s : State) (g : Known p opening h s) where
-  -- The programs read from the history are those that are known.
-  all_joined : all_operations (programs h) ≡ joined g.done
-  all_joined = all_operations_programs h ∙ ap (flat_map (λ t. operations_of t h)) (sym g.order) ∙ joined_programs g.done h s g.fixed
-
-  -- What an active transaction notes are the changes of its part.
-  noted : (x : ℕ × Active) → In x s.active → x.1.changes ≡ (g.part x.0).changes
-  noted x i =
-      let st = g.stands x.0 (g.live x.0 x.1 i) in
-      ap (λ (z : Option Active). let a = unwrap_or z idle in a.changes) (sym (sorted_finds x.0 x.1 s.active g.sorted i)) ∙ st.changes
-
-  -- A transaction with changes is active.
-  is_noted : (t q : ℕ) (b : Bool) → has_ended s t ≡ b → (f : Option Active) → find nat_cmp t s.active ≡ f → Changed (g.part t) q → SomeChanged s.active q
-  is_noted t q true e f is c = absurd (subst (λ l. ChangedIn l q) (g.over t e) c)
-  is_noted t q false e None is c =
-      let st = g.stands t e in
-      absurd (subst (λ l. ChangedIn l q) (sym st.changes ∙ ap (λ (z : Option Active). let a = unwrap_or z idle in a.changes) is) c)
-  is_noted t q false e (Some a) is c =
-      let st = g.stands t e in
-      changed_some s.active (t, a) q (found_in t a s.active is) (subst (λ l. ChangedIn l q) (sym st.changes ∙ ap (λ (z : Option Active). let a = unwrap_or z idle in a.changes) is) c)
-
-  -- At each key that an unfinished transaction changed, its undo leaves what the committed map has; and no other key differs from it.
-  rolled_back_is : (unfinished : List (ℕ × Active)) → IsPermutation s.active unfinished → rolled_back s.map unfinished ≡ map_left opening (joined g.done)
-  rolled_back_is unfinished order =
-      let i = g.inv in
-      let left : Map = map_left opening (joined g.done) in
-      same_map (rolled_back s.map unfinished) left (IsMap-rolled_back s.map unfinished i.is_map) i.is_committed_map (λ q.
-      rolled s.map unfinished q (get left q) i.is_map
-      (λ x j c n rn.
-      let same = noted x (in_order s.active unfinished order x j) in
-      let c' : Changed (g.part x.0) q = subst (λ l. ChangedIn l q) same c in
-      ap (λ l. get (restore_all n l) q) same ∙ restore_all_same n s.map (g.part x.0).changes q (inl c') ∙ sym (i.committed.before x.0 q c'))
-      (⊎_elim
-      (λ some. inr some)
-      (λ none. inl (sym (i.committed.now q (λ t b. none (some_changed_in s.active unfinished q (λ x j. in_other_order s.active unfinished order x j) (is_noted t q (has_ended s t) refl (find nat_cmp t s.active) refl b))))))
-      (some_changed unfinished q)))
-
-  pub serial : IsSerialRun opening (record { history = h; state = s })
-  serial = (
-    subst (λ z. AreAnswered opening z) (sym all_joined) g.answered,
-    λ unfinished order. rolled_back_is unfinished order ∙ ap (map_left opening) (sym all_joined),
-  )
-
--- Under a lawful and covered protocol every run is serial in commit order, and the index with the unfinished rolled back, in any order, is the map left.
-pub runs_are_serial : (p : Protocol) → IsLawful p → IsCovered p → (opening : Map) (events : List Event) → IsMap opening → IsSerialRun opening (run p (start opening) events)
-runs_are_serial p laws cov opening events sorted =
+-- Under a lawful and safe protocol every run is serializable in commit order, and the index with the unfinished rolled back, in any order, is the map left.
+pub safe_runs_are_serial : (p : Protocol) → IsLawful p → IsSafe p → (opening : Map) (events : List Event) → IsMap opening → IsSerialRun opening (run p (start opening) events)
+safe_runs_are_serial p laws safe opening events sorted =
     let r = run p (start opening) events in
-    serial p opening r.history r.state (known_run p laws cov opening events [] (start opening) (opens p opening sorted))
+    serial p opening r.history r.state (known_run p laws safe opening events [] (start opening) (opens p opening sorted))
+
+-- A lawful protocol of which all cases hold is safe, so every run under it is, too.
+pub runs_are_serial : (p : Protocol) → IsLawful p → IsCovered p → (opening : Map) (events : List Event) → IsMap opening → IsSerialRun opening (run p (start opening) events)
+runs_are_serial p laws cov = safe_runs_are_serial p laws (covered_is_safe p laws cov)
 
 -- So is every run of some of the operations.
 pub runs_of_are_serial : (IsSuch : Op → Type 0) (p : Protocol) → IsLawful p → IsCovered p → RunsOfAreSerial IsSuch p

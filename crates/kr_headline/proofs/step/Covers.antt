@@ -77,7 +77,7 @@ read_conflicts_update p up = inr (in_updating p (Update, Current) ((Update, Curr
 abbrev updated_conflicts : List Ask
 updated_conflicts = (FetchHit, Current) ∷ (ScanKey, Current) ∷ (Delete, Current) ∷ (Update, Current) ∷ []
 
-in_updated : (p : Protocol) (a : Ask) → p.updates ≡ true → In a updated_conflicts → In a (must_conflict p UpdatedKey)
+pub in_updated : (p : Protocol) (a : Ask) → p.updates ≡ true → In a updated_conflicts → In a (must_conflict p UpdatedKey)
 in_updated p a up i = in_updating p a updated_conflicts up i
 
 -- The cover of a change serves as that of a read --

@@ -9,7 +9,7 @@ use Rattle.kr_model.specs.declared.Side.{Side}
 use Rattle.kr_model.specs.declared.Side.TheVariants.{Current, Next}
 use Rattle.kr_model.specs.declared.Cover.{Cover}
 use Rattle.kr_model.specs.declared.Cover.TheVariants.{ReadKey, ReadGap}
-use Rattle.kr_model.specs.Protocol.{Protocol, IsLawful, MovesNoKey}
+use Rattle.kr_model.specs.Protocol.{Protocol, MovesNoKey}
 use Rattle.kr_model.specs.Covers.{mode_after}
 use Rattle.kr_model.specs.Map.{Map, at}
 use Rattle.kr_model.proofs.Guarantees.{Conflicts, Serves}
@@ -30,14 +30,18 @@ pub record MayTouch (p : Protocol) (m : Map) (own' : Modes) (part : Parts) (t : 
 abbrev pub KeepsAfter : Protocol → Modes → Modes → ℕ → Row → Side → Name → Type 0
 KeepsAfter p own own' t row side name = (c : Cover) → Serves p c (mode_after p (own t name) (p.ask row side 0)) → Serves p c (own' t name)
 
-module _ (p : Protocol) (laws : IsLawful p) (cases : Covered p) (m : Map) (own : Modes) (part : Parts) (c : Map) (i : Invariant p m own part c) (t : ℕ) (own' : Modes) where
+-- A row that moves no key asks the same whatever is held.
+abbrev pub AsksAlike : Protocol → Type 0
+AsksAlike p = (row : Row) (side : Side) (own : ℕ) → MovesNoKey row → own ≤ p.count → p.ask row side own ≡ p.ask row side 0
+
+module _ (p : Protocol) (alike : AsksAlike p) (cases : Covered p) (m : Map) (own : Modes) (part : Parts) (c : Map) (i : Invariant p m own part c) (t : ℕ) (own' : Modes) where
   range : (u : ℕ) (name : Name) → own u name ≤ p.count
   range u name = let g = i.guarded in g.range u name
 
   -- A reading row asks the same whatever is held.
   whatever_held : (row : Row) (side : Side) (name : Name) → MovesNoKey row → Granted p own t row side name 0 → Granted p own t row side name (own t name)
   whatever_held row side name reads granted u ne conflict =
-      granted u ne (subst (λ z. Conflicts p (own u name) (own t name) z) (laws.ask-no_move row side (own t name) reads (range t name)) conflict)
+      granted u ne (subst (λ z. Conflicts p (own u name) (own t name) z) (alike row side (own t name) reads (range t name)) conflict)
 
   -- A fetch of a present key touches it.
   pub hit_touches : (k : ℕ) → has m k ≡ true → Granted p own t FetchHit Current (Key k) 0 → KeepsAfter p own own' t FetchHit Current (Key k) → MayTouch p m own' part t (λ y. y ≡ k)

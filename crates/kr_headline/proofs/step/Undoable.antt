@@ -53,7 +53,7 @@ module _ (p : Protocol) (m : Map) (hm : IsMap m) (own : Modes) (part : Parts) (g
   -- What the changes guard --
 
   -- An insert is refused where another's changes guard the key.
-  insert_unguarded : (u k : ℕ) → Granted p own t Insert Next (at m k) (own t (at m k)) → has m k ≡ false → u ≢ t → Guard m (part u).changes k → ⊥
+  pub insert_unguarded : (u k : ℕ) → Granted p own t Insert Next (at m k) (own t (at m k)) → has m k ≡ false → u ≢ t → Guard m (part u).changes k → ⊥
   insert_unguarded u k granted absent other guarded =
       let top = stack_top p (own u) m (part u).changes k (d.levels u) guarded in
       clash p own t u Insert Next (at m k) (own t (at m k)) DeletedGap granted other (top.gap absent) (inr (inr (inr (inl refl)))) (g.range t (at m k)) (g.range t (at m k)) refl
