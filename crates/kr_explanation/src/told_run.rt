@@ -1,5 +1,5 @@
 //! The run that is told of a cause.
-ghost use Rattle.std.specs.Prelude.{◌≤◌, IfOk, IfSome, length};
+ghost use Rattle.std.specs.Prelude.{◌≡◌, ◌≤◌, None, IfOk, IfSome, length};
 ghost use Rattle.kr_counterexample.specs.GoesWrong.{GoesWrong};
 ghost use Rattle.kr_explanation.specs.Explained.{GoesWrongWith};
 
@@ -22,6 +22,21 @@ pub struct ToldRun {
     pub tried: usize,
 }
 
+impl ToldRun {
+    /// None is told, and none was sought.
+    pub fn none() -> ToldRun
+        ensures run { result.run ≡ None }
+        ensures runs { result.runs ≡ 0 }
+        ensures tried { result.tried ≡ 0 }
+    {
+        ToldRun {
+            run: None,
+            runs: 0,
+            tried: 0,
+        }
+    }
+}
+
 /// The shortest of the first runs of the cases, those through the preferred place before others. The cases are tried in
 /// their order for as long as the effort lasts.
 pub fn told_run<P: Protocol>(
@@ -38,11 +53,7 @@ pub fn told_run<P: Protocol>(
 {
     let states = closure.states();
     let mut effort = effort;
-    let mut told = ToldRun {
-        run: None,
-        runs: 0,
-        tried: 0,
-    };
+    let mut told = ToldRun::none();
     for case in cases {
         let Some(most_runs) = effort.for_case(states) else {
             return Ok(told);

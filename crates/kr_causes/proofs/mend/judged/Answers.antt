@@ -5,7 +5,7 @@ use Rattle.kr_cases.specs.Told.{Tells}
 use Rattle.kr_causes.specs.Changes.{changed}
 use Rattle.kr_causes.specs.Mends.{AreMended}
 use Rattle.kr_causes.proofs.Given.{at_given}
-use Rattle.kr_causes.proofs.mend.ask_checker.Goals as goal
+use Rattle.kr_causes.proofs.mend.judged.Goals as goal
 
 -- the table that was checked is the one that was given, changed
 pub returns-in-Ok : goal.returns-in-Ok
