@@ -2,6 +2,8 @@
 ghost use Rattle.std.specs.Prelude.{◌≡◌, ◌≤◌, ◌↔◌, IsTrue, IfOk, IfSome, All, false, true, map};
 ghost use Rattle.std.specs.List.{Any};
 ghost use Rattle.kr_model.specs.Covers.{failed_cases, IsCovered};
+ghost use Rattle.kr_model.specs.Safe.{IsSafe};
+ghost use Rattle.kr_causes.specs.Changes.{changed};
 ghost use Rattle.kr_causes.specs.Mends.{IsSameCase, IsAmong, AreMended, AreMends, Tells};
 
 use crate::blame::Blame;
@@ -85,6 +87,16 @@ fn are_mended(cases: &[FailedCase], failed: &[FailedCase], after: &[FailedCase])
     none_is_among(after, cases) && each_is_among(after, failed)
 }
 
+/// Whether a change makes the table safe.
+fn is_made_safe<P: Protocol>(alloc: Global, table: &Changed<'_, P>) -> Result<bool, Memory>
+    ensures { IfOk result (λ is. IsTrue is → IsSafe (changed (P.table table.now.base.now) table.now.change)) }
+{
+    match decide(alloc, table)? {
+        Decision::Safe => Ok(true),
+        Decision::Unsafe(_) => Ok(false),
+    }
+}
+
 /// Asks the checker about a change, and where the table isn't accepted then, the decision; of a table that is safe the
 /// checker alone.
 fn judged<P: Protocol>(
@@ -110,17 +122,13 @@ fn judged<P: Protocol>(
         ) => match cause {
             kr_cases::Cause::Failed(after) => {
                 if is_safe {
-                    return Ok(Verdict::Neither);
-                }
-                match decide(alloc, &changed)? {
-                    Decision::Safe => Ok(Verdict::Safe),
-                    Decision::Unsafe(_) => {
-                        if are_mended(cases, failed, &after) {
-                            Ok(Verdict::Mended)
-                        } else {
-                            Ok(Verdict::Neither)
-                        }
-                    }
+                    Ok(Verdict::Neither)
+                } else if is_made_safe(alloc, &changed)? {
+                    Ok(Verdict::Safe)
+                } else if are_mended(cases, failed, &after) {
+                    Ok(Verdict::Mended)
+                } else {
+                    Ok(Verdict::Neither)
                 }
             }
             kr_cases::Cause::Memory => Err(AllocError),

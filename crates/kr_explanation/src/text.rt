@@ -167,7 +167,7 @@ fn write_without_run<P: Protocol>(
         }
         Some(Harmless::NeverLetIn(held)) => {
             write_body(alloc, protocol, out, &explained.cause, held)?;
-            write_never_let_in(alloc, protocol, out, held, cases.len())
+            write_never_let_in(alloc, protocol, out, cases, held)
         }
         None => {
             write_body(alloc, protocol, out, &explained.cause, first)?;

@@ -29,23 +29,28 @@ pub fn write_never_held<P: Protocol>(
     write_harmless(alloc, out, why.as_str())
 }
 
-/// Writes that a cause of so many cases is harmless, since no transaction can come to request what the mode of this one lets
-/// in. The only fault is that a growth was refused.
+/// Writes that a cause of these cases is harmless, since no transaction can come to request what the mode of one of them,
+/// `held`, lets in. The only fault is that a growth was refused.
 pub fn write_never_let_in<P: Protocol>(
     alloc: Global,
     protocol: &P,
     out: &mut String,
+    cases: &[FailedCase],
     held: &FailedCase,
-    cases: usize,
 ) -> Result<(), Memory> {
     let why = never_let_in(alloc, protocol, held)?;
-    let others = if cases > 1 {
-        " It is so with its other cases, or no transaction ever comes to their modes."
-    } else {
+    let others = if cases.iter().all(|case| is_alike(case, held)) {
         ""
+    } else {
+        " It is so with its other cases, or no transaction ever comes to their modes."
     };
     let text = format!(in alloc; "{why}{others}")?;
     write_harmless(alloc, out, text.as_str())
+}
+
+/// Whether two cases are of the same mode and cover.
+fn is_alike(case: &FailedCase, other: &FailedCase) -> bool {
+    case.mode == other.mode && case.cover == other.cover
 }
 
 /// Writes why a cause is harmless.
