@@ -14,3 +14,5 @@ pub mod Deletes
 pub mod Leaving
 pub mod Converted
 pub mod AllCases
+pub mod Accounts
+pub mod Worked

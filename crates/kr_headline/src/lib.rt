@@ -23,6 +23,7 @@ ghost use Rattle.kr_model.specs.declared.Event.{Event};
 ghost use Rattle.kr_model.specs.declared.Cover.TheVariants.{ReadKey, ReadGap, InsertedKey, DeletedGap, UpdatedKey};
 ghost use Rattle.kr_headline.specs.Passes.{IsSplitting, IsMerging, RunsOfAreSerial};
 ghost use Rattle.kr_headline.specs.Needed.{IsNeeded};
+ghost use Rattle.kr_headline.specs.Worked.{IsSafeUncovered, IsUnsafe, six_to_is, six_beside_ix, insert_beside_read, requests_nothing, miss_at_once};
 
 /// Under a lawful and covered protocol every run of fetches, inserts and commits is serializable in commit order, and the
 /// index with the unfinished rolled back, in any order, is the map that the committed transactions leave.
@@ -61,6 +62,21 @@ pub fn bundled_are_safe()
     ensures kvl_update { IsSafe kvl_update }
     ensures im { IsSafe im }
     ensures range_key { IsSafe range_key }
+{}
+
+/// Some lawful tables fail cases and are safe: key-value locking in which SIX and IX convert to IS, key-value locking in
+/// which SIX is granted beside IX, and range-key locking in which I-X is granted beside S-N.
+pub fn worked_safe()
+    ensures conversion { IsSafeUncovered six_to_is }
+    ensures compatible { IsSafeUncovered six_beside_ix }
+    ensures range { IsSafeUncovered insert_beside_read }
+{}
+
+/// Some lawful tables aren't safe: one that requests nothing, and key-value locking in which a fetch that finds nothing
+/// doesn't keep its lock on the gap.
+pub fn worked_unsafe()
+    ensures nothing { IsUnsafe requests_nothing }
+    ensures miss { IsUnsafe miss_at_once }
 {}
 
 /// Every run under a bundled table is serializable in commit order, with no premise left.

@@ -1,6 +1,7 @@
 //! The page of a run.
 ghost use Rattle.std.specs.Prelude.{◌↔◌, IfOk, IsTrue, string_bytes};
 ghost use Rattle.kr_model.specs.Covers.{IsCovered};
+ghost use Rattle.kr_model.specs.Safe.{IsSafe};
 ghost use Rattle.kr_model.specs.State.{start};
 ghost use Rattle.kr_model.specs.Run.{run, programs};
 ghost use Rattle.kr_model.specs.Serial.{AreSerial};
@@ -19,7 +20,7 @@ use kr_serial::{Ran, Verdict, judge, run_any};
 use std::alloc::Global;
 
 /// The page of a script's run under a protocol, whose table has this name, and whether the run is serial: the programs of
-/// the transactions that commit are serial in commit order. Under a covered protocol they are.
+/// the transactions that commit are serial in commit order. Under a safe protocol they are, and so under a covered one.
 ///
 /// The page is HTML that stands alone. It has the name as its title and heading, and then tells whether the run is serial.
 /// At most 200 steps and 60 names are drawn, the last ones, and the page says so. The only error is that a growth was
@@ -33,6 +34,7 @@ pub fn picture<P: Protocol>(
     ensures page { IfOk result (λ told. IsPage table.now told.1 (string_bytes told.0)) }
     ensures serial { IfOk result (λ told. IsTrue told.1
         ↔ AreSerial script.now.opening (programs (run (P.table protocol.now) (start script.now.opening) script.now.steps).history)) }
+    ensures safe { IsSafe (P.table protocol.now) → IfOk result (λ told. IsTrue told.1) }
     ensures covered { IsCovered (P.table protocol.now) → IfOk result (λ told. IsTrue told.1) }
 {
     let ran = run_any(alloc, protocol, script.opening(), script.steps())?;

@@ -1,14 +1,13 @@
 -- All verdicts are serial exactly where each run is.
 use Rattle.std.proofs.Common.{◌≡◌, ℕ, zero, suc, Bool, true, false, ◌&&◌, All, List, [], ◌∷◌, length, map, Option, refl, sym, ap, ◌∙◌, arith}
 use Rattle.std.specs.List.{list_all}
-use Rattle.kr_model.specs.Protocol.{Protocol, IsLawful}
-use Rattle.kr_model.specs.Covers.{IsCovered}
+use Rattle.kr_model.specs.Protocol.{Protocol}
+use Rattle.kr_model.specs.Map.{IsMap}
 use Rattle.kr_model.specs.Run.{programs}
 use Rattle.kr_serial.specs.declared.verdict.Verdict.{Verdict}
 use Rattle.kr_serial.specs.declared.verdict.Verdict.TheVariants.{Serial, NotSerial}
 use Rattle.kr_serial.specs.Verdicts.{verdict_of_run}
 use Rattle.kr_serial.proofs.Wholes.{serial_exactly}
-use Rattle.kr_serial.proofs.SerialRuns.{covered_programs}
 use Rattle.kr_script.specs.Script.{Script}
 use Rattle.kr_batch.specs.Names.{AreNamed}
 use Rattle.kr_program.specs.Runs.{run_of, IsSerialScript}
@@ -43,12 +42,12 @@ module _ (p : Protocol) where
   all_told [] h = refl
   all_told (s ∷ ss) h = rw (told_where_serial s (h zero s (omega arith)), all_told ss (λ k d low. h (suc k) d (omega arith)))
 
-  -- under a covered protocol each run of a script that a name stands for is serial
-  pub all_covered : IsLawful p → IsCovered p → (may_be : List ℕ → Option (List ℕ) → Type 0) (names : List (List ℕ)) (ss : List Script) → AreNamed may_be names ss → All (IsSerialScript p) ss
-  all_covered laws covered may_be names [] are k d low = absurd (omega arith)
-  all_covered laws covered may_be [] (s ∷ ss) are k d low = absurd are
-  all_covered laws covered may_be (n ∷ ns) (s ∷ ss) are zero d low = covered_programs p laws covered s.opening s.steps are.0.0.rising
-  all_covered laws covered may_be (n ∷ ns) (s ∷ ss) are (suc k) d low = all_covered laws covered may_be ns ss are.1 k d (omega arith)
+  -- where every run of a script is serial, so is each run of a script that a name stands for
+  pub all_named : ((s : Script) → IsMap s.opening → IsSerialScript p s) → (may_be : List ℕ → Option (List ℕ) → Type 0) (names : List (List ℕ)) (ss : List Script) → AreNamed may_be names ss → All (IsSerialScript p) ss
+  all_named every may_be names [] are k d low = absurd (omega arith)
+  all_named every may_be [] (s ∷ ss) are k d low = absurd are
+  all_named every may_be (n ∷ ns) (s ∷ ss) are zero d low = every s are.0.0.rising
+  all_named every may_be (n ∷ ns) (s ∷ ss) are (suc k) d low = all_named every may_be ns ss are.1 k d (omega arith)
 
 -- as many scripts as names, and as many verdicts
 as_many : {N : Type 0} (f : N → List ℕ) (may_be : List ℕ → Option (List ℕ) → Type 0) (names : List N) (ss : List Script) → AreNamed may_be (map f names) ss → length ss ≡ length names

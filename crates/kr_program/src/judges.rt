@@ -3,6 +3,7 @@ ghost use Rattle.std.specs.Prelude.{◌≡◌, ◌⊎◌, ◌↔◌, List, All, 
 ghost use Rattle.std.specs.List.{list_all};
 ghost use Rattle.std.specs.Io.KnownBytes.{Appends};
 ghost use Rattle.kr_model.specs.Covers.{IsCovered};
+ghost use Rattle.kr_model.specs.Safe.{IsSafe};
 ghost use Rattle.kr_model.specs.Protocol.{IsLawful};
 ghost use Rattle.kr_script.specs.Script.{Script};
 ghost use Rattle.kr_batch.specs.Names.{AreNamed};
@@ -88,9 +89,9 @@ fn are_laws_kept<P: Protocol>(protocol: &P)
 }
 
 /// Judges the runs of the scripts that names stand for under a protocol, on several threads, writes for each name in their
-/// order the report of the verdict with the name and a line feed, and answers whether all runs are serial; under a covered
-/// protocol they are. Where a name stands for no script, or a growth was refused, nothing is written; where printing fails,
-/// a beginning of the lines was.
+/// order the report of the verdict with the name and a line feed, and answers whether all runs are serializable in commit
+/// order; under a safe protocol they are, and so under a covered one. Where a name stands for no script, or a growth was
+/// refused, nothing is written; where printing fails, a beginning of the lines was.
 pub fn judge_over<P: Protocol + Sync, T: Texts + Sync, W: Sink>(
     rt: &(impl Threads + Sync),
     alloc: Global,
@@ -102,6 +103,7 @@ pub fn judge_over<P: Protocol + Sync, T: Texts + Sync, W: Sink>(
     ensures ok { IfOk result (λ serial. (ss : List Script) × (AreNamed (T.may_be texts.now) (map (λ n. n.now) names.now) ss
         × (Appends (W.taken out.old) (W.taken out.new) (judge_lines (P.table protocol.now) (map (λ n. n.now) names.now) ss)
         × (IsTrue serial ↔ All (IsSerialScript (P.table protocol.now)) ss)))) }
+    ensures safe { IsSafe (P.table protocol.now) → IfOk result (λ serial. IsTrue serial) }
     ensures covered { IsCovered (P.table protocol.now) → IfOk result (λ serial. IsTrue serial) }
     ensures err { IfErr result (ExplainsLines (P.table protocol.now) (T.may_be texts.now) (map (λ n. n.now) names.now)
         (W.taken out.old) (W.taken out.new) (W.failures out.old) (W.failures out.new)) }

@@ -2,6 +2,7 @@
 ghost use Rattle.std.specs.Prelude.{◌≡◌, ◌⊎◌, ◌↔◌, IfOk, IfErr, IsTrue, Ok, string_bytes};
 ghost use Rattle.std.specs.Io.KnownBytes.{Appends};
 ghost use Rattle.kr_model.specs.Covers.{IsCovered};
+ghost use Rattle.kr_model.specs.Safe.{IsSafe};
 ghost use Rattle.kr_model.specs.Difference.{first_difference};
 ghost use Rattle.kr_model.specs.Serial.{AreSerial};
 ghost use Rattle.kr_serial.specs.Verdicts.{verdict_of};
@@ -33,8 +34,9 @@ fn report_of<P: Protocol>(
 }
 
 /// Runs the script that the bytes are under a protocol, writes the report of the run with its verdict and a line feed, and
-/// answers whether the run is serial; under a covered protocol it is. Where the bytes are no script, or a growth was
-/// refused, nothing is written; where printing fails, a beginning of the report was.
+/// answers whether the run is serializable in commit order; under a safe protocol it is, and so under a covered one. Where
+/// the bytes are no script, or a growth was refused, nothing is written; where printing fails, a beginning of the report
+/// was.
 pub fn run_over<P: Protocol, W: Sink>(
     alloc: Global,
     protocol: &P,
@@ -45,6 +47,7 @@ pub fn run_over<P: Protocol, W: Sink>(
         × Appends (W.taken out.old) (W.taken out.new) (report_line (P.table protocol.now) (P.names protocol.now) s))) }
     ensures serial { IfOk result (λ serial. IfOk (reading script.now)
         (λ s. IsTrue serial ↔ IsSerialScript (P.table protocol.now) s)) }
+    ensures safe { IsSafe (P.table protocol.now) → IfOk result (λ serial. IsTrue serial) }
     ensures covered { IsCovered (P.table protocol.now) → IfOk result (λ serial. IsTrue serial) }
     ensures err { IfErr result (Explains (P.table protocol.now) (P.names protocol.now) script.now
         (W.taken out.old) (W.taken out.new) (W.failures out.old) (W.failures out.new)) }

@@ -2,6 +2,7 @@
 ghost use Rattle.std.specs.Prelude.{◌≡◌, ◌≤◌, None, IfOk, OnOk, All, map};
 ghost use Rattle.kr_model.specs.Map.{IsMap};
 ghost use Rattle.kr_model.specs.Covers.{IsCovered};
+ghost use Rattle.kr_model.specs.Safe.{IsSafe};
 ghost use Rattle.kr_model.specs.Serial.{AreSerial, IsSerialRun};
 ghost use Rattle.kr_model.specs.State.{start};
 ghost use Rattle.kr_model.specs.Run.{run, replies_of, programs};
@@ -18,8 +19,9 @@ use std::alloc::Global;
 /// Runs the events under any protocol, from an opening map whose keys rise strictly. The only fault is `Memory`: a step
 /// that was refused memory ends the run, and nothing of it is shown.
 ///
-/// Where the protocol is covered the run is serial: its committed programs are serial in commit order from the opening
-/// map, and the index with the unfinished rolled back, in any order, is the map that they leave.
+/// Where the protocol is safe the run is serializable in commit order: its committed programs are serial in commit order
+/// from the opening map, and the index with the unfinished rolled back, in any order, is the map that they leave. A
+/// covered protocol is safe.
 pub fn run_any<P: Protocol>(
     alloc: Global,
     protocol: &P,
@@ -28,13 +30,15 @@ pub fn run_any<P: Protocol>(
 ) -> Result<Ran, Memory>
     requires { IsMap opening.now }
     ensures ran { IfOk result (λ ran. IsRanUnder (P.table protocol.now) opening.now events.now ran) }
+    ensures safe { IsSafe (P.table protocol.now) → IfOk result (λ ran. AreSerial ran.opening ran.programs) }
+    ensures safe_run { IsSafe (P.table protocol.now) → OnOk result (IsSerialRun opening.now (run (P.table protocol.now) (start opening.now) events.now)) }
     ensures covered { IsCovered (P.table protocol.now) → IfOk result (λ ran. AreSerial ran.opening ran.programs) }
     ensures covered_run { IsCovered (P.table protocol.now) → OnOk result (IsSerialRun opening.now (run (P.table protocol.now) (start opening.now) events.now)) }
 {
     replayed(alloc, protocol, opening, events)
 }
 
-/// The same, clause by clause, without what holds where the protocol is covered.
+/// The same, clause by clause, without what holds where the protocol is safe.
 #[tactic(auto, using(crate::proofs::Replayed::programs_of_run))]
 fn replayed<P: Protocol>(
     alloc: Global,

@@ -3,6 +3,7 @@ ghost use Rattle.std.specs.Prelude.{◌≡◌, ◌⊎◌, ◌↔◌, ◌≤◌, 
 ghost use Rattle.std.specs.Io.KnownBytes.{Appends};
 ghost use Rattle.kr_model.specs.Protocol.{IsLawful};
 ghost use Rattle.kr_model.specs.Covers.{IsCovered};
+ghost use Rattle.kr_model.specs.Safe.{IsSafe};
 ghost use Rattle.kr_script.specs.Puts.{HasCause, AppendsFront};
 ghost use Rattle.kr_shell.specs.Endings.{is_output, ending_line};
 ghost use Rattle.kr_shell.specs.declared.endings.Ending.{Ending};
@@ -27,9 +28,9 @@ fn are_laws_kept<P: Protocol>(protocol: &P)
     let _ = protocol;
 }
 
-/// Writes the page of a script's run under a protocol, whose table this word names, and answers whether the run is serial;
-/// under a covered protocol it is. Where a growth was refused, nothing is written; where printing fails, a beginning of the
-/// page was.
+/// Writes the page of a script's run under a protocol, whose table this word names, and answers whether the run is
+/// serializable in commit order; under a safe protocol it is, and so under a covered one. Where a growth was refused,
+/// nothing is written; where printing fails, a beginning of the page was.
 pub fn write_page<P: Protocol, W: Sink>(
     alloc: Global,
     protocol: &P,
@@ -39,6 +40,7 @@ pub fn write_page<P: Protocol, W: Sink>(
 ) -> Result<bool, Ending>
     ensures page { IfOk result (λ serial. (page : List ℕ) × (IsPage table.now serial page × Appends (W.taken out.old) (W.taken out.new) page)) }
     ensures serial { IfOk result (λ serial. IsTrue serial ↔ IsSerialScript (P.table protocol.now) script.now) }
+    ensures safe { IsSafe (P.table protocol.now) → IfOk result (λ serial. IsTrue serial) }
     ensures covered { IsCovered (P.table protocol.now) → IfOk result (λ serial. IsTrue serial) }
     ensures err { IfErr result (λ e. (e ≡ ending.Memory) ⊎ (e ≡ ending.Output)) }
     ensures nothing { IfErr result (λ e. IsTrue (is_output e) ⊎ (out.new ≡ out.old)) }

@@ -19,7 +19,7 @@ use Rattle.kr_headline.proofs.step.Invariant.{Invariant}
 use Rattle.kr_headline.proofs.step.EndKeeps.{commit_keeps, abort_keeps, back_keeps}
 use Rattle.kr_headline.proofs.run.Reading.{entry, ReadsAs, silent_other, silent_by, reads_silent, committed_append, committed_none}
 use Rattle.kr_headline.proofs.run.Programs.{joined, joined_push, txns_push, Fixed, fixed_more, fixed_push}
-use Rattle.std.proofs.Common.{sym, ◌∙◌, ap, subst, ◌≢◌, ◌⊎◌, inl, inr, ⊎_elim}
+use Rattle.std.proofs.Common.{sym, ◌∙◌, ap, subst, ◌≢◌, inl, inr, ⊎_elim}
 use Rattle.kr_model.proofs.UndoLaws.{IsMap-restore_all}
 use Rattle.kr_headline.proofs.step.Parts.{moved_or_not}
 use Rattle.kr_headline.proofs.step.Invariant.{kept}

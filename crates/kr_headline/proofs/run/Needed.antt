@@ -31,6 +31,7 @@ use Rattle.kr_model.proofs.Tested.{lawful_by_test}
 use Rattle.kr_model.proofs.WorkedCovers.{insert_always_ix, deletes_next_instant}
 use Rattle.kr_model.proofs.WorkedRuns.{by, three, verdict, split_not_serial, split_not_serial-verdict}
 use Rattle.kr_headline.specs.Needed.{IsNeeded}
+use Rattle.kr_headline.specs.Worked.{miss_at_once}
 
 -- From the rules of all failed cases, one after another.
 each_of : (fs : List FailedCase) (r : Rule) (n : ℕ) → map (λ f. f.case) fs ≡ replicate n r → AllByRecursion (λ f. f.case ≡ r) fs
@@ -98,15 +99,10 @@ fetch_hit_needed : IsNeeded rule.FetchHit
 fetch_hit_needed = needed (with_ask hit_at_once_ask) rule.FetchHit 1 (by 1 (Fetch 20) ∷ by 2 (Delete 20) ∷ by 2 Commit ∷ by 1 Commit ∷ [])
     (differ 1 1 (reply.Found 2) reply.None) (lawful_by_test (with_ask hit_at_once_ask) refl) refl refl
 
--- A fetch that finds nothing doesn't keep its lock on the gap.
-abbrev miss_at_once_ask : Row → Side → ℕ → Option (ℕ × Span)
-miss_at_once_ask row.FetchMiss Next own = at_once S
-miss_at_once_ask r s own = kvl_ask r s own
-
--- So the key that transaction 1 didn't find is inserted by one who commits first.
+-- A fetch that finds nothing doesn't keep its lock on the gap. So the key that transaction 1 didn't find is inserted by one who commits first.
 fetch_miss_needed : IsNeeded rule.FetchMiss
-fetch_miss_needed = needed (with_ask miss_at_once_ask) rule.FetchMiss 3 (by 1 (Fetch 15) ∷ by 2 (Insert 15 7) ∷ by 2 Commit ∷ by 1 Commit ∷ [])
-    (differ 1 1 reply.None (reply.Found 7)) (lawful_by_test (with_ask miss_at_once_ask) refl) refl refl
+fetch_miss_needed = needed miss_at_once rule.FetchMiss 3 (by 1 (Fetch 15) ∷ by 2 (Insert 15 7) ∷ by 2 Commit ∷ by 1 Commit ∷ [])
+    (differ 1 1 reply.None (reply.Found 7)) (lawful_by_test miss_at_once refl) refl refl
 
 -- A scan doesn't keep its lock on a key that it reads.
 abbrev key_at_once_ask : Row → Side → ℕ → Option (ℕ × Span)

@@ -10,7 +10,7 @@ use Rattle.kr_model.specs.declared.Cover.{Cover}
 use Rattle.kr_model.specs.Protocol.{Protocol, IsLawful}
 use Rattle.kr_model.specs.Covers.{mode_after}
 use Rattle.kr_model.specs.Map.{Map, IsMap, at}
-use Rattle.kr_model.specs.Locks.{Locks, own, kept}
+use Rattle.kr_model.specs.Locks.{Locks, own}
 use Rattle.kr_model.proofs.Guarantees.{Serves}
 use Rattle.kr_model.proofs.Requests.{request_at, asks_one, asks_both, kept_locks}
 use Rattle.kr_headline.proofs.gaps.Gaps.{has, at-key, reach-at, reach-dec, at-stable, Alike, alike-outside, at-insert}
