@@ -1,10 +1,11 @@
 -- Causes that no schedule goes wrong by.
-use Rattle.std.specs.Prelude.{◌≡◌, ◌≤◌, ◌⊎◌, ℕ, List, All, Contains}
+use Rattle.std.specs.Prelude.{◌≡◌, ◌<◌, ◌⊎◌, ℕ, true, false, List, All, Contains}
 use Rattle.std.specs.List.{Any}
 use Rattle.kr_model.specs.declared.Cover.{Cover}
 use Rattle.kr_model.specs.declared.FailedCase.{FailedCase}
 use Rattle.kr_model.specs.Protocol.{Protocol}
-use Rattle.kr_decide.specs.Survey.{IsHeld, HasHole}
+use Rattle.kr_decide.specs.Survey.{IsHeld, HasHole, is_held, has_hole}
+use Rattle.kr_decide.specs.declared.survey.Survey.{Survey}
 use Rattle.kr_explanation.specs.declared.harmless.Harmless.{Harmless}
 use Rattle.kr_explanation.specs.declared.harmless.Harmless.TheVariants.{NeverHeld, NeverLetIn}
 
@@ -22,9 +23,20 @@ BelongsTo failed cases c m = Any (IsOf c m) cases ⊎ ((Any (IsOf c m) failed �
 
 -- The cause of p that has these of the failed cases is harmless: no hole that schedules lead to belongs to it.
 abbrev pub IsHarmless : Protocol → List FailedCase → List FailedCase → Type 0
-IsHarmless p failed cases = (c : Cover) (m : ℕ) → m ≤ p.count → HasHole p c m → BelongsTo failed cases c m → ⊥
+IsHarmless p failed cases = (c : Cover) (m : ℕ) → m < 16 → HasHole p c m → BelongsTo failed cases c m → ⊥
 
 -- Why a cause of these cases is harmless: no transaction can hold the mode of any of them with its cover to protect, or one can hold that of this one.
 abbrev pub IsReason : Protocol → List FailedCase → Harmless → Type 0
 IsReason p cases NeverHeld = All (λ f. IsHeld p f.cover f.mode → ⊥) cases
 IsReason p cases (NeverLetIn held) = Contains cases held × IsHeld p held.cover held.mode
+
+-- The same, by what a survey says: of one cover, of all covers, and why.
+abbrev pub IsClearOf : Survey → List FailedCase → List FailedCase → Cover → Type 0
+IsClearOf s failed cases c = (m : ℕ) → m < 16 → has_hole s c m ≡ true → BelongsTo failed cases c m → ⊥
+
+abbrev pub IsClear : Survey → List FailedCase → List FailedCase → Type 0
+IsClear s failed cases = (c : Cover) → IsClearOf s failed cases c
+
+abbrev pub IsReasonBy : Survey → List FailedCase → Harmless → Type 0
+IsReasonBy s cases NeverHeld = All (λ f. is_held s f.cover f.mode ≡ false) cases
+IsReasonBy s cases (NeverLetIn held) = Contains cases held × (is_held s held.cover held.mode ≡ true)

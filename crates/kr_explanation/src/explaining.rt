@@ -1,7 +1,7 @@
 //! Explaining a table.
-ghost use Rattle.std.specs.Prelude.{IfOk, ◌≡◌, All};
+ghost use Rattle.std.specs.Prelude.{IfOk, IfSome, ◌≡◌, ◌≤◌, All, length};
 ghost use Rattle.kr_decide.specs.Survey.{IsSurvey};
-ghost use Rattle.kr_explanation.specs.Explained.{AreFailures, IsExplained, IsTold, causes_of};
+ghost use Rattle.kr_explanation.specs.Explained.{AreFailures, GoesWrongWith, IsExplained, IsTold, causes_of};
 
 use crate::effort::{Effort, MOST_MENDED};
 use crate::explanation::{Explained, Explanation, Failures};
@@ -10,8 +10,8 @@ use crate::told_run::{ToldRun, told_run};
 use kr_cases::{Cause as Rejection, Memory, cases, check};
 use kr_causes::{Blame, Cause, causes, mends};
 use kr_counterexample::Closure;
-use kr_decide::{Survey, survey};
-use kr_model::{FailedCase, Mode};
+use kr_decide::{Survey, surveyed};
+use kr_model::FailedCase;
 use kr_protocol::Protocol;
 use std::alloc::{AllocError, Global};
 
@@ -30,6 +30,7 @@ struct Known<'a> {
 /// together by what is to blame; for each cause why it is harmless, or else a run that goes wrong where one is known; and the
 /// changes that mend it of those that are tried. How much is tried is bounded, and the explanation says what was left out.
 /// The only fault is that a growth was refused.
+#[tactic(auto, using(crate::proofs::Outcomes::accepted_told, crate::proofs::Outcomes::safe_told, crate::proofs::Outcomes::rejected_told))]
 pub fn explain<P: Protocol>(alloc: Global, protocol: &P) -> Result<Explanation, Memory>
     ensures { IfOk result (IsExplained (P.table protocol.now)) }
 {
@@ -39,7 +40,7 @@ pub fn explain<P: Protocol>(alloc: Global, protocol: &P) -> Result<Explanation, 
         }),
         Err(rejected) => match rejected.cause {
             Rejection::Failed(failed) => {
-                let survey = survey(alloc, protocol)?;
+                let survey = surveyed(alloc, protocol)?;
                 let failures = failures(alloc, protocol, &survey, &failed)?;
                 if survey.is_safe() {
                     Ok(Explanation::Safe(failures))
@@ -88,7 +89,7 @@ fn explained<P: Protocol>(
         survey,
         closure: &closure,
         failed,
-        effort: Effort::of_each(harmful(protocol.count(), survey, failed, &causes)),
+        effort: Effort::of_each(harmful(survey, failed, &causes)),
     };
     let mut list = Vec::new(alloc);
     for cause in causes {
@@ -99,11 +100,11 @@ fn explained<P: Protocol>(
     Ok(list)
 }
 
-/// How many of the causes aren't harmless, where these are all failed cases of a protocol of so many modes.
-fn harmful(count: Mode, survey: &Survey, failed: &[FailedCase], causes: &[Cause]) -> usize {
+/// How many of the causes aren't harmless, where these are all failed cases.
+fn harmful(survey: &Survey, failed: &[FailedCase], causes: &[Cause]) -> usize {
     let mut harmful: usize = 0;
     for cause in causes {
-        if !is_harmless(count, survey, failed, &cause.cases) {
+        if !is_harmless(survey, failed, &cause.cases) {
             harmful = harmful.saturating_add(1);
         }
     }
@@ -126,18 +127,7 @@ fn told<P: Protocol>(
     let told = if harmless.is_some() {
         ToldRun::none()
     } else {
-        let prefer = match cause.blame {
-            Blame::Place { row, side } => Some((row, side)),
-            _ => None,
-        };
-        told_run(
-            alloc,
-            protocol,
-            known.closure,
-            &cause.cases,
-            prefer,
-            known.effort,
-        )?
+        sought(alloc, protocol, known, &cause)?
     };
     let mend = if is_mended {
         let is_safe = known.survey.is_safe();
@@ -145,28 +135,46 @@ fn told<P: Protocol>(
     } else {
         None
     };
-    let is_reached = told.run.is_none()
-        && is_reached(protocol, known.closure, &cause.cases, told.tried);
     Ok(Explained {
         cause,
         harmless,
         run: told.run,
         runs: told.runs,
         tried: told.tried,
-        is_reached,
+        is_reached: told.is_reached,
         mend,
     })
 }
 
-/// Whether some state of the closure has a step that one of the first cases is about, of which so many were tried.
-fn is_reached<P: Protocol>(
+/// The run that is told of a cause which isn't harmless. Those of its cases are tried first to whose cover and mode a hole
+/// belongs.
+fn sought<P: Protocol>(
+    alloc: Global,
     protocol: &P,
-    closure: &Closure,
+    known: Known<'_>,
+    cause: &Cause,
+) -> Result<ToldRun, Memory>
+    ensures wrong { IfOk result (λ told. IfSome told.run (GoesWrongWith (P.table protocol.now))) }
+    ensures tried { IfOk result (λ told. told.tried ≤ length cause.now.cases.items) }
+    ensures runs { IfOk result (λ told. told.runs ≤ told.tried) }
+{
+    let prefer = match cause.blame {
+        Blame::Place { row, side } => Some((row, side)),
+        _ => None,
+    };
+    let cases = holes_first(alloc, known.survey, &cause.cases)?;
+    told_run(alloc, protocol, known.closure, &cases, prefer, known.effort)
+}
+
+/// The cases, those first to whose cover and mode a hole belongs.
+fn holes_first(
+    alloc: Global,
+    survey: &Survey,
     cases: &[FailedCase],
-    tried: usize,
-) -> bool {
-    cases
-        .iter()
-        .take(tried)
-        .any(|case| closure.is_reached(protocol, case))
+) -> Result<Vec<FailedCase>, Memory>
+    ensures { IfOk result (λ list. length list.items ≡ length cases.now) }
+{
+    let mut list = cases.to_vec(alloc)?;
+    list.sort_by_key(|case| !survey.has_hole(case.cover, case.mode))?;
+    Ok(list)
 }

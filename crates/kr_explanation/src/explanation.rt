@@ -61,8 +61,7 @@ pub struct Explained {
     pub run: Option<Run>,
     /// How many of the cases that were tried gave one.
     pub runs: usize,
-    /// How many of its cases were tried, from the first on: all of them, unless the effort didn't last or the cause is
-    /// harmless.
+    /// How many of its cases were tried: all of them, unless the effort didn't last or the cause is harmless.
     pub tried: usize,
     /// Where no run is known, whether one transaction comes to the modes of a case that was tried.
     pub is_reached: bool,

@@ -1,9 +1,8 @@
 //! Causes that no schedule goes wrong by.
-ghost use Rattle.std.specs.Prelude.{◌≡◌, ◌≤◌, ◌↔◌, ℕ, IsTrue, IfSome, is_some, true};
+ghost use Rattle.std.specs.Prelude.{◌≡◌, ◌↔◌, IsTrue, IfSome, is_some, true};
 ghost use Rattle.std.specs.List.{Any};
-ghost use Rattle.kr_model.specs.Protocol.{IsLawful};
-ghost use Rattle.kr_decide.specs.Survey.{IsSurvey, has_hole};
-ghost use Rattle.kr_explanation.specs.Harmless.{BelongsTo, IsOf, IsOfCover, IsHarmless, IsReason};
+ghost use Rattle.kr_decide.specs.Survey.{IsSurvey};
+ghost use Rattle.kr_explanation.specs.Harmless.{BelongsTo, IsClear, IsClearOf, IsOf, IsOfCover, IsHarmless, IsReason, IsReasonBy};
 
 use kr_decide::Survey;
 use kr_model::{Cover, FailedCase, Mode};
@@ -20,6 +19,7 @@ pub enum Harmless {
 
 /// Why a cause of these cases is harmless, where these are all failed cases of a protocol with this survey; or `None` where
 /// it isn't.
+#[tactic(auto, using(crate::proofs::Clear::harmless_by, crate::proofs::Clear::reason_by))]
 pub fn why_harmless<P: Protocol>(
     protocol: &P,
     survey: &Survey,
@@ -30,41 +30,31 @@ pub fn why_harmless<P: Protocol>(
     ensures exactly { is_some result ≡ true ↔ IsHarmless (P.table protocol.now) failed.now cases.now }
     ensures reason { IfSome result (IsReason (P.table protocol.now) cases.now) }
 {
-    if is_harmless(protocol.count(), survey, failed, cases) {
+    let _ = protocol;
+    if is_harmless(survey, failed, cases) {
         Some(reason(survey, cases))
     } else {
         None
     }
 }
 
-/// Whether no hole belongs to a cause of these cases, of a protocol of so many modes.
-pub fn is_harmless(
-    count: Mode,
-    survey: &Survey,
-    failed: &[FailedCase],
-    cases: &[FailedCase],
-) -> bool {
-    const COVERS: [Cover; 5] = [
-        Cover::ReadKey,
-        Cover::ReadGap,
-        Cover::InsertedKey,
-        Cover::DeletedGap,
-        Cover::UpdatedKey,
-    ];
-    COVERS
-        .iter()
-        .all(|cover| has_none(count, survey, failed, cases, *cover))
+/// Whether no hole of the survey belongs to a cause of these cases, where these are all failed cases.
+#[tactic(auto, using(crate::proofs::Clear::for_each_cover))]
+pub fn is_harmless(survey: &Survey, failed: &[FailedCase], cases: &[FailedCase]) -> bool
+    ensures { IsTrue result ↔ IsClear survey.now failed.now cases.now }
+{
+    has_none(survey, failed, cases, Cover::ReadKey)
+        && has_none(survey, failed, cases, Cover::ReadGap)
+        && has_none(survey, failed, cases, Cover::InsertedKey)
+        && has_none(survey, failed, cases, Cover::DeletedGap)
+        && has_none(survey, failed, cases, Cover::UpdatedKey)
 }
 
 /// Whether no hole of this cover belongs to the cause.
-fn has_none(
-    count: Mode,
-    survey: &Survey,
-    failed: &[FailedCase],
-    cases: &[FailedCase],
-    cover: Cover,
-) -> bool {
-    for mode in 0..=count {
+fn has_none(survey: &Survey, failed: &[FailedCase], cases: &[FailedCase], cover: Cover) -> bool
+    ensures { IsTrue result ↔ IsClearOf survey.now failed.now cases.now cover }
+{
+    for mode in 0..16 {
         if survey.has_hole(cover, mode) && belongs(failed, cases, cover, mode) {
             return false;
         }
@@ -109,7 +99,9 @@ fn is_of_cover(case: &FailedCase, cover: Cover) -> bool
 }
 
 /// The first of the cases whose mode a transaction can hold with its cover to protect, if there is one.
-fn reason(survey: &Survey, cases: &[FailedCase]) -> Harmless {
+fn reason(survey: &Survey, cases: &[FailedCase]) -> Harmless
+    ensures { IsReasonBy survey.now cases.now result }
+{
     for case in cases {
         if survey.is_held(case.cover, case.mode) {
             return Harmless::NeverLetIn(*case);

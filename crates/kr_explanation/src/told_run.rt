@@ -20,6 +20,8 @@ pub struct ToldRun {
     pub runs: usize,
     /// How many of the cases were tried, from the first on.
     pub tried: usize,
+    /// Where no run is known, whether one transaction comes to the modes of a case that was tried.
+    pub is_reached: bool,
 }
 
 impl ToldRun {
@@ -33,6 +35,7 @@ impl ToldRun {
             run: None,
             runs: 0,
             tried: 0,
+            is_reached: false,
         }
     }
 }
@@ -40,6 +43,24 @@ impl ToldRun {
 /// The shortest of the first runs of the cases, those through the preferred place before others. The cases are tried in
 /// their order for as long as the effort lasts.
 pub fn told_run<P: Protocol>(
+    alloc: Global,
+    protocol: &P,
+    closure: &Closure,
+    cases: &[FailedCase],
+    prefer: Option<(Row, Side)>,
+    effort: Effort,
+) -> Result<ToldRun, Memory>
+    ensures wrong { IfOk result (λ told. IfSome told.run (GoesWrongWith (P.table protocol.now))) }
+    ensures tried { IfOk result (λ told. told.tried ≤ length cases.now) }
+    ensures runs { IfOk result (λ told. told.runs ≤ told.tried) }
+{
+    let mut told = tried(alloc, protocol, closure, cases, prefer, effort)?;
+    told.is_reached = told.run.is_none() && is_reached(protocol, closure, cases, told.tried);
+    Ok(told)
+}
+
+/// The same, without whether a transaction comes to a case.
+fn tried<P: Protocol>(
     alloc: Global,
     protocol: &P,
     closure: &Closure,
@@ -71,6 +92,19 @@ pub fn told_run<P: Protocol>(
         }
     }
     Ok(told)
+}
+
+/// Whether some state of the closure has a step that one of the first cases is about, of which so many were tried.
+fn is_reached<P: Protocol>(
+    protocol: &P,
+    closure: &Closure,
+    cases: &[FailedCase],
+    tried: usize,
+) -> bool {
+    cases
+        .iter()
+        .take(tried)
+        .any(|case| closure.is_reached(protocol, case))
 }
 
 /// Whether a script is told rather than the run so far.
