@@ -16,8 +16,8 @@ use Rattle.kr_explanation.specs.Explained.{AreFailures, AreHarmless, IsExplained
 -- no hole is in a safe table
 no_hole : (p : Protocol) (c : Cover) (m : ℕ) → IsSafe p → HasHole p c m → ⊥
 no_hole p c m safe h =
-    let blocked = safe h.row h.side h.own h.other h.next h.beside h.alone h.asks h.kept_out in
-    let granted = h.granted in
+    let blocked = safe h.row h.side h.own h.other h.next h.reached.beside h.reached.alone h.reached.lets_in.asks h.reached.lets_in.kept_out in
+    let granted = h.reached.lets_in.granted in
     absurd (cc)
 
 -- each cause of a safe table is harmless

@@ -10,7 +10,7 @@ use crate::told_run::{ToldRun, told_run};
 use kr_cases::{Cause as Rejection, Memory, cases, check};
 use kr_causes::{Blame, Cause, causes, mends};
 use kr_counterexample::Closure;
-use kr_decide::{Survey, surveyed};
+use kr_decide::Survey;
 use kr_model::FailedCase;
 use kr_protocol::Protocol;
 use std::alloc::{AllocError, Global};
@@ -40,7 +40,7 @@ pub fn explain<P: Protocol>(alloc: Global, protocol: &P) -> Result<Explanation, 
         }),
         Err(rejected) => match rejected.cause {
             Rejection::Failed(failed) => {
-                let survey = surveyed(alloc, protocol)?;
+                let survey = Survey::of(alloc, protocol)?;
                 let failures = failures(alloc, protocol, &survey, &failed)?;
                 if survey.is_safe() {
                     Ok(Explanation::Safe(failures))
@@ -146,8 +146,7 @@ fn told<P: Protocol>(
     })
 }
 
-/// The run that is told of a cause which isn't harmless. Those of its cases are tried first to whose cover and mode a hole
-/// belongs.
+/// The run that is told of a cause which isn't harmless. The cases are tried first that give the best hope.
 fn sought<P: Protocol>(
     alloc: Global,
     protocol: &P,
@@ -166,7 +165,8 @@ fn sought<P: Protocol>(
     told_run(alloc, protocol, known.closure, &cases, prefer, known.effort)
 }
 
-/// The cases, those first to whose cover and mode a hole belongs.
+/// The cases, those first to whose cover and mode a hole belongs; and before the others the first of each rule, cover and
+/// mode.
 fn holes_first(
     alloc: Global,
     survey: &Survey,
@@ -174,7 +174,29 @@ fn holes_first(
 ) -> Result<Vec<FailedCase>, Memory>
     ensures { IfOk result (λ list. length list.items ≡ length cases.now) }
 {
-    let mut list = cases.to_vec(alloc)?;
-    list.sort_by_key(|case| !survey.has_hole(case.cover, case.mode))?;
-    Ok(list)
+    let mut all = cases.to_vec(alloc)?;
+    all.sort_by_key(|case| !survey.has_hole(case.cover, case.mode))?;
+    firsts_first(alloc, &all)
+}
+
+/// The cases, the first of each rule, cover and mode before the others.
+fn firsts_first(alloc: Global, cases: &[FailedCase]) -> Result<Vec<FailedCase>, Memory>
+    ensures { IfOk result (λ list. length list.items ≡ length cases.now) }
+{
+    let mut firsts: Vec<FailedCase> = Vec::new(alloc);
+    let mut others = Vec::new(alloc);
+    for case in cases {
+        if firsts.iter().any(|first| is_alike(first, case)) {
+            others.push(*case)?;
+        } else {
+            firsts.push(*case)?;
+        }
+    }
+    firsts.extend_from_slice(&others)?;
+    Ok(firsts)
+}
+
+/// Whether two cases are of one rule, cover and mode.
+fn is_alike(case: &FailedCase, other: &FailedCase) -> bool {
+    case.case == other.case && case.cover == other.cover && case.mode == other.mode
 }
