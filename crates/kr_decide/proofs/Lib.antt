@@ -1,0 +1,6 @@
+pub mod SameNumbers
+pub mod Growing
+pub mod Following
+pub mod Complete
+pub mod Openings
+pub mod Surveyed

@@ -1,0 +1,18 @@
+//! The decision: whether every run under a lock protocol is serializable in commit order. It finds all pairs of lock states
+//! that two transactions can have on one name, and whether each one's lock blocks whom it must.
+#![tactic(auto)]
+
+mod decision;
+mod finding;
+mod moves;
+mod numbers;
+mod opening;
+mod pair;
+mod safe;
+mod survey;
+
+pub use decision::{Decision, decide};
+pub use kr_model::{Cover, GapUse, KeyUse, LockState, Memory, Mode, Row, Side};
+pub use pair::{Hole, Pair, Way};
+pub use safe::{Cause, Rejected, Safe};
+pub use survey::Survey;

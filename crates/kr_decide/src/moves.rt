@@ -1,0 +1,222 @@
+//! What a transaction may come to request on a name, what blocks it, and what it has afterwards.
+ghost use Rattle.std.specs.Prelude.{◌≡◌, ◌≤◌, ◌↔◌, IsTrue};
+ghost use Rattle.kr_model.specs.Covers.{mode_after};
+ghost use Rattle.kr_model.specs.Safe as safe;
+ghost use Rattle.kr_model.specs.Safe.{MayAsk, MayBeside, IsIdle};
+
+use kr_model::{GapUse, KeyUse, LockState, Mode, Row, Side, Span};
+use kr_protocol::Protocol;
+
+/// What a transaction has on a name where it has requested nothing.
+pub(crate) const FREE: LockState = LockState {
+    mode: 0,
+    key: KeyUse::Free,
+    gap: GapUse::Free,
+    deleted: false,
+};
+
+/// The own mode on the next name that a request goes by.
+fn given(row: Row, side: Side, own: LockState, next: LockState) -> Mode
+    ensures { result ≡ safe.given row side own next }
+{
+    match (row, side) {
+        (Row::Insert, Side::Next) => own.mode,
+        (Row::Delete, Side::Next) => own.mode,
+        (Row::Insert, Side::Current) => next.mode,
+        (Row::Delete, Side::Current) => next.mode,
+        _ => 0,
+    }
+}
+
+/// Whether another's lock blocks the request of a transaction that has `own` on the name and `next` on the next one.
+pub(crate) fn is_blocked<P: Protocol>(
+    protocol: &P,
+    row: Row,
+    side: Side,
+    own: LockState,
+    next: LockState,
+    other: LockState,
+) -> bool
+    requires own { own.mode ≤ (P.table protocol.now).count }
+    requires next { next.mode ≤ (P.table protocol.now).count }
+    requires other { other.mode ≤ (P.table protocol.now).count }
+    ensures { result ≡ safe.is_blocked (P.table protocol.now) row side own next other }
+{
+    match protocol.ask(row, side, given(row, side, own, next)) {
+        Some((mode, _)) => !protocol.ok(protocol.convert(own.mode, mode), other.mode),
+        None => false,
+    }
+}
+
+/// The lock state after a request is granted.
+pub(crate) fn after<P: Protocol>(
+    protocol: &P,
+    row: Row,
+    side: Side,
+    own: LockState,
+    next: LockState,
+) -> LockState
+    requires own { own.mode ≤ (P.table protocol.now).count }
+    requires next { next.mode ≤ (P.table protocol.now).count }
+    ensures { result ≡ safe.after (P.table protocol.now) row side own next }
+{
+    LockState {
+        mode: mode_after(protocol, row, side, own, next),
+        key: key_after(row, side, own.key),
+        gap: gap_after(row, side, own.gap, next.gap),
+        deleted: is_deleting(row, side),
+    }
+}
+
+/// The mode then.
+fn mode_after<P: Protocol>(
+    protocol: &P,
+    row: Row,
+    side: Side,
+    own: LockState,
+    next: LockState,
+) -> Mode
+    requires own { own.mode ≤ (P.table protocol.now).count }
+    requires next { next.mode ≤ (P.table protocol.now).count }
+    ensures { result ≡ mode_after (P.table protocol.now) own.mode (safe.asked (P.table protocol.now) row side own next) }
+{
+    match protocol.ask(row, side, given(row, side, own, next)) {
+        Some((mode, Span::Commit)) => protocol.convert(own.mode, mode),
+        _ => own.mode,
+    }
+}
+
+/// What has been done with the key then.
+fn key_after(row: Row, side: Side, key: KeyUse) -> KeyUse
+    ensures { result ≡ safe.key_after row side key }
+{
+    match (row, side, key) {
+        (Row::FetchHit, Side::Current, KeyUse::Free) => KeyUse::Read,
+        (Row::ScanKey, Side::Current, KeyUse::Free) => KeyUse::Read,
+        (Row::Insert, Side::Current, _) => KeyUse::Inserted,
+        (Row::Update, Side::Current, KeyUse::Inserted) => KeyUse::Inserted,
+        (Row::Update, Side::Current, _) => KeyUse::Updated,
+        _ => key,
+    }
+}
+
+/// What has been done in a gap, where both of these have.
+fn and_gap(gap: GapUse, other: GapUse) -> GapUse
+    ensures { result ≡ safe.and_gap gap other }
+{
+    match (gap, other) {
+        (GapUse::Free, _) => other,
+        (GapUse::Read, GapUse::Deleted) => GapUse::Deleted,
+        (GapUse::Read, _) => GapUse::Read,
+        (GapUse::Deleted, _) => GapUse::Deleted,
+    }
+}
+
+/// What has been done in the gap then.
+fn gap_after(row: Row, side: Side, gap: GapUse, next: GapUse) -> GapUse
+    ensures { result ≡ safe.gap_after row side gap next }
+{
+    match (row, side) {
+        (Row::FetchMiss, Side::Next) => and_gap(gap, GapUse::Read),
+        (Row::ScanKey, Side::Current) => and_gap(gap, GapUse::Read),
+        (Row::ScanStop, Side::Next) => and_gap(gap, GapUse::Read),
+        (Row::Insert, Side::Current) => and_gap(gap, next),
+        (Row::Delete, Side::Next) => GapUse::Deleted,
+        _ => gap,
+    }
+}
+
+/// Whether the transaction has deleted the key then.
+fn is_deleting(row: Row, side: Side) -> bool
+    ensures { result ≡ safe.deleted_after row side }
+{
+    match (row, side) {
+        (Row::Delete, Side::Current) => true,
+        _ => false,
+    }
+}
+
+/// Whether a lock has nothing to protect.
+fn is_idle(state: LockState) -> bool
+    ensures { IsTrue result ↔ IsIdle state }
+{
+    state.key == KeyUse::Free && state.gap == GapUse::Free
+}
+
+/// Whether a transaction that has `own` on a name, and `next` on the next one, may come to request a lock there at this row and
+/// side.
+pub(crate) fn may_ask<P: Protocol>(
+    protocol: &P,
+    row: Row,
+    side: Side,
+    own: LockState,
+    next: LockState,
+) -> bool
+    ensures { IsTrue result ↔ MayAsk (P.table protocol.now) row side own next }
+{
+    match (row, side) {
+        (Row::FetchHit, Side::Current) => !own.deleted,
+        (Row::FetchMiss, Side::Next) => !own.deleted,
+        (Row::ScanKey, Side::Current) => !own.deleted,
+        (Row::ScanStop, Side::Next) => !own.deleted,
+        (Row::Insert, Side::Current) => {
+            !next.deleted
+                && (!own.deleted && is_idle(own) || own.deleted && next.gap == GapUse::Deleted)
+        }
+        (Row::Insert, Side::Next) => !own.deleted,
+        (Row::Delete, Side::Current) => !own.deleted && !next.deleted,
+        (Row::Delete, Side::Next) => !own.deleted,
+        (Row::Update, Side::Current) => !own.deleted && protocol.updates(),
+        _ => false,
+    }
+}
+
+/// Whether it may beside another's lock state on the name.
+pub(crate) fn may_beside(row: Row, side: Side, other: LockState) -> bool
+    ensures { IsTrue result ↔ MayBeside row side other }
+{
+    match (row, side) {
+        (Row::Insert, Side::Current) => !other.deleted && is_idle(other),
+        _ => true,
+    }
+}
+
+/// Whether no other transaction may be granted a request at this row and side beside a lock state.
+pub(crate) fn keeps_out(state: LockState, row: Row, side: Side) -> bool
+    ensures { result ≡ safe.keeps_out state row side }
+{
+    keeps_out_by_key(state.key, row, side) || keeps_out_by_gap(state.gap, row, side)
+}
+
+fn keeps_out_by_key(key: KeyUse, row: Row, side: Side) -> bool
+    ensures { result ≡ safe.by_key key row side }
+{
+    match (key, row, side) {
+        (KeyUse::Read, Row::Delete | Row::Update, Side::Current) => true,
+        (
+            KeyUse::Updated,
+            Row::FetchHit | Row::ScanKey | Row::Delete | Row::Update,
+            Side::Current,
+        ) => true,
+        (
+            KeyUse::Inserted,
+            Row::FetchHit | Row::ScanKey | Row::Delete | Row::Update,
+            Side::Current,
+        ) => true,
+        (KeyUse::Inserted, Row::FetchMiss | Row::ScanStop | Row::Delete, Side::Next) => true,
+        _ => false,
+    }
+}
+
+fn keeps_out_by_gap(gap: GapUse, row: Row, side: Side) -> bool
+    ensures { result ≡ safe.by_gap gap row side }
+{
+    match (gap, row, side) {
+        (GapUse::Read, Row::Insert, Side::Next) => true,
+        (GapUse::Read, Row::Delete, Side::Current) => true,
+        (GapUse::Deleted, Row::FetchMiss | Row::ScanStop | Row::Insert | Row::Delete, Side::Next) =>
+            true,
+        (GapUse::Deleted, Row::ScanKey | Row::Delete, Side::Current) => true,
+        _ => false,
+    }
+}

@@ -1,0 +1,229 @@
+//! What schedules reach under a protocol, and where a lock doesn't block what it has to keep out.
+ghost use Rattle.std.specs.Prelude.{◌≡◌, ◌+◌, ◌≤◌, ◌↔◌, IsTrue, IfOk, IfSome, IfNone, length, slice_index_or, false};
+ghost use Rattle.std.specs.List.{Any};
+ghost use Rattle.kr_decide.specs.Findings.{IsGoing};
+ghost use Rattle.kr_decide.specs.Opens.{IsHeldBy, IsHoledIn, AreHeld, AreHoled, IsOpenedAt, NoneOpens};
+ghost use Rattle.kr_decide.specs.Survey.{IsHole, IsSurvey, of_cover, told, is_held, has_hole, is_safe};
+
+use crate::finding::Found;
+use crate::opening::{Opening, protects};
+use crate::pair::{Hole, Pair};
+use kr_model::{Cover, Memory, Mode};
+use kr_protocol::Protocol;
+use std::alloc::Global;
+
+/// What schedules reach under a protocol: with which modes a transaction can protect what it has done, and where its lock
+/// lets in what it has to keep out.
+#[derive(Drop)]
+pub struct Survey {
+    held: ByCover,
+    holed: ByCover,
+    hole: Option<Hole>,
+}
+
+/// Of each mode, 0 for no lock among them, whether something is so of it, by the cover.
+#[derive(Drop)]
+struct ByCover {
+    read_key: Vec<bool>,
+    read_gap: Vec<bool>,
+    inserted_key: Vec<bool>,
+    deleted_gap: Vec<bool>,
+    updated_key: Vec<bool>,
+}
+
+impl ByCover {
+    /// Of the modes, by a cover.
+    fn of(&self, cover: Cover) -> &[bool]
+        ensures { result.now ≡ of_cover self.now cover }
+    {
+        match cover {
+            Cover::ReadKey => self.read_key.as_slice(),
+            Cover::ReadGap => self.read_gap.as_slice(),
+            Cover::InsertedKey => self.inserted_key.as_slice(),
+            Cover::DeletedGap => self.deleted_gap.as_slice(),
+            Cover::UpdatedKey => self.updated_key.as_slice(),
+        }
+    }
+
+    /// Of a mode. A number past the modes is none.
+    fn tells(&self, cover: Cover, mode: Mode) -> bool
+        ensures { result ≡ told self.now cover mode }
+    {
+        let modes = self.of(cover);
+        let mode = mode as usize;
+        if mode < modes.len() {
+            modes[mode]
+        } else {
+            false
+        }
+    }
+}
+
+impl Survey {
+    /// Finds what schedules reach under a protocol: all pairs of lock states that two transactions can have on one name, from
+    /// nothing held, and of each whether the lock of one blocks what it has to keep out of what the other can come to
+    /// request. The only fault is that a growth was refused.
+    pub fn of<P: Protocol>(alloc: Global, protocol: &P) -> Result<Survey, Memory>
+        ensures { IfOk result (IsSurvey (P.table protocol.now)) }
+    {
+        let found = Found::all(alloc, protocol)?;
+        let opens = found.openings(alloc, protocol)?;
+        let count = protocol.count();
+        let held = held(alloc, &found.pairs, count)?;
+        let holed = holed(alloc, &found.pairs, &opens, count)?;
+        let hole = first_hole(protocol, found);
+        Ok(Survey { held, holed, hole })
+    }
+
+    /// Whether the protocol is safe: no lock lets in what it has to keep out, and so every run under the protocol is
+    /// serializable in commit order.
+    pub fn is_safe(&self) -> bool
+        ensures { result ≡ is_safe self.now }
+    {
+        self.hole.is_none()
+    }
+
+    /// Whether some transaction can hold the mode on a name while its lock there has the cover to protect.
+    pub fn is_held(&self, cover: Cover, mode: Mode) -> bool
+        ensures { result ≡ is_held self.now cover mode }
+    {
+        self.held.tells(cover, mode)
+    }
+
+    /// Whether another transaction can be granted there what the lock has to keep out.
+    pub fn has_hole(&self, cover: Cover, mode: Mode) -> bool
+        ensures { result ≡ has_hole self.now cover mode }
+    {
+        self.holed.tells(cover, mode)
+    }
+
+    /// The first hole that was found; or `None` exactly where the protocol is safe.
+    pub fn into_hole(self) -> Option<Hole>
+        ensures { result ≡ self.hole }
+    {
+        self.hole
+    }
+}
+
+/// Whether the second of a pair holds the mode, and has the cover to protect.
+fn is_held_by(pair: &Pair, cover: Cover, mode: Mode) -> bool
+    ensures { IsTrue result ↔ IsHeldBy cover mode pair.now }
+{
+    pair.other.mode == mode && protects(pair.other, cover)
+}
+
+/// Whether the second of some pair does.
+fn is_held_in(pairs: &[Pair], cover: Cover, mode: Mode) -> bool
+    ensures { IsTrue result ↔ Any (IsHeldBy cover mode) pairs.now }
+{
+    pairs.iter().any(|pair| is_held_by(pair, cover, mode))
+}
+
+/// Whether the second of some pair that opens does.
+fn is_holed_in(pairs: &[Pair], opens: &[bool], cover: Cover, mode: Mode) -> bool
+    requires { length opens.now ≡ length pairs.now }
+    ensures { IsTrue result ↔ IsHoledIn pairs.now opens.now cover mode }
+{
+    for at in 0..pairs.len() {
+        if opens[at] && is_held_by(&pairs[at], cover, mode) {
+            return true;
+        }
+    }
+    false
+}
+
+/// Of each mode up to `count`, whether it can be held with a cover to protect.
+fn held_of(alloc: Global, pairs: &[Pair], cover: Cover, count: Mode) -> Result<Vec<bool>, Memory>
+    requires { count ≤ 15 }
+    ensures { IfOk result (λ list. AreHeld pairs.now cover (count + 1) list.items) }
+{
+    let mut list = Vec::new(alloc);
+    for mode in 0..count + 1 {
+        list.push(is_held_in(pairs, cover, mode))?;
+    }
+    Ok(list)
+}
+
+/// Of each mode up to `count`, whether it then lets in what it has to keep out.
+fn holed_of(
+    alloc: Global,
+    pairs: &[Pair],
+    opens: &[bool],
+    cover: Cover,
+    count: Mode,
+) -> Result<Vec<bool>, Memory>
+    requires count { count ≤ 15 }
+    requires opens { length opens.now ≡ length pairs.now }
+    ensures { IfOk result (λ list. AreHoled pairs.now opens.now cover (count + 1) list.items) }
+{
+    let mut list = Vec::new(alloc);
+    for mode in 0..count + 1 {
+        list.push(is_holed_in(pairs, opens, cover, mode))?;
+    }
+    Ok(list)
+}
+
+/// Of each cover and mode, whether it can be held.
+fn held(alloc: Global, pairs: &[Pair], count: Mode) -> Result<ByCover, Memory>
+    requires { count ≤ 15 }
+    ensures { IfOk result (λ t. (c : Cover) → AreHeld pairs.now c (count + 1) (of_cover t c)) }
+{
+    Ok(ByCover {
+        read_key: held_of(alloc, pairs, Cover::ReadKey, count)?,
+        read_gap: held_of(alloc, pairs, Cover::ReadGap, count)?,
+        inserted_key: held_of(alloc, pairs, Cover::InsertedKey, count)?,
+        deleted_gap: held_of(alloc, pairs, Cover::DeletedGap, count)?,
+        updated_key: held_of(alloc, pairs, Cover::UpdatedKey, count)?,
+    })
+}
+
+/// Of each cover and mode, whether it lets in what it has to keep out.
+fn holed(alloc: Global, pairs: &[Pair], opens: &[bool], count: Mode) -> Result<ByCover, Memory>
+    requires count { count ≤ 15 }
+    requires opens { length opens.now ≡ length pairs.now }
+    ensures { IfOk result (λ t. (c : Cover) → AreHoled pairs.now opens.now c (count + 1) (of_cover t c)) }
+{
+    Ok(ByCover {
+        read_key: holed_of(alloc, pairs, opens, Cover::ReadKey, count)?,
+        read_gap: holed_of(alloc, pairs, opens, Cover::ReadGap, count)?,
+        inserted_key: holed_of(alloc, pairs, opens, Cover::InsertedKey, count)?,
+        deleted_gap: holed_of(alloc, pairs, opens, Cover::DeletedGap, count)?,
+        updated_key: holed_of(alloc, pairs, opens, Cover::UpdatedKey, count)?,
+    })
+}
+
+/// The hole at a place, with the pairs that lead there.
+fn hole_of<P: Protocol>(protocol: &P, found: Found, at: usize, opening: Opening) -> Hole
+    requires going { IsGoing (P.table protocol.now) found (length found.pairs.items) }
+    requires opened { IsOpenedAt (P.table protocol.now) found.pairs.items at opening }
+    ensures { IsHole (P.table protocol.now) result }
+{
+    let _ = protocol;
+    let mut pairs = found.pairs;
+    let pair = pairs[at];
+    let at_next = opening.above.place;
+    let last = at.max(at_next);
+    pairs.truncate(last + 1);
+    Hole {
+        row: opening.row,
+        side: opening.side,
+        own: pair.own,
+        other: pair.other,
+        next: opening.above.state,
+        pairs,
+        at,
+        at_next,
+    }
+}
+
+/// The first hole, if there is one.
+fn first_hole<P: Protocol>(protocol: &P, found: Found) -> Option<Hole>
+    requires { IsGoing (P.table protocol.now) found (length found.pairs.items) }
+    ensures some { IfSome result (IsHole (P.table protocol.now)) }
+    ensures none { IfNone result (NoneOpens (P.table protocol.now) found.pairs.items (length found.pairs.items)) }
+{
+    match found.first_opening(protocol) {
+        Some((at, opening)) => Some(hole_of(protocol, found, at, opening)),
+        None => None,
+    }
+}
