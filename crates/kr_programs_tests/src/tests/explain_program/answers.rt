@@ -3,7 +3,22 @@ use super::{SAFE, SHORT_SCAN, leaves};
 use std::test::Fail;
 
 /// What is explained of the table that is safe.
-const SAFE_TEXT: &str = r#"@SAFE@"#;
+const SAFE_TEXT: &str =
+    r#"safe: 19 of 244 cases fail, but no schedule reaches their locks. Every run under this table is serializable in commit order.
+
+1. SIX held and IX asked make IS, which protects less. [G1: 1 case, G3: 5 cases, G4: 5 cases, G5: 5 cases, G6: 3 cases]
+   Locks are tested and kept in the converted mode. This concerns a gap that was read and an own inserted key, after a
+   conversion, `fetch-miss`, `scan-key`, `scan-stop` and `insert`.
+   S lets in an insert into the gap below, for which `insert` asks IX on the next name; to one who holds SIX there
+   already that is IS, and IS stands beside S.
+
+   This cause is harmless: a transaction may hold S where it has a gap that was read to protect, but no other can then
+   come to make a request there that S lets in. It is so with its other cases, or no transaction ever comes to their
+   modes.
+
+   To have it accepted (each change tried by itself):
+     - let SIX held and IX asked make SIX or X: the table is then accepted
+"#;
 
 /// The script of the short scan's cause.
 const SHORT_SCAN_SCRIPT: &str =

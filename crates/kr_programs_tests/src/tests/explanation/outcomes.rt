@@ -31,10 +31,10 @@ struct Outcome {
 const OUTCOMES: &[Outcome] = &[
     Outcome { name: "SIX held and IX asked make IS: safe", is_safe: true, causes: &[Said::Harmless],
         table: Table { text: KVL, changes: &[(r#"SIX = { IS = "SIX", IX = "SIX","#, r#"SIX = { IS = "SIX", IX = "IS","#)] } },
-    Outcome { name: "IX held and SIX asked make S, and a scan keeps no lock on its key", is_safe: false, causes: &[Said::Wrong, Said::Harmless],
+    Outcome { name: "SIX held and IS asked make IX, and a fetch keeps no lock on its key", is_safe: false, causes: &[Said::Wrong, Said::Harmless],
         table: Table { text: KVL, changes: &[
-            (r#"IX = { IS = "IX", IX = "IX", S = "SIX", SIX = "SIX","#, r#"IX = { IS = "IX", IX = "IX", S = "SIX", SIX = "S","#),
-            ("[rules.scan-key]\ncurrent = [{ mode = \"S\", span = \"commit\" }]", "[rules.scan-key]\ncurrent = [{ mode = \"S\", span = \"instant\" }]"),
+            (r#"SIX = { IS = "SIX","#, r#"SIX = { IS = "IX","#),
+            ("[rules.fetch-hit]\ncurrent = [{ mode = \"S\", span = \"commit\" }]", "[rules.fetch-hit]\ncurrent = [{ mode = \"S\", span = \"instant\" }]"),
         ] } },
     Outcome { name: "a delete asks S of one who holds SIX above, and an insert SIX", is_safe: false, causes: &[Said::Wrong],
         table: Table { text: KVL, changes: &[
