@@ -30,12 +30,16 @@ abbrev pub IsReason : Protocol → List FailedCase → Harmless → Type 0
 IsReason p cases NeverHeld = All (λ f. IsHeld p f.cover f.mode → ⊥) cases
 IsReason p cases (NeverLetIn held) = Contains cases held × IsHeld p held.cover held.mode
 
--- The same, by what a survey says: of one cover, of all covers, and why.
-abbrev pub IsClearOf : Survey → List FailedCase → List FailedCase → Cover → Type 0
-IsClearOf s failed cases c = (m : ℕ) → m < 16 → has_hole s c m ≡ true → BelongsTo failed cases c m → ⊥
+-- The survey says that there is a hole of this cover and mode, and it belongs to the cause.
+abbrev pub HoleBelongs : Survey → List FailedCase → List FailedCase → Cover → ℕ → Type 0
+HoleBelongs s failed cases c m = (has_hole s c m ≡ true) × BelongsTo failed cases c m
+
+-- The same, by what a survey says: of one cover and the modes below n, of all covers and modes, and why.
+abbrev pub IsClearBelow : Survey → List FailedCase → List FailedCase → Cover → ℕ → Type 0
+IsClearBelow s failed cases c n = (m : ℕ) → m < n → has_hole s c m ≡ true → BelongsTo failed cases c m → ⊥
 
 abbrev pub IsClear : Survey → List FailedCase → List FailedCase → Type 0
-IsClear s failed cases = (c : Cover) → IsClearOf s failed cases c
+IsClear s failed cases = (c : Cover) → IsClearBelow s failed cases c 16
 
 abbrev pub IsReasonBy : Survey → List FailedCase → Harmless → Type 0
 IsReasonBy s cases NeverHeld = All (λ f. is_held s f.cover f.mode ≡ false) cases

@@ -2,7 +2,7 @@
 ghost use Rattle.std.specs.Prelude.{◌≡◌, ◌↔◌, IsTrue, IfSome, is_some, true};
 ghost use Rattle.std.specs.List.{Any};
 ghost use Rattle.kr_decide.specs.Survey.{IsSurvey};
-ghost use Rattle.kr_explanation.specs.Harmless.{BelongsTo, IsClear, IsClearOf, IsOf, IsOfCover, IsHarmless, IsReason, IsReasonBy};
+ghost use Rattle.kr_explanation.specs.Harmless.{BelongsTo, IsClear, IsClearBelow, HoleBelongs, IsOf, IsOfCover, IsHarmless, IsReason, IsReasonBy};
 
 use kr_decide::Survey;
 use kr_model::{Cover, FailedCase, Mode};
@@ -51,15 +51,29 @@ pub fn is_harmless(survey: &Survey, failed: &[FailedCase], cases: &[FailedCase])
 }
 
 /// Whether no hole of this cover belongs to the cause.
+#[tactic(auto, using(crate::proofs::Clear::one_mode_more))]
 fn has_none(survey: &Survey, failed: &[FailedCase], cases: &[FailedCase], cover: Cover) -> bool
-    ensures { IsTrue result ↔ IsClearOf survey.now failed.now cases.now cover }
+    ensures { IsTrue result ↔ IsClearBelow survey.now failed.now cases.now cover 16 }
 {
     for mode in 0..16 {
-        if survey.has_hole(cover, mode) && belongs(failed, cases, cover, mode) {
+        if hole_belongs(survey, failed, cases, cover, mode) {
             return false;
         }
     }
     true
+}
+
+/// Whether there is a hole of this cover and mode, and it belongs to the cause.
+fn hole_belongs(
+    survey: &Survey,
+    failed: &[FailedCase],
+    cases: &[FailedCase],
+    cover: Cover,
+    mode: Mode,
+) -> bool
+    ensures { IsTrue result ↔ HoleBelongs survey.now failed.now cases.now cover mode }
+{
+    survey.has_hole(cover, mode) && belongs(failed, cases, cover, mode)
 }
 
 /// Whether a hole of this cover and mode belongs to a cause of these cases: one of them is of both; or no failed case is,
