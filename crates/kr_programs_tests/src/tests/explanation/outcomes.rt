@@ -31,7 +31,7 @@ struct Outcome {
 const OUTCOMES: &[Outcome] = &[
     Outcome { name: "SIX held and IX asked make IS: safe", is_safe: true, causes: &[Said::Harmless],
         table: Table { text: KVL, changes: &[(r#"SIX = { IS = "SIX", IX = "SIX","#, r#"SIX = { IS = "SIX", IX = "IS","#)] } },
-    Outcome { name: "SIX held and IS asked make IX, and a fetch keeps no lock on its key", is_safe: false, causes: &[Said::Wrong, Said::Harmless],
+    Outcome { name: "SIX held and IS asked make IX, and a fetch keeps no lock on its key", is_safe: false, causes: &[Said::Harmless, Said::Wrong],
         table: Table { text: KVL, changes: &[
             (r#"SIX = { IS = "SIX","#, r#"SIX = { IS = "IX","#),
             ("[rules.fetch-hit]\ncurrent = [{ mode = \"S\", span = \"commit\" }]", "[rules.fetch-hit]\ncurrent = [{ mode = \"S\", span = \"instant\" }]"),
