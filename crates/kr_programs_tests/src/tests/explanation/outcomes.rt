@@ -53,7 +53,7 @@ const OUTCOMES: &[Outcome] = &[
 ];
 
 /// What is said of a cause.
-fn said(explained: &Explained) -> Said {
+fn said_of(explained: &Explained) -> Said {
     match (&explained.harmless, &explained.run) {
         (Some(_), None) => Said::Harmless,
         (None, Some(_)) => Said::Wrong,
@@ -79,7 +79,7 @@ fn each_outcome_is_told(rt: HostRuntime) -> Result<(), Fail> {
         assert!(rt; text.as_str().starts_with(word), "{name}");
         assert_eq!(rt; failures.causes.len(), row.causes.len(), "{name}");
         for (explained, wanted) in failures.causes.iter().zip(row.causes) {
-            assert_eq!(rt; said(explained), *wanted, "{name}");
+            assert_eq!(rt; said_of(explained), *wanted, "{name}");
         }
     }
     Ok(())
