@@ -4,9 +4,11 @@ use Rattle.std.specs.List.{Any}
 use Rattle.kr_model.specs.declared.FailedCase.{FailedCase}
 use Rattle.kr_model.specs.Protocol.{Protocol}
 use Rattle.kr_model.specs.Covers.{failed_cases, IsCovered}
+use Rattle.kr_model.specs.Safe.{IsSafe}
 use Rattle.kr_causes.specs.declared.change.Change.{Change}
+use Rattle.kr_causes.specs.declared.mend.Mend.{Mend}
 use Rattle.kr_causes.specs.declared.mend.Verdict.{Verdict}
-use Rattle.kr_causes.specs.declared.mend.Verdict.TheVariants.{Accepted, Mended, Neither}
+use Rattle.kr_causes.specs.declared.mend.Verdict.TheVariants.{Accepted, Safe, Mended, Neither}
 use Rattle.kr_causes.specs.Changes.{changed, is_change}
 
 -- Two failures are of one case: whatever its mode is, and the place that is left open.
@@ -29,19 +31,27 @@ pub record Accepts (p : Protocol) (c : Change) : Type 0 where
   pub change : is_change p c ≡ true
   pub covered : IsCovered (changed p c)
 
+-- The change is one of p's, and with it the table isn't accepted, but safe.
+pub record MakesSafe (p : Protocol) (c : Change) : Type 0 where
+  pub change : is_change p c ≡ true
+  pub refused : failed_cases (changed p c) ≢ []
+  pub safe : IsSafe (changed p c)
+
 -- The change is one of p's, and with it the table isn't accepted, but the cases hold, and no case fails that held.
 pub record Mends (p : Protocol) (cases failed : List FailedCase) (c : Change) : Type 0 where
   pub change : is_change p c ≡ true
   pub refused : failed_cases (changed p c) ≢ []
   pub mended : AreMended cases failed (failed_cases (changed p c))
 
--- A change that mends: where it is said that the table is then accepted, it is; else the cases hold.
-abbrev pub IsMend : Protocol → List FailedCase → List FailedCase → Bool → Change → Type 0
-IsMend p cases failed true c = Accepts p c
-IsMend p cases failed false c = Mends p cases failed c
+-- The changes that are told mend.
+pub record AreMends (p : Protocol) (cases failed : List FailedCase) (m : Mend) : Type 0 where
+  pub accepted : All (Accepts p) m.accepted.items
+  pub safe : All (MakesSafe p) m.safe.items
+  pub mended : All (Mends p cases failed) m.mended.items
 
--- What the checker's word says of a change.
+-- What is said of a change.
 abbrev pub Tells : Protocol → List FailedCase → List FailedCase → Change → Verdict → Type 0
 Tells p cases failed c Accepted = Accepts p c
+Tells p cases failed c Safe = MakesSafe p c
 Tells p cases failed c Mended = Mends p cases failed c
 Tells p cases failed c Neither = Unit {0}

@@ -2,7 +2,9 @@
 ghost use Rattle.std.specs.Prelude.{◌≡◌, ◌≤◌, ◌↔◌, IsTrue, IfOk, IfSome, All, false, true, map};
 ghost use Rattle.std.specs.List.{Any};
 ghost use Rattle.kr_model.specs.Covers.{failed_cases, IsCovered};
-ghost use Rattle.kr_causes.specs.Mends.{IsSameCase, IsAmong, AreMended, IsMend, Tells};
+ghost use Rattle.kr_model.specs.Safe.{IsSafe};
+ghost use Rattle.kr_causes.specs.Changes.{changed};
+ghost use Rattle.kr_causes.specs.Mends.{IsSameCase, IsAmong, AreMended, AreMends, Tells};
 
 use crate::blame::Blame;
 use crate::cause::Cause;
@@ -10,26 +12,31 @@ use crate::change::Change;
 use crate::changed::Changed;
 use crate::reasons::{asked, own_next};
 use kr_cases::{Memory, Rejected, check};
+use kr_decide::{Decision, decide};
 use kr_model::{FailedCase, Mode, Row, Side, Span};
 use kr_protocol::Protocol;
 use std::alloc::{AllocError, Global};
 
-/// Changes that mend the cases of a cause, each by itself. They differ in their mode alone.
+/// Changes that mend the cases of a cause, each by itself: at most 15, which differ in their mode alone.
 #[derive(Debug, Drop)]
 pub struct Mend {
-    /// Whether with each of them the table is accepted. Else the cases hold with each, and no case fails that held.
-    pub is_accepted: bool,
-    /// The changes, at most 15, or none where none was found.
-    pub changes: Vec<Change>,
+    /// With each of these the table is accepted.
+    pub accepted: Vec<Change>,
+    /// With each of these the table isn't accepted, but safe.
+    pub safe: Vec<Change>,
+    /// With each of these the cause's cases hold, and no case fails that held. Only where there are none of the others.
+    pub mended: Vec<Change>,
 }
 
-/// What the checker says of a change.
+/// What a change makes of the table.
 enum Verdict {
     /// With the change the table is accepted.
     Accepted,
+    /// With the change the table isn't accepted, but safe.
+    Safe,
     /// With the change the cases hold, and no case fails that held.
     Mended,
-    /// Neither.
+    /// None of these.
     Neither,
 }
 
@@ -80,13 +87,25 @@ fn are_mended(cases: &[FailedCase], failed: &[FailedCase], after: &[FailedCase])
     none_is_among(after, cases) && each_is_among(after, failed)
 }
 
-/// Asks the checker about a change.
-fn ask_checker<P: Protocol>(
+/// Whether a change makes the table safe.
+fn is_made_safe<P: Protocol>(alloc: Global, table: &Changed<'_, P>) -> Result<bool, Memory>
+    ensures { IfOk result (λ is. IsTrue is → IsSafe (changed (P.table table.now.base.now) table.now.change)) }
+{
+    match decide(alloc, table)? {
+        Decision::Safe => Ok(true),
+        Decision::Unsafe(_) => Ok(false),
+    }
+}
+
+/// Asks the checker about a change, and where the table isn't accepted then, the decision; of a table that is safe the
+/// checker alone.
+fn judged<P: Protocol>(
     alloc: Global,
     protocol: &P,
     failed: &[FailedCase],
     cases: &[FailedCase],
     change: Change,
+    is_safe: bool,
 ) -> Result<Verdict, Memory>
     ensures { IfOk result (Tells (P.table protocol.now) cases.now failed.now change) }
 {
@@ -95,9 +114,18 @@ fn ask_checker<P: Protocol>(
     };
     match check(alloc, changed) {
         Ok(_) => Ok(Verdict::Accepted),
-        Err(Rejected { protocol: _, cause }) => match cause {
+        Err(
+            Rejected {
+                protocol: changed,
+                cause,
+            },
+        ) => match cause {
             kr_cases::Cause::Failed(after) => {
-                if are_mended(cases, failed, &after) {
+                if is_safe {
+                    Ok(Verdict::Neither)
+                } else if is_made_safe(alloc, &changed)? {
+                    Ok(Verdict::Safe)
+                } else if are_mended(cases, failed, &after) {
                     Ok(Verdict::Mended)
                 } else {
                     Ok(Verdict::Neither)
@@ -203,35 +231,37 @@ fn trials<P: Protocol>(alloc: Global, protocol: &P, blame: Blame) -> Result<Vec<
     Ok(modes)
 }
 
-/// The changes of what is to blame that mend the cause's cases, by the checker's word on each: those with which it accepts
-/// the table; or, if there is none, those with which the cause's cases hold and no case fails that isn't in `failed`.
+/// The changes of what is to blame that mend the cause's cases: those with which the checker accepts the table, and those
+/// with which it is safe; or, if there are none of these, those with which the cause's cases hold and no case fails that
+/// isn't in `failed`. Of a table that is safe already only those with which it is accepted. The only fault is that a growth
+/// was refused.
 pub fn mends<P: Protocol>(
     alloc: Global,
     protocol: &P,
     failed: &[FailedCase],
     cause: &Cause,
+    is_safe: bool,
 ) -> Result<Mend, Memory>
-    ensures { IfOk result (λ m. All (IsMend (P.table protocol.now) cause.now.cases.items failed.now m.is_accepted) m.changes.items) }
+    ensures { IfOk result (AreMends (P.table protocol.now) cause.now.cases.items failed.now) }
 {
     let mut accepted = Vec::new(alloc);
+    let mut safe = Vec::new(alloc);
     let mut mended = Vec::new(alloc);
     for mode in &trials(alloc, protocol, cause.blame)? {
         let change = change_to(protocol, cause, *mode);
-        match ask_checker(alloc, protocol, failed, &cause.cases, change)? {
+        match judged(alloc, protocol, failed, &cause.cases, change, is_safe)? {
             Verdict::Accepted => accepted.push(change)?,
+            Verdict::Safe => safe.push(change)?,
             Verdict::Mended => mended.push(change)?,
             Verdict::Neither => {}
         }
     }
-    if accepted.is_empty() {
-        Ok(Mend {
-            is_accepted: false,
-            changes: mended,
-        })
-    } else {
-        Ok(Mend {
-            is_accepted: true,
-            changes: accepted,
-        })
+    if !accepted.is_empty() || !safe.is_empty() {
+        mended = Vec::new(alloc);
     }
+    Ok(Mend {
+        accepted,
+        safe,
+        mended,
+    })
 }

@@ -33,10 +33,11 @@ impl Draft {
         Ok(())
     }
 
-    /// The script with more steps, put in before the step at this place.
+    /// The script on this opening map, with more steps put in before the step at this place.
     pub(crate) fn woven(
         &self,
         alloc: Global,
+        opening: &[(u64, u64)],
         more: &[Step],
         place: usize,
     ) -> Result<Draft, AllocError> {
@@ -50,7 +51,7 @@ impl Draft {
         } else {
             self.weak
         };
-        let opening = self.opening.to_vec(alloc)?;
+        let opening = opening.to_vec(alloc)?;
         Ok(Draft {
             opening,
             steps,

@@ -2,16 +2,18 @@
 ghost use Rattle.std.specs.Prelude.{◌≡◌, ◌↔◌, IfOk, IsTrue, All};
 ghost use Rattle.kr_model.specs.Map.{IsMap};
 ghost use Rattle.kr_model.specs.Run.{is_granted};
+ghost use Rattle.kr_model.specs.Serial.{AreSerial};
 ghost use Rattle.kr_counterexample.specs.GoesWrong.{GoesWrong};
 ghost use Rattle.kr_counterexample.specs.Rising.{is_above};
 
 use kr_cases::Memory;
 use kr_model::{Event, Reply};
 use kr_protocol::Protocol;
-use kr_serial::{judge, run_any};
+use kr_serial::{Ran, judge, run_any};
 use std::alloc::Global;
 
 /// Whether the script goes wrong under the table. The only fault is that a growth was refused.
+#[tactic(auto, using(crate::proofs::Judged::wrong_ran))]
 pub(crate) fn goes_wrong<P: Protocol>(
     alloc: Global,
     protocol: &P,
@@ -24,10 +26,19 @@ pub(crate) fn goes_wrong<P: Protocol>(
         return Ok(false);
     }
     let ran = run_any(alloc, protocol, opening, events)?;
+    is_wrong(alloc, &ran)
+}
+
+/// Whether no step of a run is blocked or refused, and the transactions that commit aren't serial. The only fault is that a
+/// growth was refused.
+fn is_wrong(alloc: Global, ran: &Ran) -> Result<bool, Memory>
+    ensures granted { IfOk result (λ wrong. IsTrue wrong → All (λ r. IsTrue (is_granted r)) ran.now.replies) }
+    ensures not_serial { IfOk result (λ wrong. IsTrue wrong → AreSerial ran.now.opening ran.now.programs → ⊥) }
+{
     if !ran.replies.as_slice().iter().all(is_granted) {
         return Ok(false);
     }
-    Ok(!judge(alloc, &ran)?.is_serial())
+    Ok(!judge(alloc, ran)?.is_serial())
 }
 
 /// Whether the keys rise strictly.

@@ -3,7 +3,7 @@
 use crate::keys::{A, B, C, G, K, P, Y};
 use crate::state::State;
 use crate::table::Table;
-use kr_model::{Op, Row, Side};
+use kr_model::{Mode, Op, Row, Side};
 use kr_protocol::Protocol;
 use std::alloc::AllocError;
 
@@ -38,10 +38,11 @@ pub(crate) fn moves<T: Protocol>(
     } else {
         moves_at_p(table, from, found)?;
     }
-    put_and_take(table, from, found)?;
+    put_and_take_c(table, from, found)?;
     changes_of_a(table, from, found)?;
     update_of_a(table, from, found)?;
     reads_of_y(table, from, found)?;
+    put_and_take_g(table, from, found)?;
     other(table, from, found)
 }
 
@@ -139,19 +140,36 @@ fn moves_above_p<T: Protocol>(
 }
 
 /// An insert of C and its delete.
-fn put_and_take<T: Protocol>(
+fn put_and_take_c<T: Protocol>(
     table: &Table<'_, T>,
     from: State,
     found: &mut Vec<Moved>,
 ) -> Result<(), AllocError> {
-    let own = from.on_above();
-    let put = table.after(own, Row::Insert, Side::Next, own);
-    let taken = table.after(put, Row::Delete, Side::Next, put);
     found.push(Moved {
         by: Move::PutAndTake(C),
-        to: from.with_above(taken),
+        to: from.with_above(after_put_and_take(table, from.on_above())),
     })?;
     Ok(())
+}
+
+/// An insert of G and its delete.
+fn put_and_take_g<T: Protocol>(
+    table: &Table<'_, T>,
+    from: State,
+    found: &mut Vec<Moved>,
+) -> Result<(), AllocError> {
+    let on_y = after_put_and_take(table, from.on_y);
+    found.push(Moved {
+        by: Move::PutAndTake(G),
+        to: State { on_y, ..from },
+    })?;
+    Ok(())
+}
+
+/// The holder's mode on the next name, which was `own` before it inserts a key and deletes it again.
+fn after_put_and_take<T: Protocol>(table: &Table<'_, T>, own: Mode) -> Mode {
+    let put = table.after(own, Row::Insert, Side::Next, own);
+    table.after(put, Row::Delete, Side::Next, put)
 }
 
 /// The delete of A where it stands, or else its insert.

@@ -33,9 +33,9 @@ pub(crate) struct Reached {
 }
 
 impl Reached {
-    /// Whether its script leaves all keys as they stood, in an opening of which none is moved up.
+    /// Whether its script leaves K, P and A as they stood in the opening.
     pub(crate) fn keeps_keys(&self) -> bool {
         let Reached { state, world, .. } = self;
-        world.above.is_none() && state.k && state.p == world.p && state.a == world.a
+        state.k && state.p == world.p && state.a == world.a
     }
 }

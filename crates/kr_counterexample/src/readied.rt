@@ -7,11 +7,20 @@ use crate::draft::Draft;
 use crate::entrances::{Entrance, entrances};
 use crate::finder::{Finder, Way};
 use crate::ready::Ready;
-use crate::scripts::script_to;
+use crate::scripts::{opening_beside, script_to};
 use crate::step::Step;
 use kr_cases::Memory;
 use kr_model::Side;
 use kr_protocol::Protocol;
+
+/// How an intruder gets ready beside a holder.
+#[derive(Drop)]
+struct Beside {
+    /// The opening map for both.
+    opening: Vec<(u64, u64)>,
+    /// The intruder's steps.
+    steps: Vec<Step>,
+}
 
 impl<P: Protocol> Finder<'_, P> {
     /// An intruder that has modes already comes after each way.
@@ -25,7 +34,7 @@ impl<P: Protocol> Finder<'_, P> {
         for way in ways {
             let draft = self.draft(*way)?;
             for entrance in entrances(self.case.cover) {
-                let found = self.readied_at(&draft, *entrance, runs_left)?;
+                let found = self.readied_at(*way, &draft, *entrance, runs_left)?;
                 if found.is_some() {
                     return Ok(found);
                 }
@@ -34,9 +43,10 @@ impl<P: Protocol> Finder<'_, P> {
         Ok(None)
     }
 
-    /// An intruder comes through at an entrance by modes that it has.
+    /// An intruder comes through by modes that it has at an entrance, after a way of which this is the draft.
     fn readied_at(
         &self,
+        way: Way,
         draft: &Draft,
         entrance: Entrance,
         runs_left: &mut usize,
@@ -45,7 +55,8 @@ impl<P: Protocol> Finder<'_, P> {
     {
         for ready in self.closure.ready.iter() {
             if *runs_left > 0 && self.opens(entrance, *ready) {
-                let found = self.woven(draft, entrance, &self.intruders(*ready)?, runs_left)?;
+                let beside = self.beside(way, *ready)?;
+                let found = self.woven(draft, entrance, &beside, runs_left)?;
                 if found.is_some() {
                     return Ok(found);
                 }
@@ -68,13 +79,15 @@ impl<P: Protocol> Finder<'_, P> {
                 .is_open(row, side, ready.on_a, own_next, self.case.mode)
     }
 
-    /// The steps by which the intruder gets ready.
-    fn intruders(&self, ready: Ready) -> Result<Vec<Step>, Memory> {
-        let mut steps = script_to(self.alloc, &self.closure.reached, ready.end)?;
+    /// How the intruder gets ready beside a way.
+    fn beside(&self, way: Way, ready: Ready) -> Result<Beside, Memory> {
+        let reached = &self.closure.reached;
+        let mut steps = script_to(self.alloc, reached, ready.end)?;
         for step in steps.iter_mut() {
             *step = step.of_intruder();
         }
-        Ok(steps)
+        let opening = opening_beside(self.alloc, reached, way.end.world, ready.end.world)?;
+        Ok(Beside { opening, steps })
     }
 
     /// The intruder gets ready before the holder's steps, then before the holder's last, then after it.
@@ -82,13 +95,13 @@ impl<P: Protocol> Finder<'_, P> {
         &self,
         draft: &Draft,
         entrance: Entrance,
-        more: &[Step],
+        beside: &Beside,
         runs_left: &mut usize,
     ) -> Result<Option<Counterexample>, Memory>
         ensures { IfOk result (λ found. IfSome found (λ c. GoesWrong (P.table self.now.table.protocol.now) c.opening.items c.events.items)) }
     {
         for place in [0, draft.weak, draft.steps.len()] {
-            let woven = draft.woven(self.alloc, more, place)?;
+            let woven = draft.woven(self.alloc, &beside.opening, &beside.steps, place)?;
             let found = self.ended(&woven, entrance, runs_left)?;
             if found.is_some() {
                 return Ok(found);

@@ -7,7 +7,7 @@ use std::alloc::{AllocError, Global};
 /// So many ways to get ready are kept for the same modes.
 const WAYS: u8 = 2;
 
-/// A state in which all keys stand as in the opening, and the modes that are held in it, not both none.
+/// A state in which K, P and A stand as in the opening, and the modes that are held in it, not both none.
 #[derive(Clone, Copy, Debug, PartialEq, Eq)]
 pub(crate) struct Ready {
     pub on_a: Mode,

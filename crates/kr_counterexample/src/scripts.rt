@@ -63,6 +63,28 @@ pub(crate) fn opening_of(
     reached: &[Reached],
     world: World,
 ) -> Result<Vec<(u64, u64)>, AllocError> {
+    opening_with(alloc, &keys_of(reached, world))
+}
+
+/// The opening map of the holder's world, in which an intruder's script is put that begins in another. Where none of the
+/// holder's keys is moved up, Y and the keys above it stand as the intruder's script has them.
+pub(crate) fn opening_beside(
+    alloc: Global,
+    reached: &[Reached],
+    holders: World,
+    intruders: World,
+) -> Result<Vec<(u64, u64)>, AllocError> {
+    let mut keys = keys_of(reached, holders);
+    if holders.above.is_none() {
+        let other = keys_of(reached, intruders);
+        keys[5] = other[5];
+        keys[6] = other[6];
+    }
+    opening_with(alloc, &keys)
+}
+
+/// The keys that may stand in the opening map of a world, rising, and whether they do.
+fn keys_of(reached: &[Reached], world: World) -> [(u64, bool); 7] {
     let mut keys = [
         (K, true),
         (P, world.p),
@@ -78,11 +100,16 @@ pub(crate) fn opening_of(
         keys[5].1 = before.world.a;
         keys[6].1 = true;
     }
+    keys
+}
+
+/// The opening map of the keys that stand, with the values 1, 2 and so on.
+fn opening_with(alloc: Global, keys: &[(u64, bool)]) -> Result<Vec<(u64, u64)>, AllocError> {
     let mut opening = Vec::new(alloc);
     let mut value: u64 = 1;
     for (key, stands) in keys {
-        if stands {
-            opening.push((key, value))?;
+        if *stands {
+            opening.push((*key, value))?;
             value = value.saturating_add(1);
         }
     }

@@ -1,4 +1,4 @@
-//! Says why a lock table is rejected, shows a run that goes wrong for each cause, and names changes that mend it.
+//! Says whether a lock table is safe, and why cases of it fail: shows a run that goes wrong for each cause that isn't harmless, and names changes that mend it.
 #![tactic(auto)]
 
 use kr_explain_program::{NAME, execute};

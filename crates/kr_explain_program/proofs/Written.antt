@@ -26,6 +26,7 @@ wrong_below p failed xs false i run told has = wrong_in p failed xs i run (slice
 
 wrong_of : (p : Protocol) (n : ℕ) (x : Explanation) (run : Run) → Tells p x → run_at n x ≡ Some run → GoesWrongWith p run
 wrong_of p n (told.Accepted cases) run tells has = absurd cc
+wrong_of p n (told.Safe r) run tells has = absurd cc
 wrong_of p n (told.Rejected r) run tells has = wrong_below p _ r.causes.items (n == 0) (n - 1) run tells.told has
 
 written_of : (p : Protocol) (n : ℕ) (x : Explanation) (found : Option Run) (line : List ℕ) (old new : Option (List ℕ)) → IsExplained p x → run_at n x ≡ found → IsScriptOf found (Some line) → Appends old new (line ++ 10 ∷ []) → WritesScript p n old new

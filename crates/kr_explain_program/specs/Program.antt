@@ -3,9 +3,9 @@ use Rattle.std.specs.Prelude.{◌≡◌, ◌⊎◌, ◌↔◌, ℕ, Bool, false,
 use Rattle.std.specs.Fmt.{decimal}
 use Rattle.std.specs.Io.KnownBytes.{Appends}
 use Rattle.kr_model.specs.Protocol.{Protocol, IsLawful}
-use Rattle.kr_model.specs.Covers.{IsCovered}
+use Rattle.kr_model.specs.Safe.{IsSafe}
 use Rattle.kr_counterexample.specs.GoesWrong.{GoesWrong}
-use Rattle.kr_explanation.specs.Explained.{IsExplained, is_accepted, run_at}
+use Rattle.kr_explanation.specs.Explained.{IsExplained, is_safe, run_at}
 use Rattle.kr_explanation.specs.Told.{IsText}
 use Rattle.kr_explanation.specs.Lines.{IsLineOf}
 use Rattle.kr_explanation.specs.declared.explanation.Explanation.{Explanation}
@@ -20,15 +20,15 @@ use Rattle.kr_explain_program.specs.Words.{words_of, IsAsked}
 use Rattle.kr_explain_program.specs.declared.words.Wanted.{Wanted}
 use Rattle.kr_explain_program.specs.declared.words.Wanted.TheVariants as wanted
 
--- A whole text of an explanation of a table was written, and the answer is whether the table is covered.
-pub record Explains (p : Protocol) (old new : Option (List ℕ)) (accepted : Bool) : Type 0 where
+-- A whole text of an explanation of a table was written, and the answer is whether the table is safe.
+pub record Explains (p : Protocol) (old new : Option (List ℕ)) (safe : Bool) : Type 0 where
   pub explanation : Explanation
   pub text : List ℕ
   pub explained : IsExplained p explanation
   -- the text begins with the verdict
   pub is_text : IsText explanation text
-  pub verdict : is_accepted explanation ≡ accepted
-  pub covered : IsTrue accepted ↔ IsCovered p
+  pub verdict : is_safe explanation ≡ safe
+  pub is_so : IsTrue safe ↔ IsSafe p
   pub written : Appends old new text
 
 -- A line was written that reads as the script of the run of a table's cause of this number, which goes wrong under the table.
@@ -42,10 +42,10 @@ pub record WritesScript (p : Protocol) (number : ℕ) (old new : Option (List �
   pub is_line : IsLineOf run.script.opening.items run.script.events.items line
   pub written : Appends old new (line ++ 10 ∷ [])
 
--- What is wanted of a table was written, and the answer is whether the table is covered; one of which there is a script isn't.
+-- What is wanted of a table was written, and the answer is whether the table is safe; one of which there is a script isn't.
 abbrev pub Reports : Protocol → Wanted → Option (List ℕ) → Option (List ℕ) → Bool → Type 0
-Reports p wanted.Explanation old new accepted = Explains p old new accepted
-Reports p (wanted.Script number) old new accepted = (accepted ≡ false) × WritesScript p number old new
+Reports p wanted.Explanation old new safe = Explains p old new safe
+Reports p (wanted.Script number) old new safe = (safe ≡ false) × WritesScript p number old new
 
 -- A table's cause of this number has no run, or there is no such cause; and the line tells that of the word that names the table.
 pub record TellsNoRun (p : Protocol) (table : List ℕ) (number : ℕ) (line : List ℕ) : Type 0 where
@@ -68,7 +68,7 @@ EndsReport p table wanted Output = Unit {0}
 EndsReport p table wanted (Told line) = TellsMissing p table wanted (string_bytes line)
 
 -- What these words ask for was written, of the lawful table that the first of them names.
-pub record Answers (may_give : List ℕ → Option (List ℕ) → Type 0) (words : List (List ℕ)) (old new : Option (List ℕ)) (accepted : Bool) : Type 0 where
+pub record Answers (may_give : List ℕ → Option (List ℕ) → Type 0) (words : List (List ℕ)) (old new : Option (List ℕ)) (safe : Bool) : Type 0 where
   pub table : List ℕ
   pub wanted : Wanted
   pub named : AnyTable
@@ -76,7 +76,7 @@ pub record Answers (may_give : List ℕ → Option (List ℕ) → Type 0) (words
   pub asked : IsAsked table wanted
   pub names : NamesTable may_give table named
   pub lawful : IsLawful (table_of named)
-  pub reports : Reports (table_of named) wanted old new accepted
+  pub reports : Reports (table_of named) wanted old new safe
 
 -- The line tells why the word of a table names none; or what is missing of the table that it names.
 abbrev pub TellsWord : (List ℕ → Option (List ℕ) → Type 0) → List ℕ → Wanted → List ℕ → Type 0

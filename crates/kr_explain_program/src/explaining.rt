@@ -11,8 +11,7 @@ use kr_script::{Sink, print, put_all};
 use kr_shell::Ending;
 use std::alloc::Global;
 
-/// Writes the explanation of a protocol, whose table this word names, and answers whether the table is accepted: exactly where
-/// it is covered. Where a growth was refused, nothing is written; where printing fails, a beginning of the text was.
+/// Writes the explanation of a protocol, whose table this word names, and answers whether the table is safe, accepted or not. Where a growth was refused, nothing is written; where printing fails, a beginning of the text was.
 pub fn write_explanation<P: Protocol, W: Sink>(
     alloc: Global,
     protocol: &P,
@@ -27,7 +26,7 @@ pub fn write_explanation<P: Protocol, W: Sink>(
     let explanation = explain(alloc, protocol)?;
     let text = explanation.text(alloc, protocol, table)?;
     put_all(out, text.as_bytes())?;
-    Ok(explanation.is_accepted())
+    Ok(explanation.is_safe())
 }
 
 /// Writes the script of the cause of this number, from 1, of a protocol, whose table this word names, and a line feed. Where

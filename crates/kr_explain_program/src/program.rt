@@ -23,8 +23,8 @@ fn are_laws_kept<P: Protocol>(protocol: &P)
     let _ = protocol;
 }
 
-/// Writes what is wanted of a protocol, whose table this word names, and answers whether the table is accepted; one of which
-/// a script is written isn't.
+/// Writes what is wanted of a protocol, whose table this word names, and answers whether the table is safe; one of which a
+/// script is written isn't.
 fn report<P: Protocol, W: Sink>(
     alloc: Global,
     protocol: &P,
@@ -46,7 +46,7 @@ fn report<P: Protocol, W: Sink>(
     }
 }
 
-/// Does what the words ask, and answers whether the table is accepted.
+/// Does what the words ask, and answers whether the table is safe.
 fn explained<R: std::rt::Files + AllocGlobal, F: Files, W: Sink>(
     rt: &R,
     words: &[String],
@@ -64,8 +64,8 @@ fn explained<R: std::rt::Files + AllocGlobal, F: Files, W: Sink>(
     report(rt.alloc(), &table, asked.table, asked.wanted, out)
 }
 
-/// Runs the program on words without its own name, and answers its status: 0 where it accepted a table, 1 where it
-/// rejected one or wrote a script that goes wrong under it, and 2 where it told a fault on `err`. At 0 and 1 what the
+/// Runs the program on words without its own name, and answers its status: 0 where it explained a table that is
+/// safe, accepted or not, 1 where one isn't or it wrote a script that goes wrong under it, and 2 where it told a fault on `err`. At 0 and 1 what the
 /// words ask for is written on `out`, of the table that the first word names, and nothing on `err`; at a fault of words,
 /// files, tables or memory, and where there is no such script, nothing is written on `out`.
 pub fn execute<R: std::rt::Files + AllocGlobal, F: Files, W: Sink, E: Sink>(

@@ -19,7 +19,7 @@ pub struct Asked<'a> {
 /// What is printed of a table.
 #[derive(Clone, Copy, Debug, PartialEq, Eq)]
 pub enum Wanted {
-    /// The explanation: status 0 where the table is accepted, and 1 where it is rejected.
+    /// The explanation: status 0 where the table is safe, accepted or not, and else 1.
     Explanation,
     /// The script of the cause that has this number, from 1: status 1.
     Script(usize),

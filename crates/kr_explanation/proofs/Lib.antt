@@ -1,1 +1,3 @@
 pub mod ToldCauses
+pub mod Clear
+pub mod Outcomes

@@ -1,3 +1,4 @@
 pub mod Lines
+pub mod Harmless
 pub mod Explained
 pub mod Told

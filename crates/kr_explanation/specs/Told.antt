@@ -1,18 +1,29 @@
 -- How an explanation is written: its text, and the lines of its runs.
-use Rattle.std.specs.Prelude.{◌≡◌, ℕ, List, ◌++◌, [], ◌∷◌, Option, Some, None, codes, decimal}
+use Rattle.std.specs.Prelude.{◌≡◌, ℕ, List, ◌++◌, [], ◌∷◌, Bool, true, false, Option, Some, None, codes, decimal}
 use Rattle.kr_explanation.specs.declared.run.Run.{Run}
 use Rattle.kr_explanation.specs.declared.explanation.Explanation.{Explanation}
 use Rattle.kr_explanation.specs.declared.explanation.Explanation.TheVariants as told
 use Rattle.kr_explanation.specs.Lines.{IsLineOf}
+use Rattle.kr_explanation.specs.Explained.{has_run}
 
--- The words that the text of a rejected table begins with.
-abbrev pub rejected_words : ℕ → ℕ → List ℕ
-rejected_words failed cases = codes "refused: " ++ (decimal failed ++ (codes " of " ++ (decimal cases ++ codes " cases fail, by ")))
+-- The words that the text of an accepted table begins with.
+abbrev pub accepted_words : ℕ → List ℕ
+accepted_words cases = codes "accepted: all " ++ (decimal cases ++ codes " cases hold. Every run under this table is serializable in commit order.")
+
+-- The words that the text of a table begins with that is safe, though cases of it fail.
+abbrev pub safe_words : ℕ → ℕ → List ℕ
+safe_words failed cases = codes "safe: " ++ (decimal failed ++ (codes " of " ++ (decimal cases ++ codes " cases fail, but no schedule reaches their locks. Every run under this table is serializable in commit order.")))
+
+-- The words that the text of a table begins with that isn't safe, where a run is known that goes wrong, or where none is.
+abbrev pub rejected_words : Bool → ℕ → ℕ → List ℕ
+rejected_words true failed cases = codes "rejected: " ++ (decimal failed ++ (codes " of " ++ (decimal cases ++ codes " cases fail, by ")))
+rejected_words false failed cases = codes "not known to be safe: " ++ (decimal failed ++ (codes " of " ++ (decimal cases ++ codes " cases fail, by ")))
 
 -- The words that a text begins with: the verdict, and how many cases hold or fail.
 abbrev pub verdict_words : Explanation → List ℕ
-verdict_words (told.Accepted n) = codes "accepted: all " ++ (decimal n ++ codes " cases hold.")
-verdict_words (told.Rejected r) = rejected_words r.failed r.cases
+verdict_words (told.Accepted n) = accepted_words n
+verdict_words (told.Safe f) = safe_words f.failed f.cases
+verdict_words (told.Rejected f) = rejected_words (has_run f) f.failed f.cases
 
 -- A text of an explanation: it begins with the verdict, and ends with a line feed.
 abbrev pub IsText : Explanation → List ℕ → Type 0

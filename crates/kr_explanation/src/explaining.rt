@@ -1,20 +1,36 @@
 //! Explaining a table.
-ghost use Rattle.std.specs.Prelude.{IfOk, ◌≡◌, All};
-ghost use Rattle.kr_explanation.specs.Explained.{IsExplained, IsRejection, IsTold, causes_of};
+ghost use Rattle.std.specs.Prelude.{IfOk, IfSome, ◌≡◌, ◌≤◌, All, length};
+ghost use Rattle.kr_decide.specs.Survey.{IsSurvey};
+ghost use Rattle.kr_explanation.specs.Explained.{AreFailures, GoesWrongWith, IsExplained, IsTold, causes_of};
 
 use crate::effort::{Effort, MOST_MENDED};
-use crate::explanation::{Explained, Explanation, Rejected};
-use crate::told_run::told_run;
+use crate::explanation::{Explained, Explanation, Failures};
+use crate::harmless::{is_harmless, why_harmless};
+use crate::told_run::{ToldRun, told_run};
 use kr_cases::{Cause as Rejection, Memory, cases, check};
 use kr_causes::{Blame, Cause, causes, mends};
 use kr_counterexample::Closure;
+use kr_decide::Survey;
 use kr_model::FailedCase;
 use kr_protocol::Protocol;
 use std::alloc::{AllocError, Global};
 
-/// Has a table checked, and where it is rejected, says why: the failed cases put together by what is to blame, for each
-/// cause a run that goes wrong where one is known, and the changes that mend it of those that are tried. How much is tried
-/// is bounded, and the explanation says what was left out. The only fault is that a growth was refused.
+/// What is known of a table before its causes are told.
+#[derive(Clone, Copy)]
+struct Known<'a> {
+    survey: &'a Survey,
+    closure: &'a Closure,
+    /// All its failed cases.
+    failed: &'a [FailedCase],
+    /// What may be tried for each cause.
+    effort: Effort,
+}
+
+/// Has a table checked, and where it is rejected, says whether it is safe, and why cases of it fail: the failed cases put
+/// together by what is to blame; for each cause why it is harmless, or else a run that goes wrong where one is known; and the
+/// changes that mend it of those that are tried. How much is tried is bounded, and the explanation says what was left out.
+/// The only fault is that a growth was refused.
+#[tactic(auto, using(crate::proofs::Outcomes::accepted_told, crate::proofs::Outcomes::safe_told, crate::proofs::Outcomes::rejected_told))]
 pub fn explain<P: Protocol>(alloc: Global, protocol: &P) -> Result<Explanation, Memory>
     ensures { IfOk result (IsExplained (P.table protocol.now)) }
 {
@@ -24,27 +40,35 @@ pub fn explain<P: Protocol>(alloc: Global, protocol: &P) -> Result<Explanation, 
         }),
         Err(rejected) => match rejected.cause {
             Rejection::Failed(failed) => {
-                Ok(Explanation::Rejected(rejection(alloc, protocol, &failed)?))
+                let survey = Survey::of(alloc, protocol)?;
+                let failures = failures(alloc, protocol, &survey, &failed)?;
+                if survey.is_safe() {
+                    Ok(Explanation::Safe(failures))
+                } else {
+                    Ok(Explanation::Rejected(failures))
+                }
             }
             Rejection::Memory => Err(AllocError),
         },
     }
 }
 
-/// Why a table is rejected of which these cases fail.
+/// Why cases of a table fail, of which these do.
 #[tactic(auto, using(crate::proofs::ToldCauses::same_shared))]
-fn rejection<P: Protocol>(
+fn failures<P: Protocol>(
     alloc: Global,
     protocol: &P,
+    survey: &Survey,
     failed: &[FailedCase],
-) -> Result<Rejected, Memory>
-    ensures { IfOk result (IsRejection (P.table protocol.now) failed.now) }
+) -> Result<Failures, Memory>
+    requires { IsSurvey (P.table protocol.now) survey.now }
+    ensures { IfOk result (AreFailures (P.table protocol.now) failed.now) }
 {
     let causes = causes(alloc, protocol, failed)?;
-    Ok(Rejected {
+    Ok(Failures {
         cases: cases(protocol.count(), protocol.updates()),
         failed: failed.len(),
-        causes: explained(alloc, protocol, failed, causes)?,
+        causes: explained(alloc, protocol, survey, failed, causes)?,
     })
 }
 
@@ -52,66 +76,127 @@ fn rejection<P: Protocol>(
 fn explained<P: Protocol>(
     alloc: Global,
     protocol: &P,
+    survey: &Survey,
     failed: &[FailedCase],
     causes: Vec<Cause>,
 ) -> Result<Vec<Explained>, Memory>
+    requires { IsSurvey (P.table protocol.now) survey.now }
     ensures causes { IfOk result (λ list. causes.items ≡ causes_of list.items) }
     ensures told { IfOk result (λ list. All (IsTold (P.table protocol.now) failed.now) list.items) }
 {
     let closure = Closure::of(alloc, protocol)?;
-    let effort = Effort::of_each(causes.len());
+    let known = Known {
+        survey,
+        closure: &closure,
+        failed,
+        effort: Effort::of_each(harmful(survey, failed, &causes)),
+    };
     let mut list = Vec::new(alloc);
     for cause in causes {
         let is_mended = list.len() < MOST_MENDED;
-        let told = told(alloc, protocol, &closure, failed, cause, effort, is_mended)?;
+        let told = told(alloc, protocol, known, cause, is_mended)?;
         list.push(told)?;
     }
     Ok(list)
 }
 
-/// What is told of a cause of these failed cases; the changes that mend it only where asked.
+/// How many of the causes aren't harmless, where these are all failed cases.
+fn harmful(survey: &Survey, failed: &[FailedCase], causes: &[Cause]) -> usize {
+    let mut harmful: usize = 0;
+    for cause in causes {
+        if !is_harmless(survey, failed, &cause.cases) {
+            harmful = harmful.saturating_add(1);
+        }
+    }
+    harmful
+}
+
+/// What is told of a cause; the changes that mend it only where asked.
 fn told<P: Protocol>(
     alloc: Global,
     protocol: &P,
-    closure: &Closure,
-    failed: &[FailedCase],
+    known: Known<'_>,
     cause: Cause,
-    effort: Effort,
     is_mended: bool,
 ) -> Result<Explained, Memory>
-    ensures told { IfOk result (IsTold (P.table protocol.now) failed.now) }
+    requires { IsSurvey (P.table protocol.now) known.survey.now }
+    ensures told { IfOk result (IsTold (P.table protocol.now) known.failed.now) }
     ensures cause { IfOk result (λ e. e.cause ≡ cause) }
+{
+    let harmless = why_harmless(protocol, known.survey, known.failed, &cause.cases);
+    let told = if harmless.is_some() {
+        ToldRun::none()
+    } else {
+        sought(alloc, protocol, known, &cause)?
+    };
+    let mend = if is_mended {
+        let is_safe = known.survey.is_safe();
+        Some(mends(alloc, protocol, known.failed, &cause, is_safe)?)
+    } else {
+        None
+    };
+    Ok(Explained {
+        cause,
+        harmless,
+        run: told.run,
+        runs: told.runs,
+        tried: told.tried,
+        is_reached: told.is_reached,
+        mend,
+    })
+}
+
+/// The run that is told of a cause which isn't harmless. The cases are tried first that give the best hope.
+fn sought<P: Protocol>(
+    alloc: Global,
+    protocol: &P,
+    known: Known<'_>,
+    cause: &Cause,
+) -> Result<ToldRun, Memory>
+    ensures wrong { IfOk result (λ told. IfSome told.run (GoesWrongWith (P.table protocol.now))) }
+    ensures tried { IfOk result (λ told. told.tried ≤ length cause.now.cases.items) }
+    ensures runs { IfOk result (λ told. told.runs ≤ told.tried) }
 {
     let prefer = match cause.blame {
         Blame::Place { row, side } => Some((row, side)),
         _ => None,
     };
-    let told = told_run(alloc, protocol, closure, &cause.cases, prefer, effort)?;
-    let mend = if is_mended {
-        Some(mends(alloc, protocol, failed, &cause)?)
-    } else {
-        None
-    };
-    let is_reached = told.run.is_none() && is_reached(protocol, closure, &cause.cases, told.tried);
-    Ok(Explained {
-        cause,
-        run: told.run,
-        runs: told.runs,
-        tried: told.tried,
-        is_reached,
-        mend,
-    })
+    let cases = holes_first(alloc, known.survey, &cause.cases)?;
+    told_run(alloc, protocol, known.closure, &cases, prefer, known.effort)
 }
 
-/// Whether some state of the closure has a step that one of the first cases is about, of which so many were tried.
-fn is_reached<P: Protocol>(
-    protocol: &P,
-    closure: &Closure,
+/// The cases, those first to whose cover and mode a hole belongs; and before the others the first of each rule, cover and
+/// mode.
+fn holes_first(
+    alloc: Global,
+    survey: &Survey,
     cases: &[FailedCase],
-    tried: usize,
-) -> bool {
-    cases
-        .iter()
-        .take(tried)
-        .any(|case| closure.is_reached(protocol, case))
+) -> Result<Vec<FailedCase>, Memory>
+    ensures { IfOk result (λ list. length list.items ≡ length cases.now) }
+{
+    let mut all = cases.to_vec(alloc)?;
+    all.sort_by_key(|case| !survey.has_hole(case.cover, case.mode))?;
+    firsts_first(alloc, &all)
+}
+
+/// The cases, the first of each rule, cover and mode before the others.
+fn firsts_first(alloc: Global, cases: &[FailedCase]) -> Result<Vec<FailedCase>, Memory>
+    ensures { IfOk result (λ list. length list.items ≡ length cases.now) }
+{
+    let mut firsts: Vec<FailedCase> = Vec::new(alloc);
+    let mut others = Vec::new(alloc);
+    for case in cases {
+        if firsts.iter().any(|first| is_alike(first, case)) {
+            others.push(*case)?;
+        } else {
+            firsts.push(*case)?;
+        }
+    }
+    firsts.extend_from_slice(&others)?;
+    Ok(firsts)
+}
+
+/// Whether two cases are of one rule, cover and mode.
+fn is_alike(case: &FailedCase, other: &FailedCase) -> bool {
+    case.case == other.case && case.cover == other.cover && case.mode == other.mode
 }

@@ -1,34 +1,38 @@
 //! What is explained of a table.
 ghost use Rattle.std.specs.Prelude.{◌≡◌};
-ghost use Rattle.kr_explanation.specs.Explained.{is_accepted};
+ghost use Rattle.kr_explanation.specs.Explained.{has_run, is_safe};
 
+use crate::harmless::Harmless;
 use crate::run::Run;
 use kr_causes::{Cause, Mend};
 
-/// What the check says of a table, and where it rejects the table, why.
+/// What is said of a table, and where cases of it fail, why.
 #[derive(Drop)]
 pub enum Explanation {
-    /// The table is covered, and has so many cases.
+    /// All cases hold, so many.
     Accepted { cases: usize },
-    /// Some case fails.
-    Rejected(Rejected),
+    /// Some case fails, but the table is safe: no schedule reaches the locks of the cases that fail. Each cause is harmless.
+    Safe(Failures),
+    /// Some case fails, and the table isn't safe.
+    Rejected(Failures),
 }
 
 impl Explanation {
-    /// Whether the table is accepted.
-    pub fn is_accepted(&self) -> bool
-        ensures { result ≡ is_accepted self.now }
+    /// Whether the table is safe, accepted or not.
+    pub fn is_safe(&self) -> bool
+        ensures { result ≡ is_safe self.now }
     {
         match self {
             Explanation::Accepted { .. } => true,
+            Explanation::Safe(_) => true,
             Explanation::Rejected(_) => false,
         }
     }
 }
 
-/// Why a table is rejected.
+/// Which cases of a table fail, and why.
 #[derive(Drop)]
-pub struct Rejected {
+pub struct Failures {
     /// How many cases the table has.
     pub cases: usize,
     /// How many of them fail.
@@ -37,16 +41,27 @@ pub struct Rejected {
     pub causes: Vec<Explained>,
 }
 
+impl Failures {
+    /// Whether some cause has a run that goes wrong.
+    pub fn has_run(&self) -> bool
+        ensures { result ≡ has_run self.now }
+    {
+        self.causes.iter().any(|explained| explained.run.is_some())
+    }
+}
+
 /// A cause, with what is known of it.
 #[derive(Drop)]
 pub struct Explained {
     pub cause: Cause,
+    /// Why no schedule goes wrong by it; or `None` where one reaches a lock of it that doesn't block what it has to keep out.
+    pub harmless: Option<Harmless>,
     /// The shortest of the runs that the cause's cases gave; for a void place the shortest through that place, if there is
-    /// one.
+    /// one. None is sought for a cause that is harmless.
     pub run: Option<Run>,
     /// How many of the cases that were tried gave one.
     pub runs: usize,
-    /// How many of its cases were tried, from the first on: all of them, unless the effort didn't last.
+    /// How many of its cases were tried: all of them, unless the effort didn't last or the cause is harmless.
     pub tried: usize,
     /// Where no run is known, whether one transaction comes to the modes of a case that was tried.
     pub is_reached: bool,

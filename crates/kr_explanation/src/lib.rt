@@ -1,10 +1,11 @@
-//! Why a lock table is rejected: what is to blame, a run that goes wrong for each cause, and what mends it; as a text, and
-//! each run as a script.
+//! Why cases of a lock table fail: what is to blame, why it is harmless or a run that goes wrong by it, and what mends it; as
+//! a text, and each run as a script.
 #![tactic(auto)]
 
 mod effort;
 mod explaining;
 mod explanation;
+mod harmless;
 mod lines;
 mod run;
 mod scripts;
@@ -12,6 +13,7 @@ mod text;
 mod told_run;
 
 pub use explaining::explain;
-pub use explanation::{Explained, Explanation, Rejected};
+pub use explanation::{Explained, Explanation, Failures};
+pub use harmless::Harmless;
 pub use kr_cases::Memory;
 pub use run::Run;

@@ -19,13 +19,13 @@ impl Explanation {
     pub fn script(&self, alloc: Global, number: usize) -> Result<Option<String>, Memory>
         ensures { IfOk result (λ line. IsScriptOf (run_at number self.now) (option_map string_bytes line)) }
     {
-        let Explanation::Rejected(rejected) = self else {
+        let Explanation::Rejected(failures) = self else {
             return Ok(None);
         };
         if number == 0 {
             return Ok(None);
         }
-        let Some(explained) = rejected.causes.get(number - 1) else {
+        let Some(explained) = failures.causes.get(number - 1) else {
             return Ok(None);
         };
         match &explained.run {

@@ -1,22 +1,23 @@
 //! The text of an explanation.
 ghost use Rattle.std.specs.Prelude.{◌≡◌, IfOk, string_bytes};
-ghost use Rattle.kr_explanation.specs.Told.{IsText, rejected_words, verdict_words};
+ghost use Rattle.kr_explanation.specs.Told.{IsText, accepted_words, rejected_words, safe_words, verdict_words};
 
 use crate::effort::MOST_MENDED;
-use crate::explanation::{Explained, Explanation, Rejected};
+use crate::explanation::{Explained, Explanation, Failures};
+use crate::harmless::Harmless;
 use crate::run::Run;
 use kr_cases::Memory;
 use kr_protocol::Protocol;
 use kr_sentences::{
-    Tries, causes_words, write_body, write_command, write_mend, write_no_run, write_run,
-    write_title,
+    Tries, causes_words, write_body, write_command, write_mend, write_never_held,
+    write_never_let_in, write_no_run, write_run, write_title,
 };
 use std::alloc::Global;
 
 impl Explanation {
-    /// The text for a person, each line ended by a line feed: the verdict, and where the table is rejected, each cause with
-    /// its run and the changes that mend it. `word` names the table in the last line. The table is to be the one that was
-    /// explained: its names, steps and answers are told. The only fault is that a growth was refused.
+    /// The text for a person, each line ended by a line feed: the verdict, and where cases fail, each cause with why it is
+    /// harmless or with its run, and the changes that mend it. `word` names the table in the last line. The table is to be
+    /// the one that was explained: its names, steps and answers are told. The only fault is that a growth was refused.
     pub fn text<P: Protocol>(
         &self,
         alloc: Global,
@@ -26,11 +27,13 @@ impl Explanation {
         ensures { IfOk result (λ text. IsText self.now (string_bytes text)) }
     {
         let telling = match self {
-            Explanation::Accepted { .. } => String::from_str(
-                alloc,
-                " Every run under this table is serial in commit order.",
-            )?,
-            Explanation::Rejected(rejected) => rejection_text(alloc, protocol, rejected, word)?,
+            Explanation::Accepted { .. } => String::new(alloc),
+            Explanation::Safe(failures) => causes_text(alloc, protocol, failures, word, true)?,
+            Explanation::Rejected(failures) => {
+                let count = causes_words(alloc, failures.causes.len())?;
+                let causes = causes_text(alloc, protocol, failures, word, false)?;
+                format!(in alloc; "{count}{causes}")?
+            }
         };
         let mut out = self.verdict_text(alloc)?;
         out.push_str(telling.as_str())?;
@@ -43,61 +46,85 @@ impl Explanation {
         ensures { IfOk result (λ text. string_bytes text ≡ verdict_words self.now) }
     {
         match self {
-            Explanation::Accepted { cases } => {
-                format!(in alloc; "accepted: all {cases} cases hold.")
+            Explanation::Accepted { cases } => accepted_words(alloc, *cases),
+            Explanation::Safe(failures) => safe_words(alloc, failures.failed, failures.cases),
+            Explanation::Rejected(failures) => {
+                rejected_words(alloc, failures.has_run(), failures.failed, failures.cases)
             }
-            Explanation::Rejected(rejected) => rejected_words(
-                alloc,
-                rejected.failed,
-                rejected.cases,
-            ),
         }
     }
 }
 
-/// The words that the text of a table begins with of which so many cases fail.
-fn rejected_words(alloc: Global, failed: usize, cases: usize) -> Result<String, Memory>
-    ensures { IfOk result (λ text. string_bytes text ≡ rejected_words failed cases) }
+/// The words that the text of a table begins with of which all cases hold, so many.
+fn accepted_words(alloc: Global, cases: usize) -> Result<String, Memory>
+    ensures { IfOk result (λ text. string_bytes text ≡ accepted_words cases) }
 {
-    format!(in alloc; "refused: {failed} of {cases} cases fail, by ")
+    format!(in alloc;
+        "accepted: all {cases} cases hold. Every run under this table is serializable in commit order."
+    )
 }
 
-/// The text of a rejection behind the numbers of its cases, without its last line feed.
-fn rejection_text<P: Protocol>(
+/// The words that the text of a table begins with that is safe, though so many cases fail.
+fn safe_words(alloc: Global, failed: usize, cases: usize) -> Result<String, Memory>
+    ensures { IfOk result (λ text. string_bytes text ≡ safe_words failed cases) }
+{
+    format!(in alloc;
+        "safe: {failed} of {cases} cases fail, but no schedule reaches their locks. Every run under this table is serializable in commit order."
+    )
+}
+
+/// The words that the text of a table begins with that isn't safe, of which so many cases fail, and for which a run is known
+/// or isn't.
+fn rejected_words(
+    alloc: Global,
+    has_run: bool,
+    failed: usize,
+    cases: usize,
+) -> Result<String, Memory>
+    ensures { IfOk result (λ text. string_bytes text ≡ rejected_words has_run failed cases) }
+{
+    if has_run {
+        format!(in alloc; "rejected: {failed} of {cases} cases fail, by ")
+    } else {
+        format!(in alloc; "not known to be safe: {failed} of {cases} cases fail, by ")
+    }
+}
+
+/// What is told of each cause of a table, which is safe or isn't, without its last line feed.
+fn causes_text<P: Protocol>(
     alloc: Global,
     protocol: &P,
-    rejected: &Rejected,
+    failures: &Failures,
     word: &str,
+    is_safe: bool,
 ) -> Result<String, Memory> {
-    let mut out = causes_words(alloc, rejected.causes.len())?;
-    for (at, explained) in rejected.causes.iter().enumerate() {
-        write_cause(alloc, protocol, &mut out, at, explained)?;
+    let mut out = String::from_str(alloc, "\n")?;
+    for (at, explained) in failures.causes.iter().enumerate() {
+        write_cause(alloc, protocol, &mut out, at, explained, is_safe)?;
     }
-    if rejected
-        .causes
-        .iter()
-        .any(|explained| explained.run.is_some())
-    {
+    if failures.has_run() {
         write_command(&mut out, word)?;
     }
     let _last = out.pop();
     Ok(out)
 }
 
-/// Writes the cause at this place of the list, from 0: its title, what is said of it, its run, and what mends it.
+/// Writes the cause at this place of the list, from 0, of a table that is safe or isn't: its title, what is said of it, why
+/// it is harmless or its run, and what mends it.
 fn write_cause<P: Protocol>(
     alloc: Global,
     protocol: &P,
     out: &mut String,
     at: usize,
     explained: &Explained,
+    is_safe: bool,
 ) -> Result<(), Memory> {
     write_title(alloc, protocol, out, at.saturating_add(1), &explained.cause)?;
     match &explained.run {
         Some(run) => write_with_run(alloc, protocol, out, explained, run)?,
         None => write_without_run(alloc, protocol, out, explained)?,
     }
-    write_mend(alloc, protocol, out, &explained.mend, MOST_MENDED)
+    write_mend(alloc, protocol, out, &explained.mend, MOST_MENDED, is_safe)
 }
 
 /// How many of a cause's cases were tried.
@@ -122,17 +149,30 @@ fn write_with_run<P: Protocol>(
     write_run(alloc, protocol, out, &run.case, &run.script, tries)
 }
 
-/// Writes what is said of a cause for which no run is known.
+/// Writes what is said of a cause that has no run: why it is harmless, or that none is known.
 fn write_without_run<P: Protocol>(
     alloc: Global,
     protocol: &P,
     out: &mut String,
     explained: &Explained,
 ) -> Result<(), Memory> {
-    let Some(case) = explained.cause.cases.as_slice().first() else {
+    let cases = explained.cause.cases.as_slice();
+    let Some(first) = cases.first() else {
         return Ok(());
     };
-    write_body(alloc, protocol, out, &explained.cause, case)?;
-    let tries = tries_of(explained);
-    write_no_run(alloc, protocol, out, case, explained.is_reached, tries)
+    match &explained.harmless {
+        Some(Harmless::NeverHeld) => {
+            write_body(alloc, protocol, out, &explained.cause, first)?;
+            write_never_held(alloc, protocol, out, cases)
+        }
+        Some(Harmless::NeverLetIn(held)) => {
+            write_body(alloc, protocol, out, &explained.cause, held)?;
+            write_never_let_in(alloc, protocol, out, cases, held)
+        }
+        None => {
+            write_body(alloc, protocol, out, &explained.cause, first)?;
+            let tries = tries_of(explained);
+            write_no_run(alloc, protocol, out, first, explained.is_reached, tries)
+        }
+    }
 }

@@ -1,5 +1,5 @@
 //! The run that is told of a cause.
-ghost use Rattle.std.specs.Prelude.{◌≤◌, IfOk, IfSome, length};
+ghost use Rattle.std.specs.Prelude.{◌≡◌, ◌≤◌, None, IfOk, IfSome, length};
 ghost use Rattle.kr_counterexample.specs.GoesWrong.{GoesWrong};
 ghost use Rattle.kr_explanation.specs.Explained.{GoesWrongWith};
 
@@ -20,6 +20,24 @@ pub struct ToldRun {
     pub runs: usize,
     /// How many of the cases were tried, from the first on.
     pub tried: usize,
+    /// Where no run is known, whether one transaction comes to the modes of a case that was tried.
+    pub is_reached: bool,
+}
+
+impl ToldRun {
+    /// None is told, and none was sought.
+    pub fn none() -> ToldRun
+        ensures run { result.run ≡ None }
+        ensures runs { result.runs ≡ 0 }
+        ensures tried { result.tried ≡ 0 }
+    {
+        ToldRun {
+            run: None,
+            runs: 0,
+            tried: 0,
+            is_reached: false,
+        }
+    }
 }
 
 /// The shortest of the first runs of the cases, those through the preferred place before others. The cases are tried in
@@ -36,13 +54,27 @@ pub fn told_run<P: Protocol>(
     ensures tried { IfOk result (λ told. told.tried ≤ length cases.now) }
     ensures runs { IfOk result (λ told. told.runs ≤ told.tried) }
 {
+    let mut told = tried(alloc, protocol, closure, cases, prefer, effort)?;
+    told.is_reached = told.run.is_none() && is_reached(protocol, closure, cases, told.tried);
+    Ok(told)
+}
+
+/// The same, without whether a transaction comes to a case.
+fn tried<P: Protocol>(
+    alloc: Global,
+    protocol: &P,
+    closure: &Closure,
+    cases: &[FailedCase],
+    prefer: Option<(Row, Side)>,
+    effort: Effort,
+) -> Result<ToldRun, Memory>
+    ensures wrong { IfOk result (λ told. IfSome told.run (GoesWrongWith (P.table protocol.now))) }
+    ensures tried { IfOk result (λ told. told.tried ≤ length cases.now) }
+    ensures runs { IfOk result (λ told. told.runs ≤ told.tried) }
+{
     let states = closure.states();
     let mut effort = effort;
-    let mut told = ToldRun {
-        run: None,
-        runs: 0,
-        tried: 0,
-    };
+    let mut told = ToldRun::none();
     for case in cases {
         let Some(most_runs) = effort.for_case(states) else {
             return Ok(told);
@@ -60,6 +92,19 @@ pub fn told_run<P: Protocol>(
         }
     }
     Ok(told)
+}
+
+/// Whether some state of the closure has a step that one of the first cases is about, of which so many were tried.
+fn is_reached<P: Protocol>(
+    protocol: &P,
+    closure: &Closure,
+    cases: &[FailedCase],
+    tried: usize,
+) -> bool {
+    cases
+        .iter()
+        .take(tried)
+        .any(|case| closure.is_reached(protocol, case))
 }
 
 /// Whether a script is told rather than the run so far.

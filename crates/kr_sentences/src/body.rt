@@ -102,7 +102,7 @@ fn pair_sentence<P: Protocol>(
 }
 
 /// What the covers of the cases protect, in the order of the covers.
-fn protected(alloc: Global, cases: &[FailedCase], last: &str) -> Result<String, Memory> {
+pub fn protected(alloc: Global, cases: &[FailedCase], last: &str) -> Result<String, Memory> {
     let mut words = Vec::new(alloc);
     for cover in &COVERS {
         if cases.iter().any(|case| case.cover == *cover) {

@@ -4,6 +4,7 @@
 
 mod answers;
 mod body;
+mod harmless;
 mod json;
 mod lists;
 mod mending;
@@ -19,6 +20,7 @@ mod words;
 mod wrap;
 
 pub use body::write_body;
+pub use harmless::{write_never_held, write_never_let_in};
 pub use json::json_line;
 pub use kr_cases::Memory;
 pub use mending::write_mend;

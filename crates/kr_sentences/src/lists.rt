@@ -37,6 +37,23 @@ pub fn modes_listed<P: Protocol>(
     listed(alloc, &names, "or")
 }
 
+/// The names of modes that are held, as a choice, or that no lock is.
+pub fn held_listed<P: Protocol>(
+    alloc: Global,
+    protocol: &P,
+    modes: &[Mode],
+) -> Result<String, Memory> {
+    let mut names = Vec::new(alloc);
+    for mode in modes {
+        names.push(if *mode == 0 {
+            "no lock"
+        } else {
+            name_of(protocol, *mode)
+        })?;
+    }
+    listed(alloc, &names, "or")
+}
+
 /// Puts a word behind the others, unless it is there.
 pub fn put_once<'a>(words: &mut Vec<&'a str>, word: &'a str) -> Result<(), Memory> {
     for other in words.iter() {

@@ -10,24 +10,55 @@ use kr_model::{Mode, Row, Side, Span};
 use kr_protocol::Protocol;
 use std::alloc::Global;
 
-/// Writes the changes that mend a cause; or that none was tried, where they are tried for so many causes at most. The only
-/// fault is that a growth was refused.
+/// Writes the changes that mend a cause of a table, which is safe or isn't; or that none was tried, where they are tried for
+/// so many causes at most. The only fault is that a growth was refused.
 pub fn write_mend<P: Protocol>(
     alloc: Global,
     protocol: &P,
     out: &mut String,
     mend: &Option<Mend>,
     most: usize,
+    is_safe: bool,
 ) -> Result<(), Memory> {
-    match mend {
-        None => write_untried(alloc, out, most),
-        Some(mend) if mend.changes.is_empty() => Ok(()),
-        Some(mend) => {
-            write_line(out, "\n   To mend it (each change tried by itself):")?;
-            let item = mend_item(alloc, protocol, mend)?;
-            write_paragraph(out, item.as_str(), INDENT + 2, 2)
-        }
+    let Some(mend) = mend else {
+        return write_untried(alloc, out, most);
+    };
+    if mend.accepted.is_empty() && mend.safe.is_empty() && mend.mended.is_empty() {
+        return Ok(());
     }
+    write_line(out, "")?;
+    let aim = if is_safe {
+        "To have it accepted"
+    } else {
+        "To mend it"
+    };
+    let head = format!(in alloc; "{aim} (each change tried by itself):")?;
+    write_paragraph(out, head.as_str(), INDENT, 0)?;
+    write_item(
+        alloc,
+        protocol,
+        out,
+        &mend.accepted,
+        "the table is then accepted",
+    )?;
+    write_item(alloc, protocol, out, &mend.safe, "the table is then safe")?;
+    write_item(alloc, protocol, out, &mend.mended, "these cases then hold")
+}
+
+/// Writes changes of the same use as an item of a list, if there are any.
+fn write_item<P: Protocol>(
+    alloc: Global,
+    protocol: &P,
+    out: &mut String,
+    changes: &[Change],
+    then: &str,
+) -> Result<(), Memory> {
+    let Some(change) = changes.first() else {
+        return Ok(());
+    };
+    let what = changes_words(alloc, protocol, change, changes)?;
+    let item = format!(in alloc; "- {what}: {then}")?;
+    write_paragraph(out, item.as_str(), INDENT + 2, 2)
 }
 
 /// Writes that no change was tried, since they are tried for so many causes at most.
@@ -39,27 +70,16 @@ fn write_untried(alloc: Global, out: &mut String, most: usize) -> Result<(), Mem
     write_paragraph(out, text.as_str(), INDENT, 0)
 }
 
-/// The changes that mend a cause, as an item of a list.
-fn mend_item<P: Protocol>(alloc: Global, protocol: &P, mend: &Mend) -> Result<String, Memory> {
-    let sentence = mend_sentence(alloc, protocol, mend)?;
-    format!(in alloc; "- {sentence}")
-}
-
-/// The changes, by what they have in common, and the modes in which they differ.
-fn mend_sentence<P: Protocol>(alloc: Global, protocol: &P, mend: &Mend) -> Result<String, Memory> {
-    let changes = mend.changes.as_slice();
-    let Some(change) = changes.first() else {
-        return Ok(String::new(alloc));
-    };
+/// The changes, by what they have in common, of which this is the first, and the modes in which they differ.
+fn changes_words<P: Protocol>(
+    alloc: Global,
+    protocol: &P,
+    first: &Change,
+    changes: &[Change],
+) -> Result<String, Memory> {
     let modes = modes_of(alloc, changes)?;
     let modes = modes_listed(alloc, protocol, &modes)?;
-    let what = change_words(alloc, protocol, change, modes.as_str())?;
-    let tail = if mend.is_accepted {
-        "the table is then accepted"
-    } else {
-        "these cases then hold"
-    };
-    format!(in alloc; "{what}: {tail}")
+    change_words(alloc, protocol, first, modes.as_str())
 }
 
 /// A change, and all that differ from it in the mode alone.

@@ -18,7 +18,7 @@ use std::alloc::Global;
 pub struct Tries {
     /// How many cases the cause has.
     pub cases: usize,
-    /// How many of them were tried, from the first on.
+    /// How many of them were tried.
     pub tried: usize,
     /// How many of those gave a run.
     pub runs: usize,
@@ -87,7 +87,7 @@ fn share_sentence(alloc: Global, tries: Tries) -> Result<Option<String>, Memory>
     if tried < cases {
         let rest = cases - tried;
         let text = format!(in alloc;
-            "{runs} of the first {tried} cases {have} such a run; not tried: {rest}."
+            "{runs} of the {tried} cases that were tried {have} such a run; not tried: {rest}."
         )?;
         Ok(Some(text))
     } else if runs < cases {
@@ -137,7 +137,7 @@ fn no_run_text<P: Protocol>(
 fn left_out_text(alloc: Global, tries: Tries) -> Result<String, Memory> {
     let Tries { cases, tried, .. } = tries;
     if tried < cases {
-        format!(in alloc; " Tried: the first {tried} of its {cases} cases.")
+        format!(in alloc; " Tried: {tried} of its {cases} cases.")
     } else {
         Ok(String::new(alloc))
     }

@@ -3,12 +3,12 @@
 use kr_cases::Memory;
 use std::alloc::Global;
 
-/// How many causes there are, in a line of its own.
+/// How many causes there are.
 pub fn causes_words(alloc: Global, count: usize) -> Result<String, Memory> {
     if count == 1 {
-        String::from_str(alloc, "one cause\n")
+        String::from_str(alloc, "one cause")
     } else {
-        format!(in alloc; "{count} causes\n")
+        format!(in alloc; "{count} causes")
     }
 }
 

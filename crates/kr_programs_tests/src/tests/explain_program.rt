@@ -24,8 +24,8 @@ insert = { current = [{ mode = "X", span = "commit" }], next = [{ mode = "X", sp
 delete = { current = [{ mode = "X", span = "instant" }], next = [{ mode = "X", span = "commit" }] }
 "#;
 
-/// `@kvl`, where SIX held and IX asked make IS: it is rejected, and no run of its cause is known.
-const NO_RUN: &str = r#"format = 1
+/// `@kvl`, where SIX held and IX asked make IS: cases of it fail, and it is safe.
+const SAFE: &str = r#"format = 1
 modes = ["IS", "IX", "S", "SIX", "X"]
 compatible = { IS = ["IS", "IX", "S", "SIX"], IX = ["IS", "IX"], S = ["IS", "S"], SIX = ["IS"], X = [] }
 

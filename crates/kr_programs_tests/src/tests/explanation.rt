@@ -3,5 +3,6 @@
 mod accepted;
 mod bounds;
 mod one_cause;
+mod outcomes;
 mod several;
 mod tables;

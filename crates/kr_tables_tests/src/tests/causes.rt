@@ -59,11 +59,11 @@ fn each_is_told<P: Protocol>(
         let cause = &causes[0];
         same!(rt; cause.blame, told.blame, name);
         same!(rt; cause.cases.as_slice(), failed.as_slice(), name);
-        let mend = mends(alloc, &table, &failed, cause)?;
-        holds!(rt; mend.is_accepted, name);
-        same!(rt; mend.changes.len(), told.changes, name);
+        let mend = mends(alloc, &table, &failed, cause, false)?;
+        holds!(rt; !mend.accepted.is_empty() && mend.mended.is_empty(), name);
+        same!(rt; mend.accepted.len(), told.changes, name);
         let mut modes = [0; 2];
-        for (place, change) in modes.iter_mut().zip(&mend.changes) {
+        for (place, change) in modes.iter_mut().zip(&mend.accepted) {
             *place = change.mode().unwrap_or(0);
         }
         same!(rt; modes, told.modes, name);
@@ -152,8 +152,8 @@ fn asks_nothing(rt: HostRuntime) -> Result<(), Fail> {
     for (cause, (row, side, cases)) in causes.iter().zip(told) {
         same!(rt; cause.blame, Blame::Place { row, side });
         same!(rt; cause.cases.len(), cases);
-        let mend = mends(alloc, &table, &failed, cause)?;
-        assert!(rt; mend.changes.is_empty() && !mend.is_accepted);
+        let mend = mends(alloc, &table, &failed, cause, false)?;
+        assert!(rt; mend.accepted.is_empty() && mend.safe.is_empty() && mend.mended.is_empty());
     }
     Ok(())
 }

@@ -1,5 +1,5 @@
 //! Faults, and the lines that tell them.
-use super::{NO_RUN, SHORT_SCAN, leaves};
+use super::{SAFE, SHORT_SCAN, leaves};
 use kr_explain_program::execute;
 use kr_program_testing::{Full, Shelf, owned};
 use kr_script::Io;
@@ -54,7 +54,7 @@ const TABLES: &[(&str, &str)] = &[
     ("format = 1", "table: fault 4 Field at modes"),
     ("format = 3", "table: fault 3 Format"),
     ("[", "table: fault 2 NotToml"),
-    (NO_RUN, "table: no script 1"),
+    (SAFE, "table: no script 1"),
 ];
 
 /// Compares the line that the program tells at a fault, behind its name; nothing else is printed.

@@ -1,6 +1,6 @@
 //! Tables that are accepted.
 
-use kr_explanation::explain;
+use kr_explanation::{Explanation, explain};
 use kr_protocol::{Im, Kvl, KvlUpdate, Protocol, RangeKey};
 use std::alloc::Global;
 use std::process::Abort;
@@ -14,7 +14,8 @@ fn is_told<P: Protocol>(
     text: &str,
 ) -> Result<(), Fail> {
     let explanation = explain(alloc, protocol)?;
-    assert!(rt; explanation.is_accepted());
+    assert!(rt; matches!(explanation, Explanation::Accepted { .. }));
+    assert!(rt; explanation.is_safe());
     let told = explanation.text(alloc, protocol, "t")?;
     assert_eq!(rt; told.as_str(), text);
     assert!(rt; explanation.script(alloc, 1)?.is_none());
@@ -28,24 +29,24 @@ fn bundled_tables_are_accepted(rt: HostRuntime) -> Result<(), Fail> {
         &rt,
         alloc,
         &Im,
-        "accepted: all 61 cases hold. Every run under this table is serial in commit order.\n",
+        "accepted: all 61 cases hold. Every run under this table is serializable in commit order.\n",
     )?;
     is_told(
         &rt,
         alloc,
         &Kvl,
-        "accepted: all 244 cases hold. Every run under this table is serial in commit order.\n",
+        "accepted: all 244 cases hold. Every run under this table is serializable in commit order.\n",
     )?;
     is_told(
         &rt,
         alloc,
         &KvlUpdate,
-        "accepted: all 275 cases hold. Every run under this table is serial in commit order.\n",
+        "accepted: all 275 cases hold. Every run under this table is serializable in commit order.\n",
     )?;
     is_told(
         &rt,
         alloc,
         &RangeKey,
-        "accepted: all 988 cases hold. Every run under this table is serial in commit order.\n",
+        "accepted: all 988 cases hold. Every run under this table is serializable in commit order.\n",
     )
 }

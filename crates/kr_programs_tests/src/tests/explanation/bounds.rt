@@ -42,7 +42,7 @@ const NOTHING_PROTECTED: Table = Table {
     ],
 };
 
-/// One of four causes has 144 cases. The scripts that may be run for it, a quarter of those for the table, last for 102.
+/// One of four causes has 144 cases. The scripts that may be run for it, a quarter of those for the table, last for 101.
 #[test]
 fn the_effort_is_bounded(rt: HostRuntime) -> Result<(), Fail> {
     let alloc = rt.alloc();
@@ -50,8 +50,10 @@ fn the_effort_is_bounded(rt: HostRuntime) -> Result<(), Fail> {
     let explanation = explain(alloc, &table)?;
     let text = explanation.text(alloc, &table, "t")?;
     let text = text.as_str();
-    assert!(rt; text.starts_with("refused: 216 of 988 cases fail, by 4 causes\n"));
+    assert!(rt; text.starts_with("rejected: 216 of 988 cases fail, by 4 causes\n"));
     assert!(rt; text.contains("[G6: 144 cases]"));
-    assert!(rt; text.contains("28 of the first 102 cases have such a run; not tried: 42."));
+    assert!(rt;
+        text.contains("28 of the 101 cases that were tried have such a run; not tried: 43.")
+    );
     Ok(())
 }

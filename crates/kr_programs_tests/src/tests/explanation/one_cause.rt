@@ -16,7 +16,7 @@ const ROWS: &[Told] = &[
             )],
         },
         word: "delete-of-five-modes.toml",
-        text: r#"refused: 4 of 244 cases fail, by one cause
+        text: r#"rejected: 4 of 244 cases fail, by one cause
 
 1. `delete` does not keep its lock on the next name. [G8: 4 cases]
    This is so where the own mode on the next name is none, IS, IX or S.
@@ -56,7 +56,7 @@ The script of run N, for `kr run delete-of-five-modes.toml SCRIPT`: kr_explain d
             changes: &[("current = [{ mode = \"X\", span = \"commit\" }]", "")],
         },
         word: "no-insert.toml",
-        text: r#"refused: 10 of 61 cases fail, by one cause
+        text: r#"rejected: 10 of 61 cases fail, by one cause
 
 1. `insert` asks for no lock on its key. [G6: 6 cases, G7: 4 cases]
    And what it inserts is not protected.
@@ -92,7 +92,7 @@ The script of run N, for `kr run no-insert.toml SCRIPT`: kr_explain no-insert.to
             )],
         },
         word: "goes-on.toml",
-        text: r#"refused: 36 of 988 cases fail, by one cause
+        text: r#"rejected: 36 of 988 cases fail, by one cause
 
 1. I-X held and N-S asked make I-N, which protects less. [G6: 36 cases]
    Locks are tested and kept in the converted mode. This concerns an own inserted key, after `insert`.
@@ -131,7 +131,7 @@ The script of run N, for `kr run goes-on.toml SCRIPT`: kr_explain goes-on.toml -
             )],
         },
         word: "update-of-five-modes.toml",
-        text: r#"refused: 3 of 275 cases fail, by one cause
+        text: r#"rejected: 3 of 275 cases fail, by one cause
 
 1. `update` does not keep its lock on its key. [G9: 3 cases]
    Its lock there has to protect an own updated key.
@@ -169,7 +169,7 @@ The script of run N, for `kr run update-of-five-modes.toml SCRIPT`: kr_explain u
             )],
         },
         word: "no-lock-of-updates.toml",
-        text: r#"refused: 54 of 275 cases fail, by one cause
+        text: r#"rejected: 54 of 275 cases fail, by one cause
 
 1. `update` asks for no lock on its key. [G2: 6 cases, G4: 6 cases, G6: 36 cases, G9: 6 cases]
    So no lock at all keeps out an update of that key. Under none is a key that was read, an own inserted key or an own

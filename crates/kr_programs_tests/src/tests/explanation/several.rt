@@ -15,7 +15,7 @@ const SEVERAL: &[Told] = &[
             )],
         },
         word: "two-causes.toml",
-        text: r#"refused: 18 of 244 cases fail, by 2 causes
+        text: r#"rejected: 18 of 244 cases fail, by 2 causes
 
 1. `insert` takes too weak a lock on its key: IX. [G6: 15 cases]
    This is so where the own mode on the next name is none, IS or IX.
@@ -84,7 +84,7 @@ The script of run N, for `kr run two-causes.toml SCRIPT`: kr_explain two-causes.
             changes: &[],
         },
         word: "nothing.toml",
-        text: r#"refused: 16 of 28 cases fail, by 4 causes
+        text: r#"rejected: 16 of 28 cases fail, by 4 causes
 
 1. `delete` asks for no lock on its key. [G2: 2 cases, G4: 2 cases]
    So no lock at all keeps out a delete of that key. Under none is a key that was read safe.

@@ -46,7 +46,7 @@ pub fn each_is_told(rt: &impl Abort, alloc: Global, rows: &[Told]) -> Result<(),
         let name = row.name;
         let table = table_of(alloc, row.table)?;
         let explanation = explain(alloc, &table)?;
-        assert!(rt; !explanation.is_accepted(), "{name}");
+        assert!(rt; !explanation.is_safe(), "{name}");
         let text = explanation.text(alloc, &table, row.word)?;
         assert_eq!(rt; text.as_str(), row.text, "{name}");
         assert!(rt; explanation.script(alloc, 0)?.is_none(), "{name}");

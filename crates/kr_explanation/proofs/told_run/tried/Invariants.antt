@@ -1,7 +1,7 @@
 -- the cases so far were tried, and the run so far, if there is one, goes wrong
 use Rattle.std.specs.Prelude.{◌≡◌, ◌≤◌, IfSome}
 use Rattle.kr_explanation.specs.Explained.{GoesWrongWith}
-use Rattle.kr_explanation.proofs.told_run.told_run.Given as goal
+use Rattle.kr_explanation.proofs.told_run.tried.Given as goal
 
 abbrev pub invariant-loop-case : goal.invariant-loop-case
 invariant-loop-case g l = record {

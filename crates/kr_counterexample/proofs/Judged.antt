@@ -1,0 +1,20 @@
+-- What was run and judged goes wrong.
+use Rattle.std.specs.Prelude.{◌≡◌, List, IsTrue, All}
+use Rattle.std.proofs.Common.{sym, subst}
+use Rattle.kr_model.specs.declared.Event.{Event}
+use Rattle.kr_model.specs.declared.Reply.{Reply}
+use Rattle.kr_model.specs.Protocol.{Protocol}
+use Rattle.kr_model.specs.Map.{Map, IsMap}
+use Rattle.kr_model.specs.Run.{Program, is_granted}
+use Rattle.kr_model.specs.Serial.{AreSerial}
+use Rattle.kr_serial.specs.Ran.{IsRanUnder}
+use Rattle.kr_serial.specs.declared.ran.Ran.{Ran}
+use Rattle.kr_counterexample.specs.GoesWrong.{GoesWrong}
+
+-- the run is that of the script
+pub wrong_ran : (p : Protocol) (opening : Map) (events : List Event) (ran : Ran) → IsMap opening → IsRanUnder p opening events ran → All (λ r. IsTrue (is_granted r)) ran.replies → (AreSerial ran.opening ran.programs → ⊥) → GoesWrong p opening events
+wrong_ran p opening events ran is_map under granted not_serial = record {
+  is_map = is_map;
+  granted = subst (All (λ r. IsTrue (is_granted r))) under.replies granted;
+  not_serial = λ serial. not_serial (subst (λ m. AreSerial m ran.programs) (sym under.opening_is) (subst (AreSerial opening) (sym under.programs) serial));
+}

@@ -1,0 +1,43 @@
+-- The three outcomes.
+use Rattle.std.specs.Prelude.{◌≡◌, ◌<◌, ◌↔◌, ℕ, Bool, true, false, List, All, length, is_some, refl}
+use Rattle.kr_model.specs.declared.Cover.{Cover}
+use Rattle.kr_model.specs.declared.FailedCase.{FailedCase}
+use Rattle.kr_model.specs.Protocol.{Protocol, IsLawful}
+use Rattle.kr_model.specs.Covers.{IsCovered, failed_cases, cases}
+use Rattle.kr_model.specs.Safe.{IsSafe}
+use Rattle.kr_headline.proofs.safe.AllCases.{covered_is_safe}
+use Rattle.kr_decide.specs.Survey.{HasHole}
+use Rattle.kr_explanation.specs.declared.explanation.Explained.{Explained}
+use Rattle.kr_explanation.specs.declared.explanation.Failures.{Failures}
+use Rattle.kr_explanation.specs.declared.explanation.Explanation.TheVariants as told
+use Rattle.kr_explanation.specs.Harmless.{IsHarmless}
+use Rattle.kr_explanation.specs.Explained.{AreFailures, AreHarmless, IsExplained, IsTold}
+
+-- no hole is in a safe table
+no_hole : (p : Protocol) (c : Cover) (m : ℕ) → IsSafe p → HasHole p c m → ⊥
+no_hole p c m safe h =
+    let blocked = safe h.row h.side h.own h.other h.next h.reached.beside h.reached.alone h.reached.lets_in.asks h.reached.lets_in.kept_out in
+    let granted = h.reached.lets_in.granted in
+    absurd (cc)
+
+-- each cause of a safe table is harmless
+harmless_in : (p : Protocol) (failed cases : List FailedCase) → IsSafe p → IsHarmless p failed cases
+harmless_in p failed cases safe = λ c m low hole belongs. no_hole p c m safe hole
+
+pub all_harmless : (p : Protocol) (f : Failures) → IsSafe p → AreFailures p (failed_cases p) f → AreHarmless f
+all_harmless p f safe are = λ i e at. (are.told i e at).harmless.1 (harmless_in p (failed_cases p) e.cause.cases.items safe)
+
+-- a covered table is told to be accepted
+pub accepted_told : (p : Protocol) (n : ℕ) → IsLawful p → IsCovered p → n ≡ length (cases p) → IsExplained p (told.Accepted n)
+accepted_told p n laws covered is = record { accepted = (λ _. covered, λ _. refl); safe = (λ _. covered_is_safe p laws covered, λ _. refl); told = is }
+
+not_true : false ≡ true → ⊥
+not_true e = absurd (cc)
+
+-- one that isn't covered but safe
+pub safe_told : (p : Protocol) (f : Failures) → (IsCovered p → ⊥) → IsSafe p → AreFailures p (failed_cases p) f → IsExplained p (told.Safe f)
+safe_told p f uncovered safe are = record { accepted = (λ e. absurd (not_true e), λ covered. absurd (uncovered covered)); safe = (λ _. safe, λ _. refl); told = (are, all_harmless p f safe are) }
+
+-- and one that isn't safe
+pub rejected_told : (p : Protocol) (f : Failures) → (IsCovered p → ⊥) → (IsSafe p → ⊥) → AreFailures p (failed_cases p) f → IsExplained p (told.Rejected f)
+rejected_told p f uncovered unsafe are = record { accepted = (λ e. absurd (not_true e), λ covered. absurd (uncovered covered)); safe = (λ e. absurd (not_true e), λ safe. absurd (unsafe safe)); told = are }

@@ -1,0 +1,139 @@
+//! Why a cause is harmless.
+
+use crate::answers::name_of;
+use crate::body::protected;
+use crate::lists::{held_listed, listed};
+use crate::wrap::{INDENT, write_line, write_paragraph};
+use kr_cases::Memory;
+use kr_model::{FailedCase, Mode};
+use kr_protocol::Protocol;
+use std::alloc::Global;
+
+/// Modes that have the same to protect in some cases.
+#[derive(Drop)]
+struct Group {
+    /// What they have to protect.
+    covers: String,
+    modes: Vec<Mode>,
+}
+
+/// Writes that a cause of these cases is harmless, since no transaction can hold the mode of any of them where it has the
+/// case's cover to protect. The only fault is that a growth was refused.
+pub fn write_never_held<P: Protocol>(
+    alloc: Global,
+    protocol: &P,
+    out: &mut String,
+    cases: &[FailedCase],
+) -> Result<(), Memory> {
+    let why = never_held(alloc, protocol, cases)?;
+    write_harmless(alloc, out, why.as_str())
+}
+
+/// Writes that a cause of these cases is harmless, since no transaction can come to request what the mode of one of them,
+/// `held`, lets in. The only fault is that a growth was refused.
+pub fn write_never_let_in<P: Protocol>(
+    alloc: Global,
+    protocol: &P,
+    out: &mut String,
+    cases: &[FailedCase],
+    held: &FailedCase,
+) -> Result<(), Memory> {
+    let why = never_let_in(alloc, protocol, held)?;
+    let others = if cases.iter().all(|case| is_alike(case, held)) {
+        ""
+    } else {
+        " It is so with its other cases, or no transaction ever comes to their modes."
+    };
+    let text = format!(in alloc; "{why}{others}")?;
+    write_harmless(alloc, out, text.as_str())
+}
+
+/// Whether two cases are of the same mode and cover.
+fn is_alike(case: &FailedCase, other: &FailedCase) -> bool {
+    case.mode == other.mode && case.cover == other.cover
+}
+
+/// Writes why a cause is harmless.
+fn write_harmless(alloc: Global, out: &mut String, why: &str) -> Result<(), Memory> {
+    let text = format!(in alloc; "This cause is harmless: {why}")?;
+    write_line(out, "")?;
+    write_paragraph(out, text.as_str(), INDENT, 0)
+}
+
+/// That nobody comes to request what the mode of this case lets in.
+fn never_let_in<P: Protocol>(
+    alloc: Global,
+    protocol: &P,
+    case: &FailedCase,
+) -> Result<String, Memory> {
+    let covers = protected(alloc, &[*case], "or")?;
+    if case.mode == 0 {
+        return format!(in alloc;
+            "a transaction may have {covers} to protect and hold no lock there, but no other can then come to make a request there that has to be kept out."
+        );
+    }
+    let mode = name_of(protocol, case.mode);
+    format!(in alloc;
+        "a transaction may hold {mode} where it has {covers} to protect, but no other can then come to make a request there that {mode} lets in."
+    )
+}
+
+/// That nobody comes to hold the modes of these cases with what they have to protect.
+fn never_held<P: Protocol>(
+    alloc: Global,
+    protocol: &P,
+    cases: &[FailedCase],
+) -> Result<String, Memory> {
+    let mut phrases = Vec::new(alloc);
+    for group in groups(alloc, protocol, cases)?.iter() {
+        let modes = held_listed(alloc, protocol, &group.modes)?;
+        let covers = group.covers.as_str();
+        phrases.push(format!(in alloc; "{modes} where it has {covers} to protect")?)?;
+    }
+    let mut words = Vec::new(alloc);
+    for phrase in phrases.iter() {
+        words.push(phrase.as_str())?;
+    }
+    let held = listed(alloc, &words, "nor")?;
+    format!(in alloc; "no transaction ever holds {held}.")
+}
+
+/// The modes of the cases, put together by what they have to protect.
+fn groups<P: Protocol>(
+    alloc: Global,
+    protocol: &P,
+    cases: &[FailedCase],
+) -> Result<Vec<Group>, Memory> {
+    let mut groups = Vec::new(alloc);
+    for mode in 0..=protocol.count() {
+        let mut same = Vec::new(alloc);
+        for case in cases {
+            if case.mode == mode {
+                same.push(*case)?;
+            }
+        }
+        if !same.is_empty() {
+            put_mode(alloc, &mut groups, protected(alloc, &same, "or")?, mode)?;
+        }
+    }
+    Ok(groups)
+}
+
+/// Puts a mode into the group that has the same to protect, which is new where there is none.
+fn put_mode(
+    alloc: Global,
+    groups: &mut Vec<Group>,
+    covers: String,
+    mode: Mode,
+) -> Result<(), Memory> {
+    for group in groups.iter_mut() {
+        if group.covers.as_str() == covers.as_str() {
+            group.modes.push(mode)?;
+            return Ok(());
+        }
+    }
+    let mut modes = Vec::new(alloc);
+    modes.push(mode)?;
+    groups.push(Group { covers, modes })?;
+    Ok(())
+}
