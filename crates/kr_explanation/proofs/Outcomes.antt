@@ -1,5 +1,6 @@
 -- The three outcomes.
 use Rattle.std.specs.Prelude.{◌≡◌, ◌<◌, ◌↔◌, ℕ, Bool, true, false, List, All, length, is_some, refl}
+use Rattle.std.proofs.Common.{get_or}
 use Rattle.kr_model.specs.declared.Cover.{Cover}
 use Rattle.kr_model.specs.declared.FailedCase.{FailedCase}
 use Rattle.kr_model.specs.Protocol.{Protocol, IsLawful}
@@ -25,7 +26,7 @@ harmless_in : (p : Protocol) (failed cases : List FailedCase) → IsSafe p → I
 harmless_in p failed cases safe = λ c m low hole belongs. no_hole p c m safe hole
 
 pub all_harmless : (p : Protocol) (f : Failures) → IsSafe p → AreFailures p (failed_cases p) f → AreHarmless f
-all_harmless p f safe are = λ i e at. (are.told i e at).harmless.1 (harmless_in p (failed_cases p) e.cause.cases.items safe)
+all_harmless p f safe are = λ i e at. (are.told i e at).harmless.1 (harmless_in p (failed_cases p) (get_or f.causes.items i e).cause.cases.items safe)
 
 -- a covered table is told to be accepted
 pub accepted_told : (p : Protocol) (n : ℕ) → IsLawful p → IsCovered p → n ≡ length (cases p) → IsExplained p (told.Accepted n)

@@ -1,5 +1,5 @@
 -- Causes that no schedule goes wrong by.
-use Rattle.std.specs.Prelude.{◌≡◌, ◌<◌, ◌⊎◌, ℕ, true, false, List, All, Contains}
+use Rattle.std.specs.Prelude.{slice_index_or, ◌≡◌, ◌<◌, ◌⊎◌, ℕ, true, false, List, All, Contains}
 use Rattle.std.specs.List.{Any}
 use Rattle.kr_model.specs.declared.Cover.{Cover}
 use Rattle.kr_model.specs.declared.FailedCase.{FailedCase}
@@ -40,6 +40,10 @@ IsClearBelow s failed cases c n = (m : ℕ) → m < n → has_hole s c m ≡ tru
 
 abbrev pub IsClear : Survey → List FailedCase → List FailedCase → Type 0
 IsClear s failed cases = (c : Cover) → IsClearBelow s failed cases c 16
+
+-- None of the first n cases has a mode that can be held with its cover to protect.
+abbrev pub IsNeverHeldBelow : Survey → List FailedCase → ℕ → Type 0
+IsNeverHeldBelow s cases n = (k : ℕ) (d : FailedCase) → k < n → is_held s (slice_index_or cases k d).cover (slice_index_or cases k d).mode ≡ false
 
 abbrev pub IsReasonBy : Survey → List FailedCase → Harmless → Type 0
 IsReasonBy s cases NeverHeld = All (λ f. is_held s f.cover f.mode ≡ false) cases

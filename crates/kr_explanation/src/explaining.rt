@@ -1,5 +1,6 @@
 //! Explaining a table.
 ghost use Rattle.std.specs.Prelude.{IfOk, IfSome, ◌≡◌, ◌≤◌, All, length};
+ghost use Rattle.kr_causes.specs.Mends.{AreMends};
 ghost use Rattle.kr_decide.specs.Survey.{IsSurvey};
 ghost use Rattle.kr_explanation.specs.Explained.{AreFailures, GoesWrongWith, IsExplained, IsTold, causes_of};
 
@@ -8,7 +9,7 @@ use crate::explanation::{Explained, Explanation, Failures};
 use crate::harmless::{is_harmless, why_harmless};
 use crate::told_run::{ToldRun, told_run};
 use kr_cases::{Cause as Rejection, Memory, cases, check};
-use kr_causes::{Blame, Cause, causes, mends};
+use kr_causes::{Blame, Cause, Mend, causes, mends};
 use kr_counterexample::Closure;
 use kr_decide::Survey;
 use kr_model::FailedCase;
@@ -30,7 +31,7 @@ struct Known<'a> {
 /// together by what is to blame; for each cause why it is harmless, or else a run that goes wrong where one is known; and the
 /// changes that mend it of those that are tried. How much is tried is bounded, and the explanation says what was left out.
 /// The only fault is that a growth was refused.
-#[tactic(auto, using(crate::proofs::Outcomes::accepted_told, crate::proofs::Outcomes::safe_told, crate::proofs::Outcomes::rejected_told))]
+#[tactic(auto, using(crate::proofs::Outcomes::safe_told, crate::proofs::Outcomes::rejected_told))]
 pub fn explain<P: Protocol>(alloc: Global, protocol: &P) -> Result<Explanation, Memory>
     ensures { IfOk result (IsExplained (P.table protocol.now)) }
 {
@@ -120,21 +121,12 @@ fn told<P: Protocol>(
     is_mended: bool,
 ) -> Result<Explained, Memory>
     requires { IsSurvey (P.table protocol.now) known.survey.now }
-    ensures told { IfOk result (IsTold (P.table protocol.now) known.failed.now) }
+    ensures told { IfOk result (IsTold (P.table protocol.now) known.entry.failed.now) }
     ensures cause { IfOk result (λ e. e.cause ≡ cause) }
 {
     let harmless = why_harmless(protocol, known.survey, known.failed, &cause.cases);
-    let told = if harmless.is_some() {
-        ToldRun::none()
-    } else {
-        sought(alloc, protocol, known, &cause)?
-    };
-    let mend = if is_mended {
-        let is_safe = known.survey.is_safe();
-        Some(mends(alloc, protocol, known.failed, &cause, is_safe)?)
-    } else {
-        None
-    };
+    let told = sought(alloc, protocol, known, &cause, harmless.is_some())?;
+    let mend = mend_of(alloc, protocol, known, &cause, is_mended)?;
     Ok(Explained {
         cause,
         harmless,
@@ -146,17 +138,40 @@ fn told<P: Protocol>(
     })
 }
 
-/// The run that is told of a cause which isn't harmless. The cases are tried first that give the best hope.
+/// The changes that mend a cause, where they are asked for.
+fn mend_of<P: Protocol>(
+    alloc: Global,
+    protocol: &P,
+    known: Known<'_>,
+    cause: &Cause,
+    is_asked: bool,
+) -> Result<Option<Mend>, Memory>
+    ensures { IfOk result (λ mend. IfSome mend (AreMends (P.table protocol.now) cause.now.cases.items known.entry.failed.now)) }
+{
+    if is_asked {
+        let is_safe = known.survey.is_safe();
+        let mend = mends(alloc, protocol, known.failed, cause, is_safe)?;
+        Ok(Some(mend))
+    } else {
+        Ok(None)
+    }
+}
+
+/// The run that is told of a cause: none where it is harmless. Else the cases are tried first that give the best hope.
 fn sought<P: Protocol>(
     alloc: Global,
     protocol: &P,
     known: Known<'_>,
     cause: &Cause,
+    is_harmless: bool,
 ) -> Result<ToldRun, Memory>
     ensures wrong { IfOk result (λ told. IfSome told.run (GoesWrongWith (P.table protocol.now))) }
     ensures tried { IfOk result (λ told. told.tried ≤ length cause.now.cases.items) }
     ensures runs { IfOk result (λ told. told.runs ≤ told.tried) }
 {
+    if is_harmless {
+        return Ok(ToldRun::none());
+    }
     let prefer = match cause.blame {
         Blame::Place { row, side } => Some((row, side)),
         _ => None,

@@ -19,7 +19,7 @@ pub enum Harmless {
 
 /// Why a cause of these cases is harmless, where these are all failed cases of a protocol with this survey; or `None` where
 /// it isn't.
-#[tactic(auto, using(crate::proofs::Clear::harmless_by, crate::proofs::Clear::reason_by))]
+#[tactic(auto, using(crate::proofs::Clear::reason_by))]
 pub fn why_harmless<P: Protocol>(
     protocol: &P,
     survey: &Survey,
@@ -39,15 +39,22 @@ pub fn why_harmless<P: Protocol>(
 }
 
 /// Whether no hole of the survey belongs to a cause of these cases, where these are all failed cases.
-#[tactic(auto, using(crate::proofs::Clear::for_each_cover))]
 pub fn is_harmless(survey: &Survey, failed: &[FailedCase], cases: &[FailedCase]) -> bool
     ensures { IsTrue result ↔ IsClear survey.now failed.now cases.now }
 {
-    has_none(survey, failed, cases, Cover::ReadKey)
-        && has_none(survey, failed, cases, Cover::ReadGap)
-        && has_none(survey, failed, cases, Cover::InsertedKey)
-        && has_none(survey, failed, cases, Cover::DeletedGap)
-        && has_none(survey, failed, cases, Cover::UpdatedKey)
+    if !has_none(survey, failed, cases, Cover::ReadKey) {
+        return false;
+    }
+    if !has_none(survey, failed, cases, Cover::ReadGap) {
+        return false;
+    }
+    if !has_none(survey, failed, cases, Cover::InsertedKey) {
+        return false;
+    }
+    if !has_none(survey, failed, cases, Cover::DeletedGap) {
+        return false;
+    }
+    has_none(survey, failed, cases, Cover::UpdatedKey)
 }
 
 /// Whether no hole of this cover belongs to the cause.
