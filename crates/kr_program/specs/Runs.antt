@@ -19,11 +19,15 @@ use Rattle.kr_program.specs.declared.faults.OverFault.TheVariants as fault
 abbrev pub run_of : Protocol → Script → Trace
 run_of p s = run p (start s.opening) s.steps
 
--- The report of a script's run under a protocol whose modes have these names, with that run's verdict and a line feed.
-abbrev pub report_line : Protocol → List (List ℕ) → Script → List ℕ
-report_line p names s =
+-- The report of a script's run under a protocol whose modes have these names, with that run's verdict.
+abbrev pub report_text : Protocol → List (List ℕ) → Script → List ℕ
+report_text p names s =
     let r = run_of p s in
-    run_text names r.state.map r.state.locks (replies_of r.history) (map (λ a. a.0) r.state.active) (verdict_of_run p s.opening s.steps) ++ 10 ∷ []
+    run_text names r.state.map r.state.locks (replies_of r.history) (map (λ a. a.0) r.state.active) (verdict_of_run p s.opening s.steps)
+
+-- The same with a line feed.
+abbrev pub report_line : Protocol → List (List ℕ) → Script → List ℕ
+report_line p names s = report_text p names s ++ 10 ∷ []
 
 -- The transactions that commit in a script's run under a protocol are serial.
 abbrev pub IsSerialScript : Protocol → Script → Type 0

@@ -2,7 +2,6 @@
 ghost use Rattle.std.specs.Prelude.{◌≡◌, ◌⊎◌, ◌↔◌, ◌≤◌, List, All, true, false, IfOk, IfErr, IsTrue, map};
 ghost use Rattle.std.specs.Io.KnownBytes.{Appends};
 ghost use Rattle.kr_model.specs.Covers.{IsCovered};
-ghost use Rattle.kr_model.specs.Safe.{IsSafe};
 ghost use Rattle.kr_script.specs.Puts.{AppendsFront, HasCause};
 ghost use Rattle.kr_script.specs.Script.{Script};
 ghost use Rattle.kr_shell.specs.Endings.{is_output, ending_line};
@@ -63,7 +62,6 @@ fn run_script<R: std::rt::Files + AllocGlobal, P: Protocol, F: Files, W: Sink>(
     ensures reports { IfOk result (λ serial. (s : Script) × (NamesScript (F.may_give files.now) script.now s
         × (Appends (W.taken out.old) (W.taken out.new) (report_line (P.table protocol.now) (P.names protocol.now) s)
         × (IsTrue serial ↔ IsSerialScript (P.table protocol.now) s)))) }
-    ensures safe { IsSafe (P.table protocol.now) → IfOk result (λ serial. IsTrue serial) }
     ensures covered { IsCovered (P.table protocol.now) → IfOk result (λ serial. IsTrue serial) }
     ensures err { IfErr result (Unreported (TellsNoScript (F.may_give files.now) script.now)) }
     ensures nothing { IfErr result (λ e. IsTrue (is_output e) ⊎ (out.new ≡ out.old)) }
@@ -127,7 +125,6 @@ where
     ensures reports { IfOk result (λ serial. (ss : List Script) × (AreNamed (MayBeHad (F.may_give files.now)) (map (λ w. w.now) words.now) ss
         × (Appends (W.taken out.old) (W.taken out.new) (judge_lines (P.table protocol.now) (map (λ w. w.now) words.now) ss)
         × (IsTrue serial ↔ All (IsSerialScript (P.table protocol.now)) ss)))) }
-    ensures safe { IsSafe (P.table protocol.now) → IfOk result (λ serial. IsTrue serial) }
     ensures covered { IsCovered (P.table protocol.now) → IfOk result (λ serial. IsTrue serial) }
     ensures err { IfErr result (Unreported (TellsFirst (F.may_give files.now) (map (λ w. w.now) words.now))) }
     ensures nothing { IfErr result (λ e. IsTrue (is_output e) ⊎ (out.new ≡ out.old)) }

@@ -9,7 +9,7 @@ ghost use Rattle.kr_serial.specs.Verdicts.{verdict_of};
 ghost use Rattle.kr_script.specs.Script.{Script};
 ghost use Rattle.kr_script.specs.Reading.{reading};
 ghost use Rattle.kr_script.specs.Report.{run_text};
-ghost use Rattle.kr_program.specs.Runs.{report_line, IsSerialScript, Explains};
+ghost use Rattle.kr_program.specs.Runs.{report_text, report_line, IsSerialScript, Explains};
 ghost use Rattle.kr_program.specs.declared.faults.OverFault.TheVariants as fault;
 
 use crate::faults::OverFault;
@@ -33,6 +33,22 @@ fn report_of<P: Protocol>(
     Ok((text, verdict.is_serial()))
 }
 
+/// Runs a script under a protocol, and gives the report of the run with its verdict, and whether the run is serializable in
+/// commit order.
+fn reported<P: Protocol>(
+    alloc: Global,
+    protocol: &P,
+    script: &kr_script::Script,
+) -> Result<(String, bool), AllocError>
+    ensures text { IfOk result (λ told. string_bytes told.0 ≡ report_text (P.table protocol.now) (P.names protocol.now) script.now) }
+    ensures serial { IfOk result (λ told. IsTrue told.1 ↔ IsSerialScript (P.table protocol.now) script.now) }
+    ensures safe { IsSafe (P.table protocol.now) → IfOk result (λ told. IsTrue told.1) }
+    ensures covered { IsCovered (P.table protocol.now) → IfOk result (λ told. IsTrue told.1) }
+{
+    let ran = run_any(alloc, protocol, script.opening(), script.steps())?;
+    report_of(alloc, protocol, &ran)
+}
+
 /// Runs the script that the bytes are under a protocol, writes the report of the run with its verdict and a line feed, and
 /// answers whether the run is serializable in commit order; under a safe protocol it is, and so under a covered one. Where
 /// the bytes are no script, or a growth was refused, nothing is written; where printing fails, a beginning of the report
@@ -54,8 +70,7 @@ pub fn run_over<P: Protocol, W: Sink>(
     ensures nothing { IfErr result (λ e. (e ≡ fault.Print) ⊎ (out.new ≡ out.old)) }
 {
     let script = read_script(alloc, script)?;
-    let ran = run_any(alloc, protocol, script.opening(), script.steps())?;
-    let (text, is_serial) = report_of(alloc, protocol, &ran)?;
+    let (text, is_serial) = reported(alloc, protocol, &script)?;
     print(out, text.as_str())?;
     Ok(is_serial)
 }
