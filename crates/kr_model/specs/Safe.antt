@@ -1,5 +1,5 @@
 -- When a protocol is safe: what a lock has to protect, which locks two transactions can have on one name at the same time, and that each of them blocks whom it must. It names no key, index or run.
-use Rattle.std.specs.Prelude.{◌≡◌, ℕ, Bool, true, false, ◌||◌, ◌⊎◌, Option}
+use Rattle.std.specs.Prelude.{◌≡◌, ℕ, ◌≤◌, ◌<◌, Bool, true, false, ◌||◌, ◌⊎◌, Option}
 use Rattle.kr_model.specs.declared.Row.{Row}
 use Rattle.kr_model.specs.declared.Row.TheVariants.{FetchHit, FetchMiss, ScanKey, ScanStop, Insert, Delete, Update}
 use Rattle.kr_model.specs.declared.Side.{Side}
@@ -26,7 +26,7 @@ pub record IsIdle (x : LockState) : Type 0 where
 
 -- What a lock state has to keep out --
 
--- Whether no other transaction may be granted a request at this row and side, for the sake of the key: a key that was read may not be deleted or updated, one that was updated may not be read either, and of one that was inserted no other may see whether it is there.
+-- Whether no other transaction may be granted a request at this row and side, for the sake of the key: a key that was read may not be deleted or updated, one that was updated may not be read either, and of one that was inserted no other may see whether it is there. Updates are listed for every protocol; where it offers none, nobody may request one.
 abbrev pub by_key : KeyUse → Row → Side → Bool
 by_key KeyRead Delete Current = true
 by_key KeyRead Update Current = true
@@ -61,7 +61,7 @@ keeps_out x r s = by_key x.key r s || by_gap x.gap r s
 
 -- Moves --
 
--- The own mode on the next name that a request goes by, where x is the lock state on the requested name and n that on the next name. At the side next the two names are one.
+-- The own mode on the next name that the request of an insert or delete goes by, where x is the lock state on the requested name and n that on the next name; any other request goes by none. At the side next the two names are one.
 abbrev pub given : Row → Side → LockState → LockState → ℕ
 given Insert Next x n = x.mode
 given Delete Next x n = x.mode
@@ -107,7 +107,7 @@ gap_after Insert Current g h = and_gap g h
 gap_after Delete Next g h = GapDeleted
 gap_after _ _ g h = g
 
--- Whether the transaction has deleted the key, after the request.
+-- Whether the transaction has deleted the key, after the request. Only an insert of it is requested on a key that the transaction has deleted, so no other request forgets a deletion.
 abbrev pub deleted_after : Row → Side → Bool
 deleted_after Delete Current = true
 deleted_after _ _ = false
@@ -121,9 +121,28 @@ after p r s x n = record {
   deleted = deleted_after r s;
 }
 
--- A transaction inserts only a key that is absent. So it protects nothing on it, unless it has deleted the key itself, and then it protects the gap as deleted.
-abbrev pub MayInsert : LockState → LockState → Type 0
-MayInsert x n = ((x.deleted ≡ false) × IsIdle x) ⊎ ((x.deleted ≡ true) × (n.gap ≡ GapDeleted))
+-- A lock of mode m lets in some delete of its key, by a transaction with some own modes on the key and on the next name.
+pub record LetsDelete (p : Protocol) (m : ℕ) : Type 0 where
+  pub own : ℕ
+  pub next : ℕ
+  pub own_within : own ≤ p.count
+  pub next_within : next ≤ p.count
+  pub granted : conflicts_with p m own (p.ask Delete Current next) ≡ false
+
+-- Mode m is compatible with some held mode.
+pub record IsCompatible (p : Protocol) (m : ℕ) : Type 0 where
+  pub held : ℕ
+  pub some : 0 < held
+  pub within : held ≤ p.count
+  pub granted : p.ok m held ≡ true
+
+-- Whether a lock of mode m that has nothing to protect may be on an absent key. Another transaction took the key away: it was granted a delete beside this lock; or it had inserted the key, this lock was granted beside its lock, and it rolled back.
+abbrev pub MayBeOnAbsent : Protocol → ℕ → Type 0
+MayBeOnAbsent p m = LetsDelete p m ⊎ IsCompatible p m
+
+-- A transaction inserts only a key that is absent. So it has nothing to protect there, unless it has deleted the key itself; then it protects the gap below the next name, in which the key was.
+abbrev pub MayInsert : Protocol → LockState → LockState → Type 0
+MayInsert p x n = ((x.deleted ≡ false) × IsIdle x × MayBeOnAbsent p x.mode) ⊎ ((x.deleted ≡ true) × (n.gap ≡ GapDeleted))
 
 -- A transaction with the lock state x on a name, and n on the next one, may come to request a lock there at this row and side. A key that it has deleted is no name: it can only insert it again.
 abbrev pub MayAsk : Protocol → Row → Side → LockState → LockState → Type 0
@@ -131,7 +150,7 @@ MayAsk p FetchHit Current x n = x.deleted ≡ false
 MayAsk p FetchMiss Next x n = x.deleted ≡ false
 MayAsk p ScanKey Current x n = x.deleted ≡ false
 MayAsk p ScanStop Next x n = x.deleted ≡ false
-MayAsk p Insert Current x n = (n.deleted ≡ false) × MayInsert x n
+MayAsk p Insert Current x n = (n.deleted ≡ false) × MayInsert p x n
 MayAsk p Insert Next x n = x.deleted ≡ false
 MayAsk p Delete Current x n = (x.deleted ≡ false) × (n.deleted ≡ false)
 MayAsk p Delete Next x n = x.deleted ≡ false
@@ -139,9 +158,9 @@ MayAsk p Update Current x n = (x.deleted ≡ false) × (p.updates ≡ true)
 MayAsk p _ _ x n = ⊥
 
 -- The same, beside another transaction's lock state y on the name: nobody inserts a key that another protects or has deleted.
-abbrev pub MayBeside : Row → Side → LockState → Type 0
-MayBeside Insert Current y = (y.deleted ≡ false) × IsIdle y
-MayBeside _ _ y = Unit {0}
+abbrev pub MayBeside : Protocol → Row → Side → LockState → Type 0
+MayBeside p Insert Current y = (y.deleted ≡ false) × IsIdle y × MayBeOnAbsent p y.mode
+MayBeside p _ _ y = Unit {0}
 
 -- Whether the lock of another transaction, with the lock state y, blocks the request: the converted mode conflicts with the mode held.
 abbrev pub is_blocked : Protocol → Row → Side → LockState → LockState → LockState → Bool
@@ -149,15 +168,15 @@ is_blocked p r s x n y = conflicts_with p y.mode x.mode (asked p r s x n)
 
 -- Which two can be on one name --
 
--- Two transactions can have the lock states x and y on one name. At first neither has anything there; it goes for either of the two; either may end; and either may be granted what it comes to request, unless the other's lock blocks it, with any lock state on the next name that it can have.
+-- Two transactions can have the lock states x and y on one name. At first neither has anything there; the two may be exchanged; either may end, and then has nothing there; and either may be granted what it comes to request, unless the other's lock blocks it, with any lock state on the next name that it can have.
 pub data Beside (p : Protocol) : LockState → LockState → Type 0 where
   start : Beside p free free
   turn : (x y : LockState) → Beside p x y → Beside p y x
   leave : (x y : LockState) → Beside p x y → Beside p free y
-  move : (r : Row) (s : Side) (x y n : LockState) → Beside p x y → Beside p n free → MayAsk p r s x n → MayBeside r s y → is_blocked p r s x n y ≡ false → Beside p (after p r s x n) y
+  move : (r : Row) (s : Side) (x y n : LockState) → Beside p x y → Beside p n free → MayAsk p r s x n → MayBeside p r s y → is_blocked p r s x n y ≡ false → Beside p (after p r s x n) y
 
 -- Safe --
 
--- A protocol is safe if, of two transactions on one name, each one's lock blocks every request of the other that it has to keep out.
+-- A protocol is safe if, of two transactions on one name, each one's lock blocks every request of the other that it has to keep out. It goes for all that the other may come to request, whether it may beside this lock or not: an insert has to be kept out on the next name alone.
 abbrev pub IsSafe : Protocol → Type 0
 IsSafe p = (r : Row) (s : Side) (x y n : LockState) → Beside p x y → Beside p n free → MayAsk p r s x n → keeps_out y r s ≡ true → is_blocked p r s x n y ≡ true
