@@ -5,7 +5,7 @@ use Rattle.kr_model.specs.Covers.{failed_cases}
 use Rattle.kr_cases.specs.declared.checker.Cause.{Cause}
 use Rattle.kr_cases.specs.declared.checker.Cause.TheVariants.{Failed, Memory}
 
--- All failed cases of the protocol, in order; or want of memory.
+-- All failed cases of the protocol, in order; or memory ran out.
 abbrev pub Tells : Protocol → Cause → Type 0
 Tells p (Failed list) = list.items ≡ failed_cases p
 Tells p Memory = Unit {0}

@@ -9,7 +9,7 @@ use kr_model::{Cover, FailedCase, Mode, Origin, Place, Row, Rule, Side, Span};
 use kr_protocol::Protocol;
 use std::alloc::{AllocError, Global};
 
-/// The rules that a protocol is asked for, in order.
+/// The rules that a protocol has to keep, in order.
 fn all_rules<P: Protocol>(protocol: &P) -> &'static [Rule]
     ensures { result.now ≡ all_rules (P.table protocol.now) }
 {
@@ -62,7 +62,7 @@ impl<P: Protocol> Finder<'_, P> {
         }
     }
 
-    /// The mode of one who held `own` on a name, after what a row asks for there was granted.
+    /// The mode of one who held `own` on a name, after what a row requests there was granted.
     pub(crate) fn mode_after(&self, own: Mode, row: Row, side: Side, own_next: Mode) -> Mode
         requires own { own ≤ (P.table self.now.protocol.now).count }
         requires own_next { own_next ≤ (P.table self.now.protocol.now).count }

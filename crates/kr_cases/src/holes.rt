@@ -53,7 +53,7 @@ pub fn must_conflict<P: Protocol>(protocol: &P, cover: Cover) -> &'static [(Row,
     }
 }
 
-/// Whether a lock in mode `held` lets the place through: nothing is asked there, or what is asked may stand beside it.
+/// Whether a lock in mode `held` lets the place through: nothing is asked there, or what is asked is compatible with it.
 fn is_open<P: Protocol>(protocol: &P, held: Mode, place: Place) -> bool
     requires held { held ≤ (P.table protocol.now).count }
     requires own { place.own ≤ (P.table protocol.now).count }
@@ -66,7 +66,7 @@ fn is_open<P: Protocol>(protocol: &P, held: Mode, place: Place) -> bool
     }
 }
 
-/// The first open place of an asker on the next name, by its own mode there.
+/// The first open place of a requester on the next name, by its own mode there.
 fn first_next<P: Protocol>(protocol: &P, held: Mode, row: Row) -> Option<Place>
     requires { held ≤ (P.table protocol.now).count }
     ensures { result ≡ first (filter (is_open (P.table protocol.now) held) (places_of (P.table protocol.now) (row, side.Next))) }
@@ -85,7 +85,7 @@ fn first_next<P: Protocol>(protocol: &P, held: Mode, row: Row) -> Option<Place>
     None
 }
 
-/// The first open place of an asker on the current name who holds `own` there, by its own mode on the next name.
+/// The first open place of a requester on the current name who holds `own` there, by its own mode on the next name.
 fn first_holding<P: Protocol>(protocol: &P, held: Mode, row: Row, own: Mode) -> Option<Place>
     requires held { held ≤ (P.table protocol.now).count }
     requires own { own ≤ (P.table protocol.now).count }
@@ -106,7 +106,7 @@ fn first_holding<P: Protocol>(protocol: &P, held: Mode, row: Row, own: Mode) -> 
     None
 }
 
-/// The first open place of an asker on the current name, by its own modes there and on the next name.
+/// The first open place of a requester on the current name, by its own modes there and on the next name.
 fn first_current<P: Protocol>(protocol: &P, held: Mode, row: Row) -> Option<Place>
     requires { held ≤ (P.table protocol.now).count }
     ensures { result ≡ first (filter (is_open (P.table protocol.now) held) (places_of (P.table protocol.now) (row, side.Current))) }
@@ -119,7 +119,7 @@ fn first_current<P: Protocol>(protocol: &P, held: Mode, row: Row) -> Option<Plac
     None
 }
 
-/// The first open place of an asker at a row and side, by its own modes.
+/// The first open place of a requester at a row and side, by its own modes.
 fn first_at<P: Protocol>(protocol: &P, held: Mode, ask: (Row, Side)) -> Option<Place>
     requires { held ≤ (P.table protocol.now).count }
     ensures { result ≡ first (filter (is_open (P.table protocol.now) held) (places_of (P.table protocol.now) ask)) }

@@ -1,4 +1,4 @@
-//! The case checker: accepts a lock protocol of which every case holds, and lists all cases that fail of any other.
+//! The case checker: accepts a locking protocol of which every case holds, and lists all cases that fail of any other.
 #![tactic(auto)]
 
 mod checker;

@@ -13,7 +13,7 @@ use kr_model::{Cover, FailedCase, Mode, Origin, Row, Rule, Side};
 use kr_protocol::Protocol;
 use std::alloc::AllocError;
 
-/// The covers that a protocol is asked for, in order.
+/// The covers that a protocol has to serve, in order.
 fn all_covers<P: Protocol>(protocol: &P) -> &'static [Cover]
     ensures { result.now ≡ all_covers (P.table protocol.now) }
 {
@@ -36,7 +36,7 @@ fn all_covers<P: Protocol>(protocol: &P) -> &'static [Cover]
 }
 
 impl<P: Protocol> Finder<'_, P> {
-    /// The conversions from a held mode to each mode asked for.
+    /// The conversions from a held mode to each mode requested.
     fn conversions_from(
         &self,
         failed: &mut Vec<FailedCase>,

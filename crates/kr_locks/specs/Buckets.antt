@@ -36,7 +36,7 @@ without t hs = filter (λ h. not (eq_by_cmp nat_cmp t h.0)) hs
 abbrev pub HasModes : ℕ → Holders → Type 0
 HasModes mask hs = (i : ℕ) (d : ℕ × ℕ) → i < length hs → (slice_index_or hs i d).1 < 16 → bit_at mask (slice_index_or hs i d).1 ≡ 1
 
--- whether a holder is another than t, and mode m may not stand beside its mode
+-- whether a holder is another than t, and mode m conflicts with its mode
 abbrev pub holder_conflicts : Protocol → ℕ → ℕ → ℕ × ℕ → Bool
 holder_conflicts p t m h = not (h.0 == t) && not (p.ok m h.1)
 

@@ -20,6 +20,6 @@ IsGapFor h k i = (i ≤ length h) × IsPartitionPoint (λ l. holder_cmp l.0 k �
 abbrev pub locks_on : Locks → Name → Locks
 locks_on h n = filter (λ l. eq_by_cmp name_cmp (name_locked l) n) h
 
--- whether a lock is that of another than t, and mode m may not stand beside it
+-- whether a lock is that of another than t, and mode m conflicts with it
 abbrev pub lock_conflicts : Protocol → ℕ → ℕ → Lock → Bool
 lock_conflicts p t m l = not (holder_of l == t) && not (p.ok m (mode_held l))

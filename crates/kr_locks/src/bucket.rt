@@ -29,7 +29,7 @@ impl Model for Bucket {
     ghost invariant = { λ b. IsHolders b.holders.items × HasModes b.mask b.holders.items };
 }
 
-/// Whether a holder is another transaction, and a mode may not stand beside its mode.
+/// Whether a holder is another transaction, and a mode conflicts with its mode.
 fn conflicts<P: Protocol>(protocol: &P, txn: Txn, mode: Mode, holder: (Txn, Mode)) -> bool
     requires asked { mode ≤ (P.table protocol.now).count }
     requires held { holder.1 ≤ (P.table protocol.now).count }
@@ -92,7 +92,7 @@ impl Bucket {
     }
 
     /// Whether no other transaction holds a mode beside which this one may not stand. Where the mask shares no bit with
-    /// the modes that it may not stand beside, no holder is looked at.
+    /// the modes that it conflicts with, no holder is looked at.
     pub(crate) fn is_free<P: Protocol>(&self, protocol: &P, txn: Txn, mode: Mode) -> bool
         requires asked { mode ≤ (P.table protocol.now).count }
         requires held { (i : ℕ) (d : ℕ × ℕ) → i < length self.now → (slice_index_or self.now i d).1 ≤ (P.table protocol.now).count }

@@ -31,8 +31,8 @@ pub trait Holdings: Drop {
 
     /// Whether no other transaction's lock conflicts with a request for a mode on a name.
     ///
-    /// Another transaction's lock conflicts where the mode to which the requester's own would be converted may not
-    /// stand beside it. What the requester holds conflicts with nothing that it asks for. The mode asked for and all
+    /// Another transaction's lock conflicts where the mode to which the requester's own would be converted isn't
+    /// compatible with it. What the requester holds conflicts with nothing that it requests. The mode requested and all
     /// held modes are at most the protocol's count.
     fn test<P: Protocol>(&self, protocol: &P, txn: Txn, name: Name, mode: Mode) -> bool
         requires asked { mode ≤ (P.table protocol.now).count }

@@ -85,7 +85,7 @@ fn own_in(held: &[Lock], txn: Txn, name: Name) -> Mode
     }
 }
 
-/// Whether a lock is that of another transaction, and a mode may not stand beside it.
+/// Whether a lock is that of another transaction, and a mode conflicts with it.
 fn conflicts<P: Protocol>(protocol: &P, txn: Txn, mode: Mode, lock: Lock) -> bool
     requires asked { mode ≤ (P.table protocol.now).count }
     requires held { lock.1 ≤ (P.table protocol.now).count }

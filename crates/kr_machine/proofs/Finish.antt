@@ -100,7 +100,7 @@ going_machine p m n pins left real ended active more o d done is inv itself item
       reserved = tt;
     }
 
--- The end of a transaction and a change taken back keep no lock.
+-- The end of a transaction and a change undone keep no lock.
 pub keeps_no_lock : (real : Locks) (t : ℕ) (x : PendingPart) → ((y : Ending) × (x ≡ part.End y)) ⊎ (x ≡ part.Back) → real ≡ locks_before real t x
 keeps_no_lock real t x (inl (y, is)) = ap (locks_before real t) (sym is)
 keeps_no_lock real t x (inr is) = ap (locks_before real t) (sym is)

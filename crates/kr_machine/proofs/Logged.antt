@@ -42,7 +42,7 @@ due_is o d e is was = some (sym was ∙ is)
 pub abort_told : (p : Protocol) (s : State) (t : ℕ) (o : Op) (r : Reply) (new : State) → IsState p s → IsStep p s t o r new → o ≡ op.Abort → IsTrue (is_some (active_of s t)) → r ≡ reply.Aborted
 abort_told p s t o r new k is e active = abort_of_active p s t k active r new (subst (λ x. IsStep p s t x r new) e is)
 
--- The commit of one is answered Committed, or RollingBack once a change of it was taken back, or Busy in the midst of a scan.
+-- The commit of one is answered Committed, or RollingBack once a change of it was undone, or Busy in the midst of a scan.
 pub commit_told : (p : Protocol) (s : State) (t : ℕ) (o : Op) (r : Reply) (new : State) → IsState p s → IsStep p s t o r new → o ≡ op.Commit → IsTrue (is_some (active_of s t)) → r ≡ (if is_rolling s t then reply.Refused refusal.RollingBack else if is_scanning s t then reply.Refused refusal.Busy else reply.Committed)
 commit_told p s t o r new k is e active = commit_of_active p s t k active r new (subst (λ x. IsStep p s t x r new) e is)
 

@@ -216,9 +216,9 @@ pub nothing_open : {A B : Type 0} (f : A → B) (o : Option A) → option_map f 
 nothing_open f None h = refl
 nothing_open f (Some a) h = cc
 
--- A change taken back --
+-- A change undone --
 
--- A back that isn't refused has a change to take back.
+-- A back that isn't refused has a change to undo.
 back_needs_change : (v x y z w u : Bool) → cond x (Some Ended) (cond y (Some Full) (refusal_in v z w u op.Back)) ≡ None → u ≡ false
 back_needs_change v true y z w u h = absurd (cc)
 back_needs_change v false true z w u h = absurd (cc)

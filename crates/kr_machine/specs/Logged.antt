@@ -43,7 +43,7 @@ pub record IsLogged (p : Protocol) (s : State) (pending : Option Event) (l : Log
   -- where a step is ready, its reply is kept, and the log may note it
   pub noted : IfSome pending (IsDue p s l due)
 
--- This reply to an operation may be kept for the log: one that ends an active transaction needs no room, nor does a change taken back.
+-- This reply to an operation may be kept for the log: one that ends an active transaction needs no room, nor does a change undone.
 abbrev pub MayKeep : LogWithRoom → Op → Bool → ℕ → Reply → Type 0
 MayKeep l op.Commit is_active t a = (a ≡ reply.Committed) × (IsTrue is_active → IsNoted l t)
 MayKeep l op.Abort is_active t a = (a ≡ reply.Aborted) × (IsTrue is_active → IsNoted l t)

@@ -1,4 +1,4 @@
--- What an operation comes to for a machine: an end, a change taken back, or something that asks for locks.
+-- What an operation comes to for a machine: an end, a change undone, or something that requests locks.
 use Rattle.kr_model.specs.declared.Op.{Op}
 use Rattle.kr_model.specs.declared.Op.TheVariants as op
 use Rattle.kr_machine.specs.declared.parts.Ending.{Ending}
@@ -22,7 +22,7 @@ op_of_key (key.Insert k v) = op.Insert k v
 op_of_key (key.Delete k) = op.Delete k
 op_of_key (key.Update k v) = op.Update k v
 
--- The operation that asks for locks so.
+-- The operation that requests locks so.
 abbrev pub op_of_touch : Touch → Op
 op_of_touch (touch.Key x) = op_of_key x
 op_of_touch (touch.Scan lo hi) = op.Scan lo hi

@@ -117,7 +117,7 @@ abbrev pub map_at_end : Map → Changes → Ending → Map
 map_at_end m cs ending.Commit = m
 map_at_end m cs ending.Abort = restore_all m cs
 
--- The index with the newest of these changes taken back.
+-- The index with the newest of these changes undone.
 abbrev pub map_back : Map → Changes → Map
 map_back m [] = m
 map_back m (c ∷ cs) = restore m c.0 c.1
@@ -127,7 +127,7 @@ abbrev pub changes_back : Changes → Changes
 changes_back [] = []
 changes_back (c ∷ cs) = cs
 
--- A transaction after its newest change was taken back.
+-- A transaction after its newest change was undone.
 abbrev pub standing_back : Active → Active
 standing_back a = record { scan = None; changes = changes_back a.changes; rolling = true }
 
@@ -152,7 +152,7 @@ put_back real t (Some (n, q, s)) was = put_back_mode real t n was s
 abbrev pub put_back_both : Locks → ℕ → GrantedTouch → Locks
 put_back_both real t g = put_back (put_back real t g.plan.next g.next_was) t g.plan.current g.current_was
 
--- The locks before a pending step of t, by what it comes to: only one that asked for locks keeps some.
+-- The locks before a pending step of t, by what it comes to: only one that requested locks keeps some.
 abbrev pub locks_before : Locks → ℕ → PendingPart → Locks
 locks_before real t (part.End x) = real
 locks_before real t part.Back = real
@@ -193,7 +193,7 @@ abbrev pub HasFirstRoom : Vec (ℕ × ℕ) Global → Op → Type 0
 HasFirstRoom rows (op.Scan lo hi) = (rows.items ≡ []) × (vec_len rows < vec_capacity rows)
 HasFirstRoom rows o = Unit {0}
 
--- What t asked for, who stands as s says, is granted, and has its memory.
+-- What t requested, who stands as s says, is granted, and has its memory.
 pub record IsGranted (m : Map) (real : Locks) (t : ℕ) (s : Standing) (g : GrantedTouch) : Type 0 where
   -- the plan's row is that of the index
   pub row : IsRowOf m (active_of s).scan (op_of_touch g.touch) g.plan.row

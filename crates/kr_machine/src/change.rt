@@ -115,7 +115,7 @@ fn change<I: Ordered>(index: &mut I, standing: Standing, touch: KeyTouch, row: R
     standing
 }
 
-/// Lets the changes of a transaction stand or takes them back, as it ends, and gives up their pins.
+/// Lets the changes of a transaction stand or undoes them, as it ends, and gives up their pins.
 pub(crate) fn end<I: Ordered>(index: &mut I, standing: Standing, ending: Ending)
     requires { (q : ℕ) → changes_of (active_of standing).changes q ≤ I.pins index.old q }
     ensures map { I.map index.new ≡ map_at_end (I.map index.old) (active_of standing).changes ending }

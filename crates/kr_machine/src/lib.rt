@@ -1,4 +1,4 @@
-//! A machine: an ordered index on which transactions do steps under a lock protocol.
+//! A machine: an ordered index on which transactions do steps under a locking protocol.
 //!
 //! A step is done at once, or in two parts: `ready` takes all memory that it needs and tells its reply, and `finish`
 //! does it or `cancel` gives it up, neither of which can fail.

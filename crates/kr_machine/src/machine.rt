@@ -22,7 +22,7 @@ use kr_txn::Log;
 use std::alloc::Global;
 use std::marker::Model;
 
-/// An index under a lock protocol, with the locks of its transactions, how each stands, and what it has done.
+/// An index under a locking protocol, with the locks of its transactions, how each stands, and what it has done.
 ///
 /// Contracts see its protocol, its state between two steps, the log of the steps so far, and the event of a step that is
 /// ready and not yet done. While a step is ready the machine has taken what the step needs, and the state is seen as
@@ -157,24 +157,24 @@ impl<P: Protocol, I: Ordered, L: Holdings> Machine<P, I, L> {
     ///
     /// - `Refused(Ended)`: the transaction has committed or aborted.
     /// - `Refused(Full)`: 64 transactions are active, and this isn't one of them.
-    /// - `Refused(RollingBack)`: a change of the transaction was taken back, and the operation takes none back.
+    /// - `Refused(RollingBack)`: a change of the transaction was undone, and the operation takes none back.
     /// - `Refused(Busy)`: a scan of the transaction is in progress, and the operation neither goes on with it nor takes changes
     ///   back.
     /// - `Refused(NoScan)`: no scan is in progress to go on with.
     /// - `Refused(BadRange)`: the lower end of the range to scan is above the upper end.
     /// - `Refused(NoUpdate)`: the operation is an update, and the protocol offers none.
-    /// - `Refused(NothingLeft)`: the transaction has no change left to take back.
+    /// - `Refused(NothingLeft)`: the transaction has no change left to undo.
     /// - `Refused(Memory)`: a growth was refused, and no other refusal applies. So it is for an insert, a delete or an update
     ///   that would change a key which the active transactions have changed 4,294,967,295 times. The commit or abort of an
-    ///   active transaction takes no memory, nor does a change taken back.
-    /// - `Blocked`: these transactions hold locks that conflict with one that the step asks for. A transaction that wasn't
+    ///   active transaction takes no memory, nor does a change undone.
+    /// - `Blocked`: these transactions hold locks that conflict with one that the step requests. A transaction that wasn't
     ///   active isn't so after it.
     ///
-    /// `Undone` says that the newest change of the transaction was taken back, and how many are left. It then rolls back: it
+    /// `Undone` says that the newest change of the transaction was undone, and how many are left. It then rolls back: it
     /// keeps its locks, its scan in progress is dropped, and it takes no other step than these and an abort.
     ///
     /// Any other reply says that the step is done. The transaction is then active and holds the locks that the protocol
-    /// asks for; or, after a commit or an abort, it has ended and holds none. After an abort each key of a change that was
+    /// requests; or, after a commit or an abort, it has ended and holds none. After an abort each key of a change that was
     /// left is as before the first of the changes left of it, and any other key stays.
     ///
     /// A scan takes one name a step: `Going` says that it read this key and goes on, `Rows` that it ended, with all that it
@@ -223,7 +223,7 @@ impl<P: Protocol, I: Ordered, L: Holdings> Machine<P, I, L> {
     }
 }
 
-/// Copies of the reply to a change taken back. Takes no memory.
+/// Copies of the reply to a change undone. Takes no memory.
 fn undone(reply: &Reply) -> DueReply
     requires { (left : ℕ) × (reply.now ≡ reply_is.Undone left) }
     ensures { result ≡ twice reply.now }
@@ -238,7 +238,7 @@ fn undone(reply: &Reply) -> DueReply
 }
 
 /// Takes the memory of noting a step with this reply, and gives copies of the reply. The end of an active transaction
-/// takes none, nor does a change taken back; else the answer is `Memory` where a growth is refused. The log stays.
+/// takes none, nor does a change undone; else the answer is `Memory` where a growth is refused. The log stays.
 fn keep(
     alloc: Global,
     log: &mut Log,

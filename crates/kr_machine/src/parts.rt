@@ -1,4 +1,4 @@
-//! What an operation comes to for a machine: an end, a change taken back, or something that asks for locks.
+//! What an operation comes to for a machine: an end, a change undone, or something that requests locks.
 ghost use Rattle.std.specs.Prelude.{◌≡◌, true};
 ghost use Rattle.kr_model.specs.Run.{is_granted};
 ghost use Rattle.kr_machine.specs.Parts.{ended_by, op_of_key, op_of_touch, op_of};
@@ -11,7 +11,7 @@ use kr_model::{Op, Reply};
 pub(crate) enum Ending {
     /// Its changes stand.
     Commit,
-    /// Its changes are taken back.
+    /// Its changes are undone.
     Abort,
 }
 
@@ -61,7 +61,7 @@ impl KeyTouch {
     }
 }
 
-/// What asks for locks.
+/// What requests locks.
 #[derive(Clone, Copy)]
 pub(crate) enum Touch {
     /// One key is read or changed.
@@ -90,9 +90,9 @@ impl Touch {
 pub(crate) enum Part {
     /// Its transaction ends.
     End(Ending),
-    /// The newest change is taken back.
+    /// The newest change is undone.
     Back,
-    /// It asks for locks.
+    /// It requests locks.
     Touch(Touch),
 }
 

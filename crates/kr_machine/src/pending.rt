@@ -24,18 +24,18 @@ pub(crate) struct Pending {
 pub(crate) enum PendingPart {
     /// Its transaction ends.
     End(Ending),
-    /// The newest change is taken back.
+    /// The newest change is undone.
     Back,
-    /// It asked for locks, and was granted them.
+    /// It requested locks, and was granted them.
     Touch(GrantedTouch),
 }
 
-/// What asked for locks, and what it was granted.
+/// What requested locks, and what it was granted.
 #[derive(Drop)]
 pub(crate) struct GrantedTouch {
-    /// What asked for locks.
+    /// What requested locks.
     pub(crate) touch: Touch,
-    /// The locks that it asked for, of which those to commit are held by now.
+    /// The locks that it requested, of which those to commit are held by now.
     pub(crate) plan: Plan,
     /// The mode that the transaction had on the current name, where the step keeps a lock there.
     pub(crate) current_was: Mode,

@@ -1,4 +1,4 @@
-//! The refusals of a step, want of memory aside.
+//! The refusals of a step, `Memory` aside.
 ghost use Rattle.std.specs.Prelude.{◌≡◌, None, []};
 ghost use Rattle.kr_model.specs.Step.{refusal_of};
 ghost use Rattle.kr_txn.specs.Standings.{entries};
@@ -47,7 +47,7 @@ fn scan_refusal(updates: bool, is_scanning: bool, is_unchanged: bool, op: Op) ->
     }
 }
 
-/// The same, by whether the transaction rolls back too: then only its changes may be taken back.
+/// The same, by whether the transaction rolls back too: then only its changes may be undone.
 fn standing_refusal(
     updates: bool,
     is_rolling: bool,
@@ -72,7 +72,7 @@ fn standing_refusal(
     }
 }
 
-/// The first refusal that applies, want of memory aside.
+/// The first refusal that applies, `Memory` aside.
 pub(crate) fn refusal<P: Protocol>(
     protocol: &P,
     ended: &Ended,

@@ -150,7 +150,7 @@ pub(crate) fn reserve_end<P: Protocol, I: Ordered, L: Holdings>(
     }
 }
 
-/// Takes an active transaction out of the list of which a change is to be taken back; `None` where it isn't there. Takes no
+/// Takes an active transaction out of the list of which a change is to be undone; `None` where it isn't there. Takes no
 /// memory.
 pub(crate) fn reserve_back<P: Protocol, I: Ordered, L: Holdings>(
     protocol: &P,

@@ -17,13 +17,13 @@ use kr_txn::{Ended, Standing, put_in};
 use std::alloc::Global;
 use std::marker::Model;
 
-/// A machine without its log: an index under a lock protocol, with the locks of its transactions and how each stands.
+/// A machine without its log: an index under a locking protocol, with the locks of its transactions and how each stands.
 ///
 /// Contracts see its protocol, its state between two steps, and the event of a step that is ready and not yet done.
 /// While a step is ready it has taken what the step needs, and the state is seen as without it.
 #[derive(Drop)]
 pub(crate) struct Stepper<P: Protocol, I: Ordered, L: Holdings> {
-    /// The lock table.
+    /// The locking protocol.
     protocol: P,
     /// The index, with a pin for each change of an active transaction, and one for that of a pending step.
     index: I,
@@ -83,7 +83,7 @@ impl<P: Protocol, I: Ordered, L: Holdings> Stepper<P, I, L> {
         }
     }
 
-    /// Whether a step takes no memory: it is of an active transaction, and ends it or takes a change back.
+    /// Whether a step takes no memory: it is of an active transaction, and ends it or undoes a change.
     pub fn takes_no_memory(&self, txn: Txn, op: Op) -> bool
         requires { self.now.pending ≡ None }
         ensures { result ≡ (takes_no_memory op && is_some (active_of self.now.state txn)) }
@@ -175,7 +175,7 @@ impl<P: Protocol, I: Ordered, L: Holdings> Stepper<P, I, L> {
         }
     }
 
-    /// The same for a change taken back, where no refusal applies. Takes no memory.
+    /// The same for a change undone, where no refusal applies. Takes no memory.
     fn back(&mut self, txn: Txn) -> Result<Ready, Reply>
         requires at_rest { self.old.pending ≡ None }
         requires allowed { refusal_of (P.table self.old.protocol) self.old.state txn op_is.Back ≡ None }
@@ -203,7 +203,7 @@ impl<P: Protocol, I: Ordered, L: Holdings> Stepper<P, I, L> {
         }
     }
 
-    /// The same for what asks for locks, where no refusal applies.
+    /// The same for what requests locks, where no refusal applies.
     fn attempt(&mut self, txn: Txn, touch: Touch) -> Result<Ready, Reply>
         requires at_rest { self.old.pending ≡ None }
         requires allowed { refusal_of (P.table self.old.protocol) self.old.state txn (op_of_touch touch) ≡ None }

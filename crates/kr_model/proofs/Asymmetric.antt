@@ -1,4 +1,4 @@
--- Worked examples that tell which way a lock table is read: one that is asymmetric both in what may stand beside what and in conversion.
+-- Worked examples that tell which way a table is read: one that is asymmetric both in what is compatible and in conversion.
 use Rattle.std.specs.Prelude.{◌≡◌, ℕ, false, List, [], ◌∷◌, Option, None, length, map, filter, refl}
 use Rattle.kr_model.specs.Protocol.{Protocol, IsLawful}
 use Rattle.kr_model.specs.Covers.{cases, failed_cases, serves, modes, all_covers, IsCovered}
@@ -34,7 +34,7 @@ U = 2
 abbrev pub X : ℕ
 X = 3
 
--- For each mode asked for, the held modes that it may stand beside: U stands beside a held S, and S not beside a held U.
+-- For each mode requested, the held modes that it is compatible with: U is compatible with a held S, and S not with a held U.
 abbrev pub asymmetric_beside : List (List ℕ)
 asymmetric_beside =
     (S ∷ [])
@@ -50,7 +50,7 @@ asymmetric_converted =
     ∷ (X ∷ X ∷ X ∷ [])
     ∷ []
 
--- What each row and side asks for: a scan asks for U on what it reads.
+-- What each row and side requests: a scan requests U on what it reads.
 abbrev pub asymmetric_ask : Row → Side → ℕ → Option (ℕ × Span)
 asymmetric_ask row.FetchHit Current own = for_commit S
 asymmetric_ask row.FetchMiss Next own = for_commit S
@@ -89,7 +89,7 @@ asymmetric-serves = refl
 abbrev pub two : Map
 two = (10, 1) ∷ (20, 2) ∷ []
 
--- Fetches ask for S, and scans for U, on two keys.
+-- Fetches request S, and scans U, on two keys.
 abbrev pub both_ways : List Event
 both_ways =
     by 1 (Fetch 10)
@@ -102,7 +102,7 @@ both_ways =
     ∷ by 2 (Fetch 10)
     ∷ []
 
--- Both ways: U is let in beside S, and S isn't beside U; transaction 2, which holds U, asks for S and so for X, which conflicts with the S of transaction 1, and holds X in the end.
+-- Both ways: U is let in beside S, and S isn't beside U; transaction 2, which holds U, requests S and so X, which conflicts with the S of transaction 1, and holds X in the end.
 pub both_ways-report : report asymmetric two both_ways
     ≡ (
       r.Found 1 ∷ r.Rows ((10, 1) ∷ []) ∷ r.Blocked (2 ∷ []) ∷ r.Rows ((20, 2) ∷ []) ∷ r.Blocked (4 ∷ []) ∷ r.Blocked (1 ∷ []) ∷ r.Committed ∷ r.Found 1 ∷ [],
@@ -112,7 +112,7 @@ pub both_ways-report : report asymmetric two both_ways
     )
 both_ways-report = refl
 
--- Both ways: the one committed program is serial.
+-- Both ways: the one committed program is serializable.
 pub both_ways-verdict : verdict asymmetric two both_ways ≡ None
 both_ways-verdict = refl
 
@@ -126,7 +126,7 @@ pub s_with_u : report asymmetric two (by 1 (Fetch 10) ∷ by 2 (Fetch 10) ∷ by
     )
 s_with_u = refl
 
--- Gives up: the asymmetric table in which who asks for S holds S after it, and a delete asks for S on the next name --
+-- Gives up: the asymmetric table in which who requests S holds S after it, and a delete requests S on the next name --
 
 -- For each held mode, the mode after asking for S, U and X.
 abbrev pub gives_up_converted : List (List ℕ)
@@ -136,7 +136,7 @@ gives_up_converted =
     ∷ (S ∷ X ∷ X ∷ [])
     ∷ []
 
--- What that table asks for.
+-- What that table requests.
 abbrev pub gives_up_ask : Row → Side → ℕ → Option (ℕ × Span)
 gives_up_ask row.Delete Next own = for_commit S
 gives_up_ask r s own = asymmetric_ask r s own

@@ -1,4 +1,4 @@
--- The bundled lock tables are lawful, and no case of them fails.
+-- The bundled protocols are lawful, and no case of them fails.
 use Rattle.std.specs.Prelude.{◌≡◌, [], ◌∷◌, length, map, filter, refl}
 use Rattle.kr_model.specs.Protocol.{IsLawful}
 use Rattle.kr_model.specs.Covers.{cases, serves, modes, all_covers, IsCovered}

@@ -1,4 +1,4 @@
--- What the end of an active transaction is answered, and a change of it taken back.
+-- What the end of an active transaction is answered, and a change of it undone.
 use Rattle.std.specs.Prelude.{◌≡◌, ℕ, ◌-◌, Bool, true, false, not, ◌&&◌, nat_le, IsTrue, [], ◌∷◌, Option, Some, None, length, is_some, if◌then◌else◌, refl}
 use Rattle.std.proofs.Common.{◌∙◌, ap, arith, inl, inr}
 use Rattle.kr_model.specs.declared.Op.{Op}
@@ -78,7 +78,7 @@ module _ (p : Protocol) (s : State) (t : ℕ) (k : IsState p s) (is : IsTrue (is
       by false false true = refl
       by false false false = refl
 
-  -- a change of it taken back is answered Undone with the number of those left, or NothingLeft where there is none
+  -- a change of it undone is answered Undone with the number of those left, or NothingLeft where there is none
   pub back_of_active : (r : Reply) (new : State) → IsStep p s t op.Back r new → r ≡ (if has_nothing_left s t then reply.Refused refusal.NothingLeft else reply.Undone (length (standing s t).changes - 1))
   back_of_active r new e =
       ap (λ (x : Outcome). x.0) (had_memory op.Back r new refl e ∙ ap (unless_refused p s t op.Back) (left op.Back ∙ only (is_rolling s t) (is_scanning s t) (has_nothing_left s t)))

@@ -110,7 +110,7 @@ in_places_current p r o n io in_n =
 in_places_next : (p : Protocol) (r : Row) (o : ℕ) → o ≤ p.count → In (place (r, Next) o o) (places_of p (r, Next))
 in_places_next p r o io = in_map (λ x. place (r, Next) x x) o (modes_or_none p) (in_modes_or_none p o io)
 
--- a mode that serves a cover conflicts with what the cover must conflict with, whatever the asker holds
+-- a mode that serves a cover conflicts with what the cover must conflict with, whatever the requester holds
 pub conflicts_current : (p : Protocol) (c : Cover) (h : ℕ) (r : Row) → Serves p c h → In (r, Current) (must_conflict p c) → (o n : ℕ) → o ≤ p.count → n ≤ p.count → Conflicts p h o (p.ask r Current n)
 conflicts_current p c h r s i o n io in_n =
     conflict_of_test p h o (p.ask r Current n)
@@ -139,7 +139,7 @@ case_holds : (p : Protocol) (k : Case) (b : Bool) → is_due p k ≡ b → cond 
 case_holds p k true e h g = no_hole k (open_places p k.cover k.mode) h
 case_holds p k false e h g = absurd (cc)
 
--- a rule that the protocol is asked for
+-- a rule that the protocol has to keep
 abbrev IsAsked : Protocol → Rule → Type 0
 IsAsked p rule.Update = p.updates ≡ true
 IsAsked p _ = Unit {0}
@@ -158,7 +158,7 @@ in_all_rules p rule.Update up = inr (inr (inr (inr (inr (inr (inr (inr (in_updat
 covered_case : (p : Protocol) → IsCovered p → (r : Rule) → IsAsked p r → (k : Case) → In k (cases_of p r) → is_due p k ≡ true → Serves p k.cover k.mode
 covered_case p h r up k i g = case_holds p k (is_due p k) refl (each_none (failure p) (cases p) (ap is_empty h) k (in_flat_map (cases_of p) r k (all_rules p) (in_all_rules p r up) i)) g
 
--- a cover that the protocol is asked for
+-- a cover that the protocol has to serve
 abbrev pub IsKnown : Protocol → Cover → Type 0
 IsKnown p UpdatedKey = p.updates ≡ true
 IsKnown p _ = Unit {0}

@@ -1,4 +1,4 @@
--- The kinds of steps: one that changes nothing, one that is granted, one that ends its transaction, and one that takes a change back.
+-- The kinds of steps: one that changes nothing, one that is granted, one that ends its transaction, and one that undoes a change.
 use Rattle.std.specs.Prelude.{◌≡◌, ℕ, Bool, true, false, not, ◌==◌, ◌&&◌, cond, List, [], ◌∷◌, Option, Some, None, is_some, unwrap_or, filter, refl, ◌⊎◌, length}
 use Rattle.std.specs.Ordering.{nat_cmp}
 use Rattle.std.specs.FinMap.{put}
@@ -47,7 +47,7 @@ pub record IsBack (s : State) (t : ℕ) (o : Op) (a : Reply) (new : State) : Typ
   pub back : o ≡ op.Back
   pub undone : a ≡ reply.Undone left
 
--- A step changes nothing, or is granted, or ends its transaction, or takes a change back.
+-- A step changes nothing, or is granted, or ends its transaction, or undoes a change.
 abbrev pub Kind : State → ℕ → Op → Reply → State → Type 0
 Kind s t o a new = ((new ≡ s) × (is_granted a ≡ false)) ⊎ (IsGranted s t o a new ⊎ (IsEnd s t o a new ⊎ IsBack s t o a new))
 

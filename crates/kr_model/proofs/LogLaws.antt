@@ -87,7 +87,7 @@ unfinished_is h s l k =
         let active : is_some (active_of s q) ≡ true = ap is_some f in
         d ∙ ap Some (sym (told h s l q k active ∙ ap (λ z. unwrap_or z []) d)) ∙ sym (ap (λ b. if b then Some (without_backs (operations_of q h)) else None) active)
 
--- A log has the operations so far of the active transactions, but for the changes taken back, and the committed programs.
+-- A log has the operations so far of the active transactions, but for the changes undone, and the committed programs.
 pub record LogOf (h : List Entry) (s : State) (l : Log) : Type 0 where
   pub unfinished : l.unfinished ≡ map (λ a. (a.0, without_backs (operations_of a.0 h))) s.active
   pub committed : l.committed ≡ programs h

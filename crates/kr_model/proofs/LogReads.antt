@@ -89,7 +89,7 @@ operations_past t x f [] s = (s f).0
 operations_past t x f ((e, a) ∷ h) s =
     ap₂ (λ (z : Reply) (more : List Answered). cond {A = List Answered} ((e.txn == t) && (is_operation e.op && is_granted a)) ((e.op, z) ∷ more) more) (answer_past t e.op a x f h (λ g. (s g).1)) (operations_past t x f h s)
 
--- One that takes a change back adds nothing but itself.
+-- One that undoes a change adds nothing but itself.
 pub back_past : (t : ℕ) (x : Entry) (h : List Entry) → IsRowless t x → without_backs (operations_of t (x ∷ [])) ≡ [] → without_backs (operations_of t (h ++ x ∷ [])) ≡ without_backs (operations_of t h)
 back_past t x [] s e = e
 back_past t x ((f, a) ∷ h) s e =
@@ -154,9 +154,9 @@ pub reads_whole : (t : ℕ) (h : List Entry) (os : List Answered) (b : Bool) →
 reads_whole t h os false r = ap (operations_of t) (sym (append-nil h)) ∙ r [] ∙ append-nil os
 reads_whole t h os true (q, lo, hi, a, e, r) = ap (operations_of t) (sym (append-nil h)) ∙ r [] ∙ sym e
 
--- No change taken back --
+-- No change undone --
 
--- None of the operations takes a change back.
+-- None of the operations undoes a change.
 abbrev pub IsForward : List Answered → Type 0
 IsForward [] = Unit {0}
 IsForward (x ∷ xs) = (is_back x.0 ≡ false) × IsForward xs

@@ -20,7 +20,7 @@ use Rattle.kr_model.proofs.KindsOfSteps.{IsGranted, IsEnd, IsBack}
 use Rattle.kr_model.proofs.Ends.{map_append, or_left, or_none, same_some, same_without}
 use Rattle.kr_model.proofs.ProgramLaws.{committed_with, program_in, HaveEnded, ended_stay, ended_more, programs_stay}
 
--- What holds of a log after each step: it has the active transactions, and what each has done so far but for the changes taken back; and the programs that have committed.
+-- What holds of a log after each step: it has the active transactions, and what each has done so far but for the changes undone; and the programs that have committed.
 pub record IsLog (h : List Entry) (s : State) (l : Log) : Type 0 where
   pub in_order : is_sorted nat_cmp s.active ≡ true
   pub log_in_order : is_sorted nat_cmp l.unfinished ≡ true
@@ -217,7 +217,7 @@ module _ (h : List Entry) (s : State) (l : Log) (t : ℕ) (o : Op) (a : Reply) (
           ∙ sym (map_append (program_in (h ++ (event t o, a) ∷ [])) (committed h) (t ∷ []))
           ∙ sym (ap (map (program_in (h ++ (event t o, a) ∷ []))) listed))
 
--- A change of t is taken back.
+-- A change of t is undone.
 pub log_back : (h : List Entry) (s : State) (l : Log) (t : ℕ) (o : Op) (a : Reply) (new : State) → IsBack s t o a new → IsLog h s l → IsLog (h ++ (event t o, a) ∷ []) new (logged l (event t o, a))
 log_back h s l t o a new g k =
     let x : Entry = (event t o, a) in

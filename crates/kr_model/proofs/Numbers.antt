@@ -178,7 +178,7 @@ any_append : (f : Request → Bool) (xs ys : List Request) → list_any f (xs ++
 any_append f [] ys = refl
 any_append f (x ∷ xs) ys = ap (λ b. f x || b) (any_append f xs ys) ∙ or_assoc (f x) (list_any f xs) (list_any f ys)
 
--- who conflicts with one of several requests conflicts with one of the first or one of the rest
+-- who conflicts with one of several requests conflict with one of the first or one of the rest
 pub blockers-append : (p : Protocol) (h : Locks) (t : ℕ) (xs ys : List Request) → blockers p h t (xs ++ ys) ≡ merged (blockers p h t xs) (blockers p h t ys)
 blockers-append p h t xs ys =
     filter_alike (λ u. list_any (λ r. conflicts p h t r u) (xs ++ ys)) (λ u. list_any (λ r. conflicts p h t r u) xs || list_any (λ r. conflicts p h t r u) ys) (lockers h) (λ u. any_append (λ r. conflicts p h t r u) xs ys)

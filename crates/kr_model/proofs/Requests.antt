@@ -1,4 +1,4 @@
--- The requests of an attempt: each asks for a mode, so the locks that it leaves are locks.
+-- The requests of an attempt: each has a mode, so the locks that it leaves are locks.
 use Rattle.std.specs.Prelude.{◌≡◌, ℕ, ◌≤◌, List, [], ◌∷◌, ◌++◌, Option, Some, None}
 use Rattle.std.specs.Option.{option_to_list}
 use Rattle.std.proofs.Common.{subst, arith, refl}
@@ -18,7 +18,7 @@ use Rattle.kr_model.proofs.Keep.{kept_mode, keep_some, IsLocks-keep, AreWithin-k
 abbrev pub request_at : Option Name → Option (ℕ × Span) → List Request
 request_at n a = option_to_list (side_request n a)
 
--- every request asks for a mode
+-- every request has a mode
 abbrev pub AskModes : Protocol → List Request → Type 0
 AskModes p [] = Unit {0}
 AskModes p (r ∷ rs) = IsMode p r.1 × AskModes p rs

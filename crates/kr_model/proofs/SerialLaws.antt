@@ -1,4 +1,4 @@
--- The first difference is none exactly where the programs are serial.
+-- The first difference is none exactly where the programs are serializable in commit order.
 use Rattle.std.specs.Prelude.{◌≡◌, ℕ, suc, Bool, true, false, ◌&&◌, ◌==◌, cond, List, [], ◌∷◌, ◌++◌, Option, Some, None, refl, if◌then◌else◌}
 use Rattle.std.proofs.Common.{sym, ◌∙◌, ap, arith}
 use Rattle.std.proofs.lemmas.Bool.Decides.{nat_tests}
@@ -149,7 +149,7 @@ or_second : (a b : Option Difference) → or_else a b ≡ None → b ≡ None
 or_second (Some d) b h = absurd (cc)
 or_second None b h = h
 
--- programs without a first difference are serial
+-- programs without a first difference are serializable in commit order
 pub serial_if : (m : Map) (ps : List Program) → first_difference m ps ≡ None → AreSerial m ps
 serial_if m [] h = tt
 serial_if m (q ∷ qs) h =
@@ -157,7 +157,7 @@ serial_if m (q ∷ qs) h =
     let f = first_difference (map_left m q.operations) qs in
     answered_append m q.operations (all_operations qs) (answered_if q.txn m 1 q.operations (or_first d f h)) (serial_if (map_left m q.operations) qs (or_second d f h))
 
--- serial programs have no first difference
+-- programs that are serializable in commit order have no first difference
 pub none_if_serial : (m : Map) (ps : List Program) → AreSerial m ps → first_difference m ps ≡ None
 none_if_serial m [] h = refl
 none_if_serial m (q ∷ qs) h =

@@ -50,7 +50,7 @@ each_mode_or_none p test h m is = each_counted test 0 (suc p.count) h m (omega a
 abbrev pub is_mode : Protocol → ℕ → Bool
 is_mode p m = nat_lt 0 m && nat_le m p.count
 
--- whether what is asked for, if anything, is a mode
+-- whether what is requested, if anything, is a mode
 abbrev pub asks_mode : Protocol → Option (ℕ × Span) → Bool
 asks_mode p None = true
 asks_mode p (Some (q, s)) = is_mode p q

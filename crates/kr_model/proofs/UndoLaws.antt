@@ -1,4 +1,4 @@
--- Changes taken back.
+-- Changes undone.
 use Rattle.std.specs.Prelude.{◌≡◌, ℕ, Bool, true, false, ◌==◌, cond, if◌then◌else◌, [], ◌∷◌, ◌++◌, reverse, Option, Some, None, refl, unwrap_or}
 use Rattle.std.specs.Ordering.{nat_cmp, eq_by_cmp}
 use Rattle.std.specs.FinMap.{find}
@@ -41,7 +41,7 @@ one_more : (older : Option (Option ℕ)) (c : ℕ × Option ℕ) (k : ℕ) (now 
 one_more (Some v) c k now was h = refl
 one_more None c k now was h = h ∙ sym (here_or_there (c.0 == k) c.1 was)
 
--- when all changes are taken back, each key stands as before the first change of it
+-- when all changes are undone, each key stands as before the first change of it
 pub get-restore_all : (m : Map) (changes : Changes) (k : ℕ) → get (restore_all m changes) k ≡ unwrap_or (before_first changes k) (get m k)
 get-restore_all m [] k = refl
 get-restore_all m (c ∷ cs) k =
@@ -49,7 +49,7 @@ get-restore_all m (c ∷ cs) k =
     ∙ one_more (before_first cs k) c k (get (restore m c.0 c.1) k) (get m k) (get-restore m c.0 c.1 k)
     ∙ ap (λ o. unwrap_or o (get m k)) (sym (before_first-cons c cs k))
 
--- a map in which a key is restored, or all changes are taken back, is a map
+-- a map in which a key is restored, or all changes are undone, is a map
 pub IsMap-restore : (m : Map) (k : ℕ) (b : Option ℕ) → IsMap m → IsMap (restore m k b)
 IsMap-restore m k None h = IsMap-without m k h
 IsMap-restore m k (Some v) h = IsMap-set m k v h

@@ -129,7 +129,7 @@ module _ (p : Protocol) (laws : IsLawful p) (s : State) (t : ℕ) (k : IsState p
       let n = name_to_look s.map c in
       step_keeps works room (attempt.Look n c.hi) (looked s.map (standing s t) c n) (look_map s.map (standing s t) c n k.is_map)
 
-  -- a change taken back
+  -- a change undone
   back_keeps : has_ended s t ≡ false → is_full s t ≡ false → (cs : Changes) → IsState p (one_taken_back s t cs).1
   back_keeps works room [] = k
   back_keeps works room (c ∷ cs) =

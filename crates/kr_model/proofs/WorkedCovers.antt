@@ -1,4 +1,4 @@
--- Worked examples of the case checker: lock tables that fail some cases, and what fails.
+-- Worked examples of the case checker: tables that fail some cases, and what fails.
 use Rattle.std.specs.Prelude.{◌≡◌, ℕ, true, false, List, [], ◌∷◌, Option, Some, None, length, map, filter, refl, slice_get, ◌==◌, if◌then◌else◌}
 use Rattle.std.proofs.Common.{◌∙◌, ap}
 use Rattle.kr_model.specs.Protocol.{Protocol}
@@ -80,7 +80,7 @@ cases_of_fifteen p e none = length-cases p ∙ ap (λ m. case_count m p.updates)
 
 -- Insert always IX: key-value locking whose insert takes IX on its key whatever it holds on the next name --
 
--- What that table asks for.
+-- What that table requests.
 abbrev pub insert_always_ix_ask : Row → Side → ℕ → Option (ℕ × Span)
 insert_always_ix_ask row.Insert Current own = for_commit IX
 insert_always_ix_ask r s own = kvl_ask r s own
@@ -112,7 +112,7 @@ abbrev pub narrowed : Option (ℕ × Span) → Option (ℕ × Span)
 narrowed None = None
 narrowed (Some (m, s)) = Some (if m == 8 then 2 else m, s)
 
--- What that table asks for.
+-- What that table requests.
 abbrev pub insert_n_x_ask : Row → Side → ℕ → Option (ℕ × Span)
 insert_n_x_ask row.Insert Current own = narrowed (range_key_ask row.Insert Current own)
 insert_n_x_ask r s own = range_key_ask r s own
@@ -135,7 +135,7 @@ insert_n_x-first = refl
 
 -- Delete's next instant: key-value locking whose delete doesn't keep its lock on the next name --
 
--- What that table asks for.
+-- What that table requests.
 abbrev pub deletes_next_instant_ask : Row → Side → ℕ → Option (ℕ × Span)
 deletes_next_instant_ask row.Delete Next own = at_once X
 deletes_next_instant_ask r s own = kvl_ask r s own
@@ -153,9 +153,9 @@ pub deletes_next_instant-failed : failed_cases deletes_next_instant
     ∷ []
 deletes_next_instant-failed = refl
 
--- Delete without current: key-value locking whose delete asks for nothing on its key --
+-- Delete without current: key-value locking whose delete requests nothing on its key --
 
--- What that table asks for.
+-- What that table requests.
 abbrev pub delete_without_current_ask : Row → Side → ℕ → Option (ℕ × Span)
 delete_without_current_ask row.Delete Current own = None
 delete_without_current_ask r s own = kvl_ask r s own
@@ -182,7 +182,7 @@ delete_without_current-first = refl
 
 -- Update under IX: key-value locking with updates, whose update takes IX on its key --
 
--- What that table asks for.
+-- What that table requests.
 abbrev pub update_under_ix_ask : Row → Side → ℕ → Option (ℕ × Span)
 update_under_ix_ask row.Update Current own = for_commit IX
 update_under_ix_ask r s own = kvl_update_ask r s own
@@ -205,7 +205,7 @@ update_under_ix-first = refl
 
 -- An update that isn't kept: index-specific locking with updates, whose update doesn't keep its lock --
 
--- What that table asks for.
+-- What that table requests.
 abbrev pub update_at_once_ask : Row → Side → ℕ → Option (ℕ × Span)
 update_at_once_ask row.Update Current own = at_once im.X
 update_at_once_ask r s own = im.im_ask r s own
@@ -225,7 +225,7 @@ pub update_at_once-failed : failed_cases update_at_once
     ∷ []
 update_at_once-failed = refl
 
--- Tables of one mode, which stands beside none --
+-- Tables of one mode, which is compatible with none --
 
 -- A table of one mode with these requests.
 abbrev pub one_mode_with : (Row → Side → ℕ → Option (ℕ × Span)) → Protocol
@@ -251,7 +251,7 @@ asks_nothing-rules = refl
 pub asks_nothing-first : first_failed asks_nothing ≡ Some (failed rule.FetchHit ReadKey (origin.Own 0) 0 (row.Delete, Current) 0 0)
 asks_nothing-first = refl
 
--- What the one-mode table asks for: its mode on every side of every row, at once for insert next and delete current.
+-- What the one-mode table requests: its mode on every side of every row, at once for insert next and delete current.
 abbrev pub one_mode_ask : Row → Side → ℕ → Option (ℕ × Span)
 one_mode_ask row.FetchHit Current own = for_commit 1
 one_mode_ask row.FetchMiss Next own = for_commit 1

@@ -1,4 +1,4 @@
--- Worked examples of the five lists of covers: each entry of each list is left open by a lock table that errs there alone.
+-- Worked examples of the five lists of covers: each entry of each list is left open by a table that errs there alone.
 use Rattle.std.specs.Prelude.{◌≡◌, ℕ, Bool, true, false, ◌==◌, ◌&&◌, List, [], ◌∷◌, ◌++◌, Option, Some, None, map, filter, refl, slice_get, if◌then◌else◌}
 use Rattle.std.specs.List.{flat_map}
 use Rattle.kr_model.specs.Protocol.{Protocol}
@@ -19,11 +19,11 @@ use Rattle.kr_model.proofs.WorkedCovers.{one_mode_ask, failed, cover_number}
 
 -- The tables --
 
--- The mode of the one-mode table: asked for, it stands beside nothing.
+-- The mode of the one-mode table: requested, it is compatible with nothing.
 abbrev pub strict : ℕ
 strict = 1
 
--- A mode that, asked for, stands beside everything; held, it conflicts with strict.
+-- A mode that, requested, is compatible with everything; held, it conflicts with strict.
 abbrev pub lax : ℕ
 lax = 2
 
@@ -51,12 +51,12 @@ abbrev pub laxly : Option (ℕ × Span) → Option (ℕ × Span)
 laxly None = None
 laxly (Some (m, span)) = Some (lax, span)
 
--- What the one-mode table asks for with updates: its mode on the key of an update too.
+-- What the one-mode table requests with updates: its mode on the key of an update too.
 abbrev pub updating_ask : Row → Side → ℕ → Option (ℕ × Span)
 updating_ask Update Current own = for_commit 1
 updating_ask r s own = one_mode_ask r s own
 
--- The one-mode table by what it asks for, with updates or without, but that lax is asked for at a; who holds a mode and asks again holds strict.
+-- The one-mode table by what it requests, with updates or without, but that lax is requested at a; who holds a mode and asks again holds strict.
 abbrev pub lets_in_by : (Row → Side → ℕ → Option (ℕ × Span)) → Bool → Ask → Protocol
 lets_in_by ask updates a =
     record {
@@ -75,7 +75,7 @@ lets_in a = lets_in_by one_mode_ask false a
 abbrev pub lets_in_updating : Ask → Protocol
 lets_in_updating a = lets_in_by updating_ask true a
 
--- The rows and sides at which the one-mode table asks for a lock, in order.
+-- The rows and sides at which the one-mode table requests a lock, in order.
 abbrev pub asks : List Ask
 asks =
     (FetchHit, Current)

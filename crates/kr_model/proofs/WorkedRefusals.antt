@@ -1,4 +1,4 @@
--- Worked examples of refusals: which comes first, and to what want of memory may be answered.
+-- Worked examples of refusals: which comes first, and where `Memory` may be answered.
 use Rattle.std.specs.Prelude.{◌≡◌, List, [], ◌∷◌, ◌++◌, map, true, false, refl}
 use Rattle.kr_model.specs.Covers.{count_up}
 use Rattle.kr_model.specs.Kvl.{kvl}
@@ -60,11 +60,11 @@ ended_by_the_first_step = refl
 abbrev pub state_after : List Event → State
 state_after events = let r = run kvl (start three) events in r.state
 
--- Want of memory may not be answered to the commit and the abort of an active transaction.
+-- `Memory` may not be answered to the commit and the abort of an active transaction.
 pub ends_take_no_memory : map (may_lack_memory kvl (state_after (by 1 (Insert 15 5) ∷ [])) 1) (Commit ∷ Abort ∷ []) ≡ false ∷ false ∷ []
 ends_take_no_memory = refl
 
--- Nor to a change taken back, of one in the midst of a scan too.
+-- Nor to a change undone, of one in the midst of a scan too.
 pub back_takes_no_memory : may_lack_memory kvl (state_after (by 1 (Insert 15 5) ∷ [])) 1 Back ∷ may_lack_memory kvl (state_after (by 1 (Insert 15 5) ∷ by 1 (Scan 10 30) ∷ [])) 1 Back ∷ [] ≡ false ∷ false ∷ []
 back_takes_no_memory = refl
 
@@ -84,7 +84,7 @@ others_take_memory = refl
 pub updates_take_memory : may_lack_memory kvl_update (state_after (by 2 (Fetch 15) ∷ [])) 1 (Update 10 4) ≡ true
 updates_take_memory = refl
 
--- It stands in place of no other refusal: of an update that isn't offered, and of a change taken back where none is left.
+-- It stands in place of no other refusal: of an update that isn't offered, and of a change undone where none is left.
 pub later_refusals_take_no_memory : map (may_lack_memory kvl (state_after []) 1) (Update 10 4 ∷ Back ∷ []) ≡ false ∷ false ∷ []
 later_refusals_take_no_memory = refl
 

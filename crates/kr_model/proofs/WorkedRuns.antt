@@ -51,11 +51,11 @@ report p opening events =
     let r = run p (start opening) events in
     (replies_of r.history, r.state.locks, r.state.map, map (λ a. a.0) r.state.active)
 
--- The first answer that isn't serial.
+-- The first answer that isn't that of the serial run.
 abbrev pub verdict : Protocol → Map → List Event → Option Difference
 verdict p opening events = let r = run p (start opening) events in first_difference opening (programs r.history)
 
--- A verdict that isn't serial: the transaction, its operation from 1, the answer given and the serial one.
+-- A verdict of not serial: the transaction, its operation from 1, the answer given and that of the serial run.
 abbrev pub not_serial : ℕ → ℕ → Reply → Reply → Option Difference
 not_serial t n given serial = Some (record { txn = t; operation = n; given = given; serial = serial })
 
@@ -69,7 +69,7 @@ phantom = by 1 (Fetch 15) ∷ by 2 (Insert 17 5) ∷ []
 pub first_report : report kvl three phantom ≡ (r.None ∷ r.Blocked (1 ∷ []) ∷ [], held (Key 20) 1 S ∷ [], three, 1 ∷ [])
 first_report = refl
 
--- The phantom is serial.
+-- The phantom: serializable.
 pub phantom-verdict : verdict kvl three phantom ≡ None
 phantom-verdict = refl
 
@@ -103,7 +103,7 @@ duplicate_insert = refl
 
 -- Updating --
 
--- A value updated, and the update taken back with its transaction.
+-- A value updated, and the update undone with its transaction.
 abbrev pub update_undone : List Event
 update_undone = by 1 (Update 20 9) ∷ by 2 (Fetch 20) ∷ by 1 (Update 25 1) ∷ by 1 Abort ∷ by 2 (Fetch 20) ∷ []
 
@@ -112,7 +112,7 @@ pub update_undone-report : report kvl_update three update_undone
     ≡ (r.Updated 2 ∷ r.Blocked (1 ∷ []) ∷ r.Absent ∷ r.Aborted ∷ r.Found 2 ∷ [], held (Key 20) 2 S ∷ [], three, 2 ∷ [])
 update_undone-report = refl
 
--- Update undone: serial.
+-- Update undone: serializable.
 pub update_undone-verdict : verdict kvl_update three update_undone ≡ None
 update_undone-verdict = refl
 
@@ -130,21 +130,21 @@ pub two_updates_undone : report kvl_update three (by 1 (Update 20 9) ∷ by 1 (U
     ≡ (r.Updated 2 ∷ r.Updated 9 ∷ r.Aborted ∷ r.Found 2 ∷ [], held (Key 20) 2 S ∷ [], three, 2 ∷ [])
 two_updates_undone = refl
 
--- An updated key deleted and inserted again, and all of it taken back at once.
+-- An updated key deleted and inserted again, and all of it undone at once.
 pub update_delete_insert_abort : report kvl_update three (by 1 (Update 20 9) ∷ by 1 (Delete 20) ∷ by 1 (Insert 20 7) ∷ by 1 (Update 20 6) ∷ by 1 Abort ∷ [])
     ≡ (r.Updated 2 ∷ r.Deleted 9 ∷ r.Done ∷ r.Updated 7 ∷ r.Aborted ∷ [], [], three, [])
 update_delete_insert_abort = refl
 
--- Updates taken back one at a time: of a key inserted before, and of one that stood there.
+-- Updates undone one at a time: of a key inserted before, and of one that stood there.
 pub updates_back : report kvl_update three (by 1 (Insert 15 5) ∷ by 1 (Update 15 6) ∷ by 1 (Update 20 9) ∷ by 1 Back ∷ by 1 Back ∷ by 1 (Update 15 7) ∷ by 1 Back ∷ by 1 Abort ∷ [])
     ≡ (r.Done ∷ r.Updated 5 ∷ r.Updated 2 ∷ r.Undone 2 ∷ r.Undone 1 ∷ r.Refused refusal.RollingBack ∷ r.Undone 0 ∷ r.Aborted ∷ [], [], three, [])
 updates_back = refl
 
--- An update, an insert and an update of the inserted key, taken back one at a time.
+-- An update, an insert and an update of the inserted key, undone one at a time.
 abbrev pub update_insert_update : List Event
 update_insert_update = by 1 (Update 20 9) ∷ by 1 (Insert 25 5) ∷ by 1 (Update 25 6) ∷ by 2 (Fetch 25) ∷ by 1 Back ∷ by 2 (Fetch 25) ∷ by 1 Back ∷ by 2 (Fetch 25) ∷ by 1 Back ∷ by 2 (Fetch 20) ∷ by 1 Abort ∷ by 2 (Fetch 20) ∷ []
 
--- An update and a back in one transaction: another finds 25 gone once its insert is taken back, and reads 20 only after the abort, since the locks stay.
+-- An update and a back in one transaction: another finds 25 gone once its insert is undone, and reads 20 only after the abort, since the locks stay.
 pub update_insert_update-report : report kvl_update three update_insert_update
     ≡ (
       r.Updated 2 ∷ r.Done ∷ r.Updated 5 ∷ r.Blocked (1 ∷ []) ∷ r.Undone 2 ∷ r.Blocked (1 ∷ []) ∷ r.Undone 1 ∷ r.None ∷ r.Undone 0 ∷ r.Blocked (1 ∷ []) ∷ r.Aborted ∷ r.Found 2 ∷ [],
@@ -154,7 +154,7 @@ pub update_insert_update-report : report kvl_update three update_insert_update
     )
 update_insert_update-report = refl
 
--- An update and a back in one transaction: serial, also where the other commits.
+-- An update and a back in one transaction: serializable, also where the other commits.
 pub update_insert_update-verdict : verdict kvl_update three (update_insert_update ++ by 2 Commit ∷ []) ≡ None
 update_insert_update-verdict = refl
 
@@ -177,7 +177,7 @@ gap_widens_and_narrows = refl
 
 -- One change at a time --
 
--- Two changes back: a delete and an insert of one key are taken back one after the other. While the delete stands the lock on 30 keeps others from the key, and then the
+-- Two changes back: a delete and an insert of one key are undone one after the other. While the delete stands the lock on 30 keeps others from the key, and then the
 -- lock on the key itself does, until the abort. Nothing else is allowed to who rolls back.
 pub two_changes_back : report kvl three (by 1 (Delete 20) ∷ by 1 (Insert 20 9) ∷ by 1 Back ∷ by 2 (Fetch 20) ∷ by 1 (Fetch 10) ∷ by 1 Commit ∷ by 1 Back ∷ by 2 (Fetch 20) ∷ by 1 Back ∷ by 1 Abort ∷ by 2 (Fetch 20) ∷ [])
     ≡ (
@@ -188,16 +188,16 @@ pub two_changes_back : report kvl three (by 1 (Delete 20) ∷ by 1 (Insert 20 9)
     )
 two_changes_back = refl
 
--- Back beside another: the key that is taken back stands above a gap that another has split.
+-- Back beside another: the key that comes back is above a gap that another has split.
 abbrev pub back_beside_another : List Event
 back_beside_another = by 1 (Insert 15 5) ∷ by 2 (Insert 12 7) ∷ by 1 Back ∷ by 2 Commit ∷ by 3 (Fetch 15) ∷ by 1 Abort ∷ []
 
--- Back beside another: the gap merges, and no lock of who takes back is left.
+-- Back beside another: the gap merges, and no lock of who undoes is left.
 pub back_beside_another-report : report kvl three back_beside_another
     ≡ (r.Done ∷ r.Done ∷ r.Undone 0 ∷ r.Committed ∷ r.None ∷ r.Aborted ∷ [], held (Key 20) 3 S ∷ [], (10, 1) ∷ (12, 7) ∷ (20, 2) ∷ (30, 3) ∷ [], 3 ∷ [])
 back_beside_another-report = refl
 
--- Back beside another: serial.
+-- Back beside another: serializable.
 pub back_beside_another-verdict : verdict kvl three back_beside_another ≡ None
 back_beside_another-verdict = refl
 
@@ -247,7 +247,7 @@ pub refusals_in_a_scan : replies kvl three (by 1 Go ∷ by 1 (Scan 30 10) ∷ by
     ≡ r.Refused refusal.NoScan ∷ r.Refused refusal.BadRange ∷ r.Going 10 ∷ r.Refused refusal.Busy ∷ r.Aborted ∷ []
 refusals_in_a_scan = refl
 
--- Scan ends on its upper key: it asks for no further name, so an insert past it is granted and one within isn't.
+-- Scan ends on its upper key: it requests no further name, so an insert past it is granted and one within isn't.
 pub scan_ends_on_its_upper_key : replies_and_locks kvl three (by 1 (Scan 10 20) ∷ by 1 Go ∷ by 2 (Insert 25 5) ∷ by 2 (Insert 15 1) ∷ [])
     ≡ (r.Going 10 ∷ r.Rows ((10, 1) ∷ (20, 2) ∷ []) ∷ r.Done ∷ r.Blocked (1 ∷ []) ∷ [], held (Key 10) 1 S ∷ held (Key 20) 1 S ∷ held (Key 25) 2 IX ∷ [])
 scan_ends_on_its_upper_key = refl
@@ -262,25 +262,25 @@ empty_scan = refl
 abbrev pub split_not_serial : List Event
 split_not_serial = by 1 (Fetch 12) ∷ by 1 (Insert 15 5) ∷ by 2 (Insert 12 7) ∷ by 2 Commit ∷ by 1 Commit ∷ []
 
--- The split that isn't serial: the phantom gets in.
+-- The split that isn't serializable: a phantom.
 pub split_not_serial-report : report insert_always_ix three split_not_serial
     ≡ (r.None ∷ r.Done ∷ r.Done ∷ r.Committed ∷ r.Committed ∷ [], [], (10, 1) ∷ (12, 7) ∷ (15, 5) ∷ (20, 2) ∷ (30, 3) ∷ [], [])
 split_not_serial-report = refl
 
--- The split that isn't serial: the fetch found nothing, and finds 7 in commit order.
+-- The split that isn't serializable: the fetch found nothing, and finds 7 in commit order.
 pub split_not_serial-verdict : verdict insert_always_ix three split_not_serial ≡ not_serial 1 1 r.None (r.Found 7)
 split_not_serial-verdict = refl
 
--- An update that isn't kept: another reads the value, which is then taken back, and commits.
+-- An update that isn't kept: another reads the value, which is then undone, and commits.
 pub update_not_serial : verdict update_at_once three (by 1 (Update 20 9) ∷ by 2 (Fetch 20) ∷ by 1 Abort ∷ by 2 Commit ∷ []) ≡ not_serial 2 1 (r.Found 9) (r.Found 2)
 update_not_serial = refl
 
--- Scan not serial: a key that it has read is deleted by one who commits first.
+-- Scan not serializable: a key that it has read is deleted by one who commits first.
 pub scan_not_serial : verdict asks_nothing three (by 1 (Fetch 30) ∷ by 1 (Scan 10 20) ∷ by 2 (Delete 10) ∷ by 2 Commit ∷ by 1 Go ∷ by 1 Commit ∷ [])
     ≡ not_serial 1 2 (r.Rows ((10, 1) ∷ (20, 2) ∷ [])) (r.Rows ((20, 2) ∷ []))
 scan_not_serial = refl
 
--- Fetch not serial: a key is found, and then isn't.
+-- Fetch not serializable: a key is found, and then isn't.
 pub fetch_not_serial : verdict asks_nothing three (by 1 (Fetch 20) ∷ by 2 (Delete 20) ∷ by 2 Commit ∷ by 1 (Fetch 20) ∷ by 1 Commit ∷ [])
     ≡ not_serial 1 1 (r.Found 2) r.None
 fetch_not_serial = refl
@@ -289,11 +289,11 @@ fetch_not_serial = refl
 abbrev pub by_chance : List Event
 by_chance = by 1 (Scan 10 30) ∷ by 2 (Delete 20) ∷ by 2 Commit ∷ by 1 Go ∷ by 1 Commit ∷ []
 
--- Serial by chance: the replies.
+-- Serializable by chance: the replies.
 pub serial_by_chance : replies asks_nothing three by_chance
     ≡ r.Going 10 ∷ r.Deleted 2 ∷ r.Committed ∷ r.Rows ((10, 1) ∷ (30, 3) ∷ []) ∷ r.Committed ∷ []
 serial_by_chance = refl
 
--- Serial by chance: the verdict.
+-- Serializable by chance: the verdict.
 pub serial_by_chance-verdict : verdict asks_nothing three by_chance ≡ None
 serial_by_chance-verdict = refl

@@ -35,7 +35,7 @@ modes_or_none p = count_up 0 (suc p.count)
 
 -- Covers --
 
--- A row and a side of the lock table.
+-- A row and a side of the table.
 abbrev pub Ask : Type 0
 Ask = Row × Side
 
@@ -51,7 +51,7 @@ must_conflict p InsertedKey = (row.FetchHit, Current) ∷ (row.FetchMiss, Next) 
 must_conflict p DeletedGap = (row.FetchMiss, Next) ∷ (row.ScanKey, Current) ∷ (row.ScanStop, Next) ∷ (row.Insert, Next) ∷ (row.Delete, Current) ∷ (row.Delete, Next) ∷ []
 must_conflict p UpdatedKey = if_updating p ((row.FetchHit, Current) ∷ (row.ScanKey, Current) ∷ (row.Delete, Current) ∷ (row.Update, Current) ∷ [])
 
--- An asker at a row and side, with its own modes on the name and on the next name.
+-- A requester at a row and side, with its own modes on the name and on the next name.
 abbrev pub place : Ask → ℕ → ℕ → Place
 place (r, s) own own_next = record { row = r; side = s; own = own; own_next = own_next }
 
@@ -60,12 +60,12 @@ abbrev pub places_of : Protocol → Ask → List Place
 places_of p (r, Current) = flat_map (λ o. map (λ n. place (r, Current) o n) (modes_or_none p)) (modes_or_none p)
 places_of p (r, Next) = map (λ o. place (r, Next) o o) (modes_or_none p)
 
--- Whether what is asked by one who holds o conflicts with another's h: the converted mode may not stand there.
+-- Whether the request of one who holds o conflicts with another's h: the converted mode isn't compatible with it.
 abbrev pub conflicts_with : Protocol → ℕ → ℕ → Option (ℕ × Span) → Bool
 conflicts_with p h o None = false
 conflicts_with p h o (Some (q, span)) = not (p.ok (p.convert o q) h)
 
--- Whether a lock in mode h lets the place through: nothing is asked there, or what is asked may stand beside h.
+-- Whether a lock in mode h lets the place through: nothing is asked there, or what is asked is compatible with h.
 abbrev pub is_open : Protocol → ℕ → Place → Bool
 is_open p h x = not (conflicts_with p h x.own (p.ask x.row x.side x.own_next))
 
@@ -84,7 +84,7 @@ serves p c h = is_empty (open_places p c h)
 
 -- Cases --
 
--- The mode on a name of one who held o, after what it asked for there was granted: an instant request isn't kept.
+-- The mode on a name of one who held o, after what it requested there was granted: an instant request isn't kept.
 abbrev pub mode_after : Protocol → ℕ → Option (ℕ × Span) → ℕ
 mode_after p o None = o
 mode_after p o (Some (q, Commit)) = p.convert o q
@@ -102,11 +102,11 @@ pub record Case : Type 0 where
 abbrev pub case : Rule → Cover → Origin → Option ℕ → ℕ → Case
 case r c from given mode = record { rule = r; cover = c; from = from; given = given; mode = mode }
 
--- The covers that p is asked for, in order.
+-- The covers that p has to serve, in order.
 abbrev pub all_covers : Protocol → List Cover
 all_covers p = ReadKey ∷ ReadGap ∷ InsertedKey ∷ DeletedGap ∷ if_updating p (UpdatedKey ∷ [])
 
--- A conversion from the held mode h keeps the cover if h serves it, whichever mode q is asked for.
+-- A conversion from the held mode h keeps the cover if h serves it, whichever mode q is requested.
 abbrev pub conversions_from : Protocol → Cover → ℕ → List Case
 conversions_from p c h = map (λ q. case rule.Conversion c (origin.Conversion h q) (Some h) (p.convert h q)) (modes p)
 
@@ -150,7 +150,7 @@ cases_of p rule.Delete =
 -- An updated key is covered.
 cases_of p rule.Update = row_cases p rule.Update row.Update Current (UpdatedKey ∷ [])
 
--- The rules that p is asked for, in order.
+-- The rules that p has to keep, in order.
 abbrev pub all_rules : Protocol → List Rule
 all_rules p =
     rule.Conversion ∷ rule.FetchHit ∷ rule.FetchMiss ∷ rule.ScanKey ∷ rule.ScanStop ∷ rule.Insert ∷ rule.Split ∷ rule.Delete

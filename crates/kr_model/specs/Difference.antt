@@ -1,4 +1,4 @@
--- The first answer of committed programs that isn't the serial one.
+-- The first answer of committed programs that isn't that of the serial run.
 use Rattle.std.specs.Prelude.{◌≡◌, ℕ, suc, ◌+◌, Bool, true, false, ◌&&◌, ◌==◌, List, [], ◌∷◌, ◌++◌, Option, Some, None, if◌then◌else◌, length}
 use Rattle.kr_model.specs.declared.Op.{Op}
 use Rattle.kr_model.specs.declared.Reply.{Reply}
@@ -72,7 +72,7 @@ abbrev pub or_else : Option Difference → Option Difference → Option Differen
 or_else (Some d) other = Some d
 or_else None other = other
 
--- The first answer in commit order that differs from the serial one; there is none exactly where the programs are serial.
+-- The first answer in commit order that differs from that of the serial run; there is none exactly where the programs are serializable in commit order.
 abbrev pub first_difference : Map → List Program → Option Difference
 first_difference m [] = None
 first_difference m (q ∷ qs) = or_else (difference_in q.txn m 1 q.operations) (first_difference (map_left m q.operations) qs)

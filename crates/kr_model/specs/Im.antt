@@ -16,7 +16,7 @@ S = 1
 abbrev pub X : ℕ
 X = 2
 
--- For each mode asked for, the held modes that it may stand beside; the lines are those of S and X.
+-- For each mode requested, the held modes that it is compatible with; the lines are those of S and X.
 abbrev pub im_beside : List (List ℕ)
 im_beside =
     (S ∷ [])
@@ -30,7 +30,7 @@ im_converted =
     ∷ (X ∷ X ∷ [])
     ∷ []
 
--- What each row and side asks for.
+-- What each row and side requests.
 abbrev pub im_ask : Row → Side → ℕ → Option (ℕ × Span)
 im_ask FetchHit Current own = for_commit S
 im_ask FetchMiss Next own = for_commit S

@@ -28,7 +28,7 @@ SIX = 4
 abbrev pub X : ℕ
 X = 5
 
--- For each mode asked for, the held modes that it may stand beside; the lines are those of IS, IX, S, SIX and X.
+-- For each mode requested, the held modes that it is compatible with; the lines are those of IS, IX, S, SIX and X.
 abbrev pub kvl_beside : List (List ℕ)
 kvl_beside =
     (IS ∷ IX ∷ S ∷ SIX ∷ [])
@@ -48,7 +48,7 @@ kvl_converted =
     ∷ (X ∷ X ∷ X ∷ X ∷ X ∷ [])
     ∷ []
 
--- What each row and side asks for.
+-- What each row and side requests.
 abbrev pub kvl_ask : Row → Side → ℕ → Option (ℕ × Span)
 kvl_ask FetchHit Current own = for_commit S
 kvl_ask FetchMiss Next own = for_commit S

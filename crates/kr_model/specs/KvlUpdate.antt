@@ -9,7 +9,7 @@ use Rattle.kr_model.specs.Protocol.{Protocol}
 use Rattle.kr_model.specs.Matrices.{for_commit}
 use Rattle.kr_model.specs.Kvl.{X, kvl, kvl_ask}
 
--- What each row and side asks for.
+-- What each row and side requests.
 abbrev pub kvl_update_ask : Row → Side → ℕ → Option (ℕ × Span)
 kvl_update_ask Update Current own = for_commit X
 kvl_update_ask row side own = kvl_ask row side own

@@ -87,15 +87,15 @@ HasNoNone h = (k : Holder) → find holder_cmp k h ≡ Some 0 → ⊥
 
 -- Grant and blockers --
 
--- A lock that is asked for: its name, mode and span.
+-- A lock that is requested: its name, mode and span.
 abbrev pub Request : Type 0
 Request = Name × ℕ × Span
 
--- The name that a lock is asked for on.
+-- The name that a lock is requested on.
 abbrev pub name_asked : Request → Name
 name_asked r = r.0
 
--- The mode that is asked for.
+-- The mode that is requested.
 abbrev pub mode_asked : Request → ℕ
 mode_asked r = r.1
 
@@ -103,7 +103,7 @@ mode_asked r = r.1
 abbrev pub span_asked : Request → Span
 span_asked r = r.2
 
--- Whether u conflicts with the request of t: u is another, and the converted mode may not stand beside what u holds on the name.
+-- Whether u conflicts with the request of t: u is another, and the converted mode conflicts with what u holds on the name.
 abbrev pub conflicts : Protocol → Locks → ℕ → Request → ℕ → Bool
 conflicts p h t r u = not (u == t) && not (p.ok (p.convert (own h t (name_asked r)) (mode_asked r)) (own h u (name_asked r)))
 

@@ -22,7 +22,7 @@ no_log = record { unfinished = []; committed = [] }
 abbrev pub operations_so_far : Log → ℕ → List Answered
 operations_so_far l t = unwrap_or (find nat_cmp t l.unfinished) []
 
--- The operations but for the changes taken back.
+-- The operations but for the changes undone.
 abbrev pub without_backs : List Answered → List Answered
 without_backs os = filter (λ x. not (is_back x.0)) os
 
@@ -46,7 +46,7 @@ step_logged l t o a = record { unfinished = put nat_cmp t (with_step (operations
 abbrev pub end_logged : Log → ℕ → List Program → Log
 end_logged l t programs = record { unfinished = filter (λ e. not (e.0 == t)) l.unfinished; committed = programs }
 
--- The log after one more entry of the history: a step that is blocked or refused leaves it as it was, and so does a change taken back, since its transaction never commits.
+-- The log after one more entry of the history: a step that is blocked or refused leaves it as it was, and so does a change undone, since its transaction never commits.
 abbrev pub logged : Log → Entry → Log
 logged l (e, reply.Committed) = end_logged l e.txn (l.committed ++ record { txn = e.txn; operations = operations_so_far l e.txn } ∷ [])
 logged l (e, reply.Aborted) = end_logged l e.txn l.committed

@@ -38,7 +38,7 @@ after m k = at m (suc k)
 abbrev pub pairs_between : Map → ℕ → ℕ → List (ℕ × ℕ)
 pairs_between m lo hi = filter (λ e. nat_le lo e.0 && nat_le e.0 hi) m
 
--- Changes taken back --
+-- Changes undone --
 
 -- Changes, newest first: each a key, and what stood there before that change.
 abbrev pub Changes : Type 0
@@ -49,7 +49,7 @@ abbrev pub restore : Map → ℕ → Option ℕ → Map
 restore m k None = without m k
 restore m k (Some v) = set m k v
 
--- The index with the changes taken back, newest first.
+-- The index with the changes undone, newest first.
 abbrev pub restore_all : Map → Changes → Map
 restore_all m [] = m
 restore_all m (c ∷ cs) = restore_all (restore m c.0 c.1) cs

@@ -1,4 +1,4 @@
--- How the bundled lock tables are drawn: matrices by lines, modes from 1.
+-- How the bundled protocols are drawn: matrices by lines, modes from 1.
 use Rattle.std.specs.Prelude.{ℕ, ◌-◌, Bool, ◌||◌, ◌==◌, List, [], Option, Some, if◌then◌else◌, slice_index_or}
 use Rattle.std.specs.List.{list_any}
 use Rattle.kr_model.specs.declared.Span.{Span}
@@ -12,11 +12,11 @@ stands_in xs x = list_any (λ y. x == y) xs
 abbrev pub line : List (List ℕ) → ℕ → List ℕ
 line lines m = slice_index_or lines (m - 1) []
 
--- A line for each mode asked for, with the held modes that it may stand beside; no lock stands beside all.
+-- A line for each mode requested, with the held modes that it is compatible with; requesting none is compatible with all.
 abbrev pub ok_by : List (List ℕ) → ℕ → ℕ → Bool
 ok_by lines q h = q == 0 || h == 0 || stands_in (line lines q) h
 
--- A line for each held mode, with the converted mode for each mode asked for; no lock and a mode convert to that mode.
+-- A line for each held mode, with the converted mode for each mode requested; no lock and a mode convert to that mode.
 abbrev pub convert_by : List (List ℕ) → ℕ → ℕ → ℕ
 convert_by lines h q = if h == 0 then q else if q == 0 then h else slice_index_or (line lines h) (q - 1) 0
 

@@ -1,4 +1,4 @@
--- What an attempt asks for: its row of the lock table, the names that it speaks of, and the requests.
+-- What an attempt requests: its row of the table, the names that it speaks of, and the requests.
 use Rattle.std.specs.Prelude.{ℕ, nat_le, List, ◌++◌, Option, Some, None, if◌then◌else◌, is_some}
 use Rattle.std.specs.Option.{option_to_list}
 use Rattle.kr_model.specs.declared.Name.{Name}
@@ -43,19 +43,19 @@ own_next h t row.Insert (Some n) = own h t n
 own_next h t row.Delete (Some n) = own h t n
 own_next h t _ _ = 0
 
--- The request of a side, where there is a name and something is asked for.
+-- The request of a side, where there is a name and something is requested.
 abbrev pub side_request : Option Name → Option (ℕ × Span) → Option Request
 side_request None asked = None
 side_request (Some n) None = None
 side_request (Some n) (Some (m, s)) = Some (n, m, s)
 
--- What t asks for by this access.
+-- What t requests by this access.
 abbrev pub plan_by : Protocol → Locks → ℕ → Access → Plan
 plan_by p h t a =
     let o = own_next h t a.row a.next in
     record { row = a.row; current = side_request a.current (p.ask a.row Current o); next = side_request a.next (p.ask a.row Next o) }
 
--- What t asks for by this attempt.
+-- What t requests by this attempt.
 abbrev pub plan_of : Protocol → Map → Locks → ℕ → Step → Plan
 plan_of p m h t a = plan_by p h t (access_of m a)
 

@@ -26,7 +26,7 @@ key_part m = slice_index_or (0 ∷ 1 ∷ 3 ∷ 0 ∷ 1 ∷ 3 ∷ 0 ∷ 1 ∷ 3 �
 abbrev pub mode_of : ℕ → ℕ → ℕ
 mode_of range key = 3 * range + (if key == exclusive then 2 else key)
 
--- Parts may stand beside each other where one of them is 0, or where both are shared or both insert.
+-- Parts are compatible where one of them is 0, or where both are shared or both insert.
 abbrev pub parts_ok : ℕ → ℕ → Bool
 parts_ok a b = a == 0 || b == 0 || (a == b && (a == 1 || a == 2))
 
@@ -34,7 +34,7 @@ parts_ok a b = a == 0 || b == 0 || (a == b && (a == 1 || a == 2))
 abbrev pub part_after : ℕ → ℕ → ℕ
 part_after a b = if a == 0 then b else if b == 0 then a else if a == b then a else exclusive
 
--- Two modes may stand beside each other where both their parts may.
+-- Two modes are compatible where both their parts are.
 abbrev pub range_key_ok : ℕ → ℕ → Bool
 range_key_ok q h = parts_ok (range_part q) (range_part h) && parts_ok (key_part q) (key_part h)
 
@@ -74,7 +74,7 @@ X-X = 11
 abbrev pub has_read_range : ℕ → Bool
 has_read_range m = range_part m == 1 || range_part m == exclusive
 
--- What each row and side asks for.
+-- What each row and side requests.
 abbrev pub range_key_ask : Row → Side → ℕ → Option (ℕ × Span)
 range_key_ask FetchHit Current own = for_commit N-S
 range_key_ask FetchMiss Next own = for_commit S-N

@@ -1,4 +1,4 @@
--- Whole operations, one after another, and what it is for programs to be serial.
+-- Whole operations, one after another, and what it is for committed programs to be serializable in commit order.
 use Rattle.std.specs.Prelude.{◌≡◌, ℕ, List, [], ◌∷◌, Option, Some, None}
 use Rattle.std.specs.List.{flat_map}
 use Rattle.std.specs.List.Sorted.{IsPermutation}
@@ -67,23 +67,23 @@ abbrev pub map_left : Map → List Answered → Map
 map_left m [] = m
 map_left m ((o, a) ∷ rest) = map_left (whole m o).1 rest
 
--- The programs are serial from m: they have the answers that they have when run whole, one after another.
+-- Programs in commit order are serializable in it, from the map m: each answer is the one that the serial run gives, in which they run whole, one after another.
 abbrev pub AreSerial : Map → List Program → Type 0
 AreSerial m ps = AreAnswered m (all_operations ps)
 
 -- The main theorem --
 
--- The map with the changes of each of these transactions taken back, one transaction after another.
+-- The map with the changes of each of these transactions undone, one transaction after another.
 abbrev pub rolled_back : Map → List (ℕ × Active) → Map
 rolled_back m [] = m
 rolled_back m ((t, a) ∷ rest) = rolled_back (restore_all m a.changes) rest
 
--- The committed programs are serial in commit order from the opening map, and the index with the unfinished rolled back, in any order, is the map so left.
+-- The committed programs are serializable in commit order from the opening map, and the index with the unfinished rolled back, in any order, is the map so left.
 abbrev pub IsSerialRun : Map → Trace → Type 0
 IsSerialRun opening r =
     AreSerial opening (programs r.history)
     × ((unfinished : List (ℕ × Active)) → IsPermutation r.state.active unfinished → rolled_back r.state.map unfinished ≡ map_left opening (all_operations (programs r.history)))
 
--- Every run under p is serial, from any opening map and by any list of events.
+-- Every run under p is serializable in commit order, from any opening map and by any list of events.
 abbrev pub RunsAreSerial : Protocol → Type 0
 RunsAreSerial p = (opening : Map) (events : List Event) → IsMap opening → IsSerialRun opening (run p (start opening) events)

@@ -56,6 +56,6 @@ is_scanning s t = is_some (standing s t).scan
 abbrev pub is_rolling : State → ℕ → Bool
 is_rolling s t = (standing s t).rolling
 
--- Whether t has no change left that it could take back.
+-- Whether t has no change left that it could undo.
 abbrev pub has_nothing_left : State → ℕ → Bool
 has_nothing_left s t = is_empty (standing s t).changes

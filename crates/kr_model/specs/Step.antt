@@ -24,13 +24,13 @@ use Rattle.kr_model.specs.State.{Scan, Active, State, active_of, standing, has_e
 abbrev pub is_full : State → ℕ → Bool
 is_full s t = not (is_some (active_of s t)) && nat_le 64 (length s.active)
 
--- The operations that take changes back: one change, and all that are left. No other is allowed once one was taken back.
+-- The operations that undo changes: one change, and all that are left. No other is allowed once one was undone.
 abbrev pub takes_back : Op → Bool
 takes_back op.Back = true
 takes_back op.Abort = true
 takes_back _ = false
 
--- The operations that a scan in progress allows: to go on with it, and to take changes back.
+-- The operations that a scan in progress allows: to go on with it, and to undo changes.
 abbrev pub goes_on : Op → Bool
 goes_on op.Go = true
 goes_on o = takes_back o
@@ -50,7 +50,7 @@ abbrev pub is_update : Op → Bool
 is_update (op.Update k v) = true
 is_update _ = false
 
--- Whether the operation takes one change back.
+-- Whether the operation undoes one change.
 abbrev pub is_back : Op → Bool
 is_back op.Back = true
 is_back _ = false
@@ -136,7 +136,7 @@ name_to_look m c = name_after m c.lo c.rows
 abbrev pub Outcome : Type 0
 Outcome = Reply × State
 
--- A granted attempt of t: its effect, with the locks asked for by commit requests, and t is active.
+-- A granted attempt of t: its effect, with the locks requested by commit requests, and t is active.
 abbrev pub after_effect : Protocol → State → ℕ → List Request → Effect → Outcome
 after_effect p s t rs e =
     (e.reply, record { map = e.map; locks = kept p s.locks t rs; ended = s.ended; active = put nat_cmp t e.standing s.active })
@@ -163,7 +163,7 @@ abbrev pub ended_with : State → ℕ → Map → State
 ended_with s t m =
     record { map = m; locks = release s.locks t; ended = add_once t s.ended; active = filter (λ e. not (e.0 == t)) s.active }
 
--- The newest change of t is taken back, and these are left: t rolls back from now on, keeps its locks, and has no scan in progress.
+-- The newest change of t is undone, and these are left: t rolls back from now on, keeps its locks, and has no scan in progress.
 abbrev pub one_taken_back : State → ℕ → Changes → Outcome
 one_taken_back s t [] = (reply.Refused refusal.NothingLeft, s)
 one_taken_back s t (c ∷ cs) =
@@ -198,11 +198,11 @@ is_end op.Commit = true
 is_end op.Abort = true
 is_end _ = false
 
--- The operations that take no memory of an active transaction: those that end it, and to take one change back.
+-- The operations that take no memory of an active transaction: those that end it, and to undo one change.
 abbrev pub takes_no_memory : Op → Bool
 takes_no_memory o = is_end o || is_back o
 
--- Whether `Memory` may be answered: in place of no other refusal, and not where an active transaction ends or takes a change back.
+-- Whether `Memory` may be answered: in place of no other refusal, and not where an active transaction ends or undoes a change.
 abbrev pub may_lack_memory : Protocol → State → ℕ → Op → Bool
 may_lack_memory p s t o = not (is_some (refusal_of p s t o)) && not (takes_no_memory o && is_some (active_of s t))
 

@@ -1,4 +1,4 @@
-//! The words of key-range locking that code and definitions share: lock names, rows and sides of a lock table,
+//! The words of key-range locking that code and definitions share: lock names, rows and sides of a table,
 //! operations, replies and refusals, and what the case checker tells. `specs/` defines what they mean.
 #![tactic(auto)]
 
@@ -26,7 +26,7 @@ pub enum Name {
     End,
 }
 
-/// What an operation finds in the index, which chooses the row of the lock table.
+/// What an operation finds in the index, which chooses the row of the table.
 #[derive(Clone, Copy, Debug, PartialEq, Eq)]
 pub enum Row {
     /// A fetch of a present key, or an insert of one.
@@ -45,7 +45,7 @@ pub enum Row {
     Update,
 }
 
-/// Which of its two names an operation asks for a lock on.
+/// Which of its two names an operation requests a lock on.
 #[derive(Clone, Copy, Debug, PartialEq, Eq)]
 pub enum Side {
     /// The key that the operation names.
@@ -104,22 +104,22 @@ pub enum Rule {
 /// The modes that a case is taken at.
 #[derive(Clone, Copy, Debug, PartialEq, Eq)]
 pub enum Origin {
-    /// The own mode on the name that the row asks for.
+    /// The own mode on the name that the row requests.
     Own(Mode),
-    /// The held mode of a conversion, and the mode asked for.
+    /// The held mode of a conversion, and the mode requested.
     Conversion { held: Mode, asked: Mode },
     /// The own modes of an insert, on the next name and on the key.
     Insert { own_next: Mode, own: Mode },
 }
 
-/// A place where a lock may be asked for, and what the asker holds already.
+/// A place where a lock may be requested, and what the requester holds already.
 #[derive(Clone, Copy, Debug, PartialEq, Eq)]
 pub struct Place {
     pub row: Row,
     pub side: Side,
-    /// The asker's own mode on the name.
+    /// The requester's own mode on the name.
     pub own: Mode,
-    /// The asker's own mode on the next name; at the side `Next` that is `own`.
+    /// The requester's own mode on the next name; at the side `Next` that is `own`.
     pub own_next: Mode,
 }
 
@@ -175,7 +175,7 @@ pub struct LockState {
 pub enum Refusal {
     /// The transaction has committed or aborted.
     Ended,
-    /// A scan is in progress, and the operation neither goes on with it nor takes changes back.
+    /// A scan is in progress, and the operation neither goes on with it nor undoes changes.
     Busy,
     /// No scan is in progress to go on with.
     NoScan,
@@ -189,7 +189,7 @@ pub enum Refusal {
     NoUpdate,
     /// The transaction rolls back, and the operation takes no changes back.
     RollingBack,
-    /// The transaction has no change left to take back.
+    /// The transaction has no change left to undo.
     NothingLeft,
 }
 
@@ -210,7 +210,7 @@ pub enum Op {
     Update(u64, u64),
     /// Ends the transaction and keeps its changes.
     Commit,
-    /// Ends the transaction and takes its changes back.
+    /// Ends the transaction and undoes its changes.
     Abort,
     /// Takes the newest change back. From then on the transaction rolls back: it takes only this and an abort.
     Back,
@@ -227,7 +227,7 @@ pub enum Step {
     Look(Name, u64),
 }
 
-/// The row of an attempt, and the lock that it asks for at each side: its name, mode and span.
+/// The row of an attempt, and the lock that it requests at each side: its name, mode and span.
 #[derive(Clone, Copy, Debug, PartialEq, Eq)]
 pub struct Plan {
     pub row: Row,
@@ -265,7 +265,7 @@ pub enum Reply {
     Updated(u64),
     Committed,
     Aborted,
-    /// The newest change was taken back, and so many changes are left.
+    /// The newest change was undone, and so many changes are left.
     Undone(u64),
     /// These transactions hold locks that refuse the step, which changed nothing; rising, each once.
     Blocked(Txns),

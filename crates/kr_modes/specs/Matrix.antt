@@ -27,11 +27,11 @@ pub record IsMatrix (x : Matrix) : Type 0 where
   pub conversion_square : length x.conversion ≡ length x.names * length x.names
   pub conversion_modes : All (λ m. (0 < m) × (m ≤ length x.names)) x.conversion
 
--- whether a request in mode q may stand beside a lock held in mode h; no mode stands beside all
+-- whether a request in mode q is compatible with a lock held in mode h; where one of them is 0, it is
 abbrev pub ok_of : Matrix → ℕ → ℕ → Bool
 ok_of x q h = (q == 0) || ((h == 0) || slice_index_or x.compatible ((q - 1) * length x.names + (h - 1)) false)
 
--- the mode of one who holds h and asks for q; no mode adds nothing
+-- the mode of one who holds h and requests q; 0 adds nothing
 abbrev pub convert_of : Matrix → ℕ → ℕ → ℕ
 convert_of x h q = if h == 0 then q else (if q == 0 then h else slice_index_or x.conversion ((h - 1) * length x.names + (q - 1)) 0)
 
@@ -39,11 +39,11 @@ convert_of x h q = if h == 0 then q else (if q == 0 then h else slice_index_or x
 abbrev pub IsNamed : Matrix → List ℕ → ℕ → Type 0
 IsNamed x name m = (0 < m) × (m ≤ length x.names) × (name_of x.names m ≡ name)
 
--- h is a mode, and a request in mode q may not stand beside it
+-- h is a mode, and a request in mode q conflicts with it
 abbrev pub conflicts_of : Matrix → ℕ → ℕ → Bool
 conflicts_of x q h = (nat_lt 0 h && nat_le h (length x.names)) && not (ok_of x q h)
 
--- bit h of r is set exactly where h is a mode, and a request in mode q may not stand beside it
+-- bit h of r is set exactly where h is a mode, and a request in mode q conflicts with it
 abbrev pub IsRowOf : Matrix → ℕ → ℕ → Type 0
 IsRowOf x q r = (h : ℕ) → bit_at r h ≡ (if conflicts_of x q h then 1 else 0)
 

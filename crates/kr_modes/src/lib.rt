@@ -1,5 +1,5 @@
-//! The modes of a lock table that is made while the program runs: their names, which of them may
-//! stand beside each other, and how they combine.
+//! The modes of a table that is made while the program runs: their names, which of them
+//! are compatible, and how they combine.
 #![tactic(auto)]
 
 mod modes;

@@ -38,7 +38,7 @@ fn place(count: usize, first: Mode, second: Mode) -> usize
     (first as usize - 1) * count + (second as usize - 1)
 }
 
-/// Whether a request in a mode may stand beside a held mode, by the square of the modes with these names.
+/// Whether a request in a mode is compatible with a held mode, by the square of the modes with these names.
 fn entry(names: &[String], ok: &[bool], requested: Mode, held: Mode) -> bool
     requires few { length names.now ≤ 15 }
     requires square { length ok.now ≡ length names.now * length names.now }
@@ -80,8 +80,8 @@ fn rows_of(names: &[String], ok: &[bool]) -> [u16; 16]
 
 impl Modes {
     /// Modes with these names. Of `m` names, entry `(q - 1) * m + h - 1` of `ok` says whether a
-    /// request in mode `q` may stand beside a lock held in mode `h`, and entry
-    /// `(h - 1) * m + q - 1` of `convert` is the mode of one who holds `h` and asks for `q`.
+    /// request in mode `q` is compatible with a lock held in mode `h`, and entry
+    /// `(h - 1) * m + q - 1` of `convert` is the mode of one who holds `h` and requests `q`.
     ///
     /// There are 1 to 15 names, each of 1 to 24 bytes from 32 to 126; no name is `none`, and none
     /// stands twice. `ok` and `convert` have `m * m` entries, those of `convert` from 1 to `m`.
@@ -106,8 +106,8 @@ impl Modes {
         self.names.len() as Mode
     }
 
-    /// Whether a request in one mode may stand beside a lock that another holds. No lock stands
-    /// beside every mode, and every mode beside no lock.
+    /// Whether a request in one mode is compatible with a lock that another holds. Where
+    /// nothing is held or nothing is requested, it is.
     pub fn ok(&self, requested: Mode, held: Mode) -> bool
         requires requested_is_mode { requested ≤ length self.now.names }
         requires held_is_mode { held ≤ length self.now.names }
@@ -119,7 +119,7 @@ impl Modes {
         self.compatible[place(self.names.len(), requested, held)]
     }
 
-    /// The modes that a request in one mode may not stand beside, each as a bit: bit `h` is set
+    /// The modes that a request in one mode conflicts with, each as a bit: bit `h` is set
     /// exactly where `h` is a mode and `ok` of the request and `h` is false.
     pub fn row(&self, requested: Mode) -> u16
         requires { requested ≤ length self.now.names }
@@ -128,8 +128,8 @@ impl Modes {
         self.rows[requested as usize]
     }
 
-    /// The mode of one who holds a mode and asks for another. Who holds no lock gets the mode asked
-    /// for, and who asks for none keeps the one held.
+    /// The mode of one who holds a mode and requests another. Who holds no lock gets the mode asked
+    /// for, and who requests none keeps the one held.
     pub fn convert(&self, held: Mode, requested: Mode) -> Mode
         requires held_is_mode { held ≤ length self.now.names }
         requires requested_is_mode { requested ≤ length self.now.names }

@@ -1,4 +1,4 @@
--- A plan asks for modes of its protocol.
+-- A plan requests modes of its protocol.
 use Rattle.std.proofs.Common.{◌≡◌, ℕ, ◌≤◌, Option, Some, None, refl, arith}
 use Rattle.kr_model.specs.declared.Name.{Name}
 use Rattle.kr_model.specs.declared.Row.{Row}
@@ -35,6 +35,6 @@ modes_by p h t a laws w =
     let le = own_next_within p.count h t a.row a.next w in
     (side_mode p a.row Current (own_next h t a.row a.next) a.current (p.ask a.row Current (own_next h t a.row a.next)) laws le refl, side_mode p a.row Next (own_next h t a.row a.next) a.next (p.ask a.row Next (own_next h t a.row a.next)) laws le refl)
 
--- The plan of an attempt under a lawful protocol asks for its modes.
+-- The plan of an attempt under a lawful protocol requests its modes.
 pub plan_modes : (p : Protocol) (m : Map) (h : Locks) (t : ℕ) (a : Step) → IsLawful p → AreWithin p.count h → ArePlanModes p.count (plan_of p m h t a)
 plan_modes p m h t a laws w = modes_by p h t (access_of m a) laws w

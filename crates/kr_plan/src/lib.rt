@@ -1,4 +1,4 @@
-//! What an attempt asks for, and whose locks conflict with it.
+//! What an attempt requests, and whose locks conflict with it.
 #![tactic(auto)]
 
 ghost use Rattle.std.specs.Prelude.{◌≡◌, ℕ, ◌<◌, ◌≤◌, IsTrue, List, [], ◌∷◌, OnOk, IfOk, ◌↔◌};
@@ -15,12 +15,12 @@ use kr_model::{Plan, Row, Side, Span, Step};
 use kr_protocol::Protocol;
 use std::alloc::Global;
 
-/// What an attempt asks for: its row by what the index has now, and the request of each side, `None` where nothing is
-/// asked for there.
+/// What an attempt requests: its row by what the index has now, and the request of each side, `None` where nothing is
+/// requested there.
 ///
 /// An insert of a present key goes by the row fetch hit, and a delete or an update of an absent one by fetch miss. An
 /// insert or a delete tells the protocol the transaction's own mode on the next name. The held modes are at most the
-/// protocol's count, and the modes asked for are its modes. Takes no memory.
+/// protocol's count, and the modes requested are its modes. Takes no memory.
 pub fn plan<P: Protocol, I: Ordered, L: Holdings>(
     protocol: &P,
     index: &I,
@@ -68,7 +68,7 @@ fn names<I: Ordered>(index: &I, step: Step) -> (Row, Option<Name>, Option<Name>)
     }
 }
 
-/// The request of a side, where there is a name and something is asked for.
+/// The request of a side, where there is a name and something is requested.
 fn side(name: Option<Name>, asked: Option<(Mode, Span)>) -> Option<(Name, Mode, Span)>
     ensures { result ≡ side_request name asked }
 {
@@ -78,7 +78,7 @@ fn side(name: Option<Name>, asked: Option<(Mode, Span)>) -> Option<(Name, Mode, 
     }
 }
 
-/// What a row asks for at these names.
+/// What a row requests at these names.
 fn plan_at<P: Protocol, L: Holdings>(
     protocol: &P,
     locks: &L,
@@ -121,8 +121,8 @@ fn side_granted<P: Protocol, L: Holdings>(
 
 /// Whether no other transaction's lock conflicts with a request of a plan.
 ///
-/// Another transaction's lock conflicts where the mode to which the own one would be converted may not stand beside it.
-/// Requests for an instant count as those to commit. The modes asked for are the protocol's, and the held ones at most
+/// Another transaction's lock conflicts where the mode to which the own one would be converted conflicts with it.
+/// Requests for an instant count as those to commit. The modes requested are the protocol's, and the held ones at most
 /// its count. Takes no memory.
 pub fn granted<P: Protocol, L: Holdings>(protocol: &P, locks: &L, txn: Txn, plan: &Plan) -> bool
     requires held { AreWithin (P.table protocol.now).count (L.locks locks.now) }
@@ -180,8 +180,8 @@ fn add_all(list: &mut Vec<Txn>, more: &[Txn]) -> Result<(), Memory>
     Ok(())
 }
 
-/// The transactions whose locks conflict with a request of a plan, as `granted` says it, rising, each once; or `Memory` where a growth
-/// is refused. There are none exactly where the plan is granted.
+/// The transactions whose locks conflict with a request of a plan, as `granted` says it, rising, each once; or `Memory` where
+/// a growth is refused. There are none exactly where the plan is granted.
 ///
 /// The conditions on modes are those of `granted`.
 pub fn blockers<P: Protocol, L: Holdings>(

@@ -30,6 +30,6 @@ no_bit true true e = refl
 no_bit false b e = refl
 no_bit true false e = absurd (cc)
 
--- where every mode may stand beside a request, its row is 0
+-- where every mode is compatible with a request, its row is 0
 pub no_conflicts : (p : Protocol) (q : ℕ) → ((h : ℕ) → p.ok q h ≡ true) → IsRow p q 0
 no_conflicts p q free h = bit_at-zero h ∙ sym (no_bit (nat_lt 0 h && nat_le h p.count) (p.ok q h) (free h))

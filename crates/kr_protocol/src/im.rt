@@ -17,7 +17,7 @@ const X: Mode = 2;
 
 /// Index-specific locking, with the modes S and X, which are 1 and 2.
 ///
-/// A request (down) may stand beside a lock that another transaction holds (across) where there is
+/// A request (down) is compatible with a lock that another transaction holds (across) where there is
 /// a `+`:
 ///
 /// ```text
@@ -27,7 +27,7 @@ const X: Mode = 2;
 ///   X                   +
 /// ```
 ///
-/// The mode of one who holds a mode (down) and asks for another (across):
+/// The mode of one who holds a mode (down) and requests another (across):
 ///
 /// ```text
 ///   held \ requested   none   S     X
@@ -36,7 +36,7 @@ const X: Mode = 2;
 ///   X                  X      X     X
 /// ```
 ///
-/// What each row asks for on the current name and on the next name, and until when it is held:
+/// What each row requests on the current name and on the next name, and until when it is held:
 ///
 /// ```text
 ///   row          current            next
@@ -54,7 +54,7 @@ const X: Mode = 2;
 #[derive(Clone, Copy, Debug, PartialEq, Eq)]
 pub struct Im;
 
-/// Whether a request (down) may stand beside a held lock (across).
+/// Whether a request (down) is compatible with a held lock (across).
 static COMPATIBLE: [[bool; 3]; 3] = [
     // none, S, X
     [true, true, true], // none
@@ -62,7 +62,7 @@ static COMPATIBLE: [[bool; 3]; 3] = [
     [true, false, false], // X
 ];
 
-/// The mode of one who holds a mode (down) and asks for another (across).
+/// The mode of one who holds a mode (down) and requests another (across).
 static CONVERTED: [[Mode; 3]; 3] = [
     // none, S, X
     [NONE, S, X],
@@ -70,7 +70,7 @@ static CONVERTED: [[Mode; 3]; 3] = [
     [X, X, X],
 ];
 
-/// The modes that a request may not stand beside, each as a bit, by the mode requested.
+/// The modes that a request conflicts with, each as a bit, by the mode requested.
 static ROWS: [u16; 3] = [0, 4, 6];
 
 impl Protocol for Im {

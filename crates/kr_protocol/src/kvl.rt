@@ -27,7 +27,7 @@ pub(crate) const X: Mode = 5;
 
 /// Key-value locking on a unique index, with the modes IS, IX, S, SIX and X, which are 1 to 5.
 ///
-/// A request (down) may stand beside a lock that another transaction holds (across) where there is
+/// A request (down) is compatible with a lock that another transaction holds (across) where there is
 /// a `+`:
 ///
 /// ```text
@@ -40,7 +40,7 @@ pub(crate) const X: Mode = 5;
 ///   X                   +
 /// ```
 ///
-/// The mode of one who holds a mode (down) and asks for another (across):
+/// The mode of one who holds a mode (down) and requests another (across):
 ///
 /// ```text
 ///   held \ requested   none   IS    IX    S     SIX   X
@@ -52,7 +52,7 @@ pub(crate) const X: Mode = 5;
 ///   X                  X      X     X     X     X     X
 /// ```
 ///
-/// What each row asks for on the current name and on the next name, and until when it is held:
+/// What each row requests on the current name and on the next name, and until when it is held:
 ///
 /// ```text
 ///   row          current                               next
@@ -71,7 +71,7 @@ pub(crate) const X: Mode = 5;
 #[derive(Clone, Copy, Debug, PartialEq, Eq)]
 pub struct Kvl;
 
-/// Whether a request (down) may stand beside a held lock (across).
+/// Whether a request (down) is compatible with a held lock (across).
 static COMPATIBLE: [[bool; 6]; 6] = [
     // none, IS, IX, S, SIX, X
     [true, true, true, true, true, true], // none
@@ -82,7 +82,7 @@ static COMPATIBLE: [[bool; 6]; 6] = [
     [true, false, false, false, false, false], // X
 ];
 
-/// The mode of one who holds a mode (down) and asks for another (across).
+/// The mode of one who holds a mode (down) and requests another (across).
 static CONVERTED: [[Mode; 6]; 6] = [
     // none, IS, IX, S, SIX, X
     [NONE, IS, IX, S, SIX, X],
@@ -93,7 +93,7 @@ static CONVERTED: [[Mode; 6]; 6] = [
     [X, X, X, X, X, X],
 ];
 
-/// The modes that a request may not stand beside, each as a bit, by the mode requested.
+/// The modes that a request conflicts with, each as a bit, by the mode requested.
 static ROWS: [u16; 6] = [0, 32, 56, 52, 60, 62];
 
 /// The name of a mode.

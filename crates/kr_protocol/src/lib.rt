@@ -1,4 +1,4 @@
-//! Lock protocols of ordered indexes: what one is, which ones are covered, and the four that
+//! Locking protocols of ordered indexes: what one is, which ones are covered, and the four that
 //! come with the checker.
 #![tactic(auto)]
 

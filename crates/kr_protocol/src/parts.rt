@@ -21,7 +21,7 @@ pub(crate) enum KeyPart {
 }
 
 impl RangePart {
-    /// Whether a request with this part may stand beside a lock with that part.
+    /// Whether a request with this part is compatible with a lock with that part.
     pub(crate) fn stands_beside(self, held: RangePart) -> bool
         ensures { result ≡ parts_ok (range_number self) (range_number held) }
     {
@@ -32,7 +32,7 @@ impl RangePart {
         }
     }
 
-    /// The part of one who holds this part and asks for that one.
+    /// The part of one who holds this part and requests that one.
     pub(crate) fn joined_with(self, requested: RangePart) -> RangePart
         ensures { range_number result ≡ part_after (range_number self) (range_number requested) }
     {
@@ -46,7 +46,7 @@ impl RangePart {
 }
 
 impl KeyPart {
-    /// Whether a request with this part may stand beside a lock with that part.
+    /// Whether a request with this part is compatible with a lock with that part.
     pub(crate) fn stands_beside(self, held: KeyPart) -> bool
         ensures { result ≡ parts_ok (key_number self) (key_number held) }
     {
@@ -56,7 +56,7 @@ impl KeyPart {
         }
     }
 
-    /// The part of one who holds this part and asks for that one.
+    /// The part of one who holds this part and requests that one.
     pub(crate) fn joined_with(self, requested: KeyPart) -> KeyPart
         ensures { key_number result ≡ part_after (key_number self) (key_number requested) }
     {

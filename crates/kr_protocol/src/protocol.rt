@@ -1,4 +1,4 @@
-//! What every lock protocol answers.
+//! What every locking protocol answers.
 ghost use Rattle.std.specs.Prelude.{◌≡◌, ℕ, ◌≤◌, List};
 ghost use Rattle.kr_model.specs.Protocol.{Protocol, IsLawful};
 ghost use Rattle.kr_model.specs.Covers.{IsCovered};
@@ -8,8 +8,8 @@ ghost use Rattle.kr_protocol.specs.Rows.{IsRow};
 
 use kr_model::{Mode, Row, Side, Span};
 
-/// A lock protocol: its modes, which of them may stand beside each other, how they combine, and
-/// what each access to the index asks for. No call takes memory or fails.
+/// A locking protocol: its modes, which of them are compatible, how they combine, and
+/// what each access to the index requests. No call takes memory or fails.
 pub trait Protocol: Drop {
     /// Its tables.
     ghost table: { Self → Protocol };
@@ -21,21 +21,21 @@ pub trait Protocol: Drop {
     fn count(&self) -> Mode
         ensures { result ≡ (table self.now).count };
 
-    /// Whether a request in one mode may stand beside a lock that another transaction holds. No
-    /// lock stands beside every mode, and every mode beside no lock.
+    /// Whether a request in one mode is compatible with a lock that another transaction holds. Where
+    /// nothing is held every mode is compatible, and requesting none is compatible with every mode.
     fn ok(&self, requested: Mode, held: Mode) -> bool
         requires requested_is_mode { requested ≤ (table self.now).count }
         requires held_is_mode { held ≤ (table self.now).count }
         ensures { result ≡ (table self.now).ok requested held };
 
-    /// The modes that a request in one mode may not stand beside, each as a bit: bit `h` is set
+    /// The modes that a request in one mode conflicts with, each as a bit: bit `h` is set
     /// exactly where `h` is a mode and `ok` of the request and `h` is false.
     fn row(&self, requested: Mode) -> u16
         requires { requested ≤ (table self.now).count }
         ensures { IsRow (table self.now) requested result };
 
-    /// The mode of one who holds a mode and asks for another. Who holds no lock gets the mode asked
-    /// for, and who asks for none keeps the one held.
+    /// The mode of one who holds a mode and requests another. Who holds no lock gets the mode
+    /// requested, and who requests none keeps the one held.
     fn convert(&self, held: Mode, requested: Mode) -> Mode
         requires held_is_mode { held ≤ (table self.now).count }
         requires requested_is_mode { requested ≤ (table self.now).count }
@@ -46,18 +46,18 @@ pub trait Protocol: Drop {
         requires { mode ≤ (table self.now).count }
         ensures { result.now ≡ name_of (names self.now) mode };
 
-    /// The mode that an access asks for at one side, and how long it is held, where the asker
+    /// The mode that an access requests at one side, and how long it is held, where the requester
     /// holds `own_next` on the next name. At `None` nothing is asked. Only the rows of inserts and
     /// deletes go by `own_next`.
     fn ask(&self, row: Row, side: Side, own_next: Mode) -> Option<(Mode, Span)>
         requires { own_next ≤ (table self.now).count }
         ensures { result ≡ (table self.now).ask row side own_next };
 
-    /// Whether it offers updates. Where it doesn't, an update asks for nothing and is refused.
+    /// Whether it offers updates. Where it doesn't, an update requests nothing and is refused.
     fn updates(&self) -> bool
         ensures { result ≡ (table self.now).updates };
 
-    /// No lock adds nothing and conflicts with nothing, and what is converted or asked for is a mode.
+    /// No lock adds nothing and conflicts with nothing, and what is converted or requested is a mode.
     ghost lawful: { (p : Self) → IsLawful (table p) };
 
     /// Each mode has a name of its own.

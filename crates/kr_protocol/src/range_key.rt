@@ -40,7 +40,7 @@ const X_X: Mode = 11;
 /// both N. The modes are N-S, N-X, S-N, S-S, S-X, I-N, I-S, I-X, X-N, X-S and X-X, which are 1 to
 /// 11.
 ///
-/// A request (down) may stand beside a lock that another transaction holds (across) where both
+/// A request (down) is compatible with a lock that another transaction holds (across) where both
 /// parts may. Those of a part that may are marked by a `+`:
 ///
 /// ```text
@@ -51,7 +51,7 @@ const X_X: Mode = 11;
 ///   X                         +
 /// ```
 ///
-/// So it is for whole modes (no lock stands beside all):
+/// So it is for whole modes (no lock, held or requested, is compatible with all):
 ///
 /// ```text
 ///   requested \ held   N-S   N-X   S-N   S-S   S-X   I-N   I-S   I-X   X-N   X-S   X-X
@@ -68,8 +68,8 @@ const X_X: Mode = 11;
 ///   X-X
 /// ```
 ///
-/// The parts of one who holds a part (down) and asks for another (across), each for itself; where
-/// it holds no lock, the mode is that asked for, and where it asks for no lock, that held:
+/// The parts of one who holds a part (down) and requests another (across), each for itself; where
+/// it holds no lock, the mode is that requested, and where it requests no lock, that held:
 ///
 /// ```text
 ///   range: held \ requested   N   S   I   X       key: held \ requested   N   S   X
@@ -79,7 +79,7 @@ const X_X: Mode = 11;
 ///   X                         X   X   X   X
 /// ```
 ///
-/// What each row asks for on the current name and on the next name, and until when it is held:
+/// What each row requests on the current name and on the next name, and until when it is held:
 ///
 /// ```text
 ///   row          current                               next
@@ -142,7 +142,7 @@ fn mode_of(range: RangePart, key: KeyPart) -> Mode
     }
 }
 
-/// The modes that a request may not stand beside, each as a bit, by the mode requested.
+/// The modes that a request conflicts with, each as a bit, by the mode requested.
 static ROWS: [u16; 12] = [
     0, 2340, 3510, 4032, 4068, 4086, 3640, 3900, 4030, 4088, 4092, 4094,
 ];

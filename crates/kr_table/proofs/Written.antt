@@ -13,7 +13,7 @@ use Rattle.kr_table.proofs.Whole.{judged_parts}
 
 -- a table with the row of updates, or without one --
 
--- the rules, and the document, where this is what an update asks for
+-- the rules, and the document, where this is what an update requests
 abbrev pub rules_with : TableData → Option Request → Members
 rules_with x u = with_update x.modes.names u (all_rows x)
 

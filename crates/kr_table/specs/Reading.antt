@@ -48,7 +48,7 @@ matrix_in modes compatible convert = record {
   conversion = square (converts modes convert) modes modes;
 }
 
--- What is asked for --
+-- What is requested --
 
 -- The clauses of a row and side.
 abbrev pub clauses_of : Data → List ℕ → List ℕ → Items
@@ -58,29 +58,29 @@ clauses_of rules row side = items_in side (data_in row rules)
 abbrev pub span_of : List ℕ → Span
 span_of word = if bytes_eq word (codes "instant") then Instant else Commit
 
--- Whether an `own`, if there is one, names the asker's mode.
+-- Whether an `own`, if there is one, names the requester's mode.
 abbrev pub fits_own : List ℕ → Option Data → Bool
 fits_own own None = true
 fits_own own (Some d) = is_mode (names_of (items_within d)) own
 
--- Whether a clause has no `own`, or one that names the asker's mode.
+-- Whether a clause has no `own`, or one that names the requester's mode.
 abbrev pub fits : List ℕ → Data → Bool
 fits own d = fits_own own (get (codes "own") d)
 
--- What a clause asks for.
+-- What a clause requests.
 abbrev pub request : List (List ℕ) → Data → Request
 request modes d = Some (number modes (unwrap_or (text_in (codes "mode") d) []), span_of (unwrap_or (text_in (codes "span") d) []))
 
--- What the first clause that fits the asker's mode asks for.
+-- What the first clause that fits the requester's mode requests.
 abbrev pub asked : List (List ℕ) → Items → List ℕ → Request
 asked modes no_items own = None
 asked modes (item d ds) own = if fits own d then request modes d else asked modes ds own
 
--- What is asked for at each own mode, from 0, for no lock.
+-- What is requested at each own mode, from 0, for no lock.
 abbrev pub asked_each : List (List ℕ) → Items → List Request
 asked_each modes ds = map (asked modes ds) (codes "none" ∷ modes)
 
--- What an update asks for, where updates are offered.
+-- What an update requests, where updates are offered.
 abbrev pub asked_update : Bool → List (List ℕ) → Data → Option Request
 asked_update u modes rules = if u then Some (asked modes (clauses_of rules (codes "update") (codes "current")) (codes "none")) else None
 

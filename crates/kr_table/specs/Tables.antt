@@ -1,4 +1,4 @@
--- What a table says, and its meaning as a lock protocol.
+-- What a table says, and its meaning as a locking protocol.
 use Rattle.std.specs.Prelude.{◌≡◌, ℕ, ◌+◌, ◌*◌, ◌&&◌, List, [], ◌∷◌, ◌++◌, length, Bool, true, nat_lt, nat_le, Option, Some, None, slice_index_or, unwrap_or, is_some}
 use Rattle.std.specs.List.{list_all}
 use Rattle.kr_model.specs.declared.Row.{Row}
@@ -10,12 +10,12 @@ use Rattle.kr_model.specs.Protocol.{Protocol}
 use Rattle.kr_modes.specs.Matrix.{Matrix, ok_of, convert_of}
 use Rattle.kr_table.specs.DocumentFaults.{is_good}
 
--- The mode and the span that are asked for, or nothing.
+-- The mode and the span that are requested, or nothing.
 abbrev pub Request : Type 0
 Request = Option (ℕ × Span)
 
--- The modes with their names and matrices, and what each row asks for at its sides. Insert and delete have a request for
--- each own mode on the next name, from 0, for no lock. Where updates are offered, the last is what they ask for.
+-- The modes with their names and matrices, and what each row requests at its sides. Insert and delete have a request for
+-- each own mode on the next name, from 0, for no lock. Where updates are offered, the last is what they request.
 pub record TableData : Type 0 where
   pub modes : Matrix
   pub fetch_hit : Request
@@ -30,7 +30,7 @@ pub record TableData : Type 0 where
 
 -- Its meaning --
 
--- What a row asks for at a side, where the asker holds this mode on the next name.
+-- What a row requests at a side, where the requester holds this mode on the next name.
 abbrev pub ask_of : TableData → Row → Side → ℕ → Request
 ask_of x FetchHit Current own = x.fetch_hit
 ask_of x FetchMiss Next own = x.fetch_miss
@@ -62,7 +62,7 @@ are_good before (n ∷ ns) = is_good before n && are_good (before ++ n ∷ []) n
 abbrev pub in_range : ℕ → ℕ → Bool
 in_range m c = nat_lt 0 c && nat_le c m
 
--- Whether what is asked for, if anything, is one of m modes.
+-- Whether what is requested, if anything, is one of m modes.
 abbrev pub asks_mode : ℕ → Request → Bool
 asks_mode m None = true
 asks_mode m (Some (q, s)) = in_range m q

@@ -65,12 +65,12 @@ plain_clauses names (Some (q, s)) = item (table (plain_clause names q s)) no_ite
 abbrev pub own_clause : List (List ℕ) → List ℕ → ℕ → Span → Members
 own_clause names o q s = put (codes "own") (array (strings (o ∷ []))) (plain_clause names q s)
 
--- A clause for one own mode, where something is asked for.
+-- A clause for one own mode, where something is requested.
 abbrev pub own_one : List (List ℕ) → List ℕ → Request → List Data
 own_one names o None = []
 own_one names o (Some (q, s)) = table (own_clause names o q s) ∷ []
 
--- A clause for each own mode at which something is asked for.
+-- A clause for each own mode at which something is requested.
 abbrev pub own_list : List (List ℕ) → List (List ℕ) → List Request → List Data
 own_list names [] rs = []
 own_list names (o ∷ os) [] = []

@@ -71,7 +71,7 @@ fn pair_at<'a>(value: &'a Value, held: &str, requested: &str) -> &'a str
     }
 }
 
-/// Puts behind the line, for each mode held, whether the requested mode may stand beside it.
+/// Puts behind the line, for each mode held, whether the requested mode is compatible with it.
 fn stand_in_line(
     line: &mut Vec<bool>,
     modes: &[String],
@@ -147,7 +147,7 @@ fn span_of(word: &str) -> Span
     }
 }
 
-/// Whether the clause is for an asker with this own mode on the next name.
+/// Whether the clause is for a requester with this own mode on the next name.
 fn fits(clause: &Value, own: &str) -> bool
     ensures { result ≡ spec.fits own.now (view clause.now) }
 {
@@ -160,7 +160,7 @@ fn fits(clause: &Value, own: &str) -> bool
     }
 }
 
-/// What a clause asks for.
+/// What a clause requests.
 fn request(modes: &[String], clause: &Value) -> Option<(Mode, Span)>
     requires { length modes.now ≤ 15 }
     ensures { result ≡ spec.request (map string_bytes modes.now) (view clause.now) }
@@ -171,7 +171,7 @@ fn request(modes: &[String], clause: &Value) -> Option<(Mode, Span)>
     ))
 }
 
-/// What the first clause that fits asks for.
+/// What the first clause that fits requests.
 fn asked(modes: &[String], clauses: &[Value], own: &str) -> Option<(Mode, Span)>
     requires { length modes.now ≤ 15 }
     ensures { result ≡ spec.asked (map string_bytes modes.now) (items_view clauses.now) own.now }
@@ -184,7 +184,7 @@ fn asked(modes: &[String], clauses: &[Value], own: &str) -> Option<(Mode, Span)>
     None
 }
 
-/// What is asked for at each own mode, from 0, for no lock.
+/// What is requested at each own mode, from 0, for no lock.
 fn asked_each(
     alloc: Global,
     modes: &[String],
@@ -201,7 +201,7 @@ fn asked_each(
     Ok(requests)
 }
 
-/// What a row asks for whose operation moves no key.
+/// What a row requests whose operation moves no key.
 fn asked_at(modes: &[String], rules: &Value, row: &str, side: &str) -> Option<(Mode, Span)>
     requires { length modes.now ≤ 15 }
     ensures { result ≡ spec.asked (map string_bytes modes.now) (spec.clauses_of (view rules.now) row.now side.now) (codes "none") }
@@ -209,7 +209,7 @@ fn asked_at(modes: &[String], rules: &Value, row: &str, side: &str) -> Option<(M
     asked(modes, clauses_of(rules, row, side), "none")
 }
 
-/// What an update asks for, where updates are offered.
+/// What an update requests, where updates are offered.
 fn update_at(updates: bool, modes: &[String], rules: &Value) -> Option<Option<(Mode, Span)>>
     requires { length modes.now ≤ 15 }
     ensures { result ≡ spec.asked_update updates (map string_bytes modes.now) (view rules.now) }
@@ -221,7 +221,7 @@ fn update_at(updates: bool, modes: &[String], rules: &Value) -> Option<Option<(M
     }
 }
 
-/// What a row asks for at each own mode, from 0, for no lock.
+/// What a row requests at each own mode, from 0, for no lock.
 fn each_at(
     alloc: Global,
     modes: &[String],

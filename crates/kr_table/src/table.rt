@@ -10,7 +10,7 @@ use kr_modes::{Mode, Modes};
 use kr_protocol::{Protocol, Row, Side, Span};
 
 /// What a table is made of. Insert and delete have a request for each own mode on the next name,
-/// from 0, for no lock. Where updates are offered, the last is what they ask for.
+/// from 0, for no lock. Where updates are offered, the last is what they request.
 #[derive(Debug, Drop)]
 pub struct Parts {
     pub modes: Modes,
@@ -25,7 +25,7 @@ pub struct Parts {
     pub update: Option<Option<(Mode, Span)>>,
 }
 
-/// A lock table that was read: its modes and what its rows ask for. It takes memory only where it is
+/// A table that was read: its modes and what its rows request. It takes memory only where it is
 /// read.
 #[derive(Debug, Drop)]
 pub struct Table {

@@ -74,7 +74,7 @@ MayNoteAs Committing l e = (l.ready ≡ Some e.txn) ⊎ IsTrue (is_some (find na
 MayNoteAs Aborting l e = Unit {0}
 MayNoteAs Nothing l e = Unit {0}
 
--- The same, by the reply: of a step that is blocked or refused nothing is noted, nor of a change taken back, and an abort needs no room.
+-- The same, by the reply: of a step that is blocked or refused nothing is noted, nor of a change undone, and an abort needs no room.
 abbrev pub MayNote : LogWithRoom → Event → Reply → Type 0
 MayNote l e reply.Committed = MayNoteAs Committing l e
 MayNote l e reply.Aborted = Unit {0}

@@ -43,7 +43,7 @@ pub struct Standing {
     pub scan: Option<Scan>,
     /// Its changes left, oldest first: each a key, and the value that stood there before, or nothing.
     pub changes: Vec<(u64, Option<u64>)>,
-    /// Whether it rolls back: a change of it was taken back.
+    /// Whether it rolls back: a change of it was undone.
     pub rolling: bool,
 }
 

@@ -62,8 +62,8 @@ impl Log {
         Ok(())
     }
 
-    /// Notes a step and its reply. A step that was blocked or refused changes nothing. A commit has had room made for it, or its
-    /// transaction is there; an abort needs no room; and any other has had room made for it. Takes no memory.
+    /// Notes a step and its reply. A step that was blocked or refused changes nothing. A commit has had room made for it, or
+    /// its transaction is there; an abort needs no room; and any other has had room made for it. Takes no memory.
     pub fn note(&mut self, event: Event, reply: Reply)
         requires { MayNote self.old event reply }
         ensures { self.new.log ≡ logged self.old.log (event, reply) }

@@ -28,7 +28,7 @@ found_at fs k = slice_index_or fs k nobody
 abbrev pub blockers_at : List Waiting → List Found → ℕ → List ℕ
 blockers_at ws fs k = blockers_of ws (found_at fs k).txn
 
--- each found transaction but the first, which is the asker, blocks one found before it
+-- each found transaction but the first, which is the requester, blocks one found before it
 pub record IsTree (ws : List Waiting) (asker : ℕ) (fs : List Found) : Type 0 where
   pub nonempty : 0 < length fs
   pub first : (found_at fs 0).txn ≡ asker
@@ -44,7 +44,7 @@ pub record IsSearch (ws : List Waiting) (asker : ℕ) (fs : List Found) (m : BTr
   pub places : (t p : ℕ) → get nat_cmp m t ≡ Some p → IsPlace ws (blockers_of ws t) p
   pub others : (t : ℕ) → get nat_cmp m t ≡ None → ((k : ℕ) × (k < length fs) × ((found_at fs k).txn ≡ t)) ⊎ (blockers_of ws t ≡ [])
 
--- none of these is the asker or waits unfound
+-- none of these is the requester or waits unfound
 abbrev pub AreFollowed : ℕ → BTreeMap ℕ ℕ → List ℕ → Type 0
 AreFollowed asker m us = (u : ℕ) → Contains us u → (u ≡ asker → ⊥) × (get nat_cmp m u ≡ None)
 
@@ -64,7 +64,7 @@ pub record IsFollowing (ws : List Waiting) (asker : ℕ) (fs₀ : List Found) (m
   pub goes_on : GoesOn fs₀ m₀ fs m
   pub followed : AreFollowed asker m past
 
--- the distinct transactions from the asker to the found one at k
+-- the distinct transactions from the requester to the found one at k
 pub record IsPath (ws : List Waiting) (asker : ℕ) (fs : List Found) (k : ℕ) (path : List ℕ) : Type 0 where
   pub first : slice_get path 0 ≡ Some asker
   pub distinct : IsDistinct nat_eq path

@@ -18,7 +18,7 @@ abbrev pub AreBlocked : (ℕ → List ℕ) → List ℕ → ℕ → Type 0
 AreBlocked blockers [] end = ⊥
 AreBlocked blockers (t ∷ ts) end = IsChain blockers t ts end
 
--- distinct transactions, the asker first, each blocked by the next, the last by the asker
+-- distinct transactions, the requester first, each blocked by the next, the last by the requester
 pub record IsCycle (blockers : ℕ → List ℕ) (asker : ℕ) (cycle : List ℕ) : Type 0 where
   pub first : slice_get cycle 0 ≡ Some asker
   pub distinct : IsDistinct nat_eq cycle

@@ -18,7 +18,7 @@ pub struct Waiting {
     pub blockers: Vec<u32>,
 }
 
-/// The asker, or a waiting transaction that blocks it, at once or through others.
+/// The requester, or a waiting transaction that blocks it, at once or through others.
 #[derive(Clone, Copy)]
 struct Found {
     /// Its number.
@@ -29,8 +29,8 @@ struct Found {
     from: usize,
 }
 
-/// A cycle of waiting transactions in which the asker is first: distinct transactions, each blocked by the next, the last
-/// by the asker; any one where there are several. `None` exactly where there is no such cycle.
+/// A cycle of waiting transactions in which the requester is first: distinct transactions, each blocked by the next, the last
+/// by the requester; any one where there are several. `None` exactly where there is no such cycle.
 ///
 /// Of several entries of one transaction the first counts. Each entry is read at most once. The only error is that memory
 /// was refused.
@@ -74,7 +74,7 @@ fn places_of(alloc: Global, waits: &[Waiting]) -> Result<BTreeMap<u32, usize>, A
     Ok(places)
 }
 
-/// Tells whether the asker blocks a found transaction; if not, finds all that do and wait.
+/// Tells whether the requester blocks a found transaction; if not, finds all that do and wait.
 fn follow(
     waits: &[Waiting],
     asker: u32,
@@ -105,7 +105,7 @@ fn follow(
     Ok(false)
 }
 
-/// The way from the asker to a found transaction.
+/// The way from the requester to a found transaction.
 fn path_to(alloc: Global, found: &[Found], last: usize) -> Result<Vec<u32>, AllocError>
     requires within { last < length found.now }
     requires before { (k : ℕ) → 0 < k → k < length found.now → (found_at found.now k).from < k }

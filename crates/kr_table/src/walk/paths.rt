@@ -1,4 +1,4 @@
-//! Faults at a path. Each is told, or want of memory where its path isn't made.
+//! Faults at a path. Each is reported, or `Memory` where its path can't be made.
 ghost use Rattle.std.specs.Prelude.{◌≡◌, ◌++◌, ◌∷◌, [], codes};
 ghost use Rattle.kr_table.specs.Faults as fault;
 ghost use Rattle.kr_table.specs.Faults.{Tells};

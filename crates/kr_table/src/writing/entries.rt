@@ -43,7 +43,7 @@ fn chosen(alloc: Global, names: &[String], line: &[bool]) -> Result<Value, Memor
     Ok(Value::Array(texts))
 }
 
-/// An entry for each requested mode: the modes that it may stand beside.
+/// An entry for each requested mode: the modes that it is compatible with.
 pub fn compatibility(alloc: Global, names: &[String], matrix: &[bool]) -> Result<Document, Memory>
     requires { length matrix.now ≡ length names.now * length names.now }
     ensures { IfOk result (λ t. members_view t.entries ≡ spec.with_compatible (map string_bytes names.now) (map string_bytes names.now) matrix.now no_members) }

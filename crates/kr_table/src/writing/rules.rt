@@ -63,7 +63,7 @@ fn own_text(alloc: Global, own: &str) -> Result<Value, Memory>
     Ok(Value::Array(texts))
 }
 
-/// A clause for an asker with this own mode on the next name.
+/// A clause for a requester with this own mode on the next name.
 fn own_clause(
     alloc: Global,
     names: &[String],
@@ -78,7 +78,7 @@ fn own_clause(
     Ok(clause)
 }
 
-/// Puts a clause for this own mode behind the others, where something is asked for.
+/// Puts a clause for this own mode behind the others, where something is requested.
 fn push_clause(
     alloc: Global,
     clauses: &mut Vec<Value>,
@@ -94,7 +94,7 @@ fn push_clause(
     Ok(())
 }
 
-/// The clauses of a side of insert or delete: one for each own mode at which something is asked for.
+/// The clauses of a side of insert or delete: one for each own mode at which something is requested.
 fn own_clauses(
     alloc: Global,
     names: &[String],

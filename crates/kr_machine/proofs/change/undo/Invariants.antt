@@ -3,7 +3,7 @@ use Rattle.kr_model.specs.Map.{restore_all}
 use Rattle.kr_machine.specs.Pins.{changes_of}
 use Rattle.kr_machine.proofs.change.undo.Given as goal
 
--- To take back what is left comes to the same, and each change that is left has its pin.
+-- To undo what is left comes to the same, and each change that is left has its pin.
 abbrev pub invariant-loop-key : goal.invariant-loop-key
 invariant-loop-key g l = record {
   back : restore_all (g.I.Ordered.map l.index) (reverse l.changes.items) ≡ restore_all (g.I.Ordered.map l.initial.index) (reverse l.initial.changes.items);
