@@ -95,7 +95,7 @@ pub struct Rejected<P: Protocol> {
 
 /// Accepts a protocol exactly where every case of it holds; else lists all cases that fail.
 ///
-/// It looks once at each place that a lock has to conflict with, and then at each case. The list alone takes memory, so a
+/// It looks once at each requester that a lock has to conflict with, and then at each case. The list alone takes memory, so a
 /// protocol that is covered is accepted in any case.
 pub fn check<P: Protocol>(alloc: Global, protocol: P) -> Result<Checked<P>, Rejected<P>>
     ensures exactly { IsOk result ↔ IsCovered (P.table protocol) }

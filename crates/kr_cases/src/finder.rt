@@ -5,7 +5,7 @@ ghost use Rattle.kr_model.specs.Covers.{case, all_rules, mode_after, failure, fa
 ghost use Rattle.kr_cases.specs.Holes.{first_open, AreHoles};
 
 use crate::holes::{Holes, holes_of};
-use kr_model::{Cover, FailedCase, Mode, Origin, Place, Row, Rule, Side, Span};
+use kr_model::{Cover, FailedCase, Mode, Origin, Requester, Row, Rule, Side, Span};
 use kr_protocol::Protocol;
 use std::alloc::{AllocError, Global};
 
@@ -48,8 +48,8 @@ pub(crate) struct Finder<'a, P: Protocol> {
 }
 
 impl<P: Protocol> Finder<'_, P> {
-    /// The first place that a mode leaves open of a cover.
-    fn first_open(&self, cover: Cover, mode: Mode) -> Option<Place>
+    /// The first requester that a mode lets through, of those that a cover must conflict with.
+    fn first_open(&self, cover: Cover, mode: Mode) -> Option<Requester>
         requires { mode ≤ (P.table self.now.protocol.now).count }
         ensures { result ≡ first_open (P.table self.now.protocol.now) cover mode }
     {

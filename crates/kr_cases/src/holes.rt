@@ -1,11 +1,11 @@
-//! The first place that each mode leaves open of each cover.
+//! The first requester that each mode lets through, of those that a cover must keep out.
 ghost use Rattle.std.specs.Prelude.{◌≡◌, ◌≤◌, filter, map};
 ghost use Rattle.kr_model.specs.declared.Side.TheVariants as side;
-ghost use Rattle.kr_model.specs.Covers.{must_conflict, place, places_of, modes_or_none, is_open};
+ghost use Rattle.kr_model.specs.Covers.{must_conflict, requester, requesters_at, modes_or_none, is_open};
 ghost use Rattle.kr_model.specs.Firsts.{first};
 ghost use Rattle.kr_cases.specs.Holes.{first_open, AreFirst, AreHoles};
 
-use kr_model::{Cover, Mode, Place, Row, Side};
+use kr_model::{Cover, Mode, Requester, Row, Side};
 use kr_protocol::Protocol;
 
 /// What a lock that has the cover must conflict with, in order: no other transaction may be granted it. What an update asks
@@ -53,76 +53,76 @@ pub fn must_conflict<P: Protocol>(protocol: &P, cover: Cover) -> &'static [(Row,
     }
 }
 
-/// Whether a lock in mode `held` lets the place through: nothing is asked there, or what is asked is compatible with it.
-fn is_open<P: Protocol>(protocol: &P, held: Mode, place: Place) -> bool
+/// Whether a lock in mode `held` lets the requester through: it requests nothing, or the converted mode is compatible.
+fn is_open<P: Protocol>(protocol: &P, held: Mode, requester: Requester) -> bool
     requires held { held ≤ (P.table protocol.now).count }
-    requires own { place.own ≤ (P.table protocol.now).count }
-    requires own_next { place.own_next ≤ (P.table protocol.now).count }
-    ensures { result ≡ is_open (P.table protocol.now) held place }
+    requires own { requester.own ≤ (P.table protocol.now).count }
+    requires own_next { requester.own_next ≤ (P.table protocol.now).count }
+    ensures { result ≡ is_open (P.table protocol.now) held requester }
 {
-    match protocol.ask(place.row, place.side, place.own_next) {
-        Some((mode, _)) => protocol.ok(protocol.convert(place.own, mode), held),
+    match protocol.ask(requester.row, requester.side, requester.own_next) {
+        Some((mode, _)) => protocol.ok(protocol.convert(requester.own, mode), held),
         None => true,
     }
 }
 
-/// The first open place of a requester on the next name, by its own mode there.
-fn first_next<P: Protocol>(protocol: &P, held: Mode, row: Row) -> Option<Place>
+/// The first requester on the next name that gets through, by its own mode there.
+fn first_next<P: Protocol>(protocol: &P, held: Mode, row: Row) -> Option<Requester>
     requires { held ≤ (P.table protocol.now).count }
-    ensures { result ≡ first (filter (is_open (P.table protocol.now) held) (places_of (P.table protocol.now) (row, side.Next))) }
+    ensures { result ≡ first (filter (is_open (P.table protocol.now) held) (requesters_at (P.table protocol.now) (row, side.Next))) }
 {
     for own in 0..protocol.count() + 1 {
-        let place = Place {
+        let requester = Requester {
             row,
             side: Side::Next,
             own,
             own_next: own,
         };
-        if is_open(protocol, held, place) {
-            return Some(place);
+        if is_open(protocol, held, requester) {
+            return Some(requester);
         }
     }
     None
 }
 
-/// The first open place of a requester on the current name who holds `own` there, by its own mode on the next name.
-fn first_holding<P: Protocol>(protocol: &P, held: Mode, row: Row, own: Mode) -> Option<Place>
+/// The first requester on the current name with `own` there that gets through, by its own mode on the next name.
+fn first_holding<P: Protocol>(protocol: &P, held: Mode, row: Row, own: Mode) -> Option<Requester>
     requires held { held ≤ (P.table protocol.now).count }
     requires own { own ≤ (P.table protocol.now).count }
     ensures { result ≡ first (filter (is_open (P.table protocol.now) held)
-        (map (λ n. place (row, side.Current) own n) (modes_or_none (P.table protocol.now)))) }
+        (map (λ n. requester (row, side.Current) own n) (modes_or_none (P.table protocol.now)))) }
 {
     for own_next in 0..protocol.count() + 1 {
-        let place = Place {
+        let requester = Requester {
             row,
             side: Side::Current,
             own,
             own_next,
         };
-        if is_open(protocol, held, place) {
-            return Some(place);
+        if is_open(protocol, held, requester) {
+            return Some(requester);
         }
     }
     None
 }
 
-/// The first open place of a requester on the current name, by its own modes there and on the next name.
-fn first_current<P: Protocol>(protocol: &P, held: Mode, row: Row) -> Option<Place>
+/// The first requester on the current name that gets through, by its own modes there and on the next name.
+fn first_current<P: Protocol>(protocol: &P, held: Mode, row: Row) -> Option<Requester>
     requires { held ≤ (P.table protocol.now).count }
-    ensures { result ≡ first (filter (is_open (P.table protocol.now) held) (places_of (P.table protocol.now) (row, side.Current))) }
+    ensures { result ≡ first (filter (is_open (P.table protocol.now) held) (requesters_at (P.table protocol.now) (row, side.Current))) }
 {
     for own in 0..protocol.count() + 1 {
-        if let Some(place) = first_holding(protocol, held, row, own) {
-            return Some(place);
+        if let Some(requester) = first_holding(protocol, held, row, own) {
+            return Some(requester);
         }
     }
     None
 }
 
-/// The first open place of a requester at a row and side, by its own modes.
-fn first_at<P: Protocol>(protocol: &P, held: Mode, ask: (Row, Side)) -> Option<Place>
+/// The first requester at a row and side that gets through, by its own modes.
+fn first_at<P: Protocol>(protocol: &P, held: Mode, ask: (Row, Side)) -> Option<Requester>
     requires { held ≤ (P.table protocol.now).count }
-    ensures { result ≡ first (filter (is_open (P.table protocol.now) held) (places_of (P.table protocol.now) ask)) }
+    ensures { result ≡ first (filter (is_open (P.table protocol.now) held) (requesters_at (P.table protocol.now) ask)) }
 {
     match ask {
         (row, Side::Current) => first_current(protocol, held, row),
@@ -130,21 +130,21 @@ fn first_at<P: Protocol>(protocol: &P, held: Mode, ask: (Row, Side)) -> Option<P
     }
 }
 
-/// The first place that a lock in mode `held` leaves open, of those that the cover must conflict with.
-fn first_open<P: Protocol>(protocol: &P, cover: Cover, held: Mode) -> Option<Place>
+/// The first requester that a lock in mode `held` lets through, of those that the cover must conflict with.
+fn first_open<P: Protocol>(protocol: &P, cover: Cover, held: Mode) -> Option<Requester>
     requires { held ≤ (P.table protocol.now).count }
     ensures { result ≡ first_open (P.table protocol.now) cover held }
 {
     for ask in must_conflict(protocol, cover) {
-        if let Some(place) = first_at(protocol, held, *ask) {
-            return Some(place);
+        if let Some(requester) = first_at(protocol, held, *ask) {
+            return Some(requester);
         }
     }
     None
 }
 
-/// The first place that each mode leaves open of a cover, by mode, from 0 on.
-fn row_of<P: Protocol>(protocol: &P, cover: Cover) -> [Option<Place>; 16]
+/// The first requester that each mode lets through, of those that a cover must conflict with; by mode, from 0 on.
+fn row_of<P: Protocol>(protocol: &P, cover: Cover) -> [Option<Requester>; 16]
     ensures { AreFirst (P.table protocol.now) cover result }
 {
     let mut row = [None; 16];
@@ -154,14 +154,14 @@ fn row_of<P: Protocol>(protocol: &P, cover: Cover) -> [Option<Place>; 16]
     row
 }
 
-/// The first place that each mode leaves open of each cover, by mode, from 0 on.
+/// The same of each cover.
 #[derive(Drop)]
 pub(crate) struct Holes {
-    pub(crate) read_key: [Option<Place>; 16],
-    pub(crate) read_gap: [Option<Place>; 16],
-    pub(crate) inserted_key: [Option<Place>; 16],
-    pub(crate) deleted_gap: [Option<Place>; 16],
-    pub(crate) updated_key: [Option<Place>; 16],
+    pub(crate) read_key: [Option<Requester>; 16],
+    pub(crate) read_gap: [Option<Requester>; 16],
+    pub(crate) inserted_key: [Option<Requester>; 16],
+    pub(crate) deleted_gap: [Option<Requester>; 16],
+    pub(crate) updated_key: [Option<Requester>; 16],
 }
 
 /// What the modes of a protocol leave open. Takes no memory.

@@ -4,7 +4,7 @@ ghost use Rattle.kr_causes.specs.Causes.{own_next};
 
 use crate::blame::Blame;
 use kr_cases::must_conflict;
-use kr_model::{Cover, FailedCase, Mode, Origin, Place, Row, Rule, Side, Span};
+use kr_model::{Cover, FailedCase, Mode, Origin, Requester, Row, Rule, Side, Span};
 use kr_protocol::Protocol;
 
 /// What may be to blame for a failed case.
@@ -73,11 +73,11 @@ fn is_void<P: Protocol>(protocol: &P, row: Row, side: Side) -> bool {
     }
 }
 
-/// The first place that no lock conflicts with, of those that the cover has to conflict with.
+/// The first requester that no lock conflicts with, of those that the cover has to conflict with.
 fn void_place<P: Protocol>(protocol: &P, cover: Cover) -> Option<Blame> {
     for (row, side) in must_conflict(protocol, cover) {
         if is_void(protocol, *row, *side) {
-            return Some(Blame::Place {
+            return Some(Blame::Requester {
                 row: *row,
                 side: *side,
             });
@@ -102,7 +102,7 @@ fn conflicts<P: Protocol>(protocol: &P, held: Mode, row: Row, side: Side) -> boo
     true
 }
 
-/// Whether a lock in a mode leaves no place open of those that the cover has to conflict with.
+/// Whether a lock in a mode lets none through of those that the cover has to conflict with.
 fn serves<P: Protocol>(protocol: &P, cover: Cover, held: Mode) -> bool {
     for (row, side) in must_conflict(protocol, cover) {
         if !conflicts(protocol, held, *row, *side) {
@@ -152,8 +152,8 @@ fn weakened<P: Protocol>(
     }
 }
 
-/// The conversion by which an asker comes through at the open place, and the pair of modes that stands together there.
-fn let_in<P: Protocol>(protocol: &P, mode: Mode, hole: Place) -> [Option<Blame>; 2] {
+/// The conversion by which the requester gets through, and the pair of modes that is then compatible.
+fn let_in<P: Protocol>(protocol: &P, mode: Mode, hole: Requester) -> [Option<Blame>; 2] {
     let Some((requested, _)) = asked(protocol, hole.row, hole.side, hole.own_next) else {
         return [None, None];
     };
@@ -193,7 +193,7 @@ pub(crate) fn reasons_for<P: Protocol>(protocol: &P, case: &FailedCase) -> Reaso
             let (row, side) = taken_at(case.case);
             let asked = asked(protocol, row, side, own_next(case));
             let first = if is_void(protocol, row, side) {
-                Blame::Place { row, side }
+                Blame::Requester { row, side }
             } else {
                 Blame::Request { row, side, asked }
             };

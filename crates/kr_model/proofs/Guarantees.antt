@@ -13,9 +13,9 @@ use Rattle.kr_model.specs.declared.Cover.TheVariants.{ReadKey, ReadGap, Inserted
 use Rattle.kr_model.specs.declared.Rule.{Rule}
 use Rattle.kr_model.specs.declared.Rule.TheVariants as rule
 use Rattle.kr_model.specs.declared.Origin.TheVariants as origin
-use Rattle.kr_model.specs.declared.Place.{Place}
+use Rattle.kr_model.specs.declared.Requester.{Requester}
 use Rattle.kr_model.specs.Protocol.{Protocol, IsMode}
-use Rattle.kr_model.specs.Covers.{place, Case, case, cases, cases_of, row_cases, all_rules, all_covers, count_up, modes, modes_or_none, must_conflict, if_updating, places_of, open_places, is_open, conflicts_with, serves, is_empty, mode_after, failure, failed_at, is_due, IsCovered}
+use Rattle.kr_model.specs.Covers.{requester, Case, case, cases, cases_of, row_cases, all_rules, all_covers, count_up, modes, modes_or_none, must_conflict, if_updating, requesters_at, open_requesters, is_open, conflicts_with, serves, is_empty, mode_after, failure, failed_at, is_due, IsCovered}
 
 -- x stands in the list
 abbrev pub In : {A : Type 0} → A → List A → Type 0
@@ -89,7 +89,7 @@ each_none f (y ∷ xs) h x i = gives_none f y xs x (f y) refl h i (λ g j. each_
 abbrev pub Serves : Protocol → Cover → ℕ → Type 0
 Serves p c h = serves p c h ≡ true
 
--- what is asked at a place conflicts with h
+-- what a requester requests conflicts with h
 abbrev pub Conflicts : Protocol → ℕ → ℕ → Option (ℕ × Span) → Type 0
 Conflicts p h o None = ⊥
 Conflicts p h o (Some (q, span)) = p.ok (p.convert o q) h ≡ false
@@ -102,27 +102,27 @@ conflict_of_test p h o (Some (q, span)) e = was_not (p.ok (p.convert o q) h) e
     was_not true e = absurd (cc)
     was_not false e = refl
 
-in_places_current : (p : Protocol) (r : Row) (o n : ℕ) → o ≤ p.count → n ≤ p.count → In (place (r, Current) o n) (places_of p (r, Current))
-in_places_current p r o n io in_n =
-    in_flat_map (λ x. map (λ y. place (r, Current) x y) (modes_or_none p)) o (place (r, Current) o n) (modes_or_none p) (in_modes_or_none p o io)
-    (in_map (λ y. place (r, Current) o y) n (modes_or_none p) (in_modes_or_none p n in_n))
+in_requesters_current : (p : Protocol) (r : Row) (o n : ℕ) → o ≤ p.count → n ≤ p.count → In (requester (r, Current) o n) (requesters_at p (r, Current))
+in_requesters_current p r o n io in_n =
+    in_flat_map (λ x. map (λ y. requester (r, Current) x y) (modes_or_none p)) o (requester (r, Current) o n) (modes_or_none p) (in_modes_or_none p o io)
+    (in_map (λ y. requester (r, Current) o y) n (modes_or_none p) (in_modes_or_none p n in_n))
 
-in_places_next : (p : Protocol) (r : Row) (o : ℕ) → o ≤ p.count → In (place (r, Next) o o) (places_of p (r, Next))
-in_places_next p r o io = in_map (λ x. place (r, Next) x x) o (modes_or_none p) (in_modes_or_none p o io)
+in_requesters_next : (p : Protocol) (r : Row) (o : ℕ) → o ≤ p.count → In (requester (r, Next) o o) (requesters_at p (r, Next))
+in_requesters_next p r o io = in_map (λ x. requester (r, Next) x x) o (modes_or_none p) (in_modes_or_none p o io)
 
 -- a mode that serves a cover conflicts with what the cover must conflict with, whatever the requester holds
 pub conflicts_current : (p : Protocol) (c : Cover) (h : ℕ) (r : Row) → Serves p c h → In (r, Current) (must_conflict p c) → (o n : ℕ) → o ≤ p.count → n ≤ p.count → Conflicts p h o (p.ask r Current n)
 conflicts_current p c h r s i o n io in_n =
     conflict_of_test p h o (p.ask r Current n)
-    (none_passes (is_open p h) (flat_map (places_of p) (must_conflict p c)) s (place (r, Current) o n)
-    (in_flat_map (places_of p) (r, Current) (place (r, Current) o n) (must_conflict p c) i (in_places_current p r o n io in_n)))
+    (none_passes (is_open p h) (flat_map (requesters_at p) (must_conflict p c)) s (requester (r, Current) o n)
+    (in_flat_map (requesters_at p) (r, Current) (requester (r, Current) o n) (must_conflict p c) i (in_requesters_current p r o n io in_n)))
 
 -- the same at the side next, where the two own modes are one
 pub conflicts_next : (p : Protocol) (c : Cover) (h : ℕ) (r : Row) → Serves p c h → In (r, Next) (must_conflict p c) → (o : ℕ) → o ≤ p.count → Conflicts p h o (p.ask r Next o)
 conflicts_next p c h r s i o io =
     conflict_of_test p h o (p.ask r Next o)
-    (none_passes (is_open p h) (flat_map (places_of p) (must_conflict p c)) s (place (r, Next) o o)
-    (in_flat_map (places_of p) (r, Next) (place (r, Next) o o) (must_conflict p c) i (in_places_next p r o io)))
+    (none_passes (is_open p h) (flat_map (requesters_at p) (must_conflict p c)) s (requester (r, Next) o o)
+    (in_flat_map (requesters_at p) (r, Next) (requester (r, Next) o o) (must_conflict p c) i (in_requesters_next p r o io)))
 
 -- what is listed only where updates are offered
 pub in_updating : {A : Type 0} (p : Protocol) (x : A) (xs : List A) → p.updates ≡ true → In x xs → In x (if_updating p xs)
@@ -130,13 +130,13 @@ in_updating p x xs up i = subst (λ b. In x (if b then xs else [])) (sym up) i
 
 -- The rules --
 
-no_hole : (c : Case) (ps : List Place) → failed_at c ps ≡ None → is_empty ps ≡ true
+no_hole : (c : Case) (ps : List Requester) → failed_at c ps ≡ None → is_empty ps ≡ true
 no_hole c [] h = refl
 no_hole c (x ∷ ps) h = absurd (cc)
 
 -- of a case that doesn't fail and that asks something, the mode serves the cover
-case_holds : (p : Protocol) (k : Case) (b : Bool) → is_due p k ≡ b → cond b (failed_at k (open_places p k.cover k.mode)) None ≡ None → b ≡ true → Serves p k.cover k.mode
-case_holds p k true e h g = no_hole k (open_places p k.cover k.mode) h
+case_holds : (p : Protocol) (k : Case) (b : Bool) → is_due p k ≡ b → cond b (failed_at k (open_requesters p k.cover k.mode)) None ≡ None → b ≡ true → Serves p k.cover k.mode
+case_holds p k true e h g = no_hole k (open_requesters p k.cover k.mode) h
 case_holds p k false e h g = absurd (cc)
 
 -- a rule that the protocol has to keep

@@ -2,7 +2,7 @@
 use Rattle.std.specs.Prelude.{◌≡◌, ℕ, true, false, List, [], ◌∷◌, Option, Some, None, length, map, filter, refl, slice_get, ◌==◌, if◌then◌else◌}
 use Rattle.std.proofs.Common.{◌∙◌, ap}
 use Rattle.kr_model.specs.Protocol.{Protocol}
-use Rattle.kr_model.specs.Covers.{Ask, place, cases, failed_cases, serves, modes, all_rules, all_covers, case_count, IsCovered}
+use Rattle.kr_model.specs.Covers.{Ask, requester, cases, failed_cases, serves, modes, all_rules, all_covers, case_count, IsCovered}
 use Rattle.kr_model.specs.declared.Row.{Row}
 use Rattle.kr_model.specs.declared.Row.TheVariants as row
 use Rattle.kr_model.specs.declared.Side.{Side}
@@ -24,9 +24,9 @@ use Rattle.kr_model.proofs.CaseCount.{length-cases}
 
 -- How a result is shown --
 
--- A failed case: its rule and cover, what it is taken at, the mode that doesn't serve the cover, and the first place that is open.
+-- A failed case: its rule and cover, what it is taken at, the mode that doesn't serve the cover, and the first requester that is open.
 abbrev pub failed : Rule → Cover → Origin → ℕ → Ask → ℕ → ℕ → FailedCase
-failed r c from mode ask own own_next = record { case = r; cover = c; from = from; mode = mode; hole = place ask own own_next }
+failed r c from mode ask own own_next = record { case = r; cover = c; from = from; mode = mode; hole = requester ask own own_next }
 
 -- The first failed case.
 abbrev pub first_failed : Protocol → Option FailedCase

@@ -2,7 +2,7 @@
 use Rattle.std.specs.Prelude.{◌≡◌, ℕ, Bool, true, false, ◌==◌, ◌&&◌, List, [], ◌∷◌, ◌++◌, Option, Some, None, map, filter, refl, slice_get, if◌then◌else◌}
 use Rattle.std.specs.List.{flat_map}
 use Rattle.kr_model.specs.Protocol.{Protocol}
-use Rattle.kr_model.specs.Covers.{Ask, place, open_places, failed_cases}
+use Rattle.kr_model.specs.Covers.{Ask, requester, open_requesters, failed_cases}
 use Rattle.kr_model.specs.Matrices.{ok_by, convert_by, for_commit}
 use Rattle.kr_model.specs.declared.Row.{Row}
 use Rattle.kr_model.specs.declared.Row.TheVariants.{FetchHit, FetchMiss, ScanKey, ScanStop, Insert, Delete, Update}
@@ -14,7 +14,7 @@ use Rattle.kr_model.specs.declared.Cover.TheVariants.{ReadKey, ReadGap, Inserted
 use Rattle.kr_model.specs.declared.Origin.TheVariants as origin
 use Rattle.kr_model.specs.declared.Rule.TheVariants as rule
 use Rattle.kr_model.specs.declared.FailedCase.{FailedCase}
-use Rattle.kr_model.specs.declared.Place.{Place}
+use Rattle.kr_model.specs.declared.Requester.{Requester}
 use Rattle.kr_model.proofs.WorkedCovers.{one_mode_ask, failed, cover_number}
 
 -- The tables --
@@ -94,17 +94,17 @@ asks_updating = asks ++ (Update, Current) ∷ []
 
 -- What they leave open --
 
--- The place at a of one who holds nothing.
-abbrev pub newcomer : Ask → Place
-newcomer a = place a 0 0
+-- The requester at a that holds nothing.
+abbrev pub newcomer : Ask → Requester
+newcomer a = requester a 0 0
 
 -- What a lock in strict leaves open of a cover, of those who hold nothing on the next name, under each of the eight tables in turn.
-abbrev pub left_open : Cover → List Place
-left_open c = flat_map (λ a. filter (λ x. x.own_next == 0) (open_places (lets_in a) c strict)) asks
+abbrev pub left_open : Cover → List Requester
+left_open c = flat_map (λ a. filter (λ x. x.own_next == 0) (open_requesters (lets_in a) c strict)) asks
 
 -- The same with updates, under each of the nine tables in turn.
-abbrev pub left_open_updating : Cover → List Place
-left_open_updating c = flat_map (λ a. filter (λ x. x.own_next == 0) (open_places (lets_in_updating a) c strict)) asks_updating
+abbrev pub left_open_updating : Cover → List Requester
+left_open_updating c = flat_map (λ a. filter (λ x. x.own_next == 0) (open_requesters (lets_in_updating a) c strict)) asks_updating
 
 -- A read key: one table leaves it open.
 pub read_key-open : left_open ReadKey ≡ newcomer (Delete, Current) ∷ []

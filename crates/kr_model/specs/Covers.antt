@@ -14,7 +14,7 @@ use Rattle.kr_model.specs.declared.Rule.{Rule}
 use Rattle.kr_model.specs.declared.Rule.TheVariants as rule
 use Rattle.kr_model.specs.declared.Origin.{Origin}
 use Rattle.kr_model.specs.declared.Origin.TheVariants as origin
-use Rattle.kr_model.specs.declared.Place.{Place}
+use Rattle.kr_model.specs.declared.Requester.{Requester}
 use Rattle.kr_model.specs.declared.FailedCase.{FailedCase}
 use Rattle.kr_model.specs.Protocol.{Protocol}
 
@@ -52,35 +52,35 @@ must_conflict p DeletedGap = (row.FetchMiss, Next) ∷ (row.ScanKey, Current) �
 must_conflict p UpdatedKey = if_updating p ((row.FetchHit, Current) ∷ (row.ScanKey, Current) ∷ (row.Delete, Current) ∷ (row.Update, Current) ∷ [])
 
 -- A requester at a row and side, with its own modes on the name and on the next name.
-abbrev pub place : Ask → ℕ → ℕ → Place
-place (r, s) own own_next = record { row = r; side = s; own = own; own_next = own_next }
+abbrev pub requester : Ask → ℕ → ℕ → Requester
+requester (r, s) own own_next = record { row = r; side = s; own = own; own_next = own_next }
 
 -- All who may ask at a row and side, own modes rising; at the side next the name is the next name, so the two own modes are one.
-abbrev pub places_of : Protocol → Ask → List Place
-places_of p (r, Current) = flat_map (λ o. map (λ n. place (r, Current) o n) (modes_or_none p)) (modes_or_none p)
-places_of p (r, Next) = map (λ o. place (r, Next) o o) (modes_or_none p)
+abbrev pub requesters_at : Protocol → Ask → List Requester
+requesters_at p (r, Current) = flat_map (λ o. map (λ n. requester (r, Current) o n) (modes_or_none p)) (modes_or_none p)
+requesters_at p (r, Next) = map (λ o. requester (r, Next) o o) (modes_or_none p)
 
 -- Whether the request of one who holds o conflicts with another's h: the converted mode isn't compatible with it.
 abbrev pub conflicts_with : Protocol → ℕ → ℕ → Option (ℕ × Span) → Bool
 conflicts_with p h o None = false
 conflicts_with p h o (Some (q, span)) = not (p.ok (p.convert o q) h)
 
--- Whether a lock in mode h lets the place through: nothing is asked there, or what is asked is compatible with h.
-abbrev pub is_open : Protocol → ℕ → Place → Bool
+-- Whether a lock in mode h lets a requester through: it requests nothing there, or the converted mode is compatible with h.
+abbrev pub is_open : Protocol → ℕ → Requester → Bool
 is_open p h x = not (conflicts_with p h x.own (p.ask x.row x.side x.own_next))
 
--- The places that a lock in mode h leaves open, of those that the cover must conflict with, in order.
-abbrev pub open_places : Protocol → Cover → ℕ → List Place
-open_places p c h = filter (is_open p h) (flat_map (places_of p) (must_conflict p c))
+-- The requesters that a lock in mode h lets through, of those that the cover must conflict with, in order.
+abbrev pub open_requesters : Protocol → Cover → ℕ → List Requester
+open_requesters p c h = filter (is_open p h) (flat_map (requesters_at p) (must_conflict p c))
 
 -- Whether a list has no elements.
 abbrev pub is_empty : {A : Type 0} → List A → Bool
 is_empty [] = true
 is_empty (x ∷ xs) = false
 
--- Whether a lock in mode h serves the cover: it leaves none of its places open.
+-- Whether a lock in mode h serves the cover: it lets none of its requesters through.
 abbrev pub serves : Protocol → Cover → ℕ → Bool
-serves p c h = is_empty (open_places p c h)
+serves p c h = is_empty (open_requesters p c h)
 
 -- Cases --
 
@@ -168,16 +168,16 @@ case_count m updates = (if updates then 5 else 4) * (m * m) + (if updates then 7
 abbrev pub is_due : Protocol → Case → Bool
 is_due p c = option_map_or (serves p c.cover) c.given true
 
--- The case failed at the first of the places that its mode leaves open, if there is one.
-abbrev pub failed_at : Case → List Place → Option FailedCase
+-- The case failed at the first of the requesters that its mode lets through, if there is one.
+abbrev pub failed_at : Case → List Requester → Option FailedCase
 failed_at c [] = None
 failed_at c (hole ∷ holes) = Some (record { case = c.rule; cover = c.cover; from = c.from; mode = c.mode; hole = hole })
 
 -- The failure of a case, or nothing where it holds.
 abbrev pub failure : Protocol → Case → Option FailedCase
-failure p c = if is_due p c then failed_at c (open_places p c.cover c.mode) else None
+failure p c = if is_due p c then failed_at c (open_requesters p c.cover c.mode) else None
 
--- The cases that don't hold, in order, each with the first place left open.
+-- The cases that don't hold, in order, each with the first requester that gets through.
 abbrev pub failed_cases : Protocol → List FailedCase
 failed_cases p = filter_map (failure p) (cases p)
 

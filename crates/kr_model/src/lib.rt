@@ -112,9 +112,9 @@ pub enum Origin {
     Insert { own_next: Mode, own: Mode },
 }
 
-/// A place where a lock may be requested, and what the requester holds already.
+/// A transaction that requests a lock: the row and side of its request, and what it holds already.
 #[derive(Clone, Copy, Debug, PartialEq, Eq)]
-pub struct Place {
+pub struct Requester {
     pub row: Row,
     pub side: Side,
     /// The requester's own mode on the name.
@@ -123,7 +123,7 @@ pub struct Place {
     pub own_next: Mode,
 }
 
-/// A case that doesn't hold: its mode had to serve the cover, and leaves a place open.
+/// A case that doesn't hold: its mode had to serve the cover, and lets a requester through.
 #[derive(Clone, Copy, Debug, PartialEq, Eq)]
 pub struct FailedCase {
     pub case: Rule,
@@ -131,8 +131,8 @@ pub struct FailedCase {
     pub from: Origin,
     /// The mode that doesn't serve the cover.
     pub mode: Mode,
-    /// The first place whose request doesn't conflict with that mode.
-    pub hole: Place,
+    /// The first requester whose request doesn't conflict with that mode.
+    pub hole: Requester,
 }
 
 /// What a transaction has done with a key so far: what its lock on the key has to protect.

@@ -13,7 +13,7 @@ use Rattle.kr_model.specs.declared.Cover.{Cover}
 use Rattle.kr_model.specs.declared.Cover.TheVariants as cover
 use Rattle.kr_model.specs.declared.Origin.{Origin}
 use Rattle.kr_model.specs.declared.Origin.TheVariants as origin
-use Rattle.kr_model.specs.declared.Place.{Place}
+use Rattle.kr_model.specs.declared.Requester.{Requester}
 use Rattle.kr_model.specs.declared.FailedCase.{FailedCase}
 use Rattle.kr_model.specs.Protocol.{Protocol}
 use Rattle.kr_model.specs.Covers.{cases}
@@ -66,7 +66,7 @@ from_data names (origin.Conversion held asked) = array (item (mode_data names he
 from_data names (origin.Insert own_next own) = array (item (mode_data names own_next) (item (mode_data names own) no_items))
 
 -- An open place: its row and side, and the own modes on its name and on the next name.
-abbrev pub place_data : List (List ℕ) → Place → Data
+abbrev pub place_data : List (List ℕ) → Requester → Data
 place_data names x =
     array (item (string (row_name x.row)) (item (string (side_name x.side)) (item (mode_data names x.own) (item (mode_data names x.own_next) no_items))))
 

@@ -5,7 +5,7 @@ ghost use Rattle.kr_script.specs.CheckReport.{rule_name, cover_name, row_name, s
 
 use crate::reports::mode_name;
 use kr_cases::{FailedCase, cases};
-use kr_model::{Cover, Origin, Place, Row, Rule, Side};
+use kr_model::{Cover, Origin, Requester, Row, Rule, Side};
 use kr_protocol::Protocol;
 use serde_json::{Value, json};
 use std::alloc::{AllocError, Global};
@@ -82,7 +82,7 @@ fn from_value<P: Protocol>(alloc: Global, protocol: &P, from: Origin) -> Result<
     }
 }
 
-fn place_value<P: Protocol>(alloc: Global, protocol: &P, place: Place) -> Result<Value, AllocError>
+fn place_value<P: Protocol>(alloc: Global, protocol: &P, place: Requester) -> Result<Value, AllocError>
     ensures { IfOk result (λ v. view v ≡ place_data (P.names protocol.now) place) }
 {
     let row = row_name(place.row);

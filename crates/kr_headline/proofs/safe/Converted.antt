@@ -11,7 +11,7 @@ use Rattle.kr_model.specs.declared.Side.TheVariants.{Current, Next}
 use Rattle.kr_model.specs.Protocol.{Protocol, IsLawful, IsMode}
 use Rattle.std.specs.List.{flat_map}
 use Rattle.std.proofs.lemmas.Bool.{cases_Bool}
-use Rattle.kr_model.specs.Covers.{IsCovered, Ask, is_empty, is_open, places_of}
+use Rattle.kr_model.specs.Covers.{IsCovered, Ask, is_empty, is_open, requesters_at}
 use Rattle.kr_model.proofs.Keep.{kept_mode}
 use Rattle.kr_model.proofs.Guarantees.{Conflicts, Serves, conflicts_current, conflicts_next, keeps_cover, IsKnown, in_updating}
 
@@ -48,7 +48,7 @@ known_or_free p UpdatedKey = by_updates (cases_Bool p.updates)
   where
     by_updates : (p.updates ≡ true) ⊎ (p.updates ≡ false) → (p.updates ≡ true) ⊎ ((h : ℕ) → Serves p UpdatedKey h)
     by_updates (inl e) = inl e
-    by_updates (inr e) = inr (λ h. subst (λ (b : Bool). is_empty (filter (is_open p h) (flat_map (places_of p) (if b then updated_conflicts else []))) ≡ true) (sym e) refl)
+    by_updates (inr e) = inr (λ h. subst (λ (b : Bool). is_empty (filter (is_open p h) (flat_map (requesters_at p) (if b then updated_conflicts else []))) ≡ true) (sym e) refl)
 
 -- A conversion keeps what is served.
 pub converted_serves : (p : Protocol) → IsLawful p → IsCovered p → (c : Cover) (h q : ℕ) → h ≤ p.count → IsMode p q → Serves p c h → Serves p c (p.convert h q)

@@ -12,7 +12,7 @@ use Rattle.kr_model.specs.declared.Cover.{Cover}
 use Rattle.kr_model.specs.declared.Cover.TheVariants.{ReadGap, InsertedKey, DeletedGap}
 use Rattle.kr_model.specs.Matrices.{stands_in, for_commit}
 use Rattle.kr_model.specs.Protocol.{Protocol, MovesNoKey}
-use Rattle.kr_model.specs.Covers.{mode_after, must_conflict, places_of, is_open, is_empty, serves, conflicts_with}
+use Rattle.kr_model.specs.Covers.{mode_after, must_conflict, requesters_at, is_open, is_empty, serves, conflicts_with}
 use Rattle.kr_model.proofs.Guarantees.{Serves}
 use Rattle.kr_model.proofs.Tested.{and_first, and_second, each_mode_or_none}
 use Rattle.kr_headline.proofs.step.Covers.{Covered}
@@ -133,7 +133,7 @@ not_true true h = refl
 not_true false h = absurd (cc)
 
 pub more : (a b : ℕ) → blocks_all a b ≡ true → (c : Cover) → Serves shape c a → Serves shape c b
-more a b all c s = all_fewer (is_open shape a) (is_open shape b) (flat_map (places_of shape) (must_conflict shape c)) (λ x. by (shape.ask x.row x.side x.own_next) x.own) s
+more a b all c s = all_fewer (is_open shape a) (is_open shape b) (flat_map (requesters_at shape) (must_conflict shape c)) (λ x. by (shape.ask x.row x.side x.own_next) x.own) s
   where
     by : (q : Option (ℕ × Span)) (o : ℕ) → not (conflicts_with shape a o q) ≡ false → not (conflicts_with shape b o q) ≡ false
     by None o h = h

@@ -10,7 +10,7 @@ use Rattle.kr_model.specs.declared.Side.TheVariants.{Current, Next}
 use Rattle.kr_model.specs.declared.Cover.{Cover}
 use Rattle.kr_model.specs.declared.Cover.TheVariants.{ReadKey, ReadGap, InsertedKey, DeletedGap, UpdatedKey}
 use Rattle.kr_model.specs.Protocol.{Protocol}
-use Rattle.kr_model.specs.Covers.{IsCovered, mode_after, must_conflict, if_updating, Ask, is_open, places_of, is_empty}
+use Rattle.kr_model.specs.Covers.{IsCovered, mode_after, must_conflict, if_updating, Ask, is_open, requesters_at, is_empty}
 use Rattle.kr_model.proofs.Guarantees.{In, Serves, Conflicts, conflicts_current, conflicts_next, after_fetch_hit, after_fetch_miss, after_insert, after_split, after_delete, after_scan_key, after_scan_stop, after_update, in_updating}
 
 -- The cover that a touched point needs, by whether its key is there.
@@ -118,7 +118,7 @@ none_in f g (y ∷ ys) h = none_both f (g y) (flat_map g ys) (h y (inl refl)) (n
 
 -- A cover with a longer list serves as one with a shorter.
 weaker : (p : Protocol) (h : ℕ) (c d : Cover) → ((a : Ask) → In a (must_conflict p c) → In a (must_conflict p d)) → Serves p d h → Serves p c h
-weaker p h c d within s = none_in (is_open p h) (places_of p) (must_conflict p c) (λ a i. none_of (is_open p h) (places_of p) (must_conflict p d) s a (within a i))
+weaker p h c d within s = none_in (is_open p h) (requesters_at p) (must_conflict p c) (λ a i. none_of (is_open p h) (requesters_at p) (must_conflict p d) s a (within a i))
 
 read_in_change : (p : Protocol) (b : Bool) (a : Ask) → In a (must_conflict p (read_cover b)) → In a (must_conflict p (change_cover b))
 read_in_change p true a (inl e) = inr (inr (inr (inr (inl e))))

@@ -5,7 +5,7 @@ mod ample;
 
 use kr_cases::{Cause, FailedCase, Rejected, cases, check, must_conflict};
 use kr_causes::{Change, Changed};
-use kr_model::{Cover, Mode, Origin, Place, Row, Rule, Side, Span};
+use kr_model::{Cover, Mode, Origin, Requester, Row, Rule, Side, Span};
 use kr_protocol::{Covered, Im, Kvl, KvlUpdate, Protocol, RangeKey};
 use std::alloc::Global;
 use std::process::Abort;
@@ -108,9 +108,9 @@ fn numbers_of_cases(rt: HostRuntime) {
     same!(rt; cases(15, true), 2005);
 }
 
-/// A case that first fails at a place for an asker that holds nothing.
+/// A case that first fails at a requester that holds nothing.
 fn open_at(case: Rule, cover: Cover, from: Origin, mode: Mode, row: Row, side: Side) -> FailedCase {
-    let hole = Place {
+    let hole = Requester {
         row,
         side,
         own: 0,

@@ -1,7 +1,7 @@
 //! What is to blame, and what mends it, for tables with one entry changed and for a table that asks for nothing.
 use kr_cases::{Rejected, check};
 use kr_causes::{Blame, Change, Changed, causes, mends, own_next};
-use kr_model::{Cover, FailedCase, Mode, Origin, Place, Row, Rule, Side, Span};
+use kr_model::{Cover, FailedCase, Mode, Origin, Requester, Row, Rule, Side, Span};
 use kr_protocol::{Kvl, KvlUpdate, Protocol, RangeKey};
 use kr_table::read;
 use std::alloc::Global;
@@ -150,7 +150,7 @@ fn asks_nothing(rt: HostRuntime) -> Result<(), Fail> {
     ];
     same!(rt; causes.len(), told.len());
     for (cause, (row, side, cases)) in causes.iter().zip(told) {
-        same!(rt; cause.blame, Blame::Place { row, side });
+        same!(rt; cause.blame, Blame::Requester { row, side });
         same!(rt; cause.cases.len(), cases);
         let mend = mends(alloc, &table, &failed, cause, false)?;
         assert!(rt; mend.accepted.is_empty() && mend.safe.is_empty() && mend.mended.is_empty());
@@ -190,7 +190,7 @@ fn taken(case: Rule, from: Origin) -> FailedCase {
         cover: Cover::InsertedKey,
         from,
         mode: 1,
-        hole: Place {
+        hole: Requester {
             row: Row::FetchHit,
             side: Side::Current,
             own: 0,

@@ -1,5 +1,5 @@
 use kr_model::{
-    Answers, Cover, Event, FailedCase, Name, Op, Origin, Pairs, Place, Program, Programs, Refusal,
+    Answers, Cover, Event, FailedCase, Name, Op, Origin, Pairs, Requester, Program, Programs, Refusal,
     Reply, Row, Rule, Side, Step, Txns,
 };
 use std::alloc::{AllocError, Global};
@@ -46,7 +46,7 @@ fn words_compare_by_their_parts(rt: HostRuntime) {
                 op: Op::Insert(15, 5)
             }
     );
-    let hole = Place {
+    let hole = Requester {
         row: Row::Insert,
         side: Side::Next,
         own: 0,

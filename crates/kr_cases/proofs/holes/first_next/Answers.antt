@@ -1,5 +1,5 @@
 use Rattle.std.proofs.Common.{suc, map, sym, ◌∙◌, arith}
-use Rattle.kr_model.specs.Covers.{place, is_open}
+use Rattle.kr_model.specs.Covers.{requester, is_open}
 use Rattle.kr_model.specs.declared.Side.TheVariants.{Next}
 use Rattle.kr_cases.proofs.Firsts.{element_found, element_none, none_of_all}
 use Rattle.kr_cases.proofs.holes.first_next.Goals as goal
@@ -7,14 +7,14 @@ use Rattle.kr_cases.proofs.holes.first_next.Goals as goal
 pub returns-then-is_open : goal.returns-then-is_open
 returns-then-is_open g c =
     let p = g.P.Protocol.table c.args.protocol.now in
-    sym (element_found (is_open p c.args.held) (λ o. place (c.args.row, Next) o o) (suc p.count) c.loop-own.own (omega arith) c.loop-own.invariant (sym c.is_open.ensures ∙ c.if-is_open.true))
+    sym (element_found (is_open p c.args.held) (λ o. requester (c.args.row, Next) o o) (suc p.count) c.loop-own.own (omega arith) c.loop-own.invariant (sym c.is_open.ensures ∙ c.if-is_open.true))
 
 pub loop-own-preserved : goal.loop-own-preserved
 loop-own-preserved g c =
     let p = g.P.Protocol.table c.args.protocol.now in
-    element_none (is_open p c.args.held) (λ o. place (c.args.row, Next) o o) c.loop-own.own c.loop-own.invariant (sym c.is_open.ensures ∙ c.if-is_open.false)
+    element_none (is_open p c.args.held) (λ o. requester (c.args.row, Next) o o) c.loop-own.own c.loop-own.invariant (sym c.is_open.ensures ∙ c.if-is_open.false)
 
 pub returns : goal.returns
 returns g c =
     let p = g.P.Protocol.table c.args.protocol.now in
-    sym (none_of_all (is_open p c.args.held) (map (λ o. place (c.args.row, Next) o o)) (suc p.count) c.loop-own.own (omega arith) c.loop-own.invariant)
+    sym (none_of_all (is_open p c.args.held) (map (λ o. requester (c.args.row, Next) o o)) (suc p.count) c.loop-own.own (omega arith) c.loop-own.invariant)

@@ -2,7 +2,7 @@ use Rattle.std.proofs.Common.{◌≡◌, ℕ, ◌<◌, None, length, slice_index
 use Rattle.kr_cases.specs.Holes.{first_open}
 use Rattle.kr_cases.proofs.holes.row_of.Given as goal
 
--- the row tells the place of each mode so far
+-- the row tells the requester of each mode so far
 abbrev pub invariant-loop-held : goal.invariant-loop-held
 invariant-loop-held g l = record {
   wide : length l.row ≡ 16;

@@ -1,5 +1,5 @@
 use kr_cases::FailedCase;
-use kr_model::{Cover, Origin, Place, Row, Rule, Side};
+use kr_model::{Cover, Origin, Requester, Row, Rule, Side};
 use kr_protocol::{Im, Kvl, KvlUpdate, Protocol, RangeKey};
 use kr_script::report_check;
 use std::alloc::{AllocError, Global};
@@ -13,7 +13,7 @@ const A_SPLIT: FailedCase = FailedCase {
         own: 0,
     },
     mode: 2,
-    hole: Place {
+    hole: Requester {
         row: Row::Insert,
         side: Side::Next,
         own: 0,
@@ -26,7 +26,7 @@ const A_FETCHED_KEY: FailedCase = FailedCase {
     cover: Cover::ReadKey,
     from: Origin::Own(4),
     mode: 4,
-    hole: Place {
+    hole: Requester {
         row: Row::Delete,
         side: Side::Current,
         own: 1,
@@ -39,7 +39,7 @@ const AN_UPDATE: FailedCase = FailedCase {
     cover: Cover::UpdatedKey,
     from: Origin::Own(0),
     mode: 2,
-    hole: Place {
+    hole: Requester {
         row: Row::Update,
         side: Side::Current,
         own: 0,

@@ -1,7 +1,7 @@
 //! Reports of checks that found failed cases, each with other names as the index goes on.
 use super::lists::{Element, list_text};
 use kr_cases::FailedCase;
-use kr_model::{Cover, Mode, Origin, Place, Row, Rule, Side};
+use kr_model::{Cover, Mode, Origin, Requester, Row, Rule, Side};
 use kr_protocol::KvlUpdate;
 use kr_script::report_check;
 use std::alloc::{AllocError, Global};
@@ -88,11 +88,11 @@ fn origin_at(i: usize) -> Origin {
 }
 
 /// The place that is open in it.
-fn hole_at(i: usize) -> Place {
+fn hole_at(i: usize) -> Requester {
     let (row, side, _) = place_at(i / 49);
     let (own, _) = mode_at(i / 7);
     let (own_next, _) = mode_at(i);
-    Place {
+    Requester {
         row,
         side,
         own,
