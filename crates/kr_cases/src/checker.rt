@@ -77,7 +77,7 @@ impl<P: Protocol> Covered for Checked<P> {
 
 /// Why a protocol isn't accepted.
 #[derive(Debug, Drop, Error)]
-pub enum Cause {
+pub enum WhyRejected {
     /// These cases don't hold: all that fail, in the order in which they are checked.
     #[error("cases fail")]
     Failed(Vec<FailedCase>),
@@ -90,7 +90,7 @@ pub enum Cause {
 #[derive(Drop)]
 pub struct Rejected<P: Protocol> {
     pub protocol: P,
-    pub cause: Cause,
+    pub cause: WhyRejected,
 }
 
 /// Accepts a protocol exactly where every case of it holds; else lists all cases that fail.
@@ -108,13 +108,13 @@ pub fn check<P: Protocol>(alloc: Global, protocol: P) -> Result<Checked<P>, Reje
             if failed.is_empty() {
                 Ok(Checked { protocol })
             } else {
-                let cause = Cause::Failed(failed);
+                let cause = WhyRejected::Failed(failed);
                 Err(Rejected { protocol, cause })
             }
         }
         Err(_) => Err(Rejected {
             protocol,
-            cause: Cause::Memory,
+            cause: WhyRejected::Memory,
         }),
     }
 }

@@ -6,6 +6,6 @@ mod finder;
 mod holes;
 mod rules;
 
-pub use checker::{Cause, Checked, Rejected, cases, check};
+pub use checker::{Checked, Rejected, WhyRejected, cases, check};
 pub use holes::must_conflict;
 pub use kr_model::{FailedCase, Memory};

@@ -8,7 +8,7 @@ use crate::effort::{Effort, MOST_MENDED};
 use crate::explanation::{Explained, Explanation, Failures};
 use crate::harmless::{is_harmless, why_harmless};
 use crate::told_run::{ToldRun, told_run};
-use kr_cases::{Cause as Rejection, Memory, cases, check};
+use kr_cases::{Memory, WhyRejected, cases, check};
 use kr_causes::{Blame, Cause, Mend, causes, mends};
 use kr_counterexample::Closure;
 use kr_decide::Survey;
@@ -40,7 +40,7 @@ pub fn explain<P: Protocol>(alloc: Global, protocol: &P) -> Result<Explanation, 
             cases: cases(protocol.count(), protocol.updates()),
         }),
         Err(rejected) => match rejected.cause {
-            Rejection::Failed(failed) => {
+            WhyRejected::Failed(failed) => {
                 let survey = Survey::of(alloc, protocol)?;
                 let failures = failures(alloc, protocol, &survey, &failed)?;
                 if survey.is_safe() {
@@ -49,7 +49,7 @@ pub fn explain<P: Protocol>(alloc: Global, protocol: &P) -> Result<Explanation, 
                     Ok(Explanation::Rejected(failures))
                 }
             }
-            Rejection::Memory => Err(AllocError),
+            WhyRejected::Memory => Err(AllocError),
         },
     }
 }

@@ -5,8 +5,8 @@ use Rattle.kr_model.specs.declared.Event.{Event}
 use Rattle.kr_model.specs.declared.Op.{Op}
 use Rattle.kr_model.specs.declared.Op.TheVariants.{Abort}
 use Rattle.kr_model.specs.Step.{is_end}
-use Rattle.kr_follows.specs.declared.faults.Cause.{Cause}
-use Rattle.kr_follows.specs.declared.faults.Cause.TheVariants.{Deadlock, Refused}
+use Rattle.kr_follows.specs.declared.faults.WhyNotDone.{WhyNotDone}
+use Rattle.kr_follows.specs.declared.faults.WhyNotDone.TheVariants.{Deadlock, Refused}
 use Rattle.kr_follows.specs.declared.faults.StepFault.{StepFault}
 
 -- Scripts --
@@ -27,7 +27,7 @@ abbrev pub is_of : ℕ → ℕ → StepFault → Bool
 is_of t n f = (f.txn == t) && (f.step == n)
 
 -- Whether it is a deadlock.
-abbrev pub is_deadlock : Cause → Bool
+abbrev pub is_deadlock : WhyNotDone → Bool
 is_deadlock (Deadlock cycle) = true
 is_deadlock (Refused r) = false
 

@@ -4,7 +4,7 @@ use kr_model::{Op, Reply, Txn, Txns};
 
 /// Why a step wasn't done.
 #[derive(Debug, Drop)]
-pub enum Cause {
+pub enum WhyNotDone {
     /// A cycle of waiting transactions, the step's own first: each waits for the next, the last for the first.
     Deadlock(Txns),
     /// The machine refused it, with this reply.
@@ -21,5 +21,5 @@ pub struct StepFault {
     /// What it would have done.
     pub op: Op,
     /// Why it wasn't done.
-    pub cause: Cause,
+    pub cause: WhyNotDone,
 }

@@ -8,5 +8,5 @@ mod undoing;
 mod wanted;
 
 pub use dealt::Dealt;
-pub use faults::{Cause, StepFault};
+pub use faults::{StepFault, WhyNotDone};
 pub use following::follows;

@@ -5,7 +5,7 @@ ghost use Rattle.kr_follows.specs.Follows.{AreRising, is_before, is_of, stays_ac
 ghost use Rattle.kr_follows.specs.Dealt.{AreWanted, hand_in};
 ghost use Rattle.kr_follows.specs.Fates.{fate_of, IsPlace};
 
-use crate::faults::{Cause, StepFault};
+use crate::faults::{StepFault, WhyNotDone};
 use crate::following::is_before;
 use kr_model::{Op, Txn};
 use std::alloc::{AllocError, Global};
@@ -155,7 +155,7 @@ fn fate_at(faults: &[StepFault], txn: Txn, step: u64) -> Fate
         return Fate::Done;
     }
     match fault.cause {
-        Cause::Deadlock(_) => Fate::Stuck,
-        Cause::Refused(_) => Fate::Missed,
+        WhyNotDone::Deadlock(_) => Fate::Stuck,
+        WhyNotDone::Refused(_) => Fate::Missed,
     }
 }

@@ -1,9 +1,9 @@
-//! The drawing of a step: the line of names, and below it the locks, with a row for each transaction.
+//! The drawing of a step: the line of names, and below it the locks, with a line for each transaction.
 
 use crate::svg;
 use crate::svg::at;
 use kr_locks::Memory;
-use kr_scenes::{Bar, BarKind, Columns, KeyState, Layout, Row, Scene, bar_width, colour_of};
+use kr_scenes::{Bar, BarKind, BarLine, Columns, KeyState, Layout, Scene, bar_width, colour_of};
 use std::alloc::{AllocError, Global};
 use std::collections::BTreeSet;
 
@@ -16,7 +16,7 @@ const VALUES: u64 = 65;
 
 const NOTES: u64 = 81;
 
-/// Where the first row of locks begins, how much lower it is below notes, and how far rows are from each other.
+/// Where the first line of locks begins, how much lower it is below notes, and how far lines are from each other.
 const ROWS_TOP: u64 = 75;
 
 const NOTE_HIGH: u64 = 16;
@@ -36,59 +36,59 @@ pub fn write_drawing(
     scene: &Scene,
     out: &mut String,
 ) -> Result<(), Memory> {
-    let rows = rows_of(alloc, scene.bars.as_slice())?;
+    let lines = lines_of(alloc, scene.bars.as_slice())?;
     let top = if scene.has_notes() {
         ROWS_TOP + NOTE_HIGH
     } else {
         ROWS_TOP
     };
-    let high = (rows.len() as u64)
+    let high = (lines.len() as u64)
         .saturating_mul(ROW_HIGH)
         .saturating_add(top);
     let number = scene.number;
     let label = format!(in alloc; "keys and locks after step {number}")?;
     svg::open(out, layout.across(), high, label.as_str())?;
     write_line(columns, layout, scene, out)?;
-    write_labels(layout, rows.as_slice(), top, out)?;
+    write_labels(layout, lines.as_slice(), top, out)?;
     for bar in &scene.bars {
-        write_bar(layout, bar, top_of(rows.as_slice(), top, bar.row), out)?;
+        write_bar(layout, bar, top_of(lines.as_slice(), top, bar.line), out)?;
     }
     svg::close(out)
 }
 
-/// The rows of some bars: transactions rise, and the locks of each come before what it asked for.
-fn rows_of(alloc: Global, bars: &[Bar]) -> Result<Vec<Row>, Memory> {
+/// The lines of some bars: transactions rise, and the locks of each come before what it asked for.
+fn lines_of(alloc: Global, bars: &[Bar]) -> Result<Vec<BarLine>, Memory> {
     let mut set = BTreeSet::new(alloc);
     for bar in bars {
-        set.insert(bar.row)?;
+        set.insert(bar.line)?;
     }
-    let mut rows = Vec::new(alloc);
-    for row in &set {
-        rows.push(*row)?;
+    let mut lines = Vec::new(alloc);
+    for line in &set {
+        lines.push(*line)?;
     }
-    Ok(rows)
+    Ok(lines)
 }
 
-/// Where a row begins.
-fn top_of(rows: &[Row], top: u64, row: Row) -> u64 {
-    match rows.binary_search(&row) {
+/// Where a line begins.
+fn top_of(lines: &[BarLine], top: u64, line: BarLine) -> u64 {
+    match lines.binary_search(&line) {
         Ok(at) => (at as u64).saturating_mul(ROW_HIGH).saturating_add(top),
         Err(_) => top,
     }
 }
 
-/// Writes the numbers of the transactions at the left of their first rows.
+/// Writes the numbers of the transactions at the left of their first lines.
 fn write_labels(
     layout: &Layout,
-    rows: &[Row],
+    lines: &[BarLine],
     top: u64,
     out: &mut String,
 ) -> Result<(), AllocError> {
     let mut labelled = None;
-    for row in rows {
-        let txn = row.txn;
+    for line in lines {
+        let txn = line.txn;
         if labelled != Some(txn) {
-            let y = top_of(rows, top, *row).saturating_add(BASELINE);
+            let y = top_of(lines, top, *line).saturating_add(BASELINE);
             let label = format!(in *out.allocator(); "T{txn}")?;
             svg::text(out, "label", at(0, y), label.as_str())?;
         }
@@ -97,9 +97,9 @@ fn write_labels(
     Ok(())
 }
 
-/// Writes a bar whose row begins here.
+/// Writes a bar whose line begins here.
 fn write_bar(layout: &Layout, bar: &Bar, y: u64, out: &mut String) -> Result<(), AllocError> {
-    let colour = colour_of(bar.row.txn);
+    let colour = colour_of(bar.line.txn);
     let kind = match bar.kind {
         BarKind::Held => "held",
         BarKind::Conflicting => "held refuses",

@@ -6,7 +6,7 @@ ghost use Rattle.kr_program.specs.Checks.{line_of, check_line, ExplainsLine};
 ghost use Rattle.kr_program.specs.declared.faults.OverFault.TheVariants as fault;
 
 use crate::faults::OverFault;
-use kr_cases::{Cause, FailedCase, Rejected, check};
+use kr_cases::{FailedCase, Rejected, WhyRejected, check};
 use kr_protocol::Protocol;
 use kr_script::{Sink, print, report_check};
 use std::alloc::Global;
@@ -49,8 +49,8 @@ pub fn check_over<P: Protocol, W: Sink>(
     match check(alloc, protocol) {
         Ok(checked) => write_check(alloc, checked.protocol(), &[], out),
         Err(Rejected { protocol, cause }) => match cause {
-            Cause::Failed(failed) => write_check(alloc, &protocol, failed.as_slice(), out),
-            Cause::Memory => Err(OverFault::Memory),
+            WhyRejected::Failed(failed) => write_check(alloc, &protocol, failed.as_slice(), out),
+            WhyRejected::Memory => Err(OverFault::Memory),
         },
     }
 }

@@ -25,7 +25,7 @@ use crate::runs::run_over;
 use crate::threads::threads_over;
 use crate::words::{Task, Workers, read_words};
 use kr_batch::{JudgeFault, TextFault, Texts};
-use kr_cases::{Cause, Rejected, check};
+use kr_cases::{Rejected, WhyRejected, check};
 use kr_protocol::{Covered, Protocol};
 use kr_script::Sink;
 use kr_shell::{
@@ -192,13 +192,13 @@ fn check_and_thread<
     match check(rt.alloc(), protocol) {
         Ok(checked) => thread_script(rt, &checked, script, workers, files, out),
         Err(Rejected { protocol, cause }) => match cause {
-            Cause::Failed(failed) => Ok(write_check(
+            WhyRejected::Failed(failed) => Ok(write_check(
                 rt.alloc(),
                 &protocol,
                 failed.as_slice(),
                 out,
             )?),
-            Cause::Memory => Err(Ending::Memory),
+            WhyRejected::Memory => Err(Ending::Memory),
         },
     }
 }

@@ -11,9 +11,9 @@ use std::alloc::Global;
 /// How many classes of colours there are.
 const COLOURS: u32 = 6;
 
-/// The row of a bar: those of a transaction stand below each other, so that no bar covers another.
+/// The line of a bar: those of a transaction are below each other, so that no bar covers another.
 #[derive(Clone, Copy, Debug, PartialEq, Eq, PartialOrd, Ord)]
-pub struct Row {
+pub struct BarLine {
     pub txn: Txn,
     /// 0 for bars on present names, and 2 for a request of what its transaction holds already in another mode; 1 more for
     /// bars on absent keys.
@@ -23,7 +23,7 @@ pub struct Row {
 /// A lock, or a request that wasn't granted, on the name of a column.
 #[derive(Debug, Drop)]
 pub struct Bar {
-    pub row: Row,
+    pub line: BarLine,
     pub column: usize,
     /// How many columns the bar reaches over: a lock protects its key and the gap from the next present key below. 0 on an
     /// absent key, where it protects the place of the key alone.
@@ -36,7 +36,7 @@ pub struct Bar {
 impl Bar {
     /// The holder and the mode, and with a word or a sign whether it conflicts or was asked for.
     pub fn words(&self, alloc: Global, is_short: bool) -> Result<String, Memory> {
-        let txn = self.row.txn;
+        let txn = self.line.txn;
         let mode = self.mode.as_str();
         match (self.kind, is_short) {
             (BarKind::Held, _) => format!(in alloc; "{txn} {mode}"),
@@ -91,15 +91,15 @@ fn reach_of(keys: &[KeyState], column: usize) -> usize {
     reach
 }
 
-/// The row of a transaction's bar that reaches so far, and stands below another of its bars on the same name or not.
-fn row_of(txn: Txn, is_second: bool, reach: usize) -> Row {
+/// The line of a transaction's bar that reaches so far, and is below another of its bars on the same name or not.
+fn line_of(txn: Txn, is_second: bool, reach: usize) -> BarLine {
     let layer = match (is_second, reach) {
         (false, 0) => 1,
         (false, _) => 0,
         (true, 0) => 3,
         (true, _) => 2,
     };
-    Row { txn, layer }
+    BarLine { txn, layer }
 }
 
 /// Whether a lock conflicts with what was asked for.
@@ -131,7 +131,7 @@ pub fn push_held<P: Protocol>(
                 BarKind::Held
             };
             bars.push(Bar {
-                row: row_of(*txn, false, reach),
+                line: line_of(*txn, false, reach),
                 column,
                 reach,
                 mode: String::from_str(alloc, mode_name(protocol, *mode))?,
@@ -145,7 +145,7 @@ pub fn push_held<P: Protocol>(
 /// Whether a transaction has a bar on the name of a column.
 fn has_bar(bars: &[Bar], txn: Txn, column: usize) -> bool {
     for bar in bars {
-        if bar.row.txn == txn && bar.column == column {
+        if bar.line.txn == txn && bar.column == column {
             return true;
         }
     }
@@ -168,7 +168,7 @@ pub fn push_asked<P: Protocol>(
             let reach = reach_of(keys, column);
             let is_second = has_bar(bars.as_slice(), txn, column);
             bars.push(Bar {
-                row: row_of(txn, is_second, reach),
+                line: line_of(txn, is_second, reach),
                 column,
                 reach,
                 mode: String::from_str(alloc, mode_name(protocol, request.mode))?,

@@ -63,7 +63,7 @@ pub fn bar_width(characters: u64) -> u64 {
 
 /// How wide a bar is in which its words fit in their short form.
 fn least_width(bar: &Bar) -> u64 {
-    let number = digits(u64::from(bar.row.txn));
+    let number = digits(u64::from(bar.line.txn));
     bar_width(
         number
             .saturating_add(bar.mode.len() as u64)
@@ -94,7 +94,7 @@ impl Layout {
                 width = width.max(key_width(*key).saturating_add(FREE));
             }
             for bar in &scene.bars {
-                left = left.max(label_width(bar.row.txn));
+                left = left.max(label_width(bar.line.txn));
                 width = width.max(width_for_bar(bar));
             }
         }

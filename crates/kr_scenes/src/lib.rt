@@ -14,7 +14,7 @@ mod summary;
 mod words;
 
 pub use asked::{Asked, Scans};
-pub use bar::{Bar, BarKind, Row, colour_of, mode_name};
+pub use bar::{Bar, BarKind, BarLine, colour_of, mode_name};
 pub use columns::{Columns, keys_that_may_return};
 pub use commits::write_commits;
 pub use kr_locks::Memory;

@@ -5,8 +5,8 @@ use Rattle.serde_json.specs.View.{items_of}
 use Rattle.serde_json.specs.Written.{compact_text}
 use Rattle.kr_model.specs.Map.{Map}
 use Rattle.kr_serial.specs.declared.verdict.Verdict.{Verdict}
-use Rattle.kr_follows.specs.declared.faults.Cause.{Cause}
-use Rattle.kr_follows.specs.declared.faults.Cause.TheVariants.{Deadlock, Refused}
+use Rattle.kr_follows.specs.declared.faults.WhyNotDone.{WhyNotDone}
+use Rattle.kr_follows.specs.declared.faults.WhyNotDone.TheVariants.{Deadlock, Refused}
 use Rattle.kr_follows.specs.declared.faults.StepFault.{StepFault}
 use Rattle.kr_script.specs.declared.threaded.Answered.{Answered}
 use Rattle.kr_script.specs.Json.{whole, after_word}
@@ -22,7 +22,7 @@ abbrev pub history_data : List Answered → Data
 history_data done = array (items_of (map answered_data done))
 
 -- Why a step wasn't done: the transactions of a deadlock, in their order, or the reply that refused it.
-abbrev pub cause_data : Cause → Data
+abbrev pub cause_data : WhyNotDone → Data
 cause_data (Deadlock txns) = after_word (codes "deadlock") (item (numbers_data txns) no_items)
 cause_data (Refused reply) = reply_data reply
 

@@ -8,7 +8,7 @@ use crate::threaded::{Answered, Threaded};
 use crate::writing::{
     separator, write_numbers, write_pairs, write_place, write_step, write_with_numbers,
 };
-use kr_follows::{Cause, StepFault};
+use kr_follows::{StepFault, WhyNotDone};
 use kr_serial::Verdict;
 use std::alloc::{AllocError, Global};
 
@@ -40,12 +40,12 @@ fn write_history(out: &mut String, history: &[Answered]) -> Result<(), AllocErro
 
 /// Writes why a step wasn't done.
 #[tactic(auto, unfolding(serde_json::proofs::OnLiterals::serde_json_on_literals))]
-fn write_cause(out: &mut String, cause: &Cause) -> Result<(), AllocError>
+fn write_cause(out: &mut String, cause: &WhyNotDone) -> Result<(), AllocError>
     ensures { OnOk result (string_bytes out.new ≡ string_bytes out.old ++ compact_text (cause_data cause.now)) }
 {
     match cause {
-        Cause::Deadlock(txns) => write_with_numbers(out, r#"["deadlock","#, txns.as_slice()),
-        Cause::Refused(reply) => write_reply(out, reply),
+        WhyNotDone::Deadlock(txns) => write_with_numbers(out, r#"["deadlock","#, txns.as_slice()),
+        WhyNotDone::Refused(reply) => write_reply(out, reply),
     }
 }
 

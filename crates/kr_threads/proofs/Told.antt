@@ -17,7 +17,7 @@ use Rattle.kr_engine.specs.Seats.{Held, IsRefused, IsDeadlock, SeesFault, ToldFa
 use Rattle.kr_engine.specs.declared.faults.Receipt.{Receipt}
 use Rattle.kr_engine.specs.declared.faults.EngineFault.{EngineFault}
 use Rattle.kr_engine.specs.declared.faults.EngineFault.TheVariants as fault
-use Rattle.kr_follows.specs.declared.faults.Cause.TheVariants.{Deadlock, Refused}
+use Rattle.kr_follows.specs.declared.faults.WhyNotDone.TheVariants.{Deadlock, Refused}
 use Rattle.kr_follows.specs.declared.faults.StepFault.{StepFault}
 use Rattle.kr_threads.specs.Told.{IsTold, AreTold}
 

@@ -15,12 +15,12 @@ use Rattle.kr_places.specs.declared.name.Entry.{Entry}
 use Rattle.kr_engine.specs.Seats.{Held}
 use Rattle.kr_engine.specs.declared.closing.History.{History}
 use Rattle.kr_engine.specs.Closed.{Lent, IsClosed}
-use Rattle.kr_follows.specs.declared.faults.Cause.{Cause}
-use Rattle.kr_follows.specs.declared.faults.Cause.TheVariants.{Deadlock, Refused}
+use Rattle.kr_follows.specs.declared.faults.WhyNotDone.{WhyNotDone}
+use Rattle.kr_follows.specs.declared.faults.WhyNotDone.TheVariants.{Deadlock, Refused}
 use Rattle.kr_follows.specs.declared.faults.StepFault.{StepFault}
 
 -- A refusal's reply is the definition's to t's operation in this state, and isn't granted. A deadlock's transactions are a cycle from t: each has an operation that the next blocks in this state, the last's blocked by t, whose own is this one.
-abbrev pub IsCause : Protocol → State → ℕ → Op → Cause → Type 0
+abbrev pub IsCause : Protocol → State → ℕ → Op → WhyNotDone → Type 0
 IsCause p s t o (Refused r) = (r ≡ (step p s t o).0) × (model.is_granted r ≡ false)
 IsCause p s t o (Deadlock cycle) = (waiting : List Event) × IsCycle (blockers_now (in_the_way p s) (event t o ∷ waiting)) t cycle
 

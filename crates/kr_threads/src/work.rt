@@ -11,7 +11,7 @@ use crate::gate::Gate;
 use crate::run::RunFault;
 use crate::turn::Turn;
 use kr_engine::{EngineFault, EngineName, Receipt, Seat, Share};
-use kr_follows::{Cause, Dealt, StepFault};
+use kr_follows::{Dealt, StepFault, WhyNotDone};
 use kr_model::{Op, Reply, Txn};
 use kr_protocol::Covered;
 use std::marker::Model;
@@ -174,7 +174,7 @@ impl<P: Covered, K: EngineName> Worker<'_, P, K> {
         match self.call(rt, gate, turn, op) {
             Ok(_) => Ok(Outcome::Done),
             Err(EngineFault::Deadlock(cycle)) => {
-                let cause = Cause::Deadlock(cycle);
+                let cause = WhyNotDone::Deadlock(cycle);
                 self.note(StepFault {
                     txn,
                     step,
@@ -184,7 +184,7 @@ impl<P: Covered, K: EngineName> Worker<'_, P, K> {
                 Ok(Outcome::Stuck)
             }
             Err(EngineFault::Refused(reply)) => {
-                let cause = Cause::Refused(reply);
+                let cause = WhyNotDone::Refused(reply);
                 self.note(StepFault {
                     txn,
                     step,

@@ -1,6 +1,6 @@
 //! Tables that are read, written and checked.
 
-use kr_cases::{Cause, FailedCase, Rejected, check};
+use kr_cases::{FailedCase, Rejected, WhyRejected, check};
 use kr_protocol::{Im, Kvl, KvlUpdate, Protocol, RangeKey};
 use kr_script::report_check;
 use kr_table::bundled::{KVL, KVL_UPDATE};
@@ -105,8 +105,8 @@ fn first_fault_of_a_table(rt: HostRuntime) {
 fn rejected(alloc: Global, table: Table) -> Option<Rejected<Table>> {
     let first = check(alloc, table).err()?;
     match first.cause {
-        Cause::Failed(_) => Some(first),
-        Cause::Memory => check(alloc, first.protocol).err(),
+        WhyRejected::Failed(_) => Some(first),
+        WhyRejected::Memory => check(alloc, first.protocol).err(),
     }
 }
 
@@ -124,11 +124,11 @@ fn rejected_table_is_given_back(rt: HostRuntime) -> Result<(), Fail> {
     let table = table_of(&rt, alloc, REJECTED)?;
     let Rejected { protocol, cause } = rejected(alloc, table).ok_or("accepted")?;
     match cause {
-        Cause::Failed(failed) => {
+        WhyRejected::Failed(failed) => {
             let report = told(alloc, &protocol, failed.as_slice())?;
             assert_eq!(rt; report.as_str(), FAILED);
         }
-        Cause::Memory => assert!(rt; false, "memory was refused twice"),
+        WhyRejected::Memory => assert!(rt; false, "memory was refused twice"),
     }
     Ok(())
 }

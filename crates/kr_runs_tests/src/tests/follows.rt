@@ -1,4 +1,4 @@
-use kr_follows::{Cause, Dealt, StepFault, follows};
+use kr_follows::{Dealt, StepFault, WhyNotDone, follows};
 use kr_model::{Event, Op, Refusal, Reply, Txn, Txns};
 use std::alloc::{AllocError, Global};
 
@@ -37,7 +37,7 @@ fn history() -> [Event; 7] {
 
 /// A step that the machine refused.
 fn refused(txn: Txn, step: u64, op: Op) -> StepFault {
-    let cause = Cause::Refused(Reply::Refused(Refusal::NoScan));
+    let cause = WhyNotDone::Refused(Reply::Refused(Refusal::NoScan));
     StepFault {
         txn,
         step,
@@ -51,7 +51,7 @@ fn deadlock(alloc: Global, txn: Txn, step: u64, op: Op) -> Result<StepFault, All
     let mut cycle = Vec::new(alloc);
     cycle.push(txn)?;
     cycle.push(7)?;
-    let cause = Cause::Deadlock(Txns::from_vec(cycle));
+    let cause = WhyNotDone::Deadlock(Txns::from_vec(cycle));
     Ok(StepFault {
         txn,
         step,

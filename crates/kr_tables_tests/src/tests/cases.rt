@@ -3,7 +3,7 @@
 //! Modes of key-value locking: IS is 1, IX 2, S 3, SIX 4, X 5.
 mod ample;
 
-use kr_cases::{Cause, FailedCase, Rejected, cases, check, must_conflict};
+use kr_cases::{FailedCase, Rejected, WhyRejected, cases, check, must_conflict};
 use kr_causes::{Change, Changed};
 use kr_model::{Cover, Mode, Origin, Requester, Row, Rule, Side, Span};
 use kr_protocol::{Covered, Im, Kvl, KvlUpdate, Protocol, RangeKey};
@@ -77,8 +77,8 @@ fn rejected<P: Protocol>(
         Err(Rejected { protocol, cause }) => {
             same!(rt; protocol.count(), 5);
             match cause {
-                Cause::Failed(failed) => Ok(failed),
-                Cause::Memory => panic!(rt; "out of memory"),
+                WhyRejected::Failed(failed) => Ok(failed),
+                WhyRejected::Memory => panic!(rt; "out of memory"),
             }
         }
     }

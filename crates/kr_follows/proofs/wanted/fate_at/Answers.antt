@@ -1,6 +1,6 @@
 use Rattle.std.proofs.Common.{◌≡◌, false, cond, sym, ◌∙◌, ap, subst, arith}
 use Rattle.std.proofs.lemmas.List.{get_or_read}
-use Rattle.kr_follows.specs.declared.faults.Cause.{Cause}
+use Rattle.kr_follows.specs.declared.faults.WhyNotDone.{WhyNotDone}
 use Rattle.kr_follows.specs.declared.faults.StepFault.{StepFault}
 use Rattle.kr_follows.specs.declared.wanted.Fate.TheVariants.{Stuck, Missed}
 use Rattle.kr_follows.specs.Follows.{is_of, is_deadlock}
@@ -22,4 +22,4 @@ returns-in-Refused c =
     sym
     (fate_there c.args.faults.now c.args.txn c.args.step c.place_of-place.result c.requires c.place_of-place.ensures c.index-faults-place.result (omega (arith, c.place_of-place.ensures.within, c.if-place-faults.false)) c.index-faults-place.is
     (sym c.is_of.ensures ∙ c.if-not-is_of.false)
-    ∙ ap (λ (k : Cause). cond (is_deadlock k) Stuck Missed) c.in-Refused.is)
+    ∙ ap (λ (k : WhyNotDone). cond (is_deadlock k) Stuck Missed) c.in-Refused.is)

@@ -1,7 +1,7 @@
 use Rattle.std.proofs.Common.{◌≡◌, ℕ, List, [], IfErr, sym, ◌∙◌, refl, subst}
 use Rattle.kr_model.specs.Covers.{failed_cases}
 use Rattle.kr_cases.specs.Told.{Tells}
-use Rattle.kr_cases.specs.declared.checker.Cause.TheVariants.{Failed}
+use Rattle.kr_cases.specs.declared.checker.WhyRejected.TheVariants.{Failed}
 use Rattle.kr_program.specs.Checks.{line_of, ExplainsLine}
 use Rattle.kr_program.proofs.checks.check_over.Goals as goal
 

@@ -1,6 +1,6 @@
 //! Tables of rows: a bundled table with changes of its text, and the cases of it that fail.
 
-use kr_cases::{Cause, check};
+use kr_cases::{WhyRejected, check};
 use kr_counterexample::{Closure, Counterexample};
 use kr_model::{FailedCase, Row, Side};
 use kr_protocol::Protocol;
@@ -45,8 +45,8 @@ pub fn failed<P: Protocol>(alloc: Global, protocol: &P) -> Result<Vec<FailedCase
     match check(alloc, protocol) {
         Ok(_) => Ok(Vec::new(alloc)),
         Err(rejected) => match rejected.cause {
-            Cause::Failed(cases) => Ok(cases),
-            Cause::Memory => Err("out of memory")?,
+            WhyRejected::Failed(cases) => Ok(cases),
+            WhyRejected::Memory => Err("out of memory")?,
         },
     }
 }

@@ -1,5 +1,5 @@
 use super::reports::{ran_between, rows, txns};
-use kr_follows::{Cause, StepFault};
+use kr_follows::{StepFault, WhyNotDone};
 use kr_model::{Event, Op, Refusal, Reply, Txn};
 use kr_script::{Answered, Threaded, report_threads};
 use kr_serial::{Ran, Replies, Verdict};
@@ -129,11 +129,11 @@ fn each_step(alloc: Global) -> Result<Vec<Answered>, AllocError> {
 }
 
 /// Each cause, by an index below 3, and two refusals.
-fn cause_at(alloc: Global, i: usize) -> Result<Cause, AllocError> {
+fn cause_at(alloc: Global, i: usize) -> Result<WhyNotDone, AllocError> {
     match i {
-        0 => Ok(Cause::Deadlock(txns(alloc, &[1, 3, 2])?)),
-        1 => Ok(Cause::Refused(Reply::Refused(Refusal::NoScan))),
-        _ => Ok(Cause::Refused(Reply::Refused(Refusal::NothingLeft))),
+        0 => Ok(WhyNotDone::Deadlock(txns(alloc, &[1, 3, 2])?)),
+        1 => Ok(WhyNotDone::Refused(Reply::Refused(Refusal::NoScan))),
+        _ => Ok(WhyNotDone::Refused(Reply::Refused(Refusal::NothingLeft))),
     }
 }
 

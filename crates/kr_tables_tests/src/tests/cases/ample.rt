@@ -3,7 +3,7 @@
 use super::{
     ALWAYS_IX, HOLDS_NOTHING, NEXT_INSTANT, UNDER_IX, open_gap, open_key, open_split, with_change,
 };
-use kr_cases::{Cause, FailedCase, Rejected, check};
+use kr_cases::{FailedCase, Rejected, WhyRejected, check};
 use kr_model::{Cover, Row, Rule};
 use kr_protocol::{Im, Kvl, KvlUpdate, Protocol, RangeKey};
 use std::alloc::Global;
@@ -14,8 +14,8 @@ fn failed<P: Protocol>(rt: &impl Abort, alloc: Global, protocol: P) -> (usize, O
     match check(alloc, protocol) {
         Ok(_) => (0, None),
         Err(Rejected { protocol: _, cause }) => match cause {
-            Cause::Failed(failed) => (failed.len(), failed.first().copied()),
-            Cause::Memory => panic!(rt; "out of memory"),
+            WhyRejected::Failed(failed) => (failed.len(), failed.first().copied()),
+            WhyRejected::Memory => panic!(rt; "out of memory"),
         },
     }
 }

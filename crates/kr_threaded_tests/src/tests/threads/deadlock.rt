@@ -2,7 +2,7 @@
 
 use super::done_by;
 use super::gates::Meeting;
-use kr_follows::{Cause, StepFault};
+use kr_follows::{StepFault, WhyNotDone};
 use kr_model::{Event, Op, Txn};
 use kr_script::{Answered, Threaded};
 use kr_serial::judge;
@@ -22,10 +22,10 @@ fn times(history: &[Answered], txn: Txn, op: Op) -> u32 {
 /// Whether a fault is that the second step of a transaction met a deadlock with the other.
 fn is_deadlock(fault: &StepFault, txn: Txn, other: Txn) -> bool {
     match &fault.cause {
-        Cause::Deadlock(cycle) => fault.txn == txn
+        WhyNotDone::Deadlock(cycle) => fault.txn == txn
             && fault.step == 2
             && cycle.as_slice() == [txn, other].as_slice(),
-        Cause::Refused(_) => false,
+        WhyNotDone::Refused(_) => false,
     }
 }
 

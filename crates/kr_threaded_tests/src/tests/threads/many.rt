@@ -1,7 +1,7 @@
 //! Many transactions of several workers on a few keys.
 
 use super::{done_by, done_with_updates, next};
-use kr_follows::{Cause, StepFault};
+use kr_follows::{StepFault, WhyNotDone};
 use kr_model::{Op, Refusal, Reply};
 use kr_script::Answered;
 use kr_serial::judge;
@@ -62,7 +62,7 @@ fn ends(history: &[Answered]) -> (usize, usize) {
 fn are_deadlocks(faults: &[StepFault]) -> bool {
     faults
         .iter()
-        .all(|fault| matches!(&fault.cause, Cause::Deadlock(_)))
+        .all(|fault| matches!(&fault.cause, WhyNotDone::Deadlock(_)))
 }
 
 /// Eight workers do two thousand transactions on sixteen keys: those that close no cycle commit, and the run is serial.
@@ -81,10 +81,10 @@ fn many_transactions(rt: HostRuntime) -> Result<(), Fail> {
 /// Whether a step closed a cycle, would have taken back what isn't there, or is the commit of one that rolls back.
 fn is_expected(fault: &StepFault) -> bool {
     match &fault.cause {
-        Cause::Deadlock(_) => true,
-        Cause::Refused(Reply::Refused(Refusal::NothingLeft)) => fault.op == Op::Back,
-        Cause::Refused(Reply::Refused(Refusal::RollingBack)) => fault.op == Op::Commit,
-        Cause::Refused(_) => false,
+        WhyNotDone::Deadlock(_) => true,
+        WhyNotDone::Refused(Reply::Refused(Refusal::NothingLeft)) => fault.op == Op::Back,
+        WhyNotDone::Refused(Reply::Refused(Refusal::RollingBack)) => fault.op == Op::Commit,
+        WhyNotDone::Refused(_) => false,
     }
 }
 

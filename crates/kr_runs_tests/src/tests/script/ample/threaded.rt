@@ -2,7 +2,7 @@
 use super::lists::{Element, list_text};
 use super::numbers::{key_at, txn_at};
 use super::steps::{event_at, step_text};
-use kr_follows::{Cause, StepFault};
+use kr_follows::{StepFault, WhyNotDone};
 use kr_model::{Refusal, Reply, Txns};
 use kr_protocol::Kvl;
 use kr_script::{Answered, Threaded, report_threads};
@@ -10,12 +10,12 @@ use kr_serial::{Verdict, run_any};
 use std::alloc::{AllocError, Global};
 
 /// Why the step at an index wasn't done: a deadlock of two, or a refusal.
-fn cause_at(alloc: Global, i: usize) -> Result<Cause, AllocError> {
+fn cause_at(alloc: Global, i: usize) -> Result<WhyNotDone, AllocError> {
     if i % 2 == 0 {
         let txns = vec![in alloc; txn_at(i), 8]?;
-        Ok(Cause::Deadlock(Txns::from_vec(txns)))
+        Ok(WhyNotDone::Deadlock(Txns::from_vec(txns)))
     } else {
-        Ok(Cause::Refused(Reply::Refused(Refusal::Busy)))
+        Ok(WhyNotDone::Refused(Reply::Refused(Refusal::Busy)))
     }
 }
 
