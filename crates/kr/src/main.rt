@@ -1,4 +1,4 @@
-//! Checks lock tables of an index, and replays interleaved transactions under them.
+//! Checks locking protocols of an index, and replays interleaved transactions under them.
 #![tactic(auto)]
 
 use kr_program::{NAME, execute};

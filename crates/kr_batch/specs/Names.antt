@@ -46,7 +46,7 @@ Judges p may_be name (Ok v) = (s : Script) × (IsNamed may_be name s × (v ≡ v
 Judges p may_be name (Err unjudged.Unreadable) = may_be name None
 Judges p may_be name (Err (unjudged.Script f)) = IfSome (fault_of f) (λ x. HasFault may_be x name)
 
--- The fault at a place; want of memory is one fault, wherever it comes.
+-- The fault at a place: running out of memory is one fault, wherever it happens.
 abbrev pub judge_fault_at : ℕ → Unjudged → JudgeFault
 judge_fault_at at unjudged.Unreadable = fault.Unreadable at
 judge_fault_at at (unjudged.Script told_as.Memory) = fault.Memory

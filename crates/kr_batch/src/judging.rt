@@ -23,7 +23,7 @@ pub fn verdict_on<P: Protocol>(
 
 /// The verdicts on the runs of the scripts under a protocol, in the order of the scripts: the list that one thread gives
 /// which judges one script after another. The scripts are shared out by their number, in pieces of neighbours, two pieces
-/// for each processor, and each piece has a thread of its own. The only fault is want of memory; it may have met several
+/// for each processor, and each piece has a thread of its own. The only fault is `Memory`; it may have met several
 /// scripts, each script was tried all the same, and no verdict is shown.
 pub fn judge_all<P: Protocol + Sync>(
     rt: &(impl Threads + Sync),

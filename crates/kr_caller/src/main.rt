@@ -1,5 +1,5 @@
-//! A caller of the crates: reads a lock table, has it checked, and runs steps under the accepted one. That the run is serial is
-//! its own clause, and comes with the call of `run`.
+//! A caller of the crates: reads a table, has it checked, and runs steps under the accepted one. That the run is
+//! serializable is its own clause, and comes with the call of `run`.
 #![tactic(auto)]
 
 mod serial;

@@ -55,7 +55,7 @@ impl From<AllocError> for Fault {
 }
 
 /// Runs the events under the table that the bytes are, if every case of it holds, from an opening map whose keys rise
-/// strictly. The run is serial: nothing here proves it anew, since it is a clause of `run`.
+/// strictly. The run is serializable: nothing here proves it anew, since it is a clause of `run`.
 pub fn run_checked(
     alloc: Global,
     table: &[u8],

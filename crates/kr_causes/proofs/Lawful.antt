@@ -23,7 +23,7 @@ and_false false b e = refl
 true_not_false : (b : Bool) → b ≡ true → b ≡ false → ⊥
 true_not_false b t f = absurd (cc)
 
--- the mode that is asked for, or 0
+-- the mode that is requested, or 0
 abbrev mode_in : Option (ℕ × Span) → ℕ
 mode_in None = 0
 mode_in (Some (q, span)) = q
@@ -50,7 +50,7 @@ from_changed p c m is = record { some = is.some; in_range = is.in_range }
 
 -- Asks --
 
--- what is asked for is a mode, whichever of two is asked
+-- what is requested is a mode, whichever of two is asked
 asked_is_mode : (p : Protocol) (b : Bool) (m q : ℕ) (span s : Span) (other : Option (ℕ × Span)) → IsMode p m → (other ≡ Some (q, s) → IsMode p q)
     → cond b (Some (m, span)) other ≡ Some (q, s) → IsMode p q
 asked_is_mode p true m q span s other is h e = subst (IsMode p) (ap mode_in e) is
@@ -94,7 +94,7 @@ no_move p row side (Some w) m span r s own by moves same =
     ∙ same
     ∙ sym (ap (λ t. cond ((t && (side_number side == side_number s)) && concerns (Some w) 0) (Some (m, span)) (p.ask r s 0)) apart)
 
--- where no updates are offered, an update asks for nothing
+-- where no updates are offered, an update requests nothing
 no_update : (p : Protocol) (row : Row) (side : Side) (owns : Option ℕ) (m : ℕ) (span : Span) (s : Side) (own : ℕ)
     → is_offered p row ≡ true → p.updates ≡ false → p.ask Update s own ≡ None
     → cond (is_place row side Update s && concerns owns own) (Some (m, span)) (p.ask Update s own) ≡ None

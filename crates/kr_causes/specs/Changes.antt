@@ -1,4 +1,4 @@
--- A lock table with one entry changed.
+-- A table with one entry changed.
 use Rattle.std.specs.Prelude.{ℕ, ◌==◌, ◌&&◌, ◌||◌, nat_lt, nat_le, Bool, true, false, Option, Some, None, is_none, if◌then◌else◌}
 use Rattle.std.specs.Int.{bit_at}
 use Rattle.kr_model.specs.declared.Row.{Row}
@@ -52,7 +52,7 @@ convert_after p (Convert held requested mode) h q = if (h == held) && (q == requ
 convert_after p (Ask row side own_next mode span) h q = p.convert h q
 convert_after p (Apart requested held) h q = p.convert h q
 
--- What is asked for after a change.
+-- What is requested after a change.
 abbrev pub ask_after : Protocol → Change → Row → Side → ℕ → Option (ℕ × Span)
 ask_after p (Ask row side own_next mode span) r s o = if is_place row side r s && concerns own_next o then Some (mode, span) else p.ask r s o
 ask_after p (Convert held requested mode) r s o = p.ask r s o
@@ -62,7 +62,7 @@ ask_after p (Apart requested held) r s o = p.ask r s o
 abbrev pub changed : Protocol → Change → Protocol
 changed p c = record { count = p.count; ok = ok_after p c; convert = convert_after p c; ask = ask_after p c; updates = p.updates }
 
--- Whether a row moves keys: what it asks for may go by the own mode on the next name.
+-- Whether a row moves keys: what it requests may go by the own mode on the next name.
 abbrev pub moves_keys : Row → Bool
 moves_keys Insert = true
 moves_keys Delete = true

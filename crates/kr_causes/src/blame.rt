@@ -4,13 +4,13 @@ use kr_model::{Mode, Row, Side, Span};
 /// What is to blame for failed cases.
 #[derive(Clone, Copy, Debug, PartialEq, Eq)]
 pub enum Blame {
-    /// What the row asks for at this side. No lock conflicts with it: the row asks for nothing there, or its request
-    /// stands beside every mode.
+    /// What the row requests at this side. No lock conflicts with it: the row requests nothing there, or its request
+    /// is compatible with every mode.
     Place {
         row: Row,
         side: Side,
     },
-    /// The request by which the lock was taken, or that nothing is asked for there.
+    /// The request by which the lock was taken, or that nothing is requested there.
     Request {
         row: Row,
         side: Side,
@@ -21,7 +21,7 @@ pub enum Blame {
         held: Mode,
         requested: Mode,
     },
-    /// That the requested mode stands beside the held one.
+    /// That the requested mode is compatible with the held one.
     Pair {
         requested: Mode,
         held: Mode,

@@ -1,13 +1,13 @@
-//! Changes of a single entry of a lock table.
+//! Changes of a single entry of a table.
 ghost use Rattle.std.specs.Prelude.{◌≡◌};
 ghost use Rattle.kr_causes.specs.Changes.{mode_of};
 
 use kr_model::{Mode, Row, Side, Span};
 
-/// A change of one entry of a lock table.
+/// A change of one entry of a table.
 #[derive(Clone, Copy, Debug, PartialEq, Eq)]
 pub enum Change {
-    /// The row asks for this mode and span at the side. With `own_next` only where the asker's own mode on the next name
+    /// The row requests this mode and span at the side. With `own_next` only where the requester's own mode on the next name
     /// is one of these: bit `o` is set for the own mode `o`.
     Ask {
         row: Row,
@@ -22,7 +22,7 @@ pub enum Change {
         requested: Mode,
         mode: Mode,
     },
-    /// The requested mode doesn't stand beside the held one.
+    /// The requested mode isn't compatible with the held one.
     Apart {
         requested: Mode,
         held: Mode,

@@ -23,7 +23,7 @@ fn is_mode<P: Protocol>(protocol: &P, mode: Mode) -> bool
     mode > 0 && mode <= protocol.count()
 }
 
-/// Whether what a row asks for may go by the own mode on the next name.
+/// Whether what a row requests may go by the own mode on the next name.
 fn moves_keys(row: Row) -> bool
     ensures { result ≡ moves_keys row }
 {

@@ -157,7 +157,7 @@ fn own_modes<P: Protocol>(protocol: &P, row: Row, cases: &[FailedCase]) -> Optio
     None
 }
 
-/// How long a lock is to be held where none was asked for so far.
+/// How long a lock is to be held where none was requested so far.
 fn usual_span(row: Row, side: Side) -> Span {
     match (row, side) {
         (Row::Insert, Side::Next) | (Row::Delete, Side::Current) => Span::Instant,
@@ -197,7 +197,7 @@ fn change_to<P: Protocol>(protocol: &P, cause: &Cause, mode: Mode) -> Change {
     }
 }
 
-/// The modes that the entry of what is to blame could have instead, in the order of trial: first a mode that is asked for
+/// The modes that the entry of what is to blame could have instead, in the order of trial: first a mode that is requested
 /// and not kept. For a pair one stands for all, since its change has no mode.
 fn trials<P: Protocol>(alloc: Global, protocol: &P, blame: Blame) -> Result<Vec<Mode>, Memory> {
     let mut modes = Vec::new(alloc);

@@ -29,7 +29,7 @@ impl Reasons {
     }
 }
 
-/// What a row asks for at a side, and nothing where `own_next` is no mode.
+/// What a row requests at a side, and nothing where `own_next` is no mode.
 pub(crate) fn asked<P: Protocol>(
     protocol: &P,
     row: Row,
@@ -42,7 +42,7 @@ pub(crate) fn asked<P: Protocol>(
     protocol.ask(row, side, own_next)
 }
 
-/// Whether a request may stand beside a lock, both of them modes or 0.
+/// Whether a request is compatible with a lock, both of them modes or 0.
 fn stands_beside<P: Protocol>(protocol: &P, requested: Mode, held: Mode) -> bool {
     if requested > protocol.count() || held > protocol.count() {
         return true;
@@ -50,7 +50,7 @@ fn stands_beside<P: Protocol>(protocol: &P, requested: Mode, held: Mode) -> bool
     protocol.ok(requested, held)
 }
 
-/// The mode of one who holds a mode and asks for another, both of them modes or 0.
+/// The mode of one who holds a mode and requests another, both of them modes or 0.
 fn converted<P: Protocol>(protocol: &P, held: Mode, requested: Mode) -> Mode {
     if held > protocol.count() || requested > protocol.count() {
         return requested;
@@ -58,7 +58,7 @@ fn converted<P: Protocol>(protocol: &P, held: Mode, requested: Mode) -> Mode {
     protocol.convert(held, requested)
 }
 
-/// Whether no lock conflicts with what the row asks for at the side, where the asker holds nothing.
+/// Whether no lock conflicts with what the row requests at the side, where the requester holds nothing.
 fn is_void<P: Protocol>(protocol: &P, row: Row, side: Side) -> bool {
     match protocol.ask(row, side, 0) {
         None => true,
@@ -86,7 +86,7 @@ fn void_place<P: Protocol>(protocol: &P, cover: Cover) -> Option<Blame> {
     None
 }
 
-/// Whether a lock in a mode conflicts with what a row asks for at a side, whatever the asker holds.
+/// Whether a lock in a mode conflicts with what a row requests at a side, whatever the requester holds.
 fn conflicts<P: Protocol>(protocol: &P, held: Mode, row: Row, side: Side) -> bool {
     for own_next in 0..protocol.count() + 1 {
         let Some((requested, _)) = protocol.ask(row, side, own_next) else {
@@ -137,7 +137,7 @@ pub fn own_next(case: &FailedCase) -> Mode
     }
 }
 
-/// The conversion by which a lock was taken, where the mode that was asked for serves the cover by itself.
+/// The conversion by which a lock was taken, where the mode that was requested serves the cover by itself.
 fn weakened<P: Protocol>(
     protocol: &P,
     cover: Cover,

@@ -34,7 +34,7 @@ pub struct Closure {
 }
 
 impl Closure {
-    /// The closure over the modes of a lock table: a script leads to each of its states under the table. The only fault is
+    /// The closure over the modes of a table: a script leads to each of its states under the table. The only fault is
     /// that a growth was refused.
     pub fn of<P: Protocol>(alloc: Global, protocol: &P) -> Result<Closure, Memory>
         ensures { IfOk result (λ c. All (λ r. IsReached (P.table protocol.now) r.state) c.reached.items) }

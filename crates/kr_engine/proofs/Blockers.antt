@@ -51,7 +51,7 @@ operation_of f (e ∷ es) t u c = pick (e.txn == t) refl (operation_of f es t u)
 any_there : {A : Type 0} (p : A → Bool) (xs : List A) (x : A) → Contains xs x → p x ≡ true → list_any p xs ≡ true
 any_there p xs x c h = list_any_at p xs c.0 x c.1 (ap p c.2 ∙ h)
 
--- Where none of those that block the asker is it or has a noted operation, no cycle of waiting transactions goes through it.
+-- Where none of those that block the requester is it or has a noted operation, no cycle of waiting transactions goes through it.
 pub no_cycle_without : (f : Event → List ℕ) (e : Event) (noted : List Event) → list_any (λ u. (u == e.txn) || list_any (λ d. d.txn == u) noted) (f e) ≡ false
     → (cycle : List ℕ) → IsCycle (blockers_now f (e ∷ noted)) e.txn cycle → ⊥
 no_cycle_without f e noted none [] c = c.blocked
@@ -73,7 +73,7 @@ no_cycle_without f e noted none (t ∷ us) c = by us c.blocked
     fails : (u : ℕ) → Contains (now t) u → test u ≡ true → ⊥
     fails u there h = false≢true (sym none ∙ any_there test (f e) u (subst (λ (vs : List ℕ). Contains vs u) own there) h)
 
-    -- who is blocked is the asker or has an operation
+    -- who is blocked is the requester or has an operation
     blocked : (u v : ℕ) → Contains (now u) v → test u ≡ true
     blocked u v there = pick (e.txn == u) refl
       where

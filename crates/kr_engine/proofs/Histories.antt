@@ -73,7 +73,7 @@ programs_of_history p opening es s l h is =
     ap (λ (m : Log). m.committed) is
     ∙ subst (λ (r : model.Trace). (log_after no_log r.history).committed ≡ model.programs r.history) h.run log.committed
 
--- A history under a covered protocol is serial.
+-- A history under a covered protocol is serializable.
 pub serial_history : (p : Protocol) → IsLawful p → IsCovered p → (opening : Map) (es : List Entry) (s : State) → IsMap opening → IsHistory p opening es s → IsSerialHistory opening es s
 serial_history p laws covered opening es s sorted h = subst (IsSerialRun opening) h.run (runs_are_serial p laws covered opening (model.events_of (events_with_replies es)) sorted)
 

@@ -2,7 +2,7 @@
 use Rattle.std.proofs.Common.{◌≡◌, ◌≤◌, List, [], ◌∷◌, ◌++◌, length, refl, arith}
 use mathlib.Core.List.{IsPrefix}
 
--- A beginning of a list that is no longer than all but its last is a beginning of these.
+-- A prefix of a list that is no longer than all but its last is a prefix of these.
 pub prefix_front : {A : Type 0} (xs ys : List A) (y : A) → IsPrefix xs (ys ++ y ∷ []) → length xs ≤ length ys → (rest : List A) × (ys ≡ xs ++ rest)
 prefix_front [] ys y p le = (ys, refl)
 prefix_front (x ∷ xs) [] y p le = absurd (omega arith)

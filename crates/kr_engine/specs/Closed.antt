@@ -33,7 +33,7 @@ pub record StandsIn (seats : List SeatNote) (es : List Entry) (s : Lent) : Type 
   pub begins : IsPrefix s.view es
   pub own : entries_of s.seat es ≡ s.count
 
--- The entries are a run of granted steps under the engine's table from the opening map; the index, the unfinished transactions and the locks are those of its end, and the programs are those that committed in it, in commit order; each seat's count is the number of its entries. All entries of one transaction are of one seat, and the transactions that committed are serial in commit order. Each of the shares stands in it.
+-- The entries are a run of granted steps under the engine's table from the opening map; the index, the unfinished transactions and the locks are those of its end, and the programs are those that committed in it, in commit order; each seat's count is the number of its entries. All entries of one transaction are of one seat, and the transactions that committed are serializable in commit order. Each of the shares stands in it.
 pub record IsClosed (p : Protocol) (opening : Map) (h : History) (shares : List Lent) : Type 0 where
   pub state : State
   pub run : IsHistory p opening h.entries.items state

@@ -29,7 +29,7 @@ pub record IsHistory (p : Protocol) (opening : Map) (es : List Entry) (s : State
 abbrev pub AreOfOneSeat : List Entry → Type 0
 AreOfOneSeat es = (d e : Entry) → Contains es d → Contains es e → d.event.txn ≡ e.event.txn → d.seat ≡ e.seat
 
--- The transactions that committed are serial in commit order from the opening map; and the state's index, with the unfinished transactions rolled back, is the map that they leave.
+-- The transactions that committed are serializable in commit order from the opening map; and the state's index, with the unfinished transactions rolled back, is the map that they leave.
 abbrev pub IsSerialHistory : Map → List Entry → State → Type 0
 IsSerialHistory opening es s = IsSerialRun opening (record { history = events_with_replies es; state = s })
 

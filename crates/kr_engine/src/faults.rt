@@ -7,7 +7,7 @@ use kr_model::{Event, Refusal, Reply, Txns};
 /// Why nothing was done.
 #[derive(Debug, Drop)]
 pub enum EngineFault {
-    /// A cycle of waiting transactions, the asker first: each waits for the next, the last for the asker.
+    /// A cycle of waiting transactions, the requester first: each waits for the next, the last for the requester.
     Deadlock(Txns),
     /// All places of the row are used or kept for the ends of transactions.
     RowFull,

@@ -95,7 +95,7 @@ impl<P: Covered, K: EngineName> Core<P, K> {
     /// What holds of every core. Its protocol's table is the engine's; the used places are a run of granted steps under it
     /// from the opening map, and the machine is where it ends; all entries of one transaction are of one seat, and each
     /// seat's count is the number of its entries; the number that a seat began last was begun by it; the main theorem holds
-    /// of the run, so the transactions that committed are serial in commit order; and one place is kept for each number
+    /// of the run, so the transactions that committed are serializable in commit order; and one place is kept for each number
     /// whose transaction hasn't ended, with room for all of them in the row.
     pub fn law(&self)
         ensures table { P.table self.now.protocol ≡ K.table }

@@ -25,9 +25,9 @@ use std::alloc::{AllocError, Global};
 
 impl<P: Covered, K: EngineName> Core<P, K> {
     /// Notes the operation as waiting until the transaction's next attempt, in place of one that was noted; or tells a
-    /// deadlock and notes nothing: a cycle of distinct transactions, the asker first, each with an operation that is
-    /// blocked by the next now, the last by the asker. `Memory` where a growth was refused; then nothing has changed. Machine and
-    /// history stay. An operation that isn't blocked is noted too.
+    /// deadlock and notes nothing: a cycle of distinct transactions, the requester first, each with an operation that is
+    /// blocked by the next now, the last by the requester. `Memory` where a growth was refused; then nothing has changed.
+    /// Machine and history stay. An operation that isn't blocked is noted too.
     pub fn wait(&mut self, txn: Txn, op: Op) -> Result<(), EngineFault>
         ensures cycle { IfErr result (λ f. TellsCycle f (IsCycle (blockers_now (in_the_way (P.table self.old.protocol) self.old.state) (event txn op ∷ self.old.waiting)) txn)) }
         ensures no_cycle { OnOk result ((cycle : List ℕ) → IsCycle (blockers_now (in_the_way (P.table self.old.protocol) self.old.state) (event txn op ∷ self.old.waiting)) txn cycle → ⊥) }
@@ -127,7 +127,7 @@ fn is_noted(noted: &[Event], txn: Txn) -> bool
     false
 }
 
-/// An entry for the asker, whom these block, and then one for each noted operation.
+/// An entry for the requester, whom these block, and then one for each noted operation.
 fn entries<P: Covered>(
     alloc: Global,
     machine: &mut Machine<P, Tree, Buckets>,

@@ -16,11 +16,11 @@ use std::alloc::{AllocError, Global};
 /// What a step changed that those who wait may wait for.
 #[derive(Clone, Copy, Debug, PartialEq, Eq)]
 pub(crate) enum Change {
-    /// Locks were added at most, or a key got another value, by which nobody asks for another lock.
+    /// Locks were added at most, or a key got another value, by which nobody requests another lock.
     Nothing,
     /// Locks were let go.
     Locks,
-    /// The index may have other keys, by which those who wait may ask for other locks.
+    /// The index may have other keys, by which those who wait may request other locks.
     Index,
 }
 

@@ -1,4 +1,5 @@
-//! Says whether a lock table is safe, and why cases of it fail: shows a run that goes wrong for each cause that isn't harmless, and names changes that mend it.
+//! Says whether a table is safe, and why cases of it fail: shows a run that goes wrong for each cause that isn't
+//! harmless, and names changes that mend it.
 #![tactic(auto)]
 
 use kr_explain_program::{NAME, execute};

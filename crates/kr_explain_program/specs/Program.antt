@@ -59,7 +59,7 @@ abbrev pub TellsMissing : Protocol → List ℕ → Wanted → List ℕ → Type
 TellsMissing p table wanted.Explanation line = ⊥
 TellsMissing p table (wanted.Script number) line = TellsNoRun p table number line
 
--- Why the program ends without what is wanted of a table, or with a beginning of it.
+-- Why the program ends without what is wanted of a table, or with a prefix of it.
 abbrev pub EndsReport : Protocol → List ℕ → Wanted → Ending → Type 0
 EndsReport p table wanted NotUnderstood = ⊥
 EndsReport p table wanted Memory = Unit {0}
@@ -83,7 +83,7 @@ abbrev pub TellsWord : (List ℕ → Option (List ℕ) → Type 0) → List ℕ 
 TellsWord may_give table wanted line =
     TellsNoTable may_give table line ⊎ ((t : AnyTable) × (NamesTable may_give table t × TellsMissing (table_of t) table wanted line))
 
--- Why the program ends without what these words ask for, or with a beginning of it.
+-- Why the program ends without what these words ask for, or with a prefix of it.
 abbrev pub Ends : (List ℕ → Option (List ℕ) → Type 0) → List (List ℕ) → Ending → Type 0
 Ends may_give words NotUnderstood = (table : List ℕ) (wanted : Wanted) → IsAsked table wanted → words ≡ words_of table wanted → ⊥
 Ends may_give words Memory = Unit {0}

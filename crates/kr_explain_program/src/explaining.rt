@@ -1,4 +1,4 @@
-//! From a lock protocol to its explanation, or a script of it, on a sink.
+//! From a locking protocol to its explanation, or a script of it, on a sink.
 ghost use Rattle.std.specs.Prelude.{◌≡◌, ◌⊎◌, IfOk, IfErr, IsTrue};
 ghost use Rattle.kr_script.specs.Puts.{HasCause};
 ghost use Rattle.kr_shell.specs.Endings.{is_output};
@@ -11,7 +11,8 @@ use kr_script::{Sink, print, put_all};
 use kr_shell::Ending;
 use std::alloc::Global;
 
-/// Writes the explanation of a protocol, whose table this word names, and answers whether the table is safe, accepted or not. Where a growth was refused, nothing is written; where printing fails, a beginning of the text was.
+/// Writes the explanation of a protocol, whose table this word names, and answers whether the table is safe, accepted or not.
+/// Where a growth was refused, nothing is written; where printing fails, a prefix of the text was.
 pub fn write_explanation<P: Protocol, W: Sink>(
     alloc: Global,
     protocol: &P,

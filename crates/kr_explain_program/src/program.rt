@@ -64,10 +64,10 @@ fn explained<R: std::rt::Files + AllocGlobal, F: Files, W: Sink>(
     report(rt.alloc(), &table, asked.table, asked.wanted, out)
 }
 
-/// Runs the program on words without its own name, and answers its status: 0 where it explained a table that is
-/// safe, accepted or not, 1 where one isn't or it wrote a script that goes wrong under it, and 2 where it told a fault on `err`. At 0 and 1 what the
-/// words ask for is written on `out`, of the table that the first word names, and nothing on `err`; at a fault of words,
-/// files, tables or memory, and where there is no such script, nothing is written on `out`.
+/// Runs the program on words without its own name, and answers its status: 0 where it explained a table that is safe,
+/// accepted or not, 1 where one isn't or it wrote a script that goes wrong under it, and 2 where it told a fault on `err`. At
+/// 0 and 1 what the words ask for is written on `out`, of the table that the first word names, and nothing on `err`; at a
+/// fault of words, files, tables or memory, and where there is no such script, nothing is written on `out`.
 pub fn execute<R: std::rt::Files + AllocGlobal, F: Files, W: Sink, E: Sink>(
     rt: &R,
     words: &[String],

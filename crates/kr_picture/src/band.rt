@@ -56,7 +56,7 @@ fn write_difference(
     out.push_str("</p>\n")
 }
 
-/// Writes in words what a blocked step asked for, and whose locks conflicted with it.
+/// Writes in words what a blocked step requested, and whose locks conflicted with it.
 fn write_request<P: Protocol>(
     alloc: Global,
     protocol: &P,

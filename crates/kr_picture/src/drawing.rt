@@ -56,7 +56,7 @@ pub fn write_drawing(
     svg::close(out)
 }
 
-/// The lines of some bars: transactions rise, and the locks of each come before what it asked for.
+/// The lines of some bars: transactions rise, and the locks of each come before what it requested.
 fn lines_of(alloc: Global, bars: &[Bar]) -> Result<Vec<BarLine>, Memory> {
     let mut set = BTreeSet::new(alloc);
     for bar in bars {

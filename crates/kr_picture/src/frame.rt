@@ -58,10 +58,10 @@ table{border-collapse:collapse}th,td{border:1px solid var(--rule);padding:4px 10
 /// From there to the verdict.
 pub const BEHIND_NAME: &str = "</code></h1>\n";
 
-/// How the verdict on a run that is serial begins.
+/// How the verdict on a run that is serializable begins.
 pub const SERIAL: &str = "<p class=\"verdict yes\"><b>✓ Serial.</b> ";
 
-/// How the verdict on a run that isn't serial begins.
+/// How the verdict on a run that isn't serializable begins.
 pub const NOT_SERIAL: &str = "<p class=\"verdict no\"><b>✗ Not serial.</b> ";
 
 /// The end of a page.

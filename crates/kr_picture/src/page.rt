@@ -19,12 +19,12 @@ use kr_script::Script;
 use kr_serial::{Ran, Verdict, judge, run_any};
 use std::alloc::Global;
 
-/// The page of a script's run under a protocol, whose table has this name, and whether the run is serial: the programs of
-/// the transactions that commit are serial in commit order. Under a safe protocol they are, and so under a covered one.
+/// The page of a script's run under a protocol, whose table has this name, and whether the run is serializable: the programs of
+/// the transactions that commit are serializable in commit order. Under a safe protocol they are, and so under a covered one.
 ///
-/// The page is HTML that stands alone. It has the name as its title and heading, and then tells whether the run is serial.
-/// At most 200 steps and 60 names are drawn, the last ones, and the page says so. The only error is that a growth was
-/// refused.
+/// The page is HTML that stands alone. It has the name as its title and heading, and then tells whether the run is
+/// serializable. At most 200 steps and 60 names are drawn, the last ones, and the page says so. The only error is that a
+/// growth was refused.
 pub fn picture<P: Protocol>(
     alloc: Global,
     protocol: &P,

@@ -1,4 +1,4 @@
--- All verdicts are serial exactly where each run is.
+-- All verdicts are serializable exactly where each run is.
 use Rattle.std.proofs.Common.{◌≡◌, ℕ, zero, suc, Bool, true, false, ◌&&◌, All, List, [], ◌∷◌, length, map, Option, refl, sym, ap, ◌∙◌, arith}
 use Rattle.std.specs.List.{list_all}
 use Rattle.kr_model.specs.Protocol.{Protocol}
@@ -31,18 +31,18 @@ module _ (p : Protocol) where
   told_where_serial : (s : Script) → IsSerialScript p s → is_serial (verdict_of_run p s.opening s.steps) ≡ true
   told_where_serial s h = is_told (verdict_of_run p s.opening s.steps) ((serial_exactly (verdict_of_run p s.opening s.steps) s.opening (programs (run_of p s).history) refl).1 h)
 
-  -- where all verdicts are serial, each run is
+  -- where all verdicts are serializable, each run is
   pub all_serial : (ss : List Script) → list_all is_serial (verdicts_on p ss) ≡ true → All (IsSerialScript p) ss
   all_serial [] e k d low = absurd (omega arith)
   all_serial (s ∷ ss) e zero d low = serial_where_told s (both (is_serial (verdict_of_run p s.opening s.steps)) (list_all is_serial (verdicts_on p ss)) e).0
   all_serial (s ∷ ss) e (suc k) d low = all_serial ss (both (is_serial (verdict_of_run p s.opening s.steps)) (list_all is_serial (verdicts_on p ss)) e).1 k d (omega arith)
 
-  -- and where each run is serial, all verdicts are
+  -- and where each run is serializable, all verdicts are
   pub all_told : (ss : List Script) → All (IsSerialScript p) ss → list_all is_serial (verdicts_on p ss) ≡ true
   all_told [] h = refl
   all_told (s ∷ ss) h = rw (told_where_serial s (h zero s (omega arith)), all_told ss (λ k d low. h (suc k) d (omega arith)))
 
-  -- where every run of a script is serial, so is each run of a script that a name stands for
+  -- where every run of a script is serializable, so is each run of a script that a name stands for
   pub all_named : ((s : Script) → IsMap s.opening → IsSerialScript p s) → (may_be : List ℕ → Option (List ℕ) → Type 0) (names : List (List ℕ)) (ss : List Script) → AreNamed may_be names ss → All (IsSerialScript p) ss
   all_named every may_be names [] are k d low = absurd (omega arith)
   all_named every may_be [] (s ∷ ss) are k d low = absurd are

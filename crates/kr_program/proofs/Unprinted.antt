@@ -9,7 +9,7 @@ use Rattle.kr_program.specs.declared.faults.OverFault.{OverFault}
 use Rattle.kr_program.specs.declared.faults.OverFault.TheVariants as fault
 use Rattle.kr_program.specs.Runs.{report_text, Explains}
 
--- The sink took a beginning of the report of the script that was read, and told a cause.
+-- The sink took a prefix of the report of the script that was read, and told a cause.
 pub unprinted : (p : Protocol) (names : List (List ℕ)) (bytes : List ℕ) (old new : Option (List ℕ)) (before after : ℕ) (s : Script) (text : List ℕ)
     → reading bytes ≡ Ok s → text ≡ report_text p names s → AppendsFront old new (text ++ 10 ∷ []) → HasCause before after → Explains p names bytes old new before after fault.Print
 unprinted p names bytes old new before after s text reads is front cause = (cause, (s, (reads, subst (λ (t : List ℕ). AppendsFront old new (t ++ 10 ∷ [])) is front)))

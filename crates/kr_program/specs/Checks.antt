@@ -16,7 +16,7 @@ line_of p names failed = check_text p names failed ++ 10 ∷ []
 abbrev pub check_line : Protocol → List (List ℕ) → List ℕ
 check_line p names = line_of p names (failed_cases p)
 
--- No fault is of a script or a place, and a fault of printing has its cause in the sink, which took a beginning of the line.
+-- No fault is of a script or a place, and a fault of printing has its cause in the sink, which took a prefix of the line.
 abbrev pub ExplainsLine : List ℕ → Option (List ℕ) → Option (List ℕ) → ℕ → ℕ → OverFault → Type 0
 ExplainsLine line old new before after (fault.Script f) = ⊥
 ExplainsLine line old new before after fault.Memory = Unit {0}

@@ -16,7 +16,7 @@ use Rattle.kr_program.specs.declared.judges.LinesFault.TheVariants as fault
 abbrev pub verdicts_on : Protocol → List Script → List Verdict
 verdicts_on p ss = map (λ s. verdict_of_run p s.opening s.steps) ss
 
--- Whether a verdict is serial.
+-- Whether a verdict is serializable.
 abbrev pub is_serial : Verdict → Bool
 is_serial Serial = true
 is_serial (NotSerial t operation given serial) = false
@@ -35,7 +35,7 @@ lines texts = flat_map (λ t. t ++ 10 ∷ []) texts
 abbrev pub judge_lines : Protocol → List (List ℕ) → List Script → List ℕ
 judge_lines p names ss = lines (reports_of names (verdicts_on p ss))
 
--- A fault of a name is that of the first that stands for no script, and a fault of printing has its cause in the sink, which took a beginning of the lines.
+-- A fault of a name is that of the first that stands for no script, and a fault of printing has its cause in the sink, which took a prefix of the lines.
 abbrev pub ExplainsLines : Protocol → (List ℕ → Option (List ℕ) → Type 0) → List (List ℕ) → Option (List ℕ) → Option (List ℕ) → ℕ → ℕ → LinesFault → Type 0
 ExplainsLines p may_be names old new before after (fault.Judge f) = ExplainsNames may_be names f
 ExplainsLines p may_be names old new before after fault.Print = HasCause before after × ((ss : List Script) × (AreNamed may_be names ss × AppendsFront old new (judge_lines p names ss)))

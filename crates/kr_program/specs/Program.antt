@@ -20,13 +20,13 @@ use Rattle.kr_threads.specs.Threaded.{IsThreaded}
 use Rattle.kr_program.specs.declared.words.Task.{Task}
 use Rattle.kr_program.specs.declared.words.Task.TheVariants.{Check, Run, Judge, Threads}
 
--- Under a covered table the whole report was written of a run by several threads of the script that a word names, and the answer is that it is serial; under another the report of the check, and the answer is that it is rejected.
+-- Under a covered table the whole report was written of a run by several threads of the script that a word names, and the answer is that it is serializable; under another the report of the check, and the answer is that it is rejected.
 abbrev pub ThreadsReported : (List ℕ → Option (List ℕ) → Type 0) → Protocol → List (List ℕ) → List ℕ → Option (List ℕ) → Option (List ℕ) → Bool → Type 0
 ThreadsReported may_give p names word old new well =
     ((well ≡ true) × (IsCovered p × ((s : Script) × (NamesScript may_give word s × ((d : Threaded) × (IsThreaded p s.opening s.steps d × Appends old new (threads_line d)))))))
     ⊎ ((well ≡ false) × ((IsCovered p → ⊥) × Appends old new (check_line p names)))
 
--- The whole report of a task was written, of the scripts that its words name, and the answer is whether the table is accepted, or each run is serial.
+-- The whole report of a task was written, of the scripts that its words name, and the answer is whether the table is accepted, or each run is serializable.
 abbrev pub Reports : (List ℕ → Option (List ℕ) → Type 0) → Protocol → List (List ℕ) → Task → Option (List ℕ) → Option (List ℕ) → Bool → Type 0
 Reports may_give p names Check old new well = Appends old new (check_line p names) × (IsTrue well ↔ IsCovered p)
 Reports may_give p names (Run word) old new well =
@@ -44,7 +44,7 @@ pub record Answers (may_give : List ℕ → Option (List ℕ) → Type 0) (old n
   pub lawful : IsLawful (table_of named)
   pub reports : Reports may_give (table_of named) (names_of named) task old new well
 
--- A task ends without its report, or with a beginning of it: for memory, a place or output, or with a line that is told of a word, of which this holds.
+-- A task ends without its report, or with a prefix of it: for memory, a place or output, or with a line that is told of a word, of which this holds.
 abbrev pub Unreported : (List ℕ → Type 0) → Ending → Type 0
 Unreported P NotUnderstood = ⊥
 Unreported P Memory = Unit {0}
@@ -68,7 +68,7 @@ abbrev pub TellsWord : (List ℕ → Option (List ℕ) → Type 0) → List ℕ 
 TellsWord may_give table task line =
     TellsNoTable may_give table line ⊎ ((t : AnyTable) × (NamesTable may_give table t × TellsTask may_give task line))
 
--- Why the program ends without a report, or with a beginning of it.
+-- Why the program ends without a report, or with a prefix of it.
 abbrev pub Ends : (List ℕ → Option (List ℕ) → Type 0) → Ending → Type 0
 Ends may_give NotUnderstood = Unit {0}
 Ends may_give Memory = Unit {0}

@@ -29,16 +29,16 @@ report_text p names s =
 abbrev pub report_line : Protocol → List (List ℕ) → Script → List ℕ
 report_line p names s = report_text p names s ++ 10 ∷ []
 
--- The transactions that commit in a script's run under a protocol are serial.
+-- The transactions that commit in a script's run under a protocol are serializable.
 abbrev pub IsSerialScript : Protocol → Script → Type 0
 IsSerialScript p s = AreSerial s.opening (programs (run_of p s).history)
 
--- The fault of a script as one of a report: want of memory is one fault, wherever it comes.
+-- The fault of a script as one of a report: out of memory is one fault, wherever it comes.
 abbrev pub report_fault : ScriptFault → OverFault
 report_fault told_as.Memory = fault.Memory
 report_fault f = fault.Script f
 
--- A fault of the script is that of its bytes, no place is refused, and a fault of printing has its cause in the sink, which took a beginning of the report.
+-- A fault of the script is that of its bytes, no place is refused, and a fault of printing has its cause in the sink, which took a prefix of the report.
 abbrev pub Explains : Protocol → List (List ℕ) → List ℕ → Option (List ℕ) → Option (List ℕ) → ℕ → ℕ → OverFault → Type 0
 Explains p names bytes old new before after (fault.Script f) = (x : Fault) × ((fault_of f ≡ Some x) × (reading bytes ≡ Err x))
 Explains p names bytes old new before after fault.Memory = Unit {0}

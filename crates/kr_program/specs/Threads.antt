@@ -17,7 +17,7 @@ use Rattle.kr_program.specs.declared.faults.OverFault.TheVariants as fault
 abbrev pub threads_line : Threaded → List ℕ
 threads_line d = threads_text d.faults.items d.history.items d.ran.index d.ran.unfinished (verdict_of (first_difference d.ran.opening d.ran.programs)) ++ 10 ∷ []
 
--- A fault of the script is that of its bytes, and a fault of printing has its cause in the sink, which took a beginning of the report of a run of the script.
+-- A fault of the script is that of its bytes, and a fault of printing has its cause in the sink, which took a prefix of the report of a run of the script.
 abbrev pub ExplainsThreads : Protocol → List ℕ → Option (List ℕ) → Option (List ℕ) → ℕ → ℕ → OverFault → Type 0
 ExplainsThreads p bytes old new before after (fault.Script f) = (x : Fault) × ((fault_of f ≡ Some x) × (reading bytes ≡ Err x))
 ExplainsThreads p bytes old new before after fault.Memory = Unit {0}

@@ -1,4 +1,4 @@
-//! From a lock protocol to the report of its check on a sink.
+//! From a locking protocol to the report of its check on a sink.
 ghost use Rattle.std.specs.Prelude.{◌≡◌, ◌⊎◌, ◌↔◌, [], IfOk, IfErr, IsTrue};
 ghost use Rattle.std.specs.Io.KnownBytes.{Appends};
 ghost use Rattle.kr_model.specs.Covers.{IsCovered};
@@ -33,7 +33,7 @@ pub fn write_check<P: Protocol, W: Sink>(
 }
 
 /// Checks a protocol, writes the report of the check and a line feed, and answers whether every case holds. Where a
-/// growth was refused, nothing is written; where printing fails, a beginning of the report was.
+/// growth was refused, nothing is written; where printing fails, a prefix of the report was.
 pub fn check_over<P: Protocol, W: Sink>(
     alloc: Global,
     protocol: P,

@@ -69,7 +69,7 @@ fn lines_of(alloc: Global, names: &[&str], verdicts: &[Verdict]) -> Result<Strin
     Ok(text)
 }
 
-/// Whether all verdicts are serial.
+/// Whether all verdicts are serializable.
 fn are_serial(verdicts: &[Verdict]) -> bool
     ensures { result ≡ list_all is_serial verdicts.now }
 {
@@ -91,7 +91,7 @@ fn are_laws_kept<P: Protocol>(protocol: &P)
 /// Judges the runs of the scripts that names stand for under a protocol, on several threads, writes for each name in their
 /// order the report of the verdict with the name and a line feed, and answers whether all runs are serializable in commit
 /// order; under a safe protocol they are, and so under a covered one. Where a name stands for no script, or a growth was
-/// refused, nothing is written; where printing fails, a beginning of the lines was.
+/// refused, nothing is written; where printing fails, a prefix of the lines was.
 pub fn judge_over<P: Protocol + Sync, T: Texts + Sync, W: Sink>(
     rt: &(impl Threads + Sync),
     alloc: Global,

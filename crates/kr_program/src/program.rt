@@ -51,7 +51,7 @@ impl From<OverFault> for Ending {
     }
 }
 
-/// Runs the script in the file that a word names, writes its report, and answers whether the run is serial.
+/// Runs the script in the file that a word names, writes its report, and answers whether the run is serializable.
 fn run_script<R: std::rt::Files + AllocGlobal, P: Protocol, F: Files, W: Sink>(
     rt: &R,
     protocol: &P,
@@ -112,7 +112,7 @@ impl<R: std::rt::Files + AllocGlobal, F: Files> Scripts<'_, R, F> {
 }
 
 /// Judges the scripts in the files that words name, writes the lines of their verdicts, and answers whether all are
-/// serial. Each thread reads the files of its scripts; of several faults the first in the order of the words is told.
+/// serializable. Each thread reads the files of its scripts; of several faults the first in the order of the words is told.
 fn judge_scripts<
     R: std::rt::Files + AllocGlobal + Threads + Sync,
     P: Protocol + Sync,
@@ -139,7 +139,7 @@ where
 }
 
 /// Runs the script in the file that a word names by several threads, writes the report of what they did, and answers whether
-/// the run of its history is serial, which it is.
+/// the run of its history is serializable, which it is.
 fn thread_script<
     R: std::rt::Files + AllocGlobal + Threads + Wait + Sync,
     P: Covered + Sync,
@@ -203,7 +203,7 @@ fn check_and_thread<
     }
 }
 
-/// Does a task under a protocol, and answers whether the table is accepted, or each run is serial; under a covered
+/// Does a task under a protocol, and answers whether the table is accepted, or each run is serializable; under a covered
 /// protocol that is so, whatever the task. At a fault of scripts or memory nothing is written on `out`.
 fn under<
     R: std::rt::Files + AllocGlobal + Threads + Wait + Sync,
@@ -232,7 +232,7 @@ where
 }
 
 /// Does what the words ask under the table that the word of it names, and answers whether the table is accepted, or each run
-/// is serial. Scripts are read only where that word names a table.
+/// is serializable. Scripts are read only where that word names a table.
 fn ask<R: std::rt::Files + AllocGlobal + Threads + Wait + Sync, F: Files + Sync, W: Sink>(
     rt: &R,
     words: &[String],
@@ -253,8 +253,8 @@ where
 }
 
 /// Runs the program on words without its own name, and answers its status: 0 where it accepted a table or each run was
-/// serial, 1 where it rejected a table or a run wasn't serial, and 2 where it told a fault on `err`. At 0 and 1 the whole
-/// report of a task, under the table and of the scripts that words name, is written on `out`, and nothing on `err`; at a
+/// serializable, 1 where it rejected a table or a run wasn't, and 2 where it told a fault on `err`. At 0 and 1 the whole report
+/// of a task, under the table and of the scripts that words name, is written on `out`, and nothing on `err`; at a
 /// fault of words, files, tables, scripts or memory nothing is written on `out`. The line on `err` tells of a word why it
 /// names no table or no script, or that words aren't understood, or that memory, a place or output was refused.
 pub fn execute<

@@ -18,7 +18,7 @@ use kr_script::{Sink, print, read_script, report_run};
 use kr_serial::{Ran, judge, run_any};
 use std::alloc::{AllocError, Global};
 
-/// The report of a run with its verdict, and whether it is serial.
+/// The report of a run with its verdict, and whether it is serializable.
 fn report_of<P: Protocol>(
     alloc: Global,
     protocol: &P,
@@ -51,7 +51,7 @@ fn reported<P: Protocol>(
 
 /// Runs the script that the bytes are under a protocol, writes the report of the run with its verdict and a line feed, and
 /// answers whether the run is serializable in commit order; under a safe protocol it is, and so under a covered one. Where
-/// the bytes are no script, or a growth was refused, nothing is written; where printing fails, a beginning of the report
+/// the bytes are no script, or a growth was refused, nothing is written; where printing fails, a prefix of the report
 /// was.
 pub fn run_over<P: Protocol, W: Sink>(
     alloc: Global,

@@ -18,7 +18,7 @@ use std::alloc::{AllocError, Global};
 use std::sync::Wait;
 use std::thread::Threads;
 
-/// The report of what several threads did with the verdict on the run of its history, and whether that run is serial.
+/// The report of what several threads did with the verdict on the run of its history, and whether that run is serializable.
 fn report_of(alloc: Global, threaded: &Threaded) -> Result<(String, bool), AllocError>
     ensures text { IfOk result (λ told. string_bytes told.0 ++ 10 ∷ [] ≡ threads_line threaded.now) }
     ensures serial { IfOk result (λ told. IsTrue told.1 ↔ AreSerial threaded.now.ran.opening threaded.now.ran.programs) }
@@ -30,8 +30,8 @@ fn report_of(alloc: Global, threaded: &Threaded) -> Result<(String, bool), Alloc
 
 /// Runs the script that the bytes are under a covered protocol, its transactions shared out to so many workers, each a
 /// thread; writes the report of what they did, with the verdict on the run of its history and a line feed; and answers
-/// whether that run is serial, which it is. Where the bytes are no script, or a growth or a place was refused, nothing is
-/// written; where printing fails, a beginning of the report was.
+/// whether that run is serializable, which it is. Where the bytes are no script, or a growth or a place was refused, nothing is
+/// written; where printing fails, a prefix of the report was.
 pub fn threads_over<P: Covered + Sync, W: Sink>(
     rt: &(impl Threads + Wait + Sync),
     alloc: Global,

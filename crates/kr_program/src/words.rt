@@ -21,13 +21,13 @@ pub struct Asked<'a> {
 pub enum Task<'a> {
     /// The table is checked: status 0 where it is accepted, and 1 where it is rejected.
     Check,
-    /// The script that a word names is run: status 0 where the run is serial, and 1 where it isn't.
+    /// The script that a word names is run: status 0 where the run is serializable, and 1 where it isn't.
     Run(&'a str),
-    /// The scripts that words name are judged, and no verdict is shown before all are: status 0 where each run is serial,
+    /// The scripts that words name are judged, and no verdict is shown before all are: status 0 where each run is serializable,
     /// and 1 where one isn't.
     Judge(Vec<&'a str>),
     /// The table is checked, and then the script that a word names is run by so many workers, each a thread: status 0 where
-    /// the run is serial, and 1 where it isn't or the table is rejected.
+    /// the run is serializable, and 1 where it isn't or the table is rejected.
     Threads(&'a str, Workers),
 }
 

@@ -1,4 +1,4 @@
-//! What a blocked step asked for, and whose locks conflicted with it.
+//! What a blocked step requested, and whose locks conflicted with it.
 ghost use Rattle.std.specs.Prelude.{◌≤◌, IfOk, OnOk};
 ghost use Rattle.kr_model.specs.Map.{IsMap};
 ghost use Rattle.kr_model.specs.Locks.{AreWithin};
@@ -11,7 +11,7 @@ use kr_protocol::Protocol;
 use std::alloc::Global;
 use std::collections::BTreeMap;
 
-/// A lock that a step asked for, and the transactions whose locks conflicted with it.
+/// A lock that a step requested, and the transactions whose locks conflicted with it.
 #[derive(Debug, Drop)]
 pub struct Asked {
     pub name: Name,
@@ -56,7 +56,7 @@ impl Scans {
         Ok(())
     }
 
-    /// What a step looks up or changes, if it asks for locks at all.
+    /// What a step looks up or changes, if it requests locks at all.
     fn attempt<I: Ordered>(&self, index: &I, event: Event) -> Option<Step> {
         match event.op {
             Op::Fetch(key) => Some(Step::Fetch(key)),
@@ -72,7 +72,7 @@ impl Scans {
         }
     }
 
-    /// What a step asks for on an index with these locks, and whose locks conflict with it.
+    /// What a step requests on an index with these locks, and whose locks conflict with it.
     pub(crate) fn asked<P: Protocol>(
         &self,
         alloc: Global,

@@ -1,4 +1,4 @@
-//! The bars of a step: the locks that are held after it, and those that it asked for and wasn't granted.
+//! The bars of a step: the locks that are held after it, and those that it requested and wasn't granted.
 
 use crate::asked::Asked;
 use crate::columns::Columns;
@@ -34,7 +34,7 @@ pub struct Bar {
 }
 
 impl Bar {
-    /// The holder and the mode, and with a word or a sign whether it conflicts or was asked for.
+    /// The holder and the mode, and with a word or a sign whether it conflicts or was requested.
     pub fn words(&self, alloc: Global, is_short: bool) -> Result<String, Memory> {
         let txn = self.line.txn;
         let mode = self.mode.as_str();
@@ -53,7 +53,7 @@ impl Bar {
 pub enum BarKind {
     /// A lock.
     Held,
-    /// A lock that conflicts with what was asked for.
+    /// A lock that conflicts with what was requested.
     Conflicting,
     /// A request that wasn't granted.
     Asked,
@@ -102,7 +102,7 @@ fn line_of(txn: Txn, is_second: bool, reach: usize) -> BarLine {
     BarLine { txn, layer }
 }
 
-/// Whether a lock conflicts with what was asked for.
+/// Whether a lock conflicts with what was requested.
 fn conflicts(asked: &[Asked], name: Name, txn: Txn) -> bool {
     for request in asked {
         if request.name == name && request.blockers.as_slice().contains(&txn) {
@@ -152,7 +152,8 @@ fn has_bar(bars: &[Bar], txn: Txn, column: usize) -> bool {
     false
 }
 
-/// Adds a bar for each lock that a transaction asked for and wasn't granted. What nobody's lock conflicts with is told in words alone.
+/// Adds a bar for each lock that a transaction requested and wasn't granted. What nobody's lock conflicts with is told in
+/// words alone.
 pub fn push_asked<P: Protocol>(
     alloc: Global,
     protocol: &P,

@@ -70,9 +70,9 @@ pub struct Scene {
     pub touched: Option<u64>,
     /// The key of each column.
     pub keys: Vec<KeyState>,
-    /// The locks that are held on names with a column, and those that were asked for there and not granted.
+    /// The locks that are held on names with a column, and those that were requested there and not granted.
     pub bars: Vec<Bar>,
-    /// What it asked for, where it is blocked.
+    /// What it requested, where it is blocked.
     pub asked: Vec<Asked>,
 }
 

@@ -16,15 +16,15 @@ appends_more (Some u) (Some v) (Some w) xs ys h k = k ∙ ap (λ l. l ++ ys) h �
 pub appends_next : (a b c : Option (List ℕ)) (i n : ℕ) (bs : List ℕ) → Appends a b (take i bs) → Appends b c (take n (take (length bs - i) (drop i bs))) → Appends a c (take (i + n) bs)
 appends_next a b c i n bs h k = rw (take-add i n bs) (appends_more a b c (take i bs) (take n (drop i bs)) h (rw (take_rest bs i) at k))
 
--- bytes that grew by the first i of bs grew by a beginning of bs
+-- bytes that grew by the first i of bs grew by a prefix of bs
 pub appends_front : (a b : Option (List ℕ)) (i : ℕ) (bs : List ℕ) → Appends a b (take i bs) → AppendsFront a b bs
 appends_front a b i bs h = (take i bs, drop i bs, sym (take-append-drop i bs), h)
 
--- bytes that grew by a beginning of bs grew by one of bs with more behind it
+-- bytes that grew by a prefix of bs grew by one of bs with more behind it
 pub front_of_more : (a b : Option (List ℕ)) (bs more : List ℕ) → AppendsFront a b bs → AppendsFront a b (bs ++ more)
 front_of_more a b bs more h = (h.0, h.1 ++ more, ap (λ l. l ++ more) h.2 ∙ append_assoc h.0 h.1 more, h.3)
 
--- bytes that grew by all of bs, and then by a beginning of more, grew by a beginning of both
+-- bytes that grew by all of bs, and then by a prefix of more, grew by a prefix of both
 pub front_behind : (a b c : Option (List ℕ)) (bs more : List ℕ) → Appends a b bs → AppendsFront b c more → AppendsFront a c (bs ++ more)
 front_behind a b c bs more h k = (bs ++ k.0, k.1, ap (λ l. bs ++ l) k.2 ∙ sym (append_assoc bs k.0 k.1), appends_more a b c bs k.0 h k.3)
 

@@ -40,7 +40,7 @@ cover_name cover.InsertedKey = codes "IK"
 cover_name cover.DeletedGap = codes "DG"
 cover_name cover.UpdatedKey = codes "UK"
 
--- The name of a row of a lock table.
+-- The name of a row of a table.
 abbrev pub row_name : Row → List ℕ
 row_name row.FetchHit = codes "fetch-hit"
 row_name row.FetchMiss = codes "fetch-miss"

@@ -17,7 +17,7 @@ abbrev pub failures_after : Result ℕ Failed → ℕ → ℕ → ℕ
 failures_after (Ok n) offered before = if (n == 0) && nat_lt 0 offered then one_more before else before
 failures_after (Err e) offered before = one_more before
 
--- The known bytes grew by a beginning of bs.
+-- The known bytes grew by a prefix of bs.
 abbrev pub AppendsFront : Option (List ℕ) → Option (List ℕ) → List ℕ → Type 0
 AppendsFront old new bs = (front rest : List ℕ) × (bs ≡ front ++ rest) × Appends old new front
 

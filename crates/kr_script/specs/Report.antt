@@ -75,7 +75,7 @@ lock_data names l = array (item (name_data (name_locked l)) (item (whole (holder
 abbrev pub locks_data : List (List ℕ) → Locks → Data
 locks_data names ls = array (items_of (map (lock_data names) ls))
 
--- A verdict: that the programs are serial, or the first answer that isn't: whose, the number of the operation, the answer given and the serial one.
+-- A verdict: that the programs are serializable, or the first answer that isn't: whose, the number of the operation, the answer given and the serial one.
 abbrev pub verdict_data : Verdict → Data
 verdict_data verdict.Serial = after_word (codes "serial") no_items
 verdict_data (verdict.NotSerial t operation given serial) =

@@ -85,7 +85,7 @@ impl<W: Write> Sink for Io<W> {
     }
 }
 
-/// Puts bytes until all of them are taken. At a fault a beginning of them was taken, no byte is put again that was taken,
+/// Puts bytes until all of them are taken. At a fault a prefix of them was taken, no byte is put again that was taken,
 /// and a put has failed in this call or the count of failed puts is at its end.
 pub fn put_all<W: Sink>(out: &mut W, bytes: &[u8]) -> Result<(), PrintFault>
     ensures ok { OnOk result (Appends (W.taken out.old) (W.taken out.new) bytes.now) }
@@ -104,7 +104,7 @@ pub fn put_all<W: Sink>(out: &mut W, bytes: &[u8]) -> Result<(), PrintFault>
     Ok(())
 }
 
-/// Prints a text and a line feed. At a fault a beginning of them was printed, no text is printed
+/// Prints a text and a line feed. At a fault a prefix of them was printed, no text is printed
 /// twice, and a put has failed in this call or the count of failed puts is at its end.
 #[tactic(auto, using(crate::proofs::Grows::front_of_more, crate::proofs::Grows::front_behind, crate::proofs::Grows::appends_more))]
 pub fn print<W: Sink>(out: &mut W, text: &str) -> Result<(), PrintFault>

@@ -65,7 +65,7 @@ pub fn write_pairs(out: &mut String, pairs: &[(u64, u64)]) -> Result<(), AllocEr
     out.push_str("]")
 }
 
-/// Writes the beginning of an array, a number and the closing bracket.
+/// Writes a prefix of an array, a number and the closing bracket.
 pub fn write_with_number(out: &mut String, beginning: &str, number: u64) -> Result<(), AllocError>
     ensures { OnOk result (string_bytes out.new ≡ string_bytes out.old ++ beginning.now ++ decimal number ++ codes "]") }
 {
@@ -74,7 +74,7 @@ pub fn write_with_number(out: &mut String, beginning: &str, number: u64) -> Resu
     out.push_str("]")
 }
 
-/// Writes the beginning of an array, an array of transactions' numbers and the closing bracket.
+/// Writes a prefix of an array, an array of transactions' numbers and the closing bracket.
 pub fn write_with_numbers(
     out: &mut String,
     beginning: &str,
@@ -146,7 +146,7 @@ pub fn write_locks<P: Protocol>(
     out.push_str("]")
 }
 
-/// Writes the beginning of an array, the number of a transaction and that of one of its operations or steps, and a comma
+/// Writes a prefix of an array, the number of a transaction and that of one of its operations or steps, and a comma
 /// behind each.
 pub fn write_place(
     out: &mut String,
@@ -164,7 +164,7 @@ pub fn write_place(
     out.push_str(",")
 }
 
-/// Writes the beginning of an array, two numbers with a comma between, and the closing bracket.
+/// Writes a prefix of an array, two numbers with a comma between, and the closing bracket.
 fn write_with_two_numbers(
     out: &mut String,
     beginning: &str,

@@ -45,7 +45,7 @@ pub shows_serial : {E : Type 0} (r : Result Ran E) (opening : Map) (ps : List Pr
 shows_serial (Ok ran) opening ps h o p = subst (λ m. AreSerial m ran.programs) (sym o) (subst (λ qs. AreSerial opening qs) (sym p) h)
 shows_serial (Err e) opening ps h o p = tt
 
--- What commits in a run under a safe protocol is serial.
+-- What commits in a run under a safe protocol is serializable.
 pub safe_programs : (p : Protocol) → IsLawful p → IsSafe p → (opening : Map) (events : List Event) → IsMap opening
     → AreSerial opening (programs (run p (start opening) events).history)
 safe_programs p laws safe opening events sorted =

@@ -101,7 +101,7 @@ none_of : (d : Option Difference) → verdict_of d ≡ Serial → d ≡ None
 none_of None e = refl
 none_of (Some d) e = absurd (cc)
 
--- The verdict that tells the first difference is the one for serial programs exactly where they are serial.
+-- The verdict that tells the first difference is `Serial` exactly where the programs are serializable in commit order.
 pub serial_exactly : (v : Verdict) (m : Map) (ps : List Program) → v ≡ verdict_of (first_difference m ps) → (v ≡ Serial → AreSerial m ps) × (AreSerial m ps → v ≡ Serial)
 serial_exactly v m ps e = (λ s. serial_if m ps (none_of (first_difference m ps) (sym e ∙ s)), λ a. e ∙ ap verdict_of (none_if_serial m ps a))
 

@@ -12,9 +12,9 @@ use kr_model::Event;
 use kr_protocol::Covered;
 use std::alloc::Global;
 
-/// Runs the events under a covered protocol, from an opening map whose keys rise strictly: the run is serial.
+/// Runs the events under a covered protocol, from an opening map whose keys rise strictly: the run is serializable.
 ///
-/// It is the run of `run_any`. The committed programs are serial in commit order from the opening map, and the index with
+/// It is the run of `run_any`. The committed programs are serializable in commit order from the opening map, and the index with
 /// the unfinished rolled back, in any order, is the map that they leave. The only fault is `Memory`: a step that was
 /// refused memory ends the run, and nothing of it is shown.
 pub fn run<P: Covered>(

@@ -14,9 +14,9 @@ use std::alloc::Global;
 use std::collections::BTreeMap;
 
 /// Judges a run: the operations of its committed programs are run whole on the opening map, one after another in commit
-/// order, and each answer is compared with the one given. It tells that they are serial, or the first answer that differs.
-/// The only fault is `Memory`. Each operation takes a logarithmic number of looks at the map, and a scan is compared in
-/// place.
+/// order, and each answer is compared with the one given. It tells that they are serializable, or the first answer that
+/// differs. The only fault is `Memory`. Each operation takes a logarithmic number of looks at the map, and a scan is compared
+/// in place.
 pub fn judge(alloc: Global, ran: &Ran) -> Result<Verdict, Memory>
     ensures verdict { IfOk result (λ v. v ≡ verdict_of (first_difference ran.now.opening ran.now.programs)) }
     ensures serial { IfOk result (λ v. (v ≡ verdict.Serial) ↔ AreSerial ran.now.opening ran.now.programs) }
@@ -43,7 +43,7 @@ pub fn judge_programs(
     Ok(Verdict::Serial)
 }
 
-/// Judges one program against the map that stands before it. Where it is serial, the map is then the one that the
+/// Judges one program against the map that stands before it. Where it is serializable, the map is then the one that the
 /// program leaves.
 fn judge_program(
     alloc: Global,

@@ -1,4 +1,5 @@
-//! Runs: lists of events attempted one after another on a machine; and judging the programs that committed.
+//! Runs: lists of events attempted one after another on a machine; and judging whether a run is serializable in commit
+//! order: whether each answer of the programs that committed is the one of the serial run.
 #![tactic(auto)]
 
 mod covered;

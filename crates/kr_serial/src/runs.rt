@@ -19,7 +19,7 @@ use std::alloc::Global;
 /// Runs the events under any protocol, from an opening map whose keys rise strictly. The only fault is `Memory`: a step
 /// that was refused memory ends the run, and nothing of it is shown.
 ///
-/// Where the protocol is safe the run is serializable in commit order: its committed programs are serial in commit order
+/// Where the protocol is safe the run is serializable in commit order: its committed programs are serializable in commit order
 /// from the opening map, and the index with the unfinished rolled back, in any order, is the map that they leave. A
 /// covered protocol is safe.
 pub fn run_any<P: Protocol>(

@@ -38,7 +38,7 @@ pub fn replay<P: Protocol, I: Ordered, L: Holdings>(
     Ok(Replies::from_vec(replies))
 }
 
-/// Whether a reply is a refusal for want of memory.
+/// Whether a reply is the refusal `Memory`.
 fn lacks_memory(reply: &Reply) -> bool
     ensures { IsTrue result ↔ (reply.now ≡ reply_is.Refused refusal_is.Memory) }
 {

@@ -7,7 +7,7 @@ use crate::{Reply, Txn};
 /// What judging committed programs tells.
 #[derive(Debug, Drop)]
 pub enum Verdict {
-    /// The programs are serial in commit order: each answer is the one that the operation has when it is run whole,
+    /// The programs are serializable in commit order: each answer is the one that the operation has when it is run whole,
     /// after the programs that committed before.
     Serial,
     /// They aren't, and this is the first answer in commit order that differs.
@@ -24,7 +24,7 @@ pub enum Verdict {
 }
 
 impl Verdict {
-    /// Whether the programs are serial.
+    /// Whether the programs are serializable.
     pub fn is_serial(&self) -> bool
         ensures { IsTrue result ↔ (self.now ≡ verdict_is.Serial) }
     {

@@ -12,7 +12,7 @@ use Rattle.kr_shell.specs.Files.{MayBeHad}
 use Rattle.kr_shell.specs.Lines.{told_line, table_fault_text}
 use Rattle.kr_shell.specs.Named.{TellsNoTable}
 
--- a fault is want of memory, or one of bytes
+-- a fault is that memory ran out, or one of the bytes
 of_bytes : (f : TableFault) (P : Fault → Type 0) → IfSome (fault_of f) P → (f ≡ told_as.Memory) ⊎ ((x : Fault) × ((fault_of f ≡ Some x) × P x))
 of_bytes told_as.TooLong P h = inr (too_long, (refl, h))
 of_bytes told_as.NotToml P h = inr (not_toml, (refl, h))

@@ -11,7 +11,7 @@ is_output Place = false
 is_output Output = true
 is_output (Told line) = false
 
--- The program ends for want of memory, or with a line that is told of a word, of which this holds.
+-- The program ends because memory ran out, or with a line that is told of a word, of which this holds.
 abbrev pub MemoryOrTold : Ending → (List ℕ → Type 0) → Type 0
 MemoryOrTold NotUnderstood P = ⊥
 MemoryOrTold Memory P = Unit {0}

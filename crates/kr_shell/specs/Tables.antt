@@ -11,7 +11,7 @@ use Rattle.kr_table.specs.Shown.{data_of}
 use Rattle.kr_shell.specs.declared.tables.AnyTable.{AnyTable}
 use Rattle.kr_shell.specs.declared.tables.AnyTable.TheVariants.{Kvl, KvlUpdate, Im, RangeKey, Read}
 
--- The lock tables that a table is.
+-- The protocols that a table is.
 abbrev pub table_of : AnyTable → Protocol
 table_of Kvl = kvl
 table_of KvlUpdate = kvl_update

@@ -9,7 +9,7 @@ use crate::lines::told_line;
 use kr_script::{PrintFault, Sink, print, put_all};
 use std::alloc::{AllocError, Global};
 
-/// Why a program ends without its output, or with a beginning of it. Each is told on one line.
+/// Why a program ends without its output, or with a prefix of it. Each is told on one line.
 #[derive(Debug, Drop)]
 pub enum Ending {
     /// The words are of no form.

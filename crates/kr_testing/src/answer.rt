@@ -25,7 +25,7 @@ pub enum Answer<'a> {
     Updated(u64),
     Committed,
     Aborted,
-    /// The newest change was taken back, and so many changes are left.
+    /// The newest change was undone, and so many changes are left.
     Undone(u64),
     /// This transaction, and no other, holds locks that refuse the step.
     BlockedBy(Txn),

@@ -6,8 +6,8 @@ ghost use Rattle.kr_model.proofs.Tested.{lawful_by_test};
 use kr_model::{Mode, Row, Side, Span};
 use kr_protocol::Protocol;
 
-/// Two modes, which stand beside each other and are never asked for. Updates are offered. The name of the second mode has
-/// characters that a report has to escape.
+/// Two modes, which are compatible with each other and are never requested. Updates are offered. The name of the second mode
+/// has characters that a report has to escape.
 #[derive(Clone, Copy, Debug, PartialEq, Eq)]
 pub struct Plain;
 

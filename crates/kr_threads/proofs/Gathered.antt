@@ -28,7 +28,7 @@ all_told_both p opening shares s fs more h t =
     let new : All to_one more = All-weaker (IsTold p opening (events_with_replies s.view)) to_one (told_to_last p opening shares s) more t in
     All-append to_one fs more old new
 
--- What is told to one of the shares that stand in the history is told at the end of a beginning of it.
+-- What is told to one of the shares that stand in the history is told at the end of a prefix of it.
 pub all_told_whole : (p : Protocol) (opening : Map) (seats : List SeatNote) (es : List Entry) (shares : List Lent) (fs : List StepFault) → All (StandsIn seats es) shares → All (IsToldToOne p opening shares) fs → AreTold p opening es fs
 all_told_whole p opening seats es shares fs stand h =
     let told : (f : StepFault) → IsToldToOne p opening shares f → IsTold p opening (events_with_replies es) f = λ f t. told_more p opening t.share.view es f ((All-contains (StandsIn seats es) shares t.share stand t.among).begins) t.told in

@@ -24,7 +24,7 @@ abbrev pub IsCause : Protocol → State → ℕ → Op → WhyNotDone → Type 0
 IsCause p s t o (Refused r) = (r ≡ (step p s t o).0) × (model.is_granted r ≡ false)
 IsCause p s t o (Deadlock cycle) = (waiting : List Event) × IsCycle (blockers_now (in_the_way p s) (event t o ∷ waiting)) t cycle
 
--- The fault's cause is so at the end of a beginning of the history, which is a run from the opening map.
+-- The fault's cause is so at the end of a prefix of the history, which is a run from the opening map.
 pub record IsTold (p : Protocol) (opening : Map) (history : List model.Entry) (f : StepFault) : Type 0 where
   pub before : List model.Entry
   pub state : State
@@ -32,13 +32,13 @@ pub record IsTold (p : Protocol) (opening : Map) (history : List model.Entry) (f
   pub run : model.IsRun p opening before state
   pub cause : IsCause p state f.txn f.op f.cause
 
--- The fault is told at the end of a beginning of what one of the shares has seen.
+-- The fault is told at the end of a prefix of what one of the shares has seen.
 pub record IsToldToOne (p : Protocol) (opening : Map) (shares : List Lent) (f : StepFault) : Type 0 where
   pub share : Lent
   pub among : Contains shares share
   pub told : IsTold p opening (events_with_replies share.view) f
 
--- Each fault is told at the end of a beginning of these entries.
+-- Each fault is told at the end of a prefix of these entries.
 abbrev pub AreTold : Protocol → Map → List Entry → List StepFault → Type 0
 AreTold p opening es fs = All (IsTold p opening (events_with_replies es)) fs
 
@@ -52,7 +52,7 @@ pub record Reported : Type 0 where
   pub share : Lent
   pub faults : List StepFault
 
--- The history is a closed engine's, no transaction is active at its end, and each fault is told at the end of a beginning of it.
+-- The history is a closed engine's, no transaction is active at its end, and each fault is told at the end of a prefix of it.
 pub record IsWorked (p : Protocol) (opening : Map) (h : History) (fs : List StepFault) : Type 0 where
   pub shares : List Lent
   pub closed : IsClosed p opening h shares

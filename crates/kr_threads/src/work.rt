@@ -18,7 +18,7 @@ use std::marker::Model;
 use std::sync::{Mutex, Wait};
 
 /// A worker: its number, from 0, its seat, how many calls it has made, and the steps that it left out, each told at the
-/// end of a beginning of what its seat has seen.
+/// end of a prefix of what its seat has seen.
 #[derive(Drop)]
 pub(crate) struct Worker<'a, P: Covered, K: EngineName> {
     pub number: usize,
@@ -37,7 +37,7 @@ impl<'a, P: Covered, K: EngineName> Model for Worker<'a, P, K> {
     ghost invariant = { λ w. AreTold K.table K.opening w.seat.view w.faults.items };
 }
 
-/// What a worker hands back: its seat's share, the steps that it left out, each told at the end of a beginning of what
+/// What a worker hands back: its seat's share, the steps that it left out, each told at the end of a prefix of what
 /// the share has seen, and why it gave up, where it did.
 #[derive(Drop)]
 pub(crate) struct Report<K: EngineName> {

@@ -1,4 +1,4 @@
-//! Shows the run of a script under a lock table as a page of HTML.
+//! Shows the run of a script under a table as a page of HTML.
 #![tactic(auto)]
 
 use kr_script::Io;

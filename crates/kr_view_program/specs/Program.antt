@@ -18,7 +18,7 @@ use Rattle.kr_picture.specs.Page.{IsPage}
 abbrev pub AreWords : List (List ℕ) → List ℕ → List ℕ → Type 0
 AreWords words table script = (words ≡ table ∷ script ∷ []) × (IsPlain table × IsPlain script)
 
--- The transactions that commit in a script's run under a protocol are serial.
+-- The transactions that commit in a script's run under a protocol are serializable.
 abbrev pub IsSerialScript : Protocol → Script → Type 0
 IsSerialScript p s = AreSerial s.opening (programs (run p (start s.opening) s.steps).history)
 
@@ -41,7 +41,7 @@ abbrev pub TellsWord : (List ℕ → Option (List ℕ) → Type 0) → List ℕ 
 TellsWord may_give table script line =
     TellsNoTable may_give table line ⊎ ((t : AnyTable) × (NamesTable may_give table t × TellsNoScript may_give script line))
 
--- Why the program ends without a page, or with a beginning of it.
+-- Why the program ends without a page, or with a prefix of it.
 abbrev pub Explains : (List ℕ → Option (List ℕ) → Type 0) → List (List ℕ) → Ending → Type 0
 Explains may_give words NotUnderstood = (table script : List ℕ) → AreWords words table script → ⊥
 Explains may_give words Memory = Unit {0}

@@ -30,7 +30,7 @@ fn are_laws_kept<P: Protocol>(protocol: &P)
 
 /// Writes the page of a script's run under a protocol, whose table this word names, and answers whether the run is
 /// serializable in commit order; under a safe protocol it is, and so under a covered one. Where a growth was refused,
-/// nothing is written; where printing fails, a beginning of the page was.
+/// nothing is written; where printing fails, a prefix of the page was.
 pub fn write_page<P: Protocol, W: Sink>(
     alloc: Global,
     protocol: &P,
@@ -51,7 +51,7 @@ pub fn write_page<P: Protocol, W: Sink>(
     Ok(is_serial)
 }
 
-/// Does what the words ask, and answers whether the run is serial.
+/// Does what the words ask, and answers whether the run is serializable.
 fn view<R: std::rt::Files + AllocGlobal, F: Files, W: Sink>(
     rt: &R,
     words: &[String],
@@ -70,10 +70,10 @@ fn view<R: std::rt::Files + AllocGlobal, F: Files, W: Sink>(
     write_page(rt.alloc(), &table, asked.table, &script, out)
 }
 
-/// Runs the program on words without its own name, and answers its status: 0 where the run is serial, 1 where it isn't, and 2
-/// where it told a fault on `err`. At 0 and 1 the whole page is written on `out`, of the run of the script that the second word
-/// names under the table that the first names, and nothing on `err`; at a fault of words, files, tables, scripts or memory
-/// nothing is written on `out`.
+/// Runs the program on words without its own name, and answers its status: 0 where the run is serializable, 1 where it isn't,
+/// and 2 where it told a fault on `err`. At 0 and 1 the whole page is written on `out`, of the run of the script that the
+/// second word names under the table that the first names, and nothing on `err`; at a fault of words, files, tables, scripts
+/// or memory nothing is written on `out`.
 pub fn execute<R: std::rt::Files + AllocGlobal, F: Files, W: Sink, E: Sink>(
     rt: &R,
     words: &[String],

@@ -8,7 +8,7 @@ use std::alloc::{AllocError, Global};
 use std::process::Abort;
 use std::test::Fail;
 
-/// A table of one mode that asks for nothing.
+/// A table of one mode that requests nothing.
 pub const PLAIN: &str = r#"format = 1
 modes = ["A"]
 compatible = { A = [] }
@@ -20,7 +20,7 @@ rules = {}
 pub const SPLIT: &str =
     r#"{"format":1,"opening":[[10,1],[20,2],[30,3]],"steps":[[1,"fetch",12],[1,"insert",15,5],[2,"insert",12,7],[2,"commit"],[1,"commit"]]}"#;
 
-/// The report of its run under a table that asks for nothing.
+/// The report of its run under a table that requests nothing.
 const SPLIT_REPORT: &str =
     r#"{"index":[[10,1],[12,7],[15,5],[20,2],[30,3]],"locks":[],"replies":[["none"],["done"],["done"],["committed"],["committed"]],"unfinished":[],"verdict":["not-serial",1,1,["none"],["found",7]]}"#;
 
@@ -28,7 +28,7 @@ const SPLIT_REPORT: &str =
 const SERIAL_REPORT: &str =
     r#"{"index":[[10,1],[15,5],[20,2],[30,3]],"locks":[],"replies":[["none"],["done"],["blocked",[1]],["committed"],["committed"]],"unfinished":[],"verdict":["serial"]}"#;
 
-/// A script of format 2: an update, an insert and an update of its key are taken back one after another, and another
+/// A script of format 2: an update, an insert and an update of its key are undone one after another, and another
 /// transaction fetches between.
 const BACK: &str =
     r#"{"format":2,"opening":[[10,1],[20,2],[30,3]],"steps":[[1,"update",20,9],[1,"insert",25,5],[1,"update",25,6],[1,"back"],[2,"fetch",25],[1,"back"],[2,"fetch",25],[1,"back"],[1,"commit"],[1,"abort"],[2,"commit"]]}"#;

@@ -156,7 +156,7 @@ enum How {
     End,
 }
 
-/// An insert is blocked by a fetch of the gap, and a fetch by the insert until its commit; a delete is taken back.
+/// An insert is blocked by a fetch of the gap, and a fetch by the insert until its commit; a delete is undone.
 const CALLS: &[(Who, How, Op, Short)] = &[
     (Who::First, How::Call, Op::Fetch(15), Short::Nothing(0)),
     (Who::Second, How::Try, Op::Insert(17, 5), Short::Blocked(1)),

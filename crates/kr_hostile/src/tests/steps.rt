@@ -1,4 +1,4 @@
-//! Steps of a machine: a scan that meets a delete, a step in two parts, and changes that are taken back one at a time.
+//! Steps of a machine: a scan that meets a delete, a step in two parts, and changes that are undone one at a time.
 ghost use Rattle.std.specs.Prelude.{◌≡◌, None, IfOk};
 
 use kr_index::Tree;
@@ -218,7 +218,7 @@ fn tell(rt: &impl Abort, alloc: Global, lines: &[Line]) -> Result<(), Fail> {
     Ok(())
 }
 
-/// A scan is blocked by a delete of its next key, which is then taken back; it goes on to its end, and two transactions
+/// A scan is blocked by a delete of its next key, which is then undone; it goes on to its end, and two transactions
 /// commit.
 const SCAN_AGAINST_DELETE: &[Line] = &[
     Line::Step(1, Op::Scan(10, 25), Want::Going(10)),
@@ -251,7 +251,7 @@ fn step_in_two_parts(rt: HostRuntime) -> Result<(), Fail> {
     tell(&rt, rt.alloc(), TWO_PARTS)
 }
 
-/// Four changes and a scan in progress go back, and another is blocked until the change that it waits for is taken back.
+/// Four changes and a scan in progress go back, and another is blocked until the change that it waits for is undone.
 const BACKS: &[Line] = &[
     Line::Step(1, Op::Update(20, 9), Want::Updated(2)),
     Line::Step(1, Op::Insert(25, 5), Want::Done),

@@ -65,7 +65,7 @@ const PHANTOM: &str =
 const SPLIT: &str =
     r#"{"format":1,"opening":[[10,1],[20,2],[30,3]],"steps":[[1,"fetch",12],[1,"insert",15,5],[2,"insert",12,7],[2,"commit"],[1,"commit"]]}"#;
 
-/// A table of one mode that asks for nothing.
+/// A table of one mode that requests nothing.
 const PLAIN: &str =
     "format = 1\nmodes = [\"A\"]\ncompatible = { A = [] }\nconvert = { A = { A = \"A\" } }\nrules = {}\n";
 
@@ -91,7 +91,7 @@ const NO_TABLE: Table = Table {
     changes: &[],
 };
 
-/// The table that asks for nothing.
+/// The table that requests nothing.
 const PLAIN_TABLE: Table = Table {
     text: PLAIN,
     ..NO_TABLE
@@ -142,8 +142,8 @@ fn table_text(alloc: Global, table: Table) -> Result<String, Fail> {
     Ok(text)
 }
 
-/// A run of the program: its words, its files, its status, and the lines that it leaves on its two streams, without the line feed
-/// that ends the last of them.
+/// A run of the program: its words, its files, its status, and the lines that it leaves on its two streams, without the line
+/// feed that ends the last of them.
 #[derive(Clone, Copy)]
 struct Row<'a> {
     name: &'a str,

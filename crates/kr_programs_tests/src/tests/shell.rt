@@ -13,7 +13,7 @@ mod faults;
 mod named;
 mod words;
 
-/// A table of one mode, in which no row asks for anything.
+/// A table of one mode, in which no row requests anything.
 const TABLE: &str =
     "format = 1\nmodes = [\"A\"]\ncompatible = { A = [] }\nconvert = { A = { A = \"A\" } }\nrules = {}\n";
 

@@ -8,7 +8,7 @@ use std::test::Fail;
 mod faults;
 mod pages;
 
-/// A table of one mode in which no row asks for anything: it is rejected.
+/// A table of one mode in which no row requests anything: it is rejected.
 const ASKS_NOTHING: &str =
     "format = 1\nmodes = [\"A\"]\ncompatible = { A = [] }\nconvert = { A = { A = \"A\" } }\nrules = {}\n";
 

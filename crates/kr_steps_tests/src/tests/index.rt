@@ -228,7 +228,7 @@ fn grows<O: Ordered>(rt: &impl Abort, alloc: Global, index: &mut O) -> Result<()
 }
 
 /// Passes too where any one growth is refused: the pin or the copy that answers `Memory` has changed
-/// nothing and can be asked for again.
+/// nothing and can be requested again.
 #[test]
 fn refused_growths_change_no_sorted(rt: HostRuntime) -> Result<(), Fail> {
     grows(&rt, rt.alloc(), &mut Sorted::new(rt.alloc()))

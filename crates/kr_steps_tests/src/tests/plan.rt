@@ -62,7 +62,7 @@ fn fill<P: Protocol, L: Holdings>(rt: &impl Abort, protocol: &P, locks: &mut L) 
     Ok(())
 }
 
-/// What attempts ask for.
+/// What attempts request.
 fn plans<P: Protocol, I: Ordered, L: Holdings>(
     rt: &impl Abort,
     protocol: &P,
@@ -201,7 +201,7 @@ fn conflicts_under_key_value_locking(rt: HostRuntime) -> Result<(), Fail> {
     conflicts(&rt, alloc, &&Kvl, &sample(alloc)?, List::new(alloc))
 }
 
-/// An update of a present key goes by its own row, which asks for nothing where no updates are offered.
+/// An update of a present key goes by its own row, which requests nothing where no updates are offered.
 #[test]
 fn plans_of_updates(rt: HostRuntime) -> Result<(), Fail> {
     let index = sample(rt.alloc())?;

@@ -213,7 +213,7 @@ fn update_under_ix(rt: HostRuntime) -> Result<(), Fail> {
     Ok(())
 }
 
-// What a row asks for on a side.
+// What a row requests on a side.
 const FETCH_HIT: (Row, Side) = (Row::FetchHit, Side::Current);
 
 const FETCH_MISS: (Row, Side) = (Row::FetchMiss, Side::Next);

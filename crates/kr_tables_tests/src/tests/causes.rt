@@ -1,4 +1,4 @@
-//! What is to blame, and what mends it, for tables with one entry changed and for a table that asks for nothing.
+//! What is to blame, and what mends it, for tables with one entry changed and for a table that requests nothing.
 use kr_cases::{Rejected, check};
 use kr_causes::{Blame, Change, Changed, causes, mends, own_next};
 use kr_model::{Cover, FailedCase, Mode, Origin, Requester, Row, Rule, Side, Span};
@@ -126,7 +126,7 @@ fn range_key_rows(rt: HostRuntime) -> Result<(), Fail> {
     each_is_told(&rt, rt.alloc(), &RangeKey, RANGE_KEY_ROWS)
 }
 
-/// A table of one mode that asks for nothing.
+/// A table of one mode that requests nothing.
 const ASKS_NOTHING: &str = r#"format = 1
 modes = ["A"]
 compatible = { A = [] }
@@ -158,7 +158,7 @@ fn asks_nothing(rt: HostRuntime) -> Result<(), Fail> {
     Ok(())
 }
 
-/// A change of what a row asks for, for all own modes.
+/// A change of what a row requests, for all own modes.
 fn asks(row: Row, side: Side, mode: Mode, span: Span) -> Change {
     Change::Ask {
         row,

@@ -5,8 +5,8 @@ use kr_modes::{Mode, Modes};
 use std::alloc::{AllocError, Global};
 use std::test::Fail;
 
-/// The modes `A` and `B`: a request for `A` stands beside both, one for `B` beside none, and the
-/// mode that is asked for last is held.
+/// The modes `A` and `B`: a request for `A` is compatible with both, one for `B` with none, and the
+/// mode that is requested last is held.
 fn two_modes(alloc: Global) -> Result<Modes, AllocError>
     ensures { IfOk result (λ modes. length modes.names ≡ 2) }
 {

@@ -10,7 +10,7 @@ use std::alloc::{AllocError, Global};
 use std::process::Abort;
 use std::test::Fail;
 
-/// A line for each mode requested, from none on: `+` where it may stand beside the mode held.
+/// A line for each mode requested, from none on: `+` where it is compatible with the mode held.
 fn drawn_compatibility<P: Protocol>(alloc: Global, protocol: &P) -> Result<String, AllocError> {
     let mut text = String::new(alloc);
     for requested in 0..protocol.count() + 1 {
@@ -52,7 +52,7 @@ const ROWS: &[Row] = &[
     Row::Delete,
 ];
 
-/// A line for each of these rows and each side: what is asked for at each own mode on next, from
+/// A line for each of these rows and each side: what is requested at each own mode on next, from
 /// none on; `!` stands behind a lock for an instant, and `-` where nothing is asked.
 fn drawn_rules<P: Protocol>(
     alloc: Global,

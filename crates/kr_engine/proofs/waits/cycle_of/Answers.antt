@@ -9,7 +9,7 @@ use Rattle.kr_engine.specs.Waits.{blockers_now, in_the_way}
 use Rattle.kr_engine.proofs.Blockers.{no_cycle_without}
 use Rattle.kr_engine.proofs.waits.cycle_of.Goals as goal
 
--- none of those that block the asker is it or waits
+-- none of those that block the requester is it or waits
 pub returns-then-not-may_close-clause-none : goal.returns-then-not-may_close-clause-none
 returns-then-not-may_close-clause-none g c =
     let f = in_the_way (g.P.Protocol.table c.args.machine.now.protocol) c.args.machine.now.state in

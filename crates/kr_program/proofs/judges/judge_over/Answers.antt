@@ -26,7 +26,7 @@ returns-clause-ok g c =
     let written = subst (Appends (taken c.args.out.now) (taken c.put_all.new.out)) text c.in_ok-put_all.ensures.ok in
     (ss, (are, (written, (λ t. all_serial p ss (sym said ∙ t), λ h. said ∙ all_told p ss h))))
 
--- Under a safe protocol each run is serial, so they are told to be.
+-- Under a safe protocol each run is serializable, so they are told to be.
 pub returns-clause-safe : goal.returns-clause-safe
 returns-clause-safe g c safe =
     let p = g.P.Protocol.table c.args.protocol.now in

@@ -3,7 +3,7 @@ use Rattle.kr_program.specs.Runs.{Explains}
 use Rattle.kr_program.proofs.Unprinted.{unprinted, fault_told}
 use Rattle.kr_program.proofs.runs.run_over.Goals as goal
 
--- Where printing fails, the sink took a beginning of the report.
+-- Where printing fails, the sink took a prefix of the report.
 pub returns-in_err-print-clause-err : goal.returns-in_err-print-clause-err
 returns-in_err-print-clause-err g c =
     let p = g.P.Protocol.table c.args.protocol.now in

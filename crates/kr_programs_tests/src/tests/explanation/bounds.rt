@@ -15,7 +15,7 @@ macro_rules! beside_all {
     };
 }
 
-/// Range-key locking in which every mode stands beside every mode: nothing is protected.
+/// Range-key locking in which every mode is compatible with every mode: nothing is protected.
 const NOTHING_PROTECTED: Table = Table {
     text: RANGE_KEY,
     changes: &[

@@ -1,5 +1,5 @@
-//! Tables that are rejected by one cause; more of them, with what is told of each, stand in `examples/explained`, which the gate
-//! compares with what the program prints.
+//! Tables that are rejected by one cause; more of them, with what is told of each, stand in `examples/explained`, which the
+//! gate compares with what the program prints.
 
 use super::tables::{Table, Told, each_is_told};
 use kr_table::bundled::{IM, KVL, KVL_UPDATE, RANGE_KEY};

@@ -26,7 +26,7 @@ pub struct Told {
     pub scripts: &'static [Option<&'static str>],
 }
 
-/// The text of a table of one mode that asks for no lock at all.
+/// The text of a table of one mode that requests no lock at all.
 pub const ASKS_NOTHING: &str =
     "format = 1\nmodes = [\"X\"]\ncompatible = { X = [] }\nconvert = { X = { X = \"X\" } }\nrules = {}\n";
 

@@ -6,7 +6,7 @@ use kr_script::{Script, read_script};
 use std::alloc::Global;
 use std::test::Fail;
 
-/// The table that asks for nothing.
+/// The table that requests nothing.
 const PLAIN: &str =
     "format = 2\nmodes = [\"A\"]\ncompatible = { A = [] }\nconvert = { A = { A = \"A\" } }\nrules = {}\n";
 

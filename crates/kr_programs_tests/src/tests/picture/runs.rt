@@ -1,14 +1,14 @@
-//! Pages of short runs: whether they tell that the run is serial, and words that they have and have not.
+//! Pages of short runs: whether they tell that the run is serializable, and words that they have and have not.
 use kr_picture::picture;
 use kr_script::read_script;
 use std::alloc::Global;
 use std::test::Fail;
 
-/// The table that asks for nothing.
+/// The table that requests nothing.
 const PLAIN: &str =
     "format = 2\nmodes = [\"A\"]\ncompatible = { A = [] }\nconvert = { A = { A = \"A\" } }\nrules = {}\n";
 
-/// The table whose fetch takes a lock that stands beside no other, under a name with marks.
+/// The table whose fetch takes a lock that is compatible with no other, under a name with marks.
 const MARKED: &str =
     "format = 1\nmodes = [\"<A>\"]\ncompatible = { \"<A>\" = [] }\nconvert = { \"<A>\" = { \"<A>\" = \"<A>\" } }\n[rules.fetch-hit]\ncurrent = [{ mode = \"<A>\", span = \"commit\" }]\n";
 

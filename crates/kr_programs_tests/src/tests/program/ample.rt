@@ -1,5 +1,5 @@
-//! Runs and verdicts with ample memory, none of which ends with want of memory: scripts at boundary keys, values and numbers, under a
-//! table that asks for nothing and under key-value locking, without updates and with them.
+//! Runs and verdicts with ample memory, none of which runs out of memory: scripts at boundary keys, values and numbers,
+//! under a table that requests nothing and under key-value locking, without updates and with them.
 use super::{Change, NO_TABLE, PLAIN_TABLE, RUN, Row, Table, leaves};
 use std::alloc::{AllocError, Global};
 use std::process::Abort;
@@ -13,7 +13,7 @@ const KEYS: [u64; 4] = [0, 7, 1 << 63, u64::MAX];
 /// Numbers of transactions, of which 8 is none.
 const TXNS: [u32; 3] = [0, 7, u32::MAX];
 
-/// The table that asks for nothing, in format 2: it offers updates.
+/// The table that requests nothing, in format 2: it offers updates.
 const PLAIN_UPDATE_TABLE: Table = Table {
     changes: &[Change::Put("format = 1", "format = 2")],
     ..PLAIN_TABLE
@@ -24,7 +24,7 @@ const PLAIN_UPDATE_TABLE: Table = Table {
 const FETCH_AND_DELETE: &str =
     r#"{"format":1,"opening":[[K,V]],"steps":[[T,"fetch",K],[8,"delete",K],[8,"commit"],[T,"commit"]]}"#;
 
-/// An update of a key, which another transaction reads before it is taken back. Without locks the answer isn't the one of the
+/// An update of a key, which another transaction reads before it is undone. Without locks the answer isn't the one of the
 /// commit order; under key-value locking with updates the fetch is blocked.
 const UPDATE_AND_BACK: &str =
     r#"{"format":2,"opening":[[K,V]],"steps":[[T,"update",K,O],[8,"fetch",K],[T,"back"],[8,"commit"],[T,"abort"]]}"#;

@@ -1,10 +1,12 @@
-//! A table that tells which way it is read: U may be asked for beside a held S, and S not beside a held U; S with U gives U, and U with S gives X.
+//! A table that tells which way it is read: U may be requested beside a held S, and S not beside a held U; S with U gives U,
+//! and U with S gives X.
 use super::Change::Put;
 use super::{RUN_TABLE, Row, Table, each_leaves};
 use kr_table::bundled::IM;
 use std::test::Fail;
 
-/// The file of index-specific locking with U between S and X, for which a scan asks on what it reads; and then with these changes.
+/// The file of index-specific locking with U between S and X, for which a scan asks on what it reads; and then with these
+/// changes.
 macro_rules! asymmetric {
     ($($change:expr),*) => {
         Table {
@@ -24,7 +26,7 @@ macro_rules! asymmetric {
 /// That table.
 const ASYMMETRIC_TABLE: Table = asymmetric!();
 
-/// The same where who asks for S holds S after it, whatever it held, and a delete asks for S on the next name.
+/// The same where who requests S holds S after it, whatever it held, and a delete requests S on the next name.
 #[rattlefmt::skip]
 const GIVES_UP: Table = asymmetric!(
     Put(r#"U = { S = "X""#, r#"U = { S = "S""#),

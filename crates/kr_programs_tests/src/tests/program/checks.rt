@@ -9,7 +9,7 @@ use std::sync::Wait;
 use std::test::Fail;
 use std::thread::Threads;
 
-/// Key-value locking whose inserts always ask for IX on the new key, also where their transaction has read the gap.
+/// Key-value locking whose inserts always request IX on the new key, also where their transaction has read the gap.
 #[rattlefmt::skip]
 pub const ALWAYS_IX_TABLE: Table =
     Table { changes: &[Put(r#"{ own = ["S", "SIX", "X"], mode = "X", span = "commit" }, "#, "")], ..KVL_TABLE };
@@ -88,7 +88,7 @@ struct Rejected<'a> {
     parts: &'a [(&'a str, usize)],
 }
 
-/// Key-value locking whose updates ask for IX.
+/// Key-value locking whose updates request IX.
 #[rattlefmt::skip]
 const UPDATE_UNDER_IX_TABLE: Table =
     Table { changes: &[Put("[rules.update]\ncurrent = [{ mode = \"X\"", "[rules.update]\ncurrent = [{ mode = \"IX\"")], ..KVL_UPDATE_TABLE };
@@ -103,17 +103,17 @@ const NO_UPDATE_ROW_TABLE: Table =
 const INSERT_N_X_TABLE: Table =
     Table { changes: &[Put(r#"{ mode = "I-X", span = "commit" }"#, r#"{ mode = "N-X", span = "commit" }"#)], ..RANGE_KEY_TABLE };
 
-/// Key-value locking whose deletes ask for nothing on their key.
+/// Key-value locking whose deletes request nothing on their key.
 #[rattlefmt::skip]
 const DELETE_WITHOUT_CURRENT_TABLE: Table =
     Table { changes: &[Put(r#"current = [{ mode = "X", span = "instant" }]"#, "")], ..KVL_TABLE };
 
-/// Key-value locking whose deletes ask for nothing.
+/// Key-value locking whose deletes request nothing.
 #[rattlefmt::skip]
 const CUT_BEFORE_DELETES_TABLE: Table =
     Table { changes: &[Cut("[rules.delete]")], ..KVL_TABLE };
 
-/// What fails first where a delete asks for nothing on its key.
+/// What fails first where a delete requests nothing on its key.
 const WITHOUT_CURRENT: &str =
     r#"{"case":"G2","cover":"RK","from":["none"],"mode":"S","open":["delete","current","none","none"]}"#;
 

@@ -1,4 +1,4 @@
-//! Runs under covered protocols, which are serial: each bundled table as a type, and as a file that was checked.
+//! Runs under covered protocols, which are serializable: each bundled table as a type, and as a file that was checked.
 use kr_cases::check;
 use kr_protocol::{Covered, Im, Kvl, KvlUpdate, RangeKey};
 use kr_script::{Script, read_script};

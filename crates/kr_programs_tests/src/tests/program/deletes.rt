@@ -27,7 +27,7 @@ const DELETES: &[Expected] = &[
         replies: r#"[["duplicate"],["blocked",[1]]]"#,
         unfinished: "[1]",
     },
-    // An abort takes back the insert, and then the delete.
+    // An abort undoes the insert, and then the delete.
     Expected {
         name: "delete insert abort",
         opening: OPENING,

@@ -81,8 +81,8 @@ fn story_of<'a>(
     }
 }
 
-/// Compares the report of 64 transactions that fetch 10, numbered from the first on, with these steps and replies before them and
-/// after them; one more is refused.
+/// Compares the report of 64 transactions that fetch 10, numbered from the first on, with these steps and replies before them
+/// and after them; one more is refused.
 fn one_too_many<R: std::rt::Files + AllocGlobal + Threads + Wait + Sync + Abort>(
     rt: &R,
     name: &str,

@@ -3,7 +3,7 @@ use super::stories::{Expected, OPENING, all_under_each};
 use std::test::Fail;
 
 const SCANS: &[Expected] = &[
-    // A scan waits for a delete ahead of it, and goes on when that is taken back.
+    // A scan waits for a delete ahead of it, and goes on when that is undone.
     Expected {
         name: "scan against delete",
         opening: OPENING,
@@ -17,7 +17,7 @@ const SCANS: &[Expected] = &[
         replies: r#"[["going",10],["deleted",2],["blocked",[2]],["aborted"],["going",20],["rows",[[10,1],[20,2]]]]"#,
         unfinished: "[1]",
     },
-    // A scan that ends on its upper key asks for no name above.
+    // A scan that ends on its upper key requests no name above.
     Expected {
         name: "scan of the greatest key",
         opening: "[[18446744073709551615,4]]",

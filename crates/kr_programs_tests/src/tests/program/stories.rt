@@ -11,7 +11,7 @@ use std::thread::Threads;
 /// The opening map of most scripts.
 pub const OPENING: &str = "[[10,1],[20,2],[30,3]]";
 
-/// A run of a script under a bundled table: what goes in, and what the report of it tells, which is serial.
+/// A run of a script under a bundled table: what goes in, and what the report of it tells, which is serializable.
 #[derive(Clone, Copy)]
 pub struct Story<'a> {
     pub name: &'a str,
@@ -99,8 +99,8 @@ where
     )
 }
 
-/// Runs a script under each of the bundled tables: it is serial under each, and has the same replies at each index with each lock
-/// table.
+/// Runs a script under each of the bundled tables: it is serializable under each, and has the same replies at each index with
+/// each lock table.
 fn serial_and_agreed<R: AllocGlobal + Abort>(rt: &R, story: &Story) -> Result<(), Fail> {
     let script = script_of(rt.alloc(), story)?;
     serial_under_each(rt, script.as_str())?;
@@ -148,8 +148,8 @@ pub struct Expected<'a> {
     pub unfinished: &'a str,
 }
 
-/// Runs steps under each of the bundled tables, and compares the reports; they are serial under each, with the same replies at
-/// each index with each lock table.
+/// Runs steps under each of the bundled tables, and compares the reports; they are serializable under each, with the same
+/// replies at each index with each lock table.
 fn under_each<R: std::rt::Files + AllocGlobal + Threads + Wait + Sync + Abort>(
     rt: &R,
     expected: &Expected,

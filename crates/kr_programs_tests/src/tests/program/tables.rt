@@ -6,7 +6,7 @@ use super::{
 };
 use std::test::Fail;
 
-/// A fault of the table that asks for nothing, with a part changed.
+/// A fault of the table that requests nothing, with a part changed.
 const FAULT: Row = Row {
     table: PLAIN_TABLE,
     script: "{",

@@ -22,8 +22,8 @@ const LEFT_OUT: &str =
 const LEFT_OUT_REPORT: &str =
     r#"{"faults":[[1,1,["refused",3,"NoScan"]],[1,4,["refused",1,"Ended"]]],"history":[[[1,"delete",10],["deleted",1]],[[1,"commit"],["committed"]],[[2,"fetch",10],["none"]],[[2,"abort"],["aborted"]]],"index":[],"unfinished":[],"verdict":["serial"]}"#;
 
-/// Changes that are taken back one at a time, and a commit after that; an update that commits; a transaction that has nothing
-/// to take back, and one that nothing ends after its update.
+/// Changes that are undone one at a time, and a commit after that; an update that commits; a transaction that has nothing
+/// to undo, and one that nothing ends after its update.
 const BACK: &str =
     r#"{"format":2,"opening":[[10,1],[20,2],[30,3]],"steps":[[1,"update",20,9],[1,"insert",25,5],[2,"fetch",20],[1,"back"],[1,"commit"],[3,"update",10,7],[1,"back"],[1,"back"],[1,"abort"],[2,"commit"],[3,"commit"],[4,"back"],[4,"update",30,8]]}"#;
 
@@ -86,7 +86,7 @@ fn scripts_that_are_not_read(rt: HostRuntime) -> Result<(), Fail> {
     each_leaves(&rt, FAULTS)
 }
 
-/// Forty transactions that update two keys each and insert one; every fourth of them takes its changes back one at a time.
+/// Forty transactions that update two keys each and insert one; every fourth of them undoes its changes one at a time.
 fn updates_of_forty(alloc: Global) -> Result<String, AllocError> {
     let mut script = String::from_str(
         alloc,
@@ -110,7 +110,7 @@ fn updates_of_forty(alloc: Global) -> Result<String, AllocError> {
     Ok(script)
 }
 
-/// Runs a script of updates by so many workers: the run is serial and nobody is left unfinished.
+/// Runs a script of updates by so many workers: the run is serializable and nobody is left unfinished.
 fn leaves_nobody<R: std::rt::Files + AllocGlobal + Threads + Wait + Sync + Abort>(
     rt: &R,
     script: &str,

@@ -1,4 +1,4 @@
-//! Updates, and changes taken back one at a time: scripts of format 2.
+//! Updates, and changes undone one at a time: scripts of format 2.
 use super::checks::UPDATES_INSTANT_TABLE;
 use super::stories::{STORY, Story, each_reports};
 use super::{NO_TABLE, RUN, Row, each_leaves};
@@ -55,7 +55,7 @@ fn stories(rt: HostRuntime) -> Result<(), Fail> {
     each_reports(&rt, STORIES)
 }
 
-/// A transaction updates a key, and takes it back after another has read it.
+/// A transaction updates a key, and undoes it after another has read it.
 const READ_BETWEEN: &str =
     r#"{"format":2,"opening":[[10,1],[20,2],[30,3]],"steps":[[1,"update",20,9],[2,"fetch",20],[1,"back"],[2,"commit"]]}"#;
 

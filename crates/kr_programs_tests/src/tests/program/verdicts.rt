@@ -35,7 +35,7 @@ const FAULTS: &[Row] = &[
     Row { name: "no script",                       words: &["judge", "@kvl"],                       script: "",                       err: "kr: words not understood", ..FAULT },
 ];
 
-/// Scripts that are not serial under the table that asks for nothing; under each bundled table they are.
+/// Scripts that are not serializable under the table that requests nothing; under each bundled table they are.
 #[rattlefmt::skip]
 const WITHOUT_LOCKS: &[Row] = &[
     Row { name: "a scan that is not serial",  words: &["judge", "table", "s"], table: PLAIN_TABLE, script: r#"{"format":1,"opening":[[10,1],[20,2],[30,3]],"steps":[[1,"fetch",30],[1,"scan",10,20],[2,"delete",10],[2,"commit"],[1,"go"],[1,"commit"]]}"#, status: 1, out: r#"{"script":"s","verdict":["not-serial",1,2,["rows",[[10,1],[20,2]]],["rows",[[20,2]]]]}"#, ..RUN },
@@ -61,7 +61,7 @@ fn not_serial_without_locks(rt: HostRuntime) -> Result<(), Fail> {
     Ok(())
 }
 
-/// The words that judge a serial script and one that isn't in turn, this many times each.
+/// The words that judge a script whose run is serializable and one whose run isn't, in turn, this many times each.
 fn words_in_turn(alloc: Global, times: usize) -> Result<Vec<&'static str>, AllocError> {
     let mut words = vec![in alloc; "judge", "table"]?;
     for _ in 0..times {
@@ -94,7 +94,7 @@ fn verdicts_keep_their_places(rt: HostRuntime) -> Result<(), Fail> {
     judged(&rt, words.as_slice(), lines.as_str())
 }
 
-/// Judges scripts, of which some aren't serial, and compares their lines.
+/// Judges scripts, of which some aren't serializable, and compares their lines.
 fn judged<'a, R: std::rt::Files + AllocGlobal + Threads + Wait + Sync + Abort>(
     rt: &R,
     words: &'a [&'a str],

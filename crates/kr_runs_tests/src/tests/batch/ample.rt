@@ -1,4 +1,4 @@
-//! Batches with ample memory, none of which answers want of memory: each count and mix of scripts up to 65, with boundary
+//! Batches with ample memory, none of which answers out of memory: each count and mix of scripts up to 65, with boundary
 //! keys and numbers.
 use kr_batch::judge_all;
 use kr_script::{Script, read_script, report_verdict};
@@ -10,7 +10,7 @@ use std::thread::Threads;
 
 const KEYS: [u64; 6] = [0, 1, 7, 1 << 63, u64::MAX - 1, u64::MAX];
 
-/// Whether the run of the script at an index is serial: in each mix other ones are.
+/// Whether the run of the script at an index is serializable: in each mix other ones are.
 fn is_serial(mix: usize, i: usize) -> bool {
     match mix {
         0 => true,

@@ -6,7 +6,7 @@ use std::alloc::{AllocError, Global};
 use std::test::Fail;
 use std::thread::Threads;
 
-/// Names that are texts themselves: one stands for no text, and one for want of memory.
+/// Names that are texts themselves: one stands for no text, and one for out of memory.
 struct Itself;
 
 impl Texts for Itself {

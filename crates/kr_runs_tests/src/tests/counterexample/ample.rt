@@ -1,4 +1,4 @@
-//! Each call with ample memory, again and again: none answers want of memory.
+//! Each call with ample memory, again and again: none answers out of memory.
 
 use super::tables::{Table, failed, table_of};
 use kr_counterexample::{Closure, Ending};

@@ -5,8 +5,8 @@ use kr_protocol::Protocol;
 use std::alloc::Global;
 use std::test::Fail;
 
-/// What a row asks for at a side: the row, the side, the asker's own modes on the next name, of which none stands for any,
-/// the mode that is asked for, and its span.
+/// What a row requests at a side: the row, the side, the requester's own modes on the next name, of which none stands for any,
+/// the mode that is requested, and its span.
 pub type Clause = (
     &'static str,
     &'static str,
@@ -24,13 +24,13 @@ pub enum Edit {
     AllLeftOut(&'static str, &'static str),
     /// The clause has the other span.
     Turned(usize),
-    /// The clause asks for this mode.
+    /// The clause requests this mode.
     Asks(usize, Mode),
     /// The clause isn't for this own mode.
     Without(usize, &'static str),
     /// The held and the requested mode make this mode.
     Convert(Mode, Mode, Mode),
-    /// Whether the requested mode stands beside the held one is turned round.
+    /// Whether the requested mode is compatible with the held one is turned round.
     Turn(Mode, Mode),
 }
 
@@ -176,7 +176,7 @@ fn write_rules<P: Protocol>(
     Ok(())
 }
 
-/// The mode that a clause asks for with the change, where it asks for this one without.
+/// The mode that a clause requests with the change, where it requests this one without.
 fn mode_of<'a, P: Protocol>(protocol: &'a P, place: usize, asked: &'a str, edit: Edit) -> &'a str {
     match edit {
         Edit::Asks(at, mode) if at == place && mode <= protocol.count() => protocol.name(mode),

@@ -13,7 +13,7 @@ use std::alloc::Global;
 use std::process::Abort;
 use std::test::Fail;
 
-/// What the rows of a table ask for.
+/// What the rows of a table request.
 const IM: &[Clause] = &[
     ("fetch-hit", "current", &[], "S", "commit"),
     ("fetch-miss", "next", &[], "S", "commit"),

@@ -1,4 +1,4 @@
-//! What is told of a script, at each entrance of tables that ask for no lock, or for few.
+//! What is told of a script, at each entrance of tables that request no lock, or few.
 
 use super::tables::{ASKS_NOTHING, Table, failed, table_of};
 use kr_counterexample::{Closure, Counterexample, Ending};
@@ -20,13 +20,13 @@ struct Told {
     script: &'static str,
 }
 
-/// A table that offers updates, and asks for no lock at all.
+/// A table that offers updates, and requests no lock at all.
 const UPDATES_ASK_NOTHING: Table = Table {
     text: ASKS_NOTHING,
     changes: &[("format = 1", "format = 2")],
 };
 
-/// A table of one mode that asks for it until commit on the key of an insert or a delete, and for nothing else.
+/// A table of one mode that requests it until commit on the key of an insert or a delete, and nothing else.
 const LOCKS_CHANGED_KEYS: Table = Table {
     text: ASKS_NOTHING,
     changes: &[(
@@ -42,7 +42,7 @@ const TOLD_OF_CHANGED_KEYS: &[Told] = &[
     Told { rule: Rule::Delete, row: Row::FetchMiss, side: Side::Next, ending: Ending::DeleteMissed, third: None,    script: r#"{"format":1,"opening":[[10,1],[15,2],[20,3],[30,4]],"steps":[[1,"delete",15],[2,"fetch",15],[1,"abort"],[2,"commit"]]}"# },
 ];
 
-/// What is told of the table that asks for no lock.
+/// What is told of the table that requests no lock.
 #[rattlefmt::skip]
 const TOLD: &[Told] = &[
     Told { rule: Rule::FetchHit,  row: Row::Delete,    side: Side::Current, ending: Ending::ReadKeyGone,        third: None,    script: r#"{"format":2,"opening":[[10,1],[20,2],[30,3]],"steps":[[1,"fetch",20],[2,"delete",20],[2,"commit"],[1,"fetch",20],[1,"commit"]]}"# },

@@ -1,4 +1,4 @@
-//! Scripts and reports with ample memory, none of which answers want of memory: each operation at boundary keys, values and
+//! Scripts and reports with ample memory, none of which answers out of memory: each operation at boundary keys, values and
 //! numbers, long scripts, and reports of runs, verdicts and checks of each size, each compared with what it is made of.
 mod cases;
 mod lists;

@@ -1,4 +1,4 @@
-//! Scripts of format 2 from their bytes to the whole report: updates, and changes taken back one at a time.
+//! Scripts of format 2 from their bytes to the whole report: updates, and changes undone one at a time.
 use kr_protocol::{Kvl, KvlUpdate, Protocol};
 use kr_script::{read_script, report_run};
 use kr_serial::{judge, run_any};
@@ -53,32 +53,32 @@ const STORIES: &[(Under, &str, &str)] = &[
         UPDATE_UNDONE,
         r#"{"index":[[10,1],[20,2],[30,3]],"locks":[[20,2,"S"]],"replies":[["refused",7,"NoUpdate"],["found",2],["refused",7,"NoUpdate"],["aborted"],["found",2]],"unfinished":[2],"verdict":["serial"]}"#,
     ),
-    // Two changes are taken back.
+    // Two changes are undone.
     (
         Under::Kvl,
         r#"{"format":2,"opening":[[10,1],[20,2],[30,3]],"steps":[[1,"delete",20],[1,"insert",20,9],[1,"back"],[2,"fetch",20],[1,"fetch",10],[1,"commit"],[1,"back"],[2,"fetch",20],[1,"back"],[1,"abort"],[2,"fetch",20]]}"#,
         r#"{"index":[[10,1],[20,2],[30,3]],"locks":[[20,2,"S"]],"replies":[["deleted",2],["done"],["undone",1],["blocked",[1]],["refused",8,"RollingBack"],["refused",8,"RollingBack"],["undone",0],["blocked",[1]],["refused",9,"NothingLeft"],["aborted"],["found",2]],"unfinished":[2],"verdict":["serial"]}"#,
     ),
-    // A change is taken back beside another's.
+    // A change is undone beside another's.
     (
         Under::Kvl,
         r#"{"format":2,"opening":[[10,1],[20,2],[30,3]],"steps":[[1,"insert",15,5],[2,"insert",12,7],[1,"back"],[2,"commit"],[3,"fetch",15],[1,"abort"]]}"#,
         r#"{"index":[[10,1],[12,7],[20,2],[30,3]],"locks":[[20,3,"S"]],"replies":[["done"],["done"],["undone",0],["committed"],["none"],["aborted"]],"unfinished":[3],"verdict":["serial"]}"#,
     ),
-    // Updates are taken back.
+    // Updates are undone.
     (
         Under::KvlUpdate,
         r#"{"format":2,"opening":[[10,1],[20,2],[30,3]],"steps":[[1,"update",20,9],[1,"insert",25,5],[1,"update",25,6],[2,"fetch",25],[1,"back"],[2,"fetch",25],[1,"back"],[2,"fetch",25],[1,"back"],[2,"fetch",20],[1,"abort"],[2,"fetch",20]]}"#,
         r#"{"index":[[10,1],[20,2],[30,3]],"locks":[[20,2,"S"],[30,2,"S"]],"replies":[["updated",2],["done"],["updated",5],["blocked",[1]],["undone",2],["blocked",[1]],["undone",1],["none"],["undone",0],["blocked",[1]],["aborted"],["found",2]],"unfinished":[2],"verdict":["serial"]}"#,
     ),
-    // Refusals before and after a change is taken back. The members stand in another order than the plain one. A back drops
+    // Refusals before and after a change is undone. The members stand in another order than the plain one. A back drops
     // the scan in progress, and only an abort ends the transaction.
     (
         Under::Kvl,
         r#"{"steps":[[1,"back"],[1,"insert",15,5],[1,"scan",10,30],[1,"fetch",10],[1,"back"],[1,"go"],[1,"scan",30,10],[1,"back"],[1,"abort"],[1,"back"]],"opening":[[10,1]],"format":2}"#,
         r#"{"index":[[10,1]],"locks":[],"replies":[["refused",9,"NothingLeft"],["done"],["going",10],["refused",2,"Busy"],["undone",0],["refused",8,"RollingBack"],["refused",8,"RollingBack"],["refused",9,"NothingLeft"],["aborted"],["refused",1,"Ended"]],"unfinished":[],"verdict":["serial"]}"#,
     ),
-    // Updates that aren't serial: both update a key that no lock keeps, and the one who comes second commits first.
+    // Updates that aren't serializable: both update a key that no lock keeps, and the one who comes second commits first.
     (
         Under::Plain,
         r#"{"format":2,"opening":[[20,2]],"steps":[[1,"update",20,7],[2,"update",20,9],[2,"commit"],[1,"commit"]]}"#,

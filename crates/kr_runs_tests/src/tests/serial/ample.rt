@@ -1,4 +1,4 @@
-//! Runs with ample memory, none of which answers want of memory.
+//! Runs with ample memory, none of which answers out of memory.
 mod clashes;
 mod crowds;
 mod inputs;

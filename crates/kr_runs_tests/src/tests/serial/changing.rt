@@ -1,4 +1,4 @@
-//! Updates, and changes taken back one at a time, with what they leave worked out by hand.
+//! Updates, and changes undone one at a time, with what they leave worked out by hand.
 
 use super::runs::{Left, Opening, Run, Step, THREE_PAIRS, each_tells};
 use super::telling::{Did, Told};
@@ -79,7 +79,7 @@ const UPDATES: &[Run] = &[
 ];
 
 const BACKS: &[Run] = &[
-    // A deleted key is inserted again, and both changes are taken back, with another's fetches between.
+    // A deleted key is inserted again, and both changes are undone, with another's fetches between.
     Run {
         steps: &[
             Step(1, Op::Delete(20), Answer::Deleted(2)),
@@ -101,7 +101,7 @@ const BACKS: &[Run] = &[
         }),
         ..ON_THREE_PAIRS
     },
-    // An insert is taken back after another's insert into the gap below it, which then commits.
+    // An insert is undone after another's insert into the gap below it, which then commits.
     Run {
         steps: &[
             Step(1, Op::Insert(15, 5), Answer::Done),
@@ -122,7 +122,7 @@ const BACKS: &[Run] = &[
         }),
         ..ON_THREE_PAIRS
     },
-    // Two updates and an insert are taken back in turn, with another's fetches between.
+    // Two updates and an insert are undone in turn, with another's fetches between.
     Run {
         ways: KEY_VALUE_WITH_UPDATES,
         steps: &[

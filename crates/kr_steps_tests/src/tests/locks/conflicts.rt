@@ -22,7 +22,7 @@ fn hold<H: Holdings>(locks: &mut H, txn: Txn, name: Name, mode: Mode) -> Result<
     Ok(())
 }
 
-/// One transaction holds a mode, and another, which holds none, asks for one; so does the first.
+/// One transaction holds a mode, and another, which holds none, requests one; so does the first.
 fn conflicts<H: Holdings>(
     rt: &impl Abort,
     alloc: Global,

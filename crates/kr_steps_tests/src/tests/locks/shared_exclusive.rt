@@ -1,4 +1,4 @@
-// A protocol of two modes for the tests: shared stands beside shared, and a conversion takes the higher of the two.
+// A protocol of two modes for the tests: shared is compatible with shared, and a conversion takes the higher of the two.
 
 ghost use Rattle.std.specs.Prelude.{ℕ, Bool, ◌&&◌, ◌||◌, ◌==◌, nat_lt, None, if◌then◌else◌, refl, [], ◌∷◌, codes, false};
 ghost use Rattle.kr_model.proofs.Tested.{lawful_by_test};
@@ -13,7 +13,7 @@ pub const SHARED: Mode = 1;
 /// The mode of a single writer.
 pub const EXCLUSIVE: Mode = 2;
 
-/// It asks for nothing: these tests call no operation.
+/// It requests nothing: these tests call no operation.
 #[derive(Clone, Copy)]
 pub struct SharedExclusive;
 

@@ -8,10 +8,10 @@ use std::alloc::Global;
 /// What is known beside a machine.
 #[derive(Drop)]
 pub struct Beside {
-    /// The changes, but for those taken back, oldest first; each with what it left under the key.
+    /// The changes, but for those undone, oldest first; each with what it left under the key.
     changes: Vec<(Txn, u64, Option<u64>)>,
     ended: Vec<Txn>,
-    /// The transactions that roll back, each once for each change that was taken back.
+    /// The transactions that roll back, each once for each change that was undone.
     rolling: Vec<Txn>,
 }
 

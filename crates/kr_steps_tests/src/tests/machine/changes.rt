@@ -1,4 +1,4 @@
-//! Updates, and changes taken back one at a time.
+//! Updates, and changes undone one at a time.
 
 use super::story::{
     INDEX_SPECIFIC, IX, KEY_VALUE, Line, Lock, Opening, S, Story, THREE_PAIRS, View, X,
@@ -10,7 +10,7 @@ use kr_model::{Op, Refusal};
 use kr_protocol::{Im, Kvl, KvlUpdate};
 use kr_testing::Answer;
 
-/// Two changes of one key are taken back one by one, the newer one first, and all locks are kept until the abort.
+/// Two changes of one key are undone one by one, the newer one first, and all locks are kept until the abort.
 const TWO_CHANGES_BACK: Story = Story {
     opening: Opening::ThreePairs,
     lines: &[
@@ -33,7 +33,7 @@ const TWO_CHANGES_BACK: Story = Story {
     ],
 };
 
-/// An insert is taken back above a key that another has inserted meanwhile.
+/// An insert is undone above a key that another has inserted meanwhile.
 const BACK_BESIDE_ANOTHER: Story = Story {
     opening: Opening::ThreePairs,
     lines: &[
@@ -51,7 +51,7 @@ const BACK_BESIDE_ANOTHER: Story = Story {
     ],
 };
 
-/// A scan in progress is dropped, and nothing is to be taken back of a transaction that has changed nothing.
+/// A scan in progress is dropped, and nothing is to be undone of a transaction that has changed nothing.
 const BACK_IN_A_SCAN: Story = Story {
     opening: Opening::ThreePairs,
     lines: &[
@@ -78,7 +78,7 @@ const BACK_IN_A_SCAN: Story = Story {
     ],
 };
 
-/// Nobody reads an updated value before its transaction ends, and an abort takes it back.
+/// Nobody reads an updated value before its transaction ends, and an abort undoes it.
 const UPDATE_UNDONE: Story = Story {
     opening: Opening::ThreePairs,
     lines: &[
@@ -118,7 +118,7 @@ const UPDATES_TWICE: Story = Story {
     ],
 };
 
-/// Updates of a key of the opening and of an inserted one are taken back one at a time, with fetches of another between.
+/// Updates of a key of the opening and of an inserted one are undone one at a time, with fetches of another between.
 const UPDATES_BACK: Story = Story {
     opening: Opening::ThreePairs,
     lines: &[
@@ -163,7 +163,7 @@ const UPDATE_NOT_OFFERED: Story = Story {
     ],
 };
 
-/// An update is given up, and then a change taken back, which leaves nothing; and then each is done.
+/// An update is given up, and then a change undone, which leaves nothing; and then each is done.
 const GIVES_CHANGES_UP_FIRST: Story = Story {
     opening: Opening::ThreePairs,
     lines: &[

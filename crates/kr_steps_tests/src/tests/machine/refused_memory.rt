@@ -16,7 +16,7 @@ use std::process::Abort;
 
 /// Steps of which each kind is there: a gap is read and split by its reader, and others are blocked; then a delete at the
 /// end of the index, a commit, and what it lets in; scans, of which one ends at once, some are refused or blocked, and one
-/// goes on to its end; at last changes of two keys, and an abort that takes them back.
+/// goes on to its end; at last changes of two keys, and an abort that undoes them.
 const ALL_KINDS: Story = Story {
     opening: Opening::ThreePairs,
     lines: &[
@@ -50,7 +50,7 @@ const ALL_KINDS: Story = Story {
     ],
 };
 
-/// Updates, and changes taken back.
+/// Updates, and changes undone.
 const CHANGES: Story = Story {
     opening: Opening::ThreePairs,
     lines: &[
@@ -173,8 +173,8 @@ fn refused_memory_changes_nothing(rt: HostRuntime) -> Result<(), Memory> {
     refuse_each(&rt, rt.alloc(), Kvl, ALL_KINDS, 28, 39)
 }
 
-/// Before each of the 7 steps the index and the locks are copied; 2 steps pin a key, 2 keep a new lock, and one asks for
-/// blockers. A change that is taken back isn't refused memory, nor is the abort.
+/// Before each of the 7 steps the index and the locks are copied; 2 steps pin a key, 2 keep a new lock, and one requests
+/// blockers. A change that is undone isn't refused memory, nor is the abort.
 #[test]
 fn refused_memory_of_changes(rt: HostRuntime) -> Result<(), Memory> {
     refuse_each(&rt, rt.alloc(), KvlUpdate, CHANGES, 9, 10)

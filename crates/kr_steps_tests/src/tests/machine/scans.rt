@@ -11,7 +11,7 @@ use kr_model::{Op, Refusal};
 use kr_protocol::{Im, Kvl, RangeKey};
 use kr_testing::Answer;
 
-/// A scan of the greatest key alone reads it at its first step, and asks for no lock on the end.
+/// A scan of the greatest key alone reads it at its first step, and requests no lock on the end.
 const ENDS_AT_GREATEST_KEY: Story = Story {
     opening: Opening::GreatestKey,
     lines: &[
@@ -52,7 +52,7 @@ const SCANS_OWN_INSERT: Story = Story {
     ],
 };
 
-/// A scan ends on its upper key and asks for no further name: what is above it can be changed, what is in it can't.
+/// A scan ends on its upper key and requests no further name: what is above it can be changed, what is in it can't.
 const ENDS_ON_UPPER_KEY: Story = Story {
     opening: Opening::ThreePairs,
     lines: &[

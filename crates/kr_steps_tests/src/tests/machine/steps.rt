@@ -70,7 +70,7 @@ const ENDS_ONCE: Story = Story {
     ],
 };
 
-/// Inserts of a present key read it, so two may stand beside each other.
+/// Inserts of a present key read it, so two are compatible.
 const SHARES_DUPLICATES: Story = Story {
     opening: Opening::ThreePairs,
     lines: &[
@@ -117,7 +117,7 @@ const READS_DUPLICATE: Story = Story {
     ],
 };
 
-/// Two changes of one key are taken back, the newer one first.
+/// Two changes of one key are undone, the newer one first.
 const DELETES_INSERTS_ABORTS: Story = Story {
     opening: Opening::ThreePairs,
     lines: &[

@@ -19,7 +19,7 @@ pub enum Sweep {
     Crowd,
     /// Steps at random, by a few transactions at a time.
     Random(u64),
-    /// The same with updates, and changes taken back.
+    /// The same with updates, and changes undone.
     Changes(u64),
 }
 
@@ -80,7 +80,7 @@ fn random_op(random: u64, key: u64) -> Op {
     }
 }
 
-/// An operation at a key, by a random number, that mostly changes it or takes a change back.
+/// An operation at a key, by a random number, that mostly changes it or undoes a change.
 fn random_change(random: u64, key: u64) -> Op {
     match random % 13 {
         0 => Op::Fetch(key),

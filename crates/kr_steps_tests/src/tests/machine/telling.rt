@@ -144,7 +144,7 @@ pub struct Seen {
     pub met_refusal: bool,
 }
 
-/// Looks at a machine; what is refused is asked for again.
+/// Looks at a machine; what is refused is requested again.
 pub fn look<P: Protocol, I: Ordered, L: Holdings>(
     machine: &Machine<P, I, L>,
 ) -> Result<Seen, Memory>

@@ -1,4 +1,4 @@
-//! Checks with ample memory, none of which answers want of memory: accepted and rejected, each again and again, by reference,
+//! Checks with ample memory, none of which answers out of memory: accepted and rejected, each again and again, by reference,
 //! and once more when accepted.
 use super::{
     ALWAYS_IX, HOLDS_NOTHING, NEXT_INSTANT, UNDER_IX, open_gap, open_key, open_split, with_change,

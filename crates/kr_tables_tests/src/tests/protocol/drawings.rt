@@ -1,4 +1,4 @@
-//! The four protocols, drawn by hand: which modes may stand beside each other, what is held after a request, and what is asked.
+//! The four protocols, drawn by hand: which modes are compatible, what is held after a request, and what is asked.
 
 use kr_protocol::Mode;
 
@@ -135,7 +135,7 @@ pub struct Drawing<'a> {
     pub compatibility: &'a str,
     pub conversion: &'a str,
     pub rules: &'a str,
-    /// What the row of updates asks for.
+    /// What the row of updates requests.
     pub update: &'a str,
 }
 

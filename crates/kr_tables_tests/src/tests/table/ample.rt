@@ -1,4 +1,4 @@
-//! Tables with ample memory, none of which answers want of memory: each number of modes read, written and read back, with
+//! Tables with ample memory, none of which answers out of memory: each number of modes read, written and read back, with
 //! matrices that aren't symmetric.
 
 use super::bundled::is_read_back;
@@ -36,8 +36,8 @@ fn conversions(alloc: Global, count: u8, held: u8) -> Result<String, AllocError>
     Ok(entries)
 }
 
-/// A table of so many modes, in one of the two formats: a mode stands beside itself and those after it, an insert asks on the
-/// next name for the own mode there, and an update, where there is one, on its key for the last mode.
+/// A table of so many modes, in one of the two formats: a mode is compatible with itself and those after it, an insert asks
+/// on the next name for the own mode there, and an update, where there is one, on its key for the last mode.
 fn document(alloc: Global, format: u8, count: u8) -> Result<String, AllocError> {
     let mut text = format!(in alloc;
         "format = {format}\nmodes = {}\n[compatible]\n",
@@ -77,7 +77,7 @@ fn answers_of(rt: &impl Abort, table: &Table, count: Mode, one: Mode, other: Mod
     same!(rt; to, converted(count, one, other), (count, one, other));
 }
 
-/// Compares what a table of so many modes in a format asks for.
+/// Compares what a table of so many modes in a format requests.
 fn asks(rt: &impl Abort, table: &Table, format: u8, count: Mode, own: Mode) {
     if own > table.count() {
         return;

@@ -8,7 +8,7 @@ use kr_table::read;
 use std::process::Abort;
 use std::test::Fail;
 
-/// Compares what a protocol asks for with nothing.
+/// Compares what a protocol requests with nothing.
 fn asks_for_nothing<P: Protocol>(rt: &impl Abort, protocol: &P) {
     for own in 0..protocol.count() + 1 {
         for (row, side) in SIDES {

@@ -20,7 +20,7 @@ pub const SIDES: [(Row, Side); 14] = [
     (Row::Update, Side::Next),
 ];
 
-/// Whether two protocols with as many modes ask for the same where the own mode is this.
+/// Whether two protocols with as many modes request the same where the own mode is this.
 fn ask_alike_at<P: Protocol, Q: Protocol>(one: &P, other: &Q, own: Mode) -> bool {
     if own > one.count() || own > other.count() {
         return false;
@@ -33,7 +33,7 @@ fn ask_alike_at<P: Protocol, Q: Protocol>(one: &P, other: &Q, own: Mode) -> bool
     true
 }
 
-/// Whether two protocols have as many modes, and ask for the same at each row and side.
+/// Whether two protocols have as many modes, and request the same at each row and side.
 pub fn ask_alike<P: Protocol, Q: Protocol>(one: &P, other: &Q) -> bool {
     for own in 0..one.count() + 1 {
         if !ask_alike_at(one, other, own) {
@@ -43,7 +43,7 @@ pub fn ask_alike<P: Protocol, Q: Protocol>(one: &P, other: &Q) -> bool {
     one.count() == other.count()
 }
 
-/// Whether two protocols take two modes to stand beside one another alike, and convert them alike.
+/// Whether two protocols take two modes to be compatible with one another alike, and convert them alike.
 fn agree_on<P: Protocol, Q: Protocol>(one: &P, other: &Q, mode: Mode, second: Mode) -> bool {
     if mode > one.count()
         || mode > other.count()

@@ -12,7 +12,7 @@ pub struct Table<'a> {
     pub rules: &'a str,
 }
 
-/// A table of one mode that asks for nothing.
+/// A table of one mode that requests nothing.
 pub const PLAIN: Table = Table {
     format: "format = 1",
     modes: r#"modes = ["A"]"#,

@@ -1,4 +1,4 @@
-//! What an update asks for.
+//! What an update requests.
 
 use super::bundled::is_read_back;
 use super::lines::{PLAIN, Table};
@@ -9,10 +9,10 @@ use std::alloc::Global;
 use std::process::Abort;
 use std::test::Fail;
 
-/// A mode and how long it is held, where one is asked for.
+/// A mode and how long it is held, where one is requested.
 type Asked = Option<(Mode, Span)>;
 
-/// Rules of a table that offers updates, and what an update asks for on its key.
+/// Rules of a table that offers updates, and what an update requests on its key.
 const UPDATES: &[(&str, Asked)] = &[
     ("rules = {  }", None),
     ("rules = { update = {} }", None),
@@ -31,7 +31,7 @@ const UPDATES: &[(&str, Asked)] = &[
     ),
 ];
 
-/// Compares what an update asks for on its key, whatever the own mode on the next name; there it asks for nothing.
+/// Compares what an update requests on its key, whatever the own mode on the next name; there it requests nothing.
 fn update_asks<P: Protocol>(rt: &impl Abort, protocol: &P, asked: Asked) {
     assert!(rt; protocol.updates());
     for own in 0..protocol.count() + 1 {
@@ -42,7 +42,7 @@ fn update_asks<P: Protocol>(rt: &impl Abort, protocol: &P, asked: Asked) {
     }
 }
 
-/// Compares what an update asks for under the table that a text is.
+/// Compares what an update requests under the table that a text is.
 fn asks(rt: &impl Abort, alloc: Global, text: &str, asked: Asked) -> Result<(), Fail> {
     let table = read(alloc, text.as_bytes())?;
     update_asks(rt, &table, asked);

@@ -1,4 +1,4 @@
-//! Stories of one thread with changes that are taken back, and with updates. Memory is ample.
+//! Stories of one thread with changes that are undone, and with updates. Memory is ample.
 
 use super::Short;
 use super::alone::ONE_SEAT;
@@ -9,7 +9,7 @@ use kr_engine::{Name, Op};
 use kr_protocol::{Kvl, KvlUpdate};
 use std::test::Fail;
 
-/// A change taken back needs a place that isn't kept, as every step does that ends no transaction. An abort takes back all
+/// A change undone needs a place that isn't kept, as every step does that ends no transaction. An abort undoes all
 /// that is left.
 const A_BACK_IN_A_FULL_ROW: Story = Story {
     name: "a back in a full row",
@@ -31,7 +31,7 @@ const A_BACK_IN_A_FULL_ROW: Story = Story {
     }),
 };
 
-/// A delete and an insert of one key are taken back, the newest first. Each has its entry; the locks stay to the end, and
+/// A delete and an insert of one key are undone, the newest first. Each has its entry; the locks stay to the end, and
 /// nothing else is allowed before it.
 const TWO_CHANGES_BACK: Story = Story {
     name: "two changes back",
@@ -64,7 +64,7 @@ const TWO_CHANGES_BACK: Story = Story {
     }),
 };
 
-/// A key is updated twice, and both are taken back while another waits for it. An update that commits stays.
+/// A key is updated twice, and both are undone while another waits for it. An update that commits stays.
 const TWO_UPDATES_BACK: Story = Story {
     name: "two updates back",
     opening: Opening::ThreePairs,
@@ -100,7 +100,7 @@ const TWO_UPDATES_BACK: Story = Story {
     }),
 };
 
-/// Where the protocol offers no updates they are refused, and a transaction without changes has nothing to take back.
+/// Where the protocol offers no updates they are refused, and a transaction without changes has nothing to undo.
 const NO_UPDATES: Story = Story {
     name: "no updates",
     opening: Opening::ThreePairs,

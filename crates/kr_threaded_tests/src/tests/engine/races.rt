@@ -1,4 +1,4 @@
-//! Stories of several threads: a wake is passed on, a change taken back wakes, a cycle that comes to be is found, and a
+//! Stories of several threads: a wake is passed on, a change undone wakes, a cycle that comes to be is found, and a
 //! watch takes no lock.
 
 use super::Short;
@@ -131,7 +131,7 @@ const A_CYCLE_OF_2_AND_3: &[&[Fate]] = &[
     &[Fate::Ended, Fate::Committed, Fate::Deadlock(3, 2)],
 ];
 
-/// A call waits for a key that another inserted. The insert is taken back, and the call goes on, though the other is
+/// A call waits for a key that another inserted. The insert is undone, and the call goes on, though the other is
 /// active still and keeps its locks.
 const A_BACK_LETS_GO_ON: Story = Story {
     name: "a back lets go on",

@@ -154,7 +154,7 @@ pub enum Act {
 #[derive(Clone, Copy, PartialEq)]
 pub enum Fate {
     Committed,
-    /// A deadlock of these two was told, the asker first, and the transaction aborted.
+    /// A deadlock of these two was told, the requester first, and the transaction aborted.
     Deadlock(Txn, Txn),
     Found(u64),
     Missed,

@@ -65,7 +65,7 @@ fn are_deadlocks(faults: &[StepFault]) -> bool {
         .all(|fault| matches!(&fault.cause, WhyNotDone::Deadlock(_)))
 }
 
-/// Eight workers do two thousand transactions on sixteen keys: those that close no cycle commit, and the run is serial.
+/// Eight workers do two thousand transactions on sixteen keys: those that close no cycle commit, and the run is serializable.
 #[test]
 fn many_transactions(rt: HostRuntime) -> Result<(), Fail> {
     let alloc = rt.alloc();
@@ -78,7 +78,7 @@ fn many_transactions(rt: HostRuntime) -> Result<(), Fail> {
     Ok(())
 }
 
-/// Whether a step closed a cycle, would have taken back what isn't there, or is the commit of one that rolls back.
+/// Whether a step closed a cycle, would have undone what isn't there, or is the commit of one that rolls back.
 fn is_expected(fault: &StepFault) -> bool {
     match &fault.cause {
         WhyNotDone::Deadlock(_) => true,
@@ -88,7 +88,7 @@ fn is_expected(fault: &StepFault) -> bool {
     }
 }
 
-/// Whether a key was updated, and a change taken back before the last of its transaction.
+/// Whether a key was updated, and a change undone before the last of its transaction.
 fn has_both(history: &[Answered]) -> bool {
     let mut updated = false;
     let mut undone = false;
@@ -103,7 +103,7 @@ fn has_both(history: &[Answered]) -> bool {
 }
 
 /// Eight workers do a thousand transactions on sixteen keys, and take some of them back one change at a time: each ends,
-/// and the run is serial.
+/// and the run is serializable.
 #[test]
 fn many_changes_taken_back(rt: HostRuntime) -> Result<(), Fail> {
     let alloc = rt.alloc();

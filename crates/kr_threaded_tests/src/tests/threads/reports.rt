@@ -50,7 +50,7 @@ const NO_STEPS: Run = Run {
     report: "{\"faults\":[],\"history\":[],\"index\":[[10,1],[20,2],[30,3]],\"unfinished\":[],\"verdict\":[\"serial\"]}",
 };
 
-/// Three changes are taken back, the newest first. The commit between them is refused, and so is what would take back a
+/// Three changes are undone, the newest first. The commit between them is refused, and so is what would undo a
 /// fourth; both are noted. The transaction is active still, and is aborted.
 const CHANGES_TAKEN_BACK: Run = Run {
     steps: "[[1,\"update\",20,9],[1,\"insert\",25,5],[1,\"update\",25,6],[1,\"back\"],[1,\"commit\"],[1,\"back\"],[1,\"back\"],[1,\"back\"],[2,\"fetch\",25],[2,\"fetch\",20],[2,\"commit\"]]",

@@ -1,5 +1,5 @@
-//! Eight threads of a thousand transactions each, on sixteen keys, of which some are taken back one change at a time: the
-//! closed history is that of one run, and serial.
+//! Eight threads of a thousand transactions each, on sixteen keys, of which some are undone one change at a time: the
+//! closed history is that of one run, and serializable.
 ghost use Rattle.std.specs.Prelude.{◌≡◌};
 ghost use Rattle.kr_model.specs.Map.{IsMap};
 ghost use Rattle.kr_model.specs.KvlUpdate.{kvl_update};
@@ -29,7 +29,7 @@ fn operation_of(number: u64) -> Op {
     }
 }
 
-/// Takes up to two changes of a transaction back, one at a time, and aborts it, which takes back the rest. Whether each
+/// Undoes up to two changes of a transaction, one at a time, and aborts it, which undoes the rest. Whether each
 /// was done.
 fn roll_back<K: EngineName, R: Wait>(rt: &R, seat: &mut Seat<'_, KvlUpdate, K>) -> bool {
     let mut good = true;
@@ -189,7 +189,7 @@ fn is_left(alloc: Global, ran: &Ran, history: &History) -> Result<bool, Fail> {
     )
 }
 
-/// Whether a key was updated, and a change taken back before the last of its transaction.
+/// Whether a key was updated, and a change undone before the last of its transaction.
 fn has_both(entries: &[Entry]) -> bool {
     let mut updated = false;
     let mut undone = false;

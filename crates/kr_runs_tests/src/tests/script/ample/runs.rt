@@ -1,5 +1,5 @@
 //! Reports of runs with boundary numbers: a transaction inserts a key, updates it, fetches it and scans it, another's fetch is
-//! blocked, and the update is taken back.
+//! blocked, and the update is undone.
 use super::numbers::{key_at, txn_at};
 use kr_model::{Event, Op, Txn};
 use kr_protocol::KvlUpdate;

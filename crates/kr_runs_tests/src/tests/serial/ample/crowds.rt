@@ -1,4 +1,4 @@
-//! Runs of 64 active transactions with ample memory, none of which answers want of memory.
+//! Runs of 64 active transactions with ample memory, none of which answers out of memory.
 use super::super::ways::{LOCKED, Way, ran_by};
 use super::inputs::event;
 use kr_index::Memory;
@@ -61,7 +61,7 @@ fn was_crowd(ran: &Ran, last: Txn) -> bool {
         && ran.programs.as_slice().len() == 64
 }
 
-/// Whether such a run in one of the ways does, and is serial.
+/// Whether such a run in one of the ways does, and is serializable.
 fn is_crowded(alloc: Global, way: Way, last: Txn) -> Result<bool, Memory> {
     let ran = ran_by(alloc, way, &[], &crowd(last))?;
     let verdict = judge(alloc, &ran)?;

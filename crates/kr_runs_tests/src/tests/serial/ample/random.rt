@@ -66,14 +66,14 @@ fn random_steps(seed: u64, later: bool) -> [Event; 400] {
     events
 }
 
-/// Whether a run is serial, with each transaction at its end.
+/// Whether a run is serializable, with each transaction at its end.
 fn is_serial(alloc: Global, ran: &Ran) -> Result<bool, Memory> {
     let is_over = ran.unfinished.as_slice().is_empty() && ran.locks.as_slice().is_empty();
     let verdict = judge(alloc, ran)?;
     Ok(is_over & verdict.is_serial())
 }
 
-/// Runs such steps in each of these ways, which are covered protocols' and so serial.
+/// Runs such steps in each of these ways, which are covered protocols' and so serializable.
 fn are_serial(
     rt: &impl Abort,
     alloc: Global,
@@ -117,8 +117,8 @@ const DIFFERENCES: [(usize, Txn, u64); 20] = [
     (34, 4, 2), (36, 1, 3), (42, 0, 3), (39, 24, 1), (42, 9, 2),
 ];
 
-/// How many programs such steps leave without locks, and the transaction and the number of the first operation whose answer isn't
-/// the one of the commit order.
+/// How many programs such steps leave without locks, and the transaction and the number of the first operation whose answer
+/// isn't the one of the commit order.
 fn difference(alloc: Global, seed: u64) -> Result<(usize, Txn, u64), Memory> {
     let ran = ran_by(alloc, Way::WithoutLocks, &[], &random_steps(seed, false))?;
     let programs = ran.programs.as_slice().len();

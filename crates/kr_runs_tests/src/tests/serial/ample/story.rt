@@ -1,4 +1,4 @@
-//! Each operation at a key that is absent at first, with ample memory: none answers want of memory.
+//! Each operation at a key that is absent at first, with ample memory: none answers out of memory.
 
 use super::super::runs::{Left, Opening, Run, Step, tells};
 use super::super::telling::Told;

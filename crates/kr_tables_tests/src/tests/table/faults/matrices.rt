@@ -4,7 +4,7 @@ use super::super::lines::{PLAIN, Table};
 use super::{Row, each_tells};
 use std::alloc::AllocError;
 
-/// Which modes stand beside which.
+/// Which modes are compatible.
 #[rattlefmt::skip]
 const FAULTS_OF_COMPATIBLE: &[Row] = &[
     Row { table: Table { compatible: r#"compatible = { A = ["A", "A"] }"#, ..PLAIN }, told: "none" },
