@@ -21,7 +21,7 @@ import signal
 import sys
 import tempfile
 
-TOP = os.path.dirname(os.path.dirname(os.path.abspath(__file__)))
+TOP = os.path.dirname(os.path.dirname(os.path.dirname(os.path.abspath(__file__))))
 RUNS, SEED = int(sys.argv[1]), int(sys.argv[2])
 KR = os.path.abspath(sys.argv[3] if len(sys.argv) > 3 and sys.argv[3] else f"{TOP}/crates/kr/out/kr")
 AT_ONCE, AT_A_TIME = 3, 500

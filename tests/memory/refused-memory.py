@@ -1,6 +1,6 @@
 #!/usr/bin/env python3
 """Refuses growths, reads and writes of the programs, one by one, and compares what they then do with what they do
-undisturbed: bench/refused-memory.py [PROGRAM..], of kr, kr_view, kr_explain and kr_hostile, all four where none is named.
+undisturbed: tests/memory/refused-memory.py [PROGRAM..], of kr, kr_view, kr_explain and kr_hostile, all four where none is named.
 Needs a C compiler, `cc`, for refuse.c beside it. Build first: any run of ./kr, ./kr_view or ./kr_explain builds that
 program, and `rt test` in crates/kr_hostile its tests.
 
@@ -12,7 +12,7 @@ a few. For each of them
             and nothing on standard output
   reads     the k-th read and all after it fail: a file that cannot be read, so told, or the fault that comes before it
   writes    the k-th write to standard output and all after it fail, or take nothing, and one byte moves at a time; standard
-            output is full (/dev/full), a closed pipe, or closed. Right where all was taken; else a beginning of the
+            output is full (/dev/full), a closed pipe, or closed. Right where all was taken; else a prefix of the
             right answer, 'kr: output: cannot be written', status 2
   files     files that are deep, long, empty or no files, each with its fault
 
@@ -27,7 +27,7 @@ import sys
 import tempfile
 from concurrent.futures import ThreadPoolExecutor
 
-TOP = os.path.dirname(os.path.dirname(os.path.abspath(__file__)))
+TOP = os.path.dirname(os.path.dirname(os.path.dirname(os.path.abspath(__file__))))
 PROGRAMS = sys.argv[1:] or ["kr", "kr_view", "kr_explain", "kr_hostile"]
 TESTS = f"{TOP}/crates/kr_hostile/out/kr_hostile_tests"
 AT_ONCE = 3
@@ -59,14 +59,14 @@ def all_words():
 def words_of_view():
     """A serial run, one that isn't, and a table and a script that are none."""
     yield ["@kvl", "examples/phantom.json"]
-    yield ["examples/wrong/split.toml", "examples/wrong/split.json"]
-    yield from (["@kvl", "none.json"], ["none.toml", "examples/phantom.json"], ["@kvl", "examples/wrong/split.toml"])
+    yield ["examples/rejected/split.toml", "examples/rejected/split.json"]
+    yield from (["@kvl", "none.json"], ["none.toml", "examples/phantom.json"], ["@kvl", "examples/rejected/split.toml"])
 
 
 def words_of_explain():
     """An accepted table, two that are refused, a script, and words that name none."""
-    yield from (["@im"], ["examples/wrong/delete.toml"], ["examples/wrong/split.toml"])
-    yield ["examples/wrong/delete.toml", "--script", "1"]
+    yield from (["@im"], ["examples/rejected/delete.toml"], ["examples/rejected/split.toml"])
+    yield ["examples/rejected/delete.toml", "--script", "1"]
     yield from (["@im", "--script", "1"], ["none.toml"], ["@im", "--script"])
 
 
@@ -78,13 +78,13 @@ def words_of_kr():
     yield from ([], ["jump"], ["run", "@kvl", "none.json"], ["check", "none.toml"], ["check", "tables"])
     yield from (["check", table] for table in tables + files)
     yield from (["run", tables[i % len(tables)], script] for i, script in enumerate(scripts))
-    for script in sorted(glob.glob("examples/wrong/*.json")):
+    for script in sorted(glob.glob("examples/rejected/*.json")):
         yield ["run", script.replace(".json", ".toml"), script]
     yield from (["judge", table, *scripts[:3]] for table in ["@kvl", "tables/range-key.toml", files[0]])
     yield ["judge", "@im", *[it for it in scripts if "faulty" not in it]]
-    yield ["threads", "@kvl", "examples/wrong/split.json", "--workers", "1"]
+    yield ["threads", "@kvl", "examples/rejected/split.json", "--workers", "1"]
     yield ["threads", "@kvl-update", "examples/updates-back.json", "--workers", "1"]
-    yield ["threads", "examples/wrong/split.toml", "examples/wrong/split.json", "--workers", "1"]
+    yield ["threads", "examples/rejected/split.toml", "examples/rejected/split.json", "--workers", "1"]
 
 
 def run(words, shim=None, out=subprocess.PIPE, **refused):
@@ -229,7 +229,7 @@ def main():
     parts = memory, reads, writes, files, tests = [Part(it) for it in ["memory", "reads", "writes", "files", "tests"]]
     with tempfile.TemporaryDirectory() as folder, ThreadPoolExecutor(AT_ONCE) as pool:
         shim = f"{folder}/refuse.so"
-        subprocess.run(["cc", "-shared", "-fPIC", "-O1", "-o", shim, f"{TOP}/bench/refuse.c"], check=True)
+        subprocess.run(["cc", "-shared", "-fPIC", "-O1", "-o", shim, f"{TOP}/tests/memory/refuse.c"], check=True)
         going = []
         if "kr_hostile" in PROGRAMS:
             going += [pool.submit(refuse_tests, tests, shim, test) for test in tests_of()]
