@@ -4,6 +4,7 @@ pub mod KeptOut
 pub mod Stays
 pub mod Gains
 pub mod Kept
+pub mod Range
 pub mod Holding
 pub mod Regrant
 pub mod Placed
