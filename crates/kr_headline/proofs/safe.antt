@@ -5,6 +5,7 @@ pub mod Stays
 pub mod Gains
 pub mod Kept
 pub mod Range
+pub mod Absent
 pub mod Holding
 pub mod Regrant
 pub mod Placed
