@@ -1,7 +1,7 @@
 -- Changes taken back, newest first: what stands at each key before and after.
 use Rattle.std.proofs.Common.{ℕ, [], ◌∷◌, Option, ◌≡◌, ◌≢◌, ◌⊎◌, inl, inr, ⊎_elim, refl, sym, ap, ◌∙◌}
 use Rattle.std.proofs.lemmas.Bool.{cases_eq, eq-eqb, ne_eqb}
-use Rattle.std.specs.Prelude.{if◌then◌else◌}
+use Rattle.std.specs.Prelude.{if◌then◌else◌, Some, None}
 use Rattle.kr_model.specs.Map.{Map, IsMap, Changes, get, restore, restore_all}
 use Rattle.kr_model.proofs.UndoLaws.{get-restore, IsMap-restore}
 use Rattle.kr_headline.proofs.gaps.Maps.{same_map}
@@ -31,6 +31,22 @@ ChangedIn (c ∷ cs) q = (q ≡ c.0) ⊎ ChangedIn cs q
 pub changed_or_not : (cs : Changes) (q : ℕ) → (ChangedIn cs q) ⊎ (ChangedIn cs q → ⊥)
 changed_or_not [] q = inr (λ h. h)
 changed_or_not (c ∷ cs) q = ⊎_elim (λ e. inl (inl e)) (λ ne. ⊎_elim (λ h. inl (inr h)) (λ out. inr (λ h. ⊎_elim ne out h)) (changed_or_not cs q)) (cases_eq q c.0)
+
+-- Some change of the list inserted the key: taken back, it leaves the key absent.
+abbrev pub InsertedIn : Changes → ℕ → Type 0
+InsertedIn [] q = ⊥
+InsertedIn (c ∷ cs) q = ((q ≡ c.0) × (c.1 ≡ None)) ⊎ InsertedIn cs q
+
+pub inserted_changed : (cs : Changes) (q : ℕ) → InsertedIn cs q → ChangedIn cs q
+inserted_changed [] q h = h
+inserted_changed (c ∷ cs) q h = ⊎_elim (λ e. inl e.0) (λ older. inr (inserted_changed cs q older)) h
+
+-- A change of a key that was present is no insert.
+pub inserted_older : (k v : ℕ) (cs : Changes) (q : ℕ) → InsertedIn ((k, Some v) ∷ cs) q → InsertedIn cs q
+inserted_older k v cs q h = ⊎_elim (λ e. absurd (some_none v e.1)) (λ older. older) h
+  where
+    some_none : (v : ℕ) → ◌≡◌ {A = Option ℕ} (Some v) None → ⊥
+    some_none v e = cc
 
 -- A key that no change is at is as it was.
 pub restore_all_apart : (m : Map) (cs : Changes) (q : ℕ) → (ChangedIn cs q → ⊥) → get (restore_all m cs) q ≡ get m q
