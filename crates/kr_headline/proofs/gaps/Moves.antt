@@ -76,7 +76,7 @@ pub unmoved_kept : (m : Map) (l : Changes) (k : ℕ) → (MovedIn (moved_by m l)
 unmoved_kept m [] k out = refl
 unmoved_kept m (c ∷ l) k out = unmoved_kept (restore m c.0 c.1) l k (λ more. out (moved_more m c l k more)) ∙ unmoved_back m c l k out
 
--- A key that goes where the newest change is taken back was inserted by it.
+-- A key that goes where the newest change is undone was inserted by it.
 pub back_inserted : (m : Map) (c : ℕ × Option ℕ) (k : ℕ) → has m k ≡ true → has (restore m c.0 c.1) k ≡ false → (k ≡ c.0) × (c.1 ≡ None)
 back_inserted m c k there gone = ⊎_elim
     (λ e. (e, none_of c.1 (sym (has_here m c.0 c.1) ∙ sym (ap (has (restore m c.0 c.1)) e) ∙ gone)))
@@ -87,7 +87,7 @@ back_inserted m c k there gone = ⊎_elim
     none_of None e = refl
     none_of (Some v) e = absurd (cc)
 
--- One that goes where all changes are taken back was inserted by one of them.
+-- One that goes where all changes are undone was inserted by one of them.
 pub undone_inserted : (m : Map) (l : Changes) (k : ℕ) → has m k ≡ true → has (restore_all m l) k ≡ false → InsertedIn l k
 undone_inserted m [] k there gone = absurd (true≢false (sym there ∙ gone))
 undone_inserted m (c ∷ l) k there gone = ⊎_elim

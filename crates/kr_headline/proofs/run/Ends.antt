@@ -1,4 +1,4 @@
--- A commit, an abort and a change taken back keep what is known of the run.
+-- A commit, an abort and a change undone keep what is known of the run.
 use Rattle.std.specs.Prelude.{◌≡◌, ◌≤◌, ℕ, true, false, ◌==◌, ◌||◌, List, [], ◌∷◌, ◌++◌, None, refl, length}
 use Rattle.kr_model.specs.declared.Op.TheVariants as op
 use Rattle.kr_model.specs.declared.Reply.TheVariants as reply
@@ -80,7 +80,7 @@ module _ (p : Protocol) (laws : IsLawful p) (safe : IsSafe p) (opening : Map) (h
       (fixed_more g.done h s (ended_with s t m) e (λ u eu. (stay_ended m u eu, silent_other u e.0 reply.Aborted (untied t u (λ d. apart u eu (sym d))))) g.fixed)
       (g.order ∙ sym (committed_none h e refl))
 
-  -- A change taken back.
+  -- A change undone.
   pub backs : (changes : Changes) → (standing s t).changes ≡ changes → KnownAfter p opening h t op.Back (one_taken_back s t changes)
   backs [] e = stays p opening h s t op.Back (reply.Refused refusal.NothingLeft) g refl refl refl
   backs (x ∷ cs) e =

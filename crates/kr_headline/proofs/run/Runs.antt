@@ -134,14 +134,14 @@ module _ (p : Protocol) (laws : IsLawful p) (safe : IsSafe p) (opening : Map) (h
       (λ k last pairs. reads_goes_on t h r c.lo c.hi k last pairs (g.part t).program z.0 z.1 reads)
       (z.3 s.map)
 
-  -- Only to go on and to take changes back are allowed in the midst of a scan.
+  -- Only to go on and to undo changes are allowed in the midst of a scan.
   other_ops : (o : Op) → not (goes_on o) ≡ true → (is_scanning s t && not (goes_on o)) ≡ false → IsFit p o → KnownAfter p opening h t o (performed p s t o)
   other_ops o n busy r =
       let st = g.stands t live_t in
       let none = no_scan_either (g.part t).scan (standing s t).scan st.scan (and_true (is_scanning s t) (ap (λ b. is_scanning s t && b) (sym n) ∙ busy)) in
       unscanned none.0 none.1 o r n
 
-  -- An operation of a transaction that doesn't roll back, but for those that take changes back.
+  -- An operation of a transaction that doesn't roll back, but for those that undo changes.
   works : (o : Op) → not (takes_back o) ≡ true → (is_scanning s t && not (goes_on o)) ≡ false → IsFit p o → KnownAfter p opening h t o (performed p s t o)
   works (op.Fetch k) n b r = other_ops (op.Fetch k) refl b r
   works (op.Insert k v) n b r = other_ops (op.Insert k v) refl b r
@@ -154,7 +154,7 @@ module _ (p : Protocol) (laws : IsLawful p) (safe : IsSafe p) (opening : Map) (h
   works op.Back n b r = absurd (cc)
 
 module _ (p : Protocol) (laws : IsLawful p) (safe : IsSafe p) (opening : Map) (h : List Entry) (s : State) (g : Known p opening h s) (t : ℕ) (live_t : has_ended s t ≡ false) where
-  -- Only to take changes back is allowed once one was taken back.
+  -- Only to undo changes is allowed once one was undone.
   forward : (o : Op) → not (takes_back o) ≡ true → (is_rolling s t && not (takes_back o)) ≡ false → (is_scanning s t && not (goes_on o)) ≡ false → IsFit p o → KnownAfter p opening h t o (performed p s t o)
   forward o n rolls b r =
       let st = g.stands t live_t in

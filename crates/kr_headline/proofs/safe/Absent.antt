@@ -1,4 +1,4 @@
--- In which modes a lock with nothing to protect may be on an absent key: beside a lock that protects the key as inserted every such lock has one of them, so it may be there when that insert is taken back.
+-- In which modes a lock with nothing to protect may be on an absent key: beside a lock that protects the key as inserted every such lock has one of them, so it may be there when that insert is undone.
 use Rattle.std.proofs.Common.{ℕ, ◌≤◌, ◌<◌, ◌≡◌, ◌⊎◌, inl, inr, ⊎_elim, refl, sym, ap, ◌∙◌, Bool, true, false, true≢false, arith}
 use Rattle.std.specs.Prelude.{not, ◌||◌, Option, Some, None}
 use Rattle.kr_model.specs.declared.Row.{Row}

@@ -1,4 +1,4 @@
--- The lock states fit the state after a transaction ends, and after it takes a change back.
+-- The lock states fit the state after a transaction ends, and after it undoes a change.
 use Rattle.std.specs.Prelude.{◌≡◌, ℕ, ◌∷◌, Option, refl}
 use Rattle.kr_model.specs.Protocol.{Protocol, IsLawful}
 use Rattle.kr_model.specs.declared.Name.TheVariants.{Key}
@@ -56,7 +56,7 @@ module _ (p : Protocol) (laws : IsLawful p) (safe : IsSafe p) (m : Map) (l : Loc
             (λ j h. absurd h);
       }
 
-  -- The lock states stay where a change is taken back.
+  -- The lock states stay where a change is undone.
   pub back_sim : (x : ℕ × Option ℕ) (cs : Changes) → (part t).changes ≡ x ∷ cs → Sim p (restore m x.0 x.1) l (with_part part t (rolling_with (restore m x.0 x.1) cs)) hold
   back_sim x cs is =
       let w = sim.placed in
