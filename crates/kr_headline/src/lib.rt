@@ -99,8 +99,9 @@ pub fn aborts_restore()
     ensures { (m : Map) (changes : Changes) (k : ℕ) → get (restore_all m changes) k ≡ unwrap_or (before_first changes k) (get m k) }
 {}
 
-/// The judge's verdict. Programs have no first difference exactly where they are serializable in commit order; and a difference is the first
-/// one exactly where each answer before it, in commit order, is that of the operation run whole, and its own isn't.
+/// The judge's verdict. Programs have no first difference exactly where they are serializable in commit order; and a
+/// difference is the first one exactly where each answer before it, in commit order, is that of the operation run whole, and
+/// its own isn't.
 pub fn differences_tell()
     ensures if_none { (m : Map) (ps : List Program) → first_difference m ps ≡ None → AreSerial m ps }
     ensures if_serial { (m : Map) (ps : List Program) → AreSerial m ps → first_difference m ps ≡ None }
