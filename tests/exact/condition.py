@@ -82,13 +82,14 @@ class Closure:
     def __init__(self, table):
         self.table = table
         self.places = [it for it in PLACES if it != UPDATE or table.updates]
+        self.on_absent = {it for it in table.with_none if self.lets_delete(it) or self.is_compatible(it)}
         self.states, self.moves = [], []
         self.number = {}
         self.nexts = {}  # of each mode and gap of a key that isn't deleted by itself, the first such state
         self.find_states()
         everything = range(len(self.states))
         self.all = (1 << len(self.states)) - 1
-        self.idle = self.of(it.is_idle() and not it.deleted for it in self.states)
+        self.idle = self.of(self.may_be_on_absent(it) for it in self.states)
         self.lets_in = [self.of(table.ok(q, it.mode) for it in self.states) for q in table.with_none]
         step = lambda it: (it.tested, it.place == INSERT, self.number[it.after])
         self.steps = [sorted({step(it) for it in moves}) for moves in self.moves]
@@ -109,10 +110,22 @@ class Closure:
         after = State(self.table.mode_after(x.mode, asked), key, max(x.gap, gap), place == DELETE)
         return Move(place, tested, after, n if place in BY_NEXT else None)
 
+    def lets_delete(self, mode):
+        """Whether a lock in this mode lets in some delete of its key."""
+        requests = [(own, self.table.ask(*DELETE, n)) for own in self.table.with_none for n in self.table.with_none]
+        return any(not it or self.table.ok(self.table.convert(own, it[0]), mode) for own, it in requests)
+
+    def is_compatible(self, mode):
+        return any(self.table.ok(mode, held) for held in self.table.modes)
+
+    def may_be_on_absent(self, state):
+        """Whether it has nothing to protect, and may be on a key that another has taken away."""
+        return state.is_idle() and not state.deleted and state.mode in self.on_absent
+
     def may_ask(self, place, x, n):
         """Whether one with the lock state x may come to request a lock there; n isn't that of a deleted key."""
         if place == INSERT:
-            return n.gap == GAP_DELETED if x.deleted else x.is_idle()
+            return n.gap == GAP_DELETED if x.deleted else self.may_be_on_absent(x)
         return not x.deleted
 
     def add(self, state):

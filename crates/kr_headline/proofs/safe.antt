@@ -4,6 +4,8 @@ pub mod KeptOut
 pub mod Stays
 pub mod Gains
 pub mod Kept
+pub mod Range
+pub mod Absent
 pub mod Holding
 pub mod Regrant
 pub mod Placed

@@ -9,7 +9,7 @@ use Rattle.kr_model.specs.State.{start}
 use Rattle.kr_model.specs.Run.{run, programs}
 use Rattle.kr_model.specs.Serial.{AreSerial}
 
--- No case of p but those of the rule fails, and yet a run under p isn't serial.
+-- No case of p but those of the rule fails, and yet a run under p isn't serializable.
 abbrev pub GoesWrongWithout : Rule → Protocol → Type 0
 GoesWrongWithout rule p =
     All (λ f. f.case ≡ rule) (failed_cases p)

@@ -1,4 +1,4 @@
--- Runs of some of the operations alone, and what it is for all of them to be serial.
+-- Runs of some of the operations alone, and what it is for all of them to be serializable in commit order.
 use Rattle.std.specs.Prelude.{List, [], ◌∷◌}
 use Rattle.kr_model.specs.declared.Op.{Op}
 use Rattle.kr_model.specs.declared.Op.TheVariants as op
@@ -21,7 +21,7 @@ IsSplitting (op.Update k v) = ⊥
 IsSplitting op.Abort = ⊥
 IsSplitting op.Back = ⊥
 
--- One of these, a delete, an abort or a change taken back: gaps are merged too.
+-- One of these, a delete, an abort or a change undone: gaps are merged too.
 abbrev pub IsMerging : Op → Type 0
 IsMerging (op.Fetch k) = Unit {0}
 IsMerging (op.Insert k v) = Unit {0}
@@ -38,6 +38,6 @@ abbrev pub AllAttempt : (Op → Type 0) → List Event → Type 0
 AllAttempt IsSuch [] = Unit {0}
 AllAttempt IsSuch (e ∷ es) = IsSuch e.op × AllAttempt IsSuch es
 
--- Every run of such operations under p is serial, from any opening map.
+-- Every run of such operations under p is serializable, from any opening map.
 abbrev pub RunsOfAreSerial : (Op → Type 0) → Protocol → Type 0
 RunsOfAreSerial IsSuch p = (opening : Map) (events : List Event) → IsMap opening → AllAttempt IsSuch events → IsSerialRun opening (run p (start opening) events)

@@ -31,7 +31,7 @@ pub fn splits_are_serial()
     ensures { (p : Protocol) → IsLawful p → IsCovered p → RunsOfAreSerial IsSplitting p }
 {}
 
-/// The same of runs with deletes, aborts and changes taken back one at a time too.
+/// The same of runs with deletes, aborts and changes undone one at a time too.
 pub fn merges_are_serial()
     ensures { (p : Protocol) → IsLawful p → IsCovered p → RunsOfAreSerial IsMerging p }
 {}
@@ -99,8 +99,9 @@ pub fn aborts_restore()
     ensures { (m : Map) (changes : Changes) (k : ℕ) → get (restore_all m changes) k ≡ unwrap_or (before_first changes k) (get m k) }
 {}
 
-/// The judge's verdict. Programs have no first difference exactly where they are serial; and a difference is the first
-/// one exactly where each answer before it, in commit order, is that of the operation run whole, and its own isn't.
+/// The judge's verdict. Programs have no first difference exactly where they are serializable in commit order; and a
+/// difference is the first one exactly where each answer before it, in commit order, is that of the operation run whole, and
+/// its own isn't.
 pub fn differences_tell()
     ensures if_none { (m : Map) (ps : List Program) → first_difference m ps ≡ None → AreSerial m ps }
     ensures if_serial { (m : Map) (ps : List Program) → AreSerial m ps → first_difference m ps ≡ None }
@@ -120,7 +121,7 @@ pub fn states_are_well_formed()
 {}
 
 /// The log of steps has the programs that are read from their history: those that have committed, and of each active
-/// transaction its operations so far, but for the changes taken back. Any of the steps may have been refused memory.
+/// transaction its operations so far, but for the changes undone. Any of the steps may have been refused memory.
 pub fn logs_tell_programs()
     ensures committed { (p : Protocol) (opening : Map) (h : List Entry) (s : State)
         → AreSteps p (start opening) h s → (log_after no_log h).committed ≡ programs h }

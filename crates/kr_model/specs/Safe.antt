@@ -136,7 +136,7 @@ pub record IsCompatible (p : Protocol) (m : ℕ) : Type 0 where
   pub within : held ≤ p.count
   pub granted : p.ok m held ≡ true
 
--- Whether a lock of mode m that has nothing to protect may be on an absent key. Another transaction took the key away: it was granted a delete beside this lock; or it had inserted the key, this lock was granted beside its lock, and it rolled back.
+-- Whether a transaction that has nothing to protect on an absent key may hold mode m there, 0 for no lock. If it holds a lock, another transaction took the key away: it was granted a delete beside this lock; or it had inserted the key, this lock was granted beside its lock, and it rolled back.
 abbrev pub MayBeOnAbsent : Protocol → ℕ → Type 0
 MayBeOnAbsent p m = LetsDelete p m ⊎ IsCompatible p m
 
@@ -157,7 +157,7 @@ MayAsk p Delete Next x n = x.deleted ≡ false
 MayAsk p Update Current x n = (x.deleted ≡ false) × (p.updates ≡ true)
 MayAsk p _ _ x n = ⊥
 
--- The same, beside another transaction's lock state y on the name: nobody inserts a key that another protects or has deleted.
+-- The same, beside another transaction's lock state y on the name: nobody inserts a key that another protects or has deleted, or that can't be absent under the lock of the other.
 abbrev pub MayBeside : Protocol → Row → Side → LockState → Type 0
 MayBeside p Insert Current y = (y.deleted ≡ false) × IsIdle y × MayBeOnAbsent p y.mode
 MayBeside p _ _ y = Unit {0}

@@ -42,7 +42,7 @@ pub fn find_cycle(
     ensures cycle { IfOk result (λ found. IfSome found (λ cycle. IsCycle (blockers_of waits.now) asker cycle.items)) }
     ensures none { IfOk result (λ found. IfNone found ((cycle : List ℕ) → IsCycle (blockers_of waits.now) asker cycle → ⊥)) }
 {
-    let mut unfound = requesters_at(alloc, waits)?;
+    let mut unfound = places_of(alloc, waits)?;
     let Some(place) = unfound.remove(&asker) else {
         return Ok(None);
     };
@@ -64,7 +64,7 @@ pub fn find_cycle(
 }
 
 /// Where the first entry of each transaction stands.
-fn requesters_at(alloc: Global, waits: &[Waiting]) -> Result<BTreeMap<u32, usize>, AllocError>
+fn places_of(alloc: Global, waits: &[Waiting]) -> Result<BTreeMap<u32, usize>, AllocError>
     ensures { IfOk result (ArePlaces waits.now) }
 {
     let mut places = BTreeMap::new(alloc);

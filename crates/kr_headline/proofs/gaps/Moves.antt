@@ -1,11 +1,11 @@
 -- Which keys the changes of a transaction moved: an update has its key there before and after, and every other change brings its key or takes it away.
-use Rattle.std.proofs.Common.{ℕ, Bool, true, false, List, [], ◌∷◌, Option, ◌≡◌, ◌≢◌, ◌⊎◌, inl, inr, ⊎_elim, refl, sym, ap, ap₂, ◌∙◌, subst, is_some}
-use Rattle.std.specs.Prelude.{if◌then◌else◌, not, ◌&&◌}
-use Rattle.std.proofs.lemmas.Bool.{cases_eq}
+use Rattle.std.proofs.Common.{ℕ, Bool, true, false, List, [], ◌∷◌, Option, ◌≡◌, ◌≢◌, ◌⊎◌, inl, inr, ⊎_elim, refl, sym, ap, ap₂, ◌∙◌, subst, is_some, true≢false}
+use Rattle.std.specs.Prelude.{if◌then◌else◌, not, ◌&&◌, Some, None}
+use Rattle.std.proofs.lemmas.Bool.{cases_eq, cases_Bool}
 use Rattle.kr_model.specs.Map.{Map, IsMap, Changes, get, restore, restore_all}
 use Rattle.kr_headline.proofs.gaps.Gaps.{has, and_one, and_two}
 use Rattle.kr_headline.proofs.gaps.Maps.{has-get}
-use Rattle.kr_headline.proofs.gaps.Undo.{ChangedIn, restore_here, restore_apart, restore_back}
+use Rattle.kr_headline.proofs.gaps.Undo.{ChangedIn, InsertedIn, restore_here, restore_apart, restore_back}
 
 pub has_apart : (m : Map) (k : ℕ) (b : Option ℕ) (q : ℕ) → q ≢ k → has (restore m k b) q ≡ has m q
 has_apart m k b q ne = has-get (restore m k b) q ∙ ap is_some (restore_apart m k b q ne) ∙ sym (has-get m q)
@@ -75,6 +75,25 @@ unmoved_back m c l k out = ⊎_elim (λ e. ap (has (restore m c.0 c.1)) e ∙ by
 pub unmoved_kept : (m : Map) (l : Changes) (k : ℕ) → (MovedIn (moved_by m l) k → ⊥) → has (restore_all m l) k ≡ has m k
 unmoved_kept m [] k out = refl
 unmoved_kept m (c ∷ l) k out = unmoved_kept (restore m c.0 c.1) l k (λ more. out (moved_more m c l k more)) ∙ unmoved_back m c l k out
+
+-- A key that goes where the newest change is undone was inserted by it.
+pub back_inserted : (m : Map) (c : ℕ × Option ℕ) (k : ℕ) → has m k ≡ true → has (restore m c.0 c.1) k ≡ false → (k ≡ c.0) × (c.1 ≡ None)
+back_inserted m c k there gone = ⊎_elim
+    (λ e. (e, none_of c.1 (sym (has_here m c.0 c.1) ∙ sym (ap (has (restore m c.0 c.1)) e) ∙ gone)))
+    (λ ne. absurd (true≢false (sym there ∙ sym (has_apart m c.0 c.1 k ne) ∙ gone)))
+    (cases_eq k c.0)
+  where
+    none_of : (o : Option ℕ) → is_some o ≡ false → o ≡ None
+    none_of None e = refl
+    none_of (Some v) e = absurd (cc)
+
+-- One that goes where all changes are undone was inserted by one of them.
+pub undone_inserted : (m : Map) (l : Changes) (k : ℕ) → has m k ≡ true → has (restore_all m l) k ≡ false → InsertedIn l k
+undone_inserted m [] k there gone = absurd (true≢false (sym there ∙ gone))
+undone_inserted m (c ∷ l) k there gone = ⊎_elim
+    (λ stays. inr (undone_inserted (restore m c.0 c.1) l k stays gone))
+    (λ goes. inl (back_inserted m c k there goes))
+    (cases_Bool (has (restore m c.0 c.1) k))
 
 -- Where two maps have the same of the changed keys, the same keys were moved.
 pub moved_frame : (m n : Map) (l : Changes) → ((k : ℕ) → ChangedIn l k → has n k ≡ has m k) → moved_by n l ≡ moved_by m l

@@ -28,7 +28,7 @@ use Rattle.kr_model.proofs.UndoLaws.{IsMap-restore}
 use Rattle.kr_headline.proofs.gaps.Gaps.{has, Alike}
 use Rattle.kr_headline.proofs.gaps.Maps.{has_none, has_some}
 use Rattle.kr_headline.proofs.gaps.Moves.{has_apart}
-use Rattle.kr_headline.proofs.gaps.Undo.{restore_here}
+use Rattle.kr_headline.proofs.gaps.Undo.{restore_here, InsertedIn, inserted_older}
 use Rattle.kr_headline.proofs.step.Covers.{Granted}
 use Rattle.kr_headline.proofs.step.Parts.{Part, Points, Moved, Scanned, finished, with_part}
 use Rattle.kr_headline.proofs.step.Replay.{answer, after_op}
@@ -84,15 +84,15 @@ module _ (p : Protocol) (laws : IsLawful p) (safe : IsSafe p) (opening : Map) (h
         let i = g.inv in
         let z = g.sim in
         let is = has_some s.map k w there in
-        let ask = stands_kept s.map g.part g.hold z.placed t (Key k) unrolled is in
+        let ask = stands_kept p s.map g.part g.hold z.placed t (Key k) unrolled is in
         let grant = granted_at p laws s.locks t rs free range row.FetchHit Current (Key k) 0 (omega arith) (λ r j. in_left r (request_at (Some (Key k)) q) [] j) in
         let may = hit_touches shape same_asks shape_covered s.map (modes g.hold) g.part c g.inv t (modes (row_holds p laws safe s.map s.locks g.part g.hold c i z t unrolled row.FetchHit Current (Key k) ask (omega arith) grant)) k is
         (row_granted p laws safe s.map s.locks g.part g.hold c i z t unrolled row.FetchHit Current (Key k) ask (omega arith) grant tt 0)
         (row_after p laws safe s.map s.locks g.part g.hold c i z t unrolled row.FetchHit Current (Key k) ask (omega arith) grant) in
         read_done p laws safe opening h s g t live_t unrolled o o a rs (standing s t) (λ y. y ≡ k) (row_holds p laws safe s.map s.locks g.part g.hold c i z t unrolled row.FetchHit Current (Key k) ask (omega arith) grant)
         (row_taken p laws safe s.map s.locks g.part g.hold c i z t unrolled row.FetchHit Current (Key k) ask (omega arith) grant)
-        (λ x m r. subst (λ l. Sim p s.map l (with_part g.part t x) (row_holds p laws safe s.map s.locks g.part g.hold c i z t unrolled row.FetchHit Current (Key k) ask (omega arith) grant)) (sym (kept_append p s.locks t (request_at (Some (Key k)) q) []))
-        (row_sim p laws safe s.map s.locks g.part g.hold c i z t unrolled row.FetchHit Current (Key k) ask (omega arith) grant (λ u ne. tt) is refl refl x m r))
+        (λ x m r older. subst (λ l. Sim p s.map l (with_part g.part t x) (row_holds p laws safe s.map s.locks g.part g.hold c i z t unrolled row.FetchHit Current (Key k) ask (omega arith) grant)) (sym (kept_append p s.locks t (request_at (Some (Key k)) q) []))
+        (row_sim p laws safe s.map s.locks g.part g.hold c i z t unrolled row.FetchHit Current (Key k) ask (omega arith) grant (λ u ne. tt) is refl refl x m r older))
         still a_is (nothing_scanned o) (λ y here. inr (points y here)) may
         (reads_one o a granted same) idle_now same_changes same_rolling no_commit
 
@@ -108,14 +108,14 @@ module _ (p : Protocol) (laws : IsLawful p) (safe : IsSafe p) (opening : Map) (h
         let i = g.inv in
         let z = g.sim in
         let is = at_stands s.map k i.is_map in
-        let ask = stands_kept s.map g.part g.hold z.placed t n unrolled is in
+        let ask = stands_kept p s.map g.part g.hold z.placed t n unrolled is in
         let grant = granted_at p laws s.locks t rs free range row.FetchMiss Next n 0 (omega arith) (λ r j. j) in
         let may = miss_touches shape same_asks shape_covered s.map (modes g.hold) g.part c g.inv t (modes (row_holds p laws safe s.map s.locks g.part g.hold c i z t unrolled row.FetchMiss Next n ask (omega arith) grant)) k (has_none s.map k none)
         (row_granted p laws safe s.map s.locks g.part g.hold c i z t unrolled row.FetchMiss Next n ask (omega arith) grant tt 0)
         (row_after p laws safe s.map s.locks g.part g.hold c i z t unrolled row.FetchMiss Next n ask (omega arith) grant) in
         read_done p laws safe opening h s g t live_t unrolled o o a rs (standing s t) (λ y. y ≡ k) (row_holds p laws safe s.map s.locks g.part g.hold c i z t unrolled row.FetchMiss Next n ask (omega arith) grant)
         (row_taken p laws safe s.map s.locks g.part g.hold c i z t unrolled row.FetchMiss Next n ask (omega arith) grant)
-        (λ x m r. row_sim p laws safe s.map s.locks g.part g.hold c i z t unrolled row.FetchMiss Next n ask (omega arith) grant (λ u ne. tt) is refl refl x m r)
+        (λ x m r older. row_sim p laws safe s.map s.locks g.part g.hold c i z t unrolled row.FetchMiss Next n ask (omega arith) grant (λ u ne. tt) is refl refl x m r older)
         still a_is (nothing_scanned o) (λ y here. inr (points y here)) may
         (reads_one o a granted same) idle_now same_changes same_rolling no_commit
 
@@ -151,16 +151,17 @@ module _ (p : Protocol) (laws : IsLawful p) (safe : IsSafe p) (opening : Map) (h
         let clear = void_clear p laws safe s.map s.locks g.part g.hold c i z t unrolled k absent first in
         let q : Part = finished (g.part t) (op.Insert k v) reply.Done ((k, None) ∷ (g.part t).changes) (k ∷ (g.part t).moved) in
         let into : (y : ℕ) → Moved q y → (Moved (g.part t) y) ⊎ (y ≡ k) = λ y h. ⊎_elim (λ e. inr e) (λ older. inl older) h in
-        let hold' : Holds = insert_holds p laws safe s.map m' s.locks g.part hold2 c inv2 sim2 t unrolled k hn absent there alike g_n g_k clear q into (λ y h. inr h) refl in
+        let brought : (y : ℕ) → InsertedIn q.changes y → (InsertedIn (g.part t).changes y) ⊎ (y ≡ k) = λ y h. ⊎_elim (λ e. inr e.0) (λ old. inl old) h in
+        let hold' : Holds = insert_holds p laws safe s.map m' s.locks g.part hold2 c inv2 sim2 t unrolled k hn absent there alike g_n g_k clear q into (λ y h. inr h) refl brought in
         let a_is : reply.Done ≡ answer s.map (op.Insert k v) = sym (ap (λ o. (whole_insert s.map k v o).0) none) in
         goes p opening h s m' (kept p s.locks t rs) (changed (standing s t) k None) t (op.Insert k v) reply.Done g q hold' live_t refl
         (subst (λ z. Invariant shape m' (modes hold') (with_part g.part t (finished (g.part t) (op.Insert k v) z ((k, None) ∷ (g.part t).changes) (k ∷ (g.part t).moved))) c) (sym a_is)
         (insert_keeps shape s.map (modes hold2) g.part c inv2 t unscanned (modes hold')
-        (insert_taken p laws safe s.map m' s.locks g.part hold2 c inv2 sim2 t unrolled k hn absent there alike g_n g_k clear q into (λ y h. inr h) refl) shape_covered k v none
+        (insert_taken p laws safe s.map m' s.locks g.part hold2 c inv2 sim2 t unrolled k hn absent there alike g_n g_k clear q into (λ y h. inr h) refl brought) shape_covered k v none
         (next_granted p laws safe s.map s.locks g.part hold2 c inv2 sim2 t unrolled k absent g_n)
-        (insert_after p laws safe s.map m' s.locks g.part hold2 c inv2 sim2 t unrolled k hn absent there alike g_n g_k clear q into (λ y h. inr h) refl)))
+        (insert_after p laws safe s.map m' s.locks g.part hold2 c inv2 sim2 t unrolled k hn absent there alike g_n g_k clear q into (λ y h. inr h) refl brought)))
         (subst (λ w. Sim p m' (kept p s.locks t (request_at (Some (Key k)) (p.ask row.Insert Current w) ++ request_at (Some x) (p.ask row.Insert Next w))) (with_part g.part t q) hold') same
-        (insert_sim p laws safe s.map m' s.locks g.part hold2 c inv2 sim2 t unrolled k hn absent there alike g_n g_k clear q into (λ y h. inr h) refl))
+        (insert_sim p laws safe s.map m' s.locks g.part hold2 c inv2 sim2 t unrolled k hn absent there alike g_n g_k clear q into (λ y h. inr h) refl brought))
         (λ live. reads_one (op.Insert k v) reply.Done refl (λ f. refl))
         (record { scan = subst (λ z. StandsScan None z) (sym idle_now) tt; changes = ap (λ l. (k, None) ∷ l) same_changes; rolling = same_rolling })
 
@@ -191,17 +192,18 @@ module _ (p : Protocol) (laws : IsLawful p) (safe : IsSafe p) (opening : Map) (h
         let g_k = subst (λ w. Granted p (own s.locks) t row.Delete Current (Key k) w) (sym same) grant_k in
         let q : Part = finished (g.part t) (op.Delete k) (reply.Deleted v) ((k, Some v) ∷ (g.part t).changes) (k ∷ (g.part t).moved) in
         let into : (y : ℕ) → Moved q y → (Moved (g.part t) y) ⊎ (y ≡ k) = λ y h. ⊎_elim (λ e. inr e) (λ older. inl older) h in
-        let hold' : Holds = delete_holds p laws safe s.map m' s.locks g.part g.hold c i z t unrolled k hn is gone alike g_k g_n q into (λ y h. inr h) (inl refl) refl in
+        let older : (y : ℕ) → InsertedIn q.changes y → InsertedIn (g.part t).changes y = λ y h. inserted_older k v (g.part t).changes y h in
+        let hold' : Holds = delete_holds p laws safe s.map m' s.locks g.part g.hold c i z t unrolled k hn is gone alike g_k g_n q into (λ y h. inr h) (inl refl) refl older in
         let a_is : reply.Deleted v ≡ answer s.map (op.Delete k) = sym (ap (λ o. (whole_delete s.map k o).0) there) in
         goes p opening h s m' (kept p s.locks t rs) (changed (standing s t) k (Some v)) t (op.Delete k) (reply.Deleted v) g q hold' live_t refl
         (subst (λ z. Invariant shape m' (modes hold') (with_part g.part t (finished (g.part t) (op.Delete k) z ((k, Some v) ∷ (g.part t).changes) (k ∷ (g.part t).moved))) c) (sym a_is)
         (delete_keeps shape s.map (modes g.hold) g.part c i t unscanned (modes hold')
-        (delete_taken p laws safe s.map m' s.locks g.part g.hold c i z t unrolled k hn is gone alike g_k g_n q into (λ y h. inr h) (inl refl) refl) shape_covered k v there
-        (key_granted p laws safe s.map m' s.locks g.part g.hold c i z t unrolled k hn is gone alike g_k g_n q into (λ y h. inr h) (inl refl) refl)
-        (above_granted p laws safe s.map m' s.locks g.part g.hold c i z t unrolled k hn is gone alike g_k g_n q into (λ y h. inr h) (inl refl) refl)
-        (delete_after p laws safe s.map m' s.locks g.part g.hold c i z t unrolled k hn is gone alike g_k g_n q into (λ y h. inr h) (inl refl) refl)))
+        (delete_taken p laws safe s.map m' s.locks g.part g.hold c i z t unrolled k hn is gone alike g_k g_n q into (λ y h. inr h) (inl refl) refl older) shape_covered k v there
+        (key_granted p laws safe s.map m' s.locks g.part g.hold c i z t unrolled k hn is gone alike g_k g_n q into (λ y h. inr h) (inl refl) refl older)
+        (above_granted p laws safe s.map m' s.locks g.part g.hold c i z t unrolled k hn is gone alike g_k g_n q into (λ y h. inr h) (inl refl) refl older)
+        (delete_after p laws safe s.map m' s.locks g.part g.hold c i z t unrolled k hn is gone alike g_k g_n q into (λ y h. inr h) (inl refl) refl older)))
         (subst (λ w. Sim p m' (kept p s.locks t (request_at (Some (Key k)) (p.ask row.Delete Current w) ++ request_at (Some x) (p.ask row.Delete Next w))) (with_part g.part t q) hold') same
-        (delete_sim p laws safe s.map m' s.locks g.part g.hold c i z t unrolled k hn is gone alike g_k g_n q into (λ y h. inr h) (inl refl) refl))
+        (delete_sim p laws safe s.map m' s.locks g.part g.hold c i z t unrolled k hn is gone alike g_k g_n q into (λ y h. inr h) (inl refl) refl older))
         (λ live. reads_one (op.Delete k) (reply.Deleted v) refl (λ f. refl))
         (record { scan = subst (λ z. StandsScan None z) (sym idle_now) tt; changes = ap (λ l. (k, Some v) ∷ l) same_changes; rolling = same_rolling })
 
@@ -217,7 +219,7 @@ module _ (p : Protocol) (laws : IsLawful p) (safe : IsSafe p) (opening : Map) (h
         let z = g.sim in
         let is = has_some s.map k w there in
         let m' : Map = set s.map k v in
-        let ask : MayAsk p row.Update Current (g.hold t (Key k)) nothing = (stands_kept s.map g.part g.hold z.placed t (Key k) unrolled is, up) in
+        let ask : MayAsk p row.Update Current (g.hold t (Key k)) nothing = (stands_kept p s.map g.part g.hold z.placed t (Key k) unrolled is, up) in
         let grant = granted_at p laws s.locks t rs free range row.Update Current (Key k) 0 (omega arith) (λ r j. in_left r (request_at (Some (Key k)) a) [] j) in
         let hold' : Holds = row_holds p laws safe s.map s.locks g.part g.hold c i z t unrolled row.Update Current (Key k) ask (omega arith) grant in
         let q : Part = finished (g.part t) (op.Update k v) (reply.Updated w) ((k, Some w) ∷ (g.part t).changes) (g.part t).moved in
@@ -231,7 +233,7 @@ module _ (p : Protocol) (laws : IsLawful p) (safe : IsSafe p) (opening : Map) (h
         (row_after p laws safe s.map s.locks g.part g.hold c i z t unrolled row.Update Current (Key k) ask (omega arith) grant)))
         (sim_keys p s.map m' (kept p s.locks t rs) (with_part g.part t q) hold' i.is_map (IsMap-restore s.map k (Some v) i.is_map) keys
         (subst (λ l. Sim p s.map l (with_part g.part t q) hold') (sym (kept_append p s.locks t (request_at (Some (Key k)) a) []))
-        (row_sim p laws safe s.map s.locks g.part g.hold c i z t unrolled row.Update Current (Key k) ask (omega arith) grant (λ u ne. tt) is refl refl q refl refl)))
+        (row_sim p laws safe s.map s.locks g.part g.hold c i z t unrolled row.Update Current (Key k) ask (omega arith) grant (λ u ne. tt) is refl refl q refl refl (λ y h. inserted_older k w (g.part t).changes y h))))
         (λ live. reads_one (op.Update k v) (reply.Updated w) refl (λ f. refl))
         (record { scan = subst (λ z. StandsScan None z) (sym idle_now) tt; changes = ap (λ l. (k, Some w) ∷ l) same_changes; rolling = same_rolling })
 

@@ -1,9 +1,10 @@
--- A commit, an abort and a change taken back keep what is known of the run.
+-- A commit, an abort and a change undone keep what is known of the run.
 use Rattle.std.specs.Prelude.{◌≡◌, ◌≤◌, ℕ, true, false, ◌==◌, ◌||◌, List, [], ◌∷◌, ◌++◌, None, refl, length}
 use Rattle.kr_model.specs.declared.Op.TheVariants as op
 use Rattle.kr_model.specs.declared.Reply.TheVariants as reply
 use Rattle.kr_model.specs.declared.Refusal.TheVariants as refusal
-use Rattle.kr_model.specs.Protocol.{Protocol}
+use Rattle.kr_model.specs.Protocol.{Protocol, IsLawful}
+use Rattle.kr_model.specs.Safe.{IsSafe}
 use Rattle.kr_model.specs.declared.Name.{Name}
 use Rattle.kr_model.specs.Map.{Map, Changes, restore, restore_all}
 use Rattle.kr_model.specs.Locks.{release}
@@ -21,6 +22,7 @@ use Rattle.kr_headline.proofs.run.Reading.{entry, ReadsAs, silent_other, silent_
 use Rattle.kr_headline.proofs.run.Programs.{joined, joined_push, txns_push, Fixed, fixed_more, fixed_push}
 use Rattle.std.proofs.Common.{sym, ◌∙◌, ap, subst, ◌≢◌, inl, inr, ⊎_elim}
 use Rattle.kr_model.proofs.UndoLaws.{IsMap-restore_all}
+use Rattle.kr_headline.proofs.gaps.Moves.{undone_inserted}
 use Rattle.kr_headline.proofs.step.Parts.{moved_or_not}
 use Rattle.kr_headline.proofs.step.Invariant.{kept}
 use Rattle.kr_headline.proofs.safe.Shape.{code, shape, in_count}
@@ -29,7 +31,7 @@ use Rattle.kr_headline.proofs.safe.Sim.{Sim}
 use Rattle.kr_headline.proofs.run.Known.{Known, KnownAfter, stays, goes, ends}
 use Rattle.kr_headline.proofs.safe.Leaving.{left_sim, back_sim}
 
-module _ (p : Protocol) (opening : Map) (h : List Entry) (s : State) (g : Known p opening h s) (t : ℕ) (live_t : has_ended s t ≡ false) where
+module _ (p : Protocol) (laws : IsLawful p) (safe : IsSafe p) (opening : Map) (h : List Entry) (s : State) (g : Known p opening h s) (t : ℕ) (live_t : has_ended s t ≡ false) where
   apart : (u : ℕ) → has_ended s u ≡ true → u ≢ t
   apart u over same = true_not_false (sym over ∙ ap (has_ended s) same ∙ live_t)
 
@@ -60,7 +62,7 @@ module _ (p : Protocol) (opening : Map) (h : List Entry) (s : State) (g : Known 
       ends p opening h s s.map t op.Commit reply.Committed g (g.done ++ (t, done) ∷ []) left live_t
       (subst (λ z. AreAnswered opening z) (sym (joined_push g.done (t, done))) (answered_append opening (joined g.done) done g.answered k.0))
       (subst (λ z. Invariant shape s.map (modes left) (with_part g.part t blank) z) (sym (ap (map_left opening) (joined_push g.done (t, done)) ∙ map_left-append opening (joined g.done) done)) k.1)
-      (left_sim p s.map s.locks g.part g.hold (map_left opening (joined g.done)) g.inv g.sim t s.map (let i = g.inv in i.is_map) (λ y. inl refl))
+      (left_sim p laws safe s.map s.locks g.part g.hold (map_left opening (joined g.done)) g.inv g.sim t s.map (let i = g.inv in i.is_map) (λ y. inl refl) (λ y there gone. absurd (true_not_false (sym there ∙ gone))))
       (fixed_push g.done (h ++ e ∷ []) s' (t, done) (has_now_ended s.map) (reads_silent t h e done None (silent_by t e.0 reply.Committed refl refl) reads) fixed)
       (txns_push g.done (t, done) ∙ ap (λ z. z ++ t ∷ []) g.order ∙ sym (committed_append h (e ∷ [])))
 
@@ -73,11 +75,12 @@ module _ (p : Protocol) (opening : Map) (h : List Entry) (s : State) (g : Known 
       ends p opening h s m t op.Abort reply.Aborted g g.done left live_t g.answered
       (subst (λ z. Invariant shape (restore_all s.map z) (modes left) (with_part g.part t blank) (map_left opening (joined g.done))) (sym same.changes) ended)
       (subst (λ z. Sim p (restore_all s.map z) (release s.locks t) (with_part g.part t blank) left) (sym same.changes)
-      (left_sim p s.map s.locks g.part g.hold (map_left opening (joined g.done)) g.inv g.sim t (restore_all s.map (g.part t).changes) (let i = g.inv in IsMap-restore_all s.map (g.part t).changes i.is_map) (λ y. let i = g.inv in ⊎_elim (λ moved. inr moved) (λ out. inl (kept shape s.map (modes g.hold) g.part i.owned t y out)) (moved_or_not (g.part t).moved y))))
+      (left_sim p laws safe s.map s.locks g.part g.hold (map_left opening (joined g.done)) g.inv g.sim t (restore_all s.map (g.part t).changes) (let i = g.inv in IsMap-restore_all s.map (g.part t).changes i.is_map) (λ y. let i = g.inv in ⊎_elim (λ moved. inr moved) (λ out. inl (kept shape s.map (modes g.hold) g.part i.owned t y out)) (moved_or_not (g.part t).moved y))
+      (λ y there gone. undone_inserted s.map (g.part t).changes y there gone)))
       (fixed_more g.done h s (ended_with s t m) e (λ u eu. (stay_ended m u eu, silent_other u e.0 reply.Aborted (untied t u (λ d. apart u eu (sym d))))) g.fixed)
       (g.order ∙ sym (committed_none h e refl))
 
-  -- A change taken back.
+  -- A change undone.
   pub backs : (changes : Changes) → (standing s t).changes ≡ changes → KnownAfter p opening h t op.Back (one_taken_back s t changes)
   backs [] e = stays p opening h s t op.Back (reply.Refused refusal.NothingLeft) g refl refl refl
   backs (x ∷ cs) e =
@@ -85,6 +88,6 @@ module _ (p : Protocol) (opening : Map) (h : List Entry) (s : State) (g : Known 
       let is : (g.part t).changes ≡ x ∷ cs = sym same.changes ∙ e in
       goes p opening h s (restore s.map x.0 x.1) s.locks (record { scan = None; changes = cs; rolling = true }) t op.Back (reply.Undone (length cs)) g (rolling_with (restore s.map x.0 x.1) cs) g.hold live_t refl
       (back_keeps shape s.map (modes g.hold) g.part (map_left opening (joined g.done)) g.inv t x cs is)
-      (back_sim p s.map s.locks g.part g.hold (map_left opening (joined g.done)) g.inv g.sim t x cs is)
+      (back_sim p laws safe s.map s.locks g.part g.hold (map_left opening (joined g.done)) g.inv g.sim t x cs is)
       (λ live. absurd (true_not_false live))
       (record { scan = tt; changes = refl; rolling = refl })

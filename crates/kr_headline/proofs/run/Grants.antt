@@ -1,4 +1,4 @@
--- Grants: an attempt without blockers asks for nothing that another's mode conflicts with.
+-- Grants: an attempt without blockers requests nothing that another's mode conflicts with.
 use Rattle.std.specs.Prelude.{◌≡◌, ℕ, ◌≤◌, Bool, true, false, not, ◌&&◌, ◌||◌, ◌==◌, List, [], ◌∷◌, Option, Some, None, refl, ◌⊎◌}
 use Rattle.std.specs.List.{list_any}
 use Rattle.std.proofs.lemmas.Bool.Decides.{nat_tests}
@@ -40,7 +40,7 @@ no_blocker p h t rs none u n held =
     passes true b e f = f
     passes false b e f = absurd (cc)
 
--- So what it holds may stand beside the converted mode.
+-- So what it holds is compatible with the converted mode.
 stands_beside : (p : Protocol) (h : Locks) (t : ℕ) (rs : List Request) → blockers p h t rs ≡ [] → (r : Request) → In r rs → (u : ℕ) → (u ≡ t → ⊥) → (own h u r.0 ≡ 0 → ⊥)
     → p.ok (p.convert (own h t r.0) r.1) (own h u r.0) ≡ true
 stands_beside p h t rs none r i u other held =
@@ -54,7 +54,7 @@ stands_beside p h t rs none r i u other held =
     allowed false true e h = refl
     allowed false false e h = absurd (cc)
 
--- What t asks for at a row and side is granted, if the request is among those of an attempt without blockers.
+-- What t requests at a row and side is granted, if the request is among those of an attempt without blockers.
 pub granted_at : (p : Protocol) → IsLawful p → (h : Locks) (t : ℕ) (rs : List Request) → blockers p h t rs ≡ [] → ((u : ℕ) (name : Name) → own h u name ≤ p.count)
     → (row : Row) (side : Side) (name : Name) (on : ℕ) → on ≤ p.count → ((r : Request) → In r (request_at (Some name) (p.ask row side on)) → In r rs) → Granted p (own h) t row side name on
 granted_at p laws h t rs none range row side name on in_range within u other =

@@ -33,7 +33,7 @@ pub record Known (p : Protocol) (opening : Map) (h : List Entry) (s : State) : T
   pub part : Parts
   pub hold : Holds
   pub done : Programs
-  -- they are serial, and the invariant holds, under the fixed protocol and the modes of the lock states, with the map that they leave as the committed one
+  -- they are serializable, and the invariant holds, under the fixed protocol and the modes of the lock states, with the map that they leave as the committed one
   pub answered : AreAnswered opening (joined done)
   pub inv : Invariant shape s.map (modes hold) part (map_left opening (joined done))
   -- the lock states fit the locks and the map

@@ -22,6 +22,7 @@ use Rattle.kr_model.specs.Run.{Entry}
 use Rattle.kr_model.specs.Serial.{map_left}
 use Rattle.kr_model.proofs.Guarantees.{in_left}
 use Rattle.kr_headline.proofs.gaps.Gaps.{at-key, has}
+use Rattle.kr_headline.proofs.gaps.Undo.{InsertedIn}
 use Rattle.kr_headline.proofs.step.Covers.{Granted}
 use Rattle.kr_headline.proofs.step.Guarded.{Taken}
 use Rattle.kr_headline.proofs.gaps.Maps.{has-get, none_has}
@@ -101,7 +102,7 @@ module _ (p : Protocol) (laws : IsLawful p) (safe : IsSafe p) (opening : Map) (h
       let i = g.inv in
       let z = g.sim in
       let is = at_stands s.map from i.is_map in
-      let ask = stands_kept s.map g.part g.hold z.placed t n unrolled is in
+      let ask = stands_kept p s.map g.part g.hold z.placed t n unrolled is in
       let grant = granted_at p laws s.locks t rs free range row.ScanStop Next n 0 (omega arith) (λ r j. j) in
       let low = from_in_range c.lo c.hi from c.rows s.map (g.part t).scan f (i.scan t) in
       let hold' : Holds = row_holds p laws safe s.map s.locks g.part g.hold committed_map i z t unrolled row.ScanStop Next n ask (omega arith) grant in
@@ -110,7 +111,7 @@ module _ (p : Protocol) (laws : IsLawful p) (safe : IsSafe p) (opening : Map) (h
       (row_after p laws safe s.map s.locks g.part g.hold committed_map i z t unrolled row.ScanStop Next n ask (omega arith) grant) in
       read_done p laws safe opening h s g t live_t unrolled o (op.Scan c.lo c.hi) (reply.Rows c.rows) rs ended_scan (λ y. (from ≤ y) × (y ≤ c.hi)) hold'
       (row_taken p laws safe s.map s.locks g.part g.hold committed_map i z t unrolled row.ScanStop Next n ask (omega arith) grant)
-      (λ x m r. row_sim p laws safe s.map s.locks g.part g.hold committed_map i z t unrolled row.ScanStop Next n ask (omega arith) grant (λ u ne. tt) is refl refl x m r)
+      (λ x m r older. row_sim p laws safe s.map s.locks g.part g.hold committed_map i z t unrolled row.ScanStop Next n ask (omega arith) grant (λ u ne. tt) is refl refl x m r older)
       refl
       (ap (λ z. reply.Rows z) (no_more c.lo c.hi from c.rows s.map i.is_map (g.part t).scan f (i.scan t) (λ y a b. let z = gap_reach s.map i.is_map from c.hi y far a b in none_has s.map y z.1)))
       (λ y sc. let z = scanned_below c.lo c.hi from c.rows (g.part t).scan f y sc in (z.0, omega (arith, z.1, low.1)))
@@ -127,7 +128,7 @@ module _ (p : Protocol) (laws : IsLawful p) (safe : IsSafe p) (opening : Map) (h
     key_there = let i = g.inv in let k = at-key s.map from x i.is_map found in k.1
 
     key_ask : (g.hold t (Key x)).deleted ≡ false
-    key_ask = let z = g.sim in stands_kept s.map g.part g.hold z.placed t (Key x) unrolled key_there
+    key_ask = let z = g.sim in stands_kept p s.map g.part g.hold z.placed t (Key x) unrolled key_there
 
     key_grant : Granted p (own s.locks) t row.ScanKey Current (Key x) 0
     key_grant = granted_at p laws s.locks t key_requests free range row.ScanKey Current (Key x) 0 (omega arith) (λ r j. in_left r (request_at (Some (Key x)) (p.ask row.ScanKey Current 0)) [] j)
@@ -138,9 +139,9 @@ module _ (p : Protocol) (laws : IsLawful p) (safe : IsSafe p) (opening : Map) (h
     key_taken : Taken shape (modes g.hold) (modes key_holds) t
     key_taken = row_taken p laws safe s.map s.locks g.part g.hold committed_map g.inv g.sim t unrolled row.ScanKey Current (Key x) key_ask (omega arith) key_grant
 
-    key_sim : (q : Part) → q.moved ≡ (g.part t).moved → q.rolling ≡ (g.part t).rolling → Sim p s.map (kept p s.locks t key_requests) (with_part g.part t q) key_holds
-    key_sim q m r = subst (λ l. Sim p s.map l (with_part g.part t q) key_holds) (sym (kept_append p s.locks t (request_at (Some (Key x)) (p.ask row.ScanKey Current 0)) []))
-        (row_sim p laws safe s.map s.locks g.part g.hold committed_map g.inv g.sim t unrolled row.ScanKey Current (Key x) key_ask (omega arith) key_grant (λ u ne. tt) key_there refl refl q m r)
+    key_sim : (q : Part) → q.moved ≡ (g.part t).moved → q.rolling ≡ (g.part t).rolling → ((k : ℕ) → InsertedIn q.changes k → InsertedIn (g.part t).changes k) → Sim p s.map (kept p s.locks t key_requests) (with_part g.part t q) key_holds
+    key_sim q m r older = subst (λ l. Sim p s.map l (with_part g.part t q) key_holds) (sym (kept_append p s.locks t (request_at (Some (Key x)) (p.ask row.ScanKey Current 0)) []))
+        (row_sim p laws safe s.map s.locks g.part g.hold committed_map g.inv g.sim t unrolled row.ScanKey Current (Key x) key_ask (omega arith) key_grant (λ u ne. tt) key_there refl refl q m r older)
 
     key_may : MayTouch shape s.map (modes key_holds) g.part t (λ y. (from ≤ y) × (y ≤ x))
     key_may = key_touches shape same_asks shape_covered s.map (modes g.hold) g.part committed_map g.inv t (modes key_holds) from x found
@@ -184,7 +185,7 @@ module _ (p : Protocol) (laws : IsLawful p) (safe : IsSafe p) (opening : Map) (h
         (λ y sc. let z = scanned_below c.lo c.hi from c.rows (g.part t).scan f y sc in (z.0, omega (arith, z.1, from_to)))
         (λ y here. ⊎_elim (λ less. inl (inr (inl (below_scanned c.lo c.hi from c.rows (g.part t).scan f y here.0 less)))) (λ ge. inr (ge, here.1)) (cases_lt y from))
         (omega (arith, low.0, from_to), lt, rows_are))
-        (key_sim q refl refl)
+        (key_sim q refl refl (λ k h. h))
         (λ live. going_read x x rows)
         (record { scan = (refl, refl, refl, λ m. name_after_last m c.lo c.rows x v); changes = same_changes; rolling = same_rolling })
 

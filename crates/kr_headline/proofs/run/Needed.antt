@@ -1,4 +1,4 @@
--- Each rule is needed: a lock table that fails its cases alone, and a run under it that isn't serial.
+-- Each rule is needed: a table that fails its cases alone, and a run under it that isn't serializable.
 use Rattle.std.specs.Prelude.{◌≡◌, ℕ, zero, suc, List, [], ◌∷◌, Option, Some, None, All, map, refl, if◌then◌else◌}
 use Rattle.std.specs.List.{AllByRecursion}
 use Rattle.std.proofs.Math.ListN.{replicate}
@@ -48,7 +48,7 @@ each_of (f ∷ fs) r (suc n) h = (first f.case (map (λ f. f.case) fs) h, each_o
 only : (p : Protocol) (r : Rule) (n : ℕ) → map (λ f. f.case) (failed_cases p) ≡ replicate n r → All (λ f. f.case ≡ r) (failed_cases p)
 only p r n h = All-from_recursion (λ f. f.case ≡ r) (failed_cases p) (each_of (failed_cases p) r n h)
 
--- Programs with a difference aren't serial.
+-- Programs with a difference aren't serializable.
 refuted : (opening : Map) (ps : List Program) (d : Difference) → first_difference opening ps ≡ Some d → AreSerial opening ps → ⊥
 refuted opening ps d e serial = none_some d (sym (none_if_serial opening ps serial) ∙ e)
   where
@@ -59,7 +59,7 @@ refuted opening ps d e serial = none_some d (sym (none_if_serial opening ps seri
 abbrev with_ask : (Row → Side → ℕ → Option (ℕ × Span)) → Protocol
 with_ask ask = record kvl { ask = ask }
 
--- The operation n of t was given an answer that isn't the serial one.
+-- The operation n of t was given an answer that isn't that of the serial run.
 abbrev differ : ℕ → ℕ → Reply → Reply → Difference
 differ t n given serial = record { txn = t; operation = n; given = given; serial = serial }
 

@@ -11,6 +11,7 @@ use Rattle.kr_model.specs.Map.{Map}
 use Rattle.kr_model.specs.State.{State, Active, has_ended}
 use Rattle.kr_model.specs.Run.{Entry, is_committed}
 use Rattle.kr_model.specs.Serial.{map_left}
+use Rattle.kr_headline.proofs.gaps.Undo.{InsertedIn}
 use Rattle.kr_headline.proofs.step.Guarded.{Taken}
 use Rattle.kr_headline.proofs.step.Parts.{Part, Points, Touched, Scanned, finished, with_part}
 use Rattle.kr_headline.proofs.step.Replay.{answer, after_op}
@@ -32,7 +33,7 @@ module _ (p : Protocol) (laws : IsLawful p) (safe : IsSafe p) (opening : Map) (h
   -- An operation that changes nothing is done; it may be the whole of a scan.
   pub read_done : (o d : Op) (a : Reply) (rs : List Request) (x : Active) (New : ℕ → Type 0) (hold' : Holds)
       → Taken shape (modes g.hold) (modes hold') t
-      → ((q : Part) → q.moved ≡ (g.part t).moved → q.rolling ≡ (g.part t).rolling → Sim p s.map (kept p s.locks t rs) (with_part g.part t q) hold')
+      → ((q : Part) → q.moved ≡ (g.part t).moved → q.rolling ≡ (g.part t).rolling → ((k : ℕ) → InsertedIn q.changes k → InsertedIn (g.part t).changes k) → Sim p s.map (kept p s.locks t rs) (with_part g.part t q) hold')
       → after_op s.map d ≡ s.map
       → a ≡ answer s.map d
       → ((q : ℕ) → Scanned (g.part t).scan q → Points d q)
@@ -47,6 +48,6 @@ module _ (p : Protocol) (laws : IsLawful p) (safe : IsSafe p) (opening : Map) (h
       let i = read_keeps shape s.map (modes g.hold) g.part c g.inv t (modes hold') k New may d still inside new in
       goes p opening h s s.map (kept p s.locks t rs) x t o a g q hold' live_t no_commit
       (subst (λ z. Invariant shape s.map (modes hold') (with_part g.part t (finished was d z was.changes was.moved)) c) (sym a_is) i)
-      (sim q refl refl)
+      (sim q refl refl (λ k h. h))
       (λ live. reads)
       (record { scan = subst (λ z. StandsScan None z) (sym no_scan_now) tt; changes = same_changes; rolling = same_rolling })

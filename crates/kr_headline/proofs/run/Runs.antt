@@ -29,6 +29,7 @@ use Rattle.kr_headline.proofs.run.Attempts.{fetches, inserts, deletes, updates}
 use Rattle.kr_headline.proofs.run.Looks.{looks}
 use Rattle.kr_model.specs.Covers.{IsCovered}
 use Rattle.kr_headline.specs.Passes.{RunsOfAreSerial}
+use Rattle.kr_headline.proofs.safe.Absent.{none_on_absent}
 use Rattle.kr_headline.proofs.safe.AllCases.{covered_is_safe}
 use Rattle.kr_headline.proofs.run.Outcome.{serial}
 
@@ -116,7 +117,7 @@ module _ (p : Protocol) (laws : IsLawful p) (safe : IsSafe p) (opening : Map) (h
     unscanned (op.Delete k) r n = deletes p laws safe opening h s g t live_t unrolled quiet idle_now k
     unscanned (op.Update k v) r n = updates p laws safe opening h s g t live_t unrolled quiet idle_now (offered p.updates r.update) k v
     unscanned (op.Scan lo hi) r n = scans lo hi (in_range lo hi r.range)
-    unscanned op.Commit r n = commits p opening h s g t live_t unrolled quiet
+    unscanned op.Commit r n = commits p laws safe opening h s g t live_t unrolled quiet
     unscanned op.Go r n = absurd (cc)
     unscanned op.Abort r n = absurd (cc)
     unscanned op.Back r n = absurd (cc)
@@ -133,14 +134,14 @@ module _ (p : Protocol) (laws : IsLawful p) (safe : IsSafe p) (opening : Map) (h
       (λ k last pairs. reads_goes_on t h r c.lo c.hi k last pairs (g.part t).program z.0 z.1 reads)
       (z.3 s.map)
 
-  -- Only to go on and to take changes back are allowed in the midst of a scan.
+  -- Only to go on and to undo changes are allowed in the midst of a scan.
   other_ops : (o : Op) → not (goes_on o) ≡ true → (is_scanning s t && not (goes_on o)) ≡ false → IsFit p o → KnownAfter p opening h t o (performed p s t o)
   other_ops o n busy r =
       let st = g.stands t live_t in
       let none = no_scan_either (g.part t).scan (standing s t).scan st.scan (and_true (is_scanning s t) (ap (λ b. is_scanning s t && b) (sym n) ∙ busy)) in
       unscanned none.0 none.1 o r n
 
-  -- An operation of a transaction that doesn't roll back, but for those that take changes back.
+  -- An operation of a transaction that doesn't roll back, but for those that undo changes.
   works : (o : Op) → not (takes_back o) ≡ true → (is_scanning s t && not (goes_on o)) ≡ false → IsFit p o → KnownAfter p opening h t o (performed p s t o)
   works (op.Fetch k) n b r = other_ops (op.Fetch k) refl b r
   works (op.Insert k v) n b r = other_ops (op.Insert k v) refl b r
@@ -153,7 +154,7 @@ module _ (p : Protocol) (laws : IsLawful p) (safe : IsSafe p) (opening : Map) (h
   works op.Back n b r = absurd (cc)
 
 module _ (p : Protocol) (laws : IsLawful p) (safe : IsSafe p) (opening : Map) (h : List Entry) (s : State) (g : Known p opening h s) (t : ℕ) (live_t : has_ended s t ≡ false) where
-  -- Only to take changes back is allowed once one was taken back.
+  -- Only to undo changes is allowed once one was undone.
   forward : (o : Op) → not (takes_back o) ≡ true → (is_rolling s t && not (takes_back o)) ≡ false → (is_scanning s t && not (goes_on o)) ≡ false → IsFit p o → KnownAfter p opening h t o (performed p s t o)
   forward o n rolls b r =
       let st = g.stands t live_t in
@@ -161,8 +162,8 @@ module _ (p : Protocol) (laws : IsLawful p) (safe : IsSafe p) (opening : Map) (h
 
   -- An operation of a transaction that hasn't ended.
   live_step : (o : Op) → (is_rolling s t && not (takes_back o)) ≡ false → (is_scanning s t && not (goes_on o)) ≡ false → IsFit p o → KnownAfter p opening h t o (performed p s t o)
-  live_step op.Abort rolls b r = aborts p opening h s g t live_t
-  live_step op.Back rolls b r = backs p opening h s g t live_t (standing s t).changes refl
+  live_step op.Abort rolls b r = aborts p laws safe opening h s g t live_t
+  live_step op.Back rolls b r = backs p laws safe opening h s g t live_t (standing s t).changes refl
   live_step (op.Fetch k) rolls b r = forward (op.Fetch k) refl rolls b r
   live_step (op.Insert k v) rolls b r = forward (op.Insert k v) refl rolls b r
   live_step (op.Delete k) rolls b r = forward (op.Delete k) refl rolls b r
@@ -190,8 +191,8 @@ none_found : ◌≡◌ {A = Option ℕ} None (Some 0) → ⊥
 none_found e = cc
 
 -- At the start nothing has been done.
-opens : (p : Protocol) (opening : Map) → IsMap opening → Known p opening [] (start opening)
-opens p opening sorted = record {
+opens : (p : Protocol) → IsLawful p → (opening : Map) → IsMap opening → Known p opening [] (start opening)
+opens p laws opening sorted = record {
   part = λ u. blank;
   done = [];
   answered = tt;
@@ -223,6 +224,8 @@ opens p opening sorted = record {
       gone = λ t n live e. absurd (true_not_false (sym e));
       mine = λ t u k ne live h. absurd h;
       guard = λ t k live e. absurd (true_not_false (sym e));
+      absent = λ t k live none e. none_on_absent p laws;
+      put = λ t k h. absurd h;
     };
   };
   reads = λ t live unrolled f. refl;
@@ -238,7 +241,7 @@ opens p opening sorted = record {
 pub safe_runs_are_serial : (p : Protocol) → IsLawful p → IsSafe p → (opening : Map) (events : List Event) → IsMap opening → IsSerialRun opening (run p (start opening) events)
 safe_runs_are_serial p laws safe opening events sorted =
     let r = run p (start opening) events in
-    serial p opening r.history r.state (known_run p laws safe opening events [] (start opening) (opens p opening sorted))
+    serial p opening r.history r.state (known_run p laws safe opening events [] (start opening) (opens p laws opening sorted))
 
 -- A lawful protocol of which all cases hold is safe, so every run under it is, too.
 pub runs_are_serial : (p : Protocol) → IsLawful p → IsCovered p → (opening : Map) (events : List Event) → IsMap opening → IsSerialRun opening (run p (start opening) events)

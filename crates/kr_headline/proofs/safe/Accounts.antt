@@ -89,6 +89,7 @@ abbrev is_gap_deleted : GapUse → Bool
 is_gap_deleted GapDeleted = true
 is_gap_deleted _ = false
 
+-- They allow a lock of any mode on an absent key, and so more than the definition does: a list that has every pair that comes up by them has every pair.
 abbrev may_insert : Bool → LockState → LockState → Bool
 may_insert false x n = is_idle x.key x.gap
 may_insert true x n = is_gap_deleted n.gap
@@ -115,9 +116,9 @@ and_both a b e f = ap (λ z. z && b) e ∙ f
 idle_is : (x : LockState) → IsIdle x → is_idle x.key x.gap ≡ true
 idle_is x i = ap (λ k. is_idle k x.gap) i.key ∙ ap (λ g. is_idle KeyFree g) i.gap
 
-may_inserted : (x n : LockState) → MayInsert x n → may_insert x.deleted x n ≡ true
-may_inserted x n (inl h) = ap (λ b. may_insert b x n) h.0 ∙ idle_is x h.1
-may_inserted x n (inr h) = ap (λ b. may_insert b x n) h.0 ∙ ap is_gap_deleted h.1
+may_inserted : (p : Protocol) (x n : LockState) → MayInsert p x n → may_insert x.deleted x n ≡ true
+may_inserted p x n (inl h) = ap (λ b. may_insert b x n) h.0 ∙ idle_is x h.1
+may_inserted p x n (inr h) = ap (λ b. may_insert b x n) h.0 ∙ ap is_gap_deleted h.1
 
 may_asked : (p : Protocol) (r : Row) (s : Side) (x n : LockState) → MayAsk p r s x n → may_ask p r s x n ≡ true
 may_asked p FetchHit Current x n h = ap not h
@@ -128,22 +129,22 @@ may_asked p ScanKey Current x n h = ap not h
 may_asked p ScanKey Next x n h = absurd h
 may_asked p ScanStop Current x n h = absurd h
 may_asked p ScanStop Next x n h = ap not h
-may_asked p Insert Current x n h = and_both (not n.deleted) _ (ap not h.0) (may_inserted x n h.1)
+may_asked p Insert Current x n h = and_both (not n.deleted) _ (ap not h.0) (may_inserted p x n h.1)
 may_asked p Insert Next x n h = ap not h
 may_asked p Delete Current x n h = and_both (not x.deleted) _ (ap not h.0) (ap not h.1)
 may_asked p Delete Next x n h = ap not h
 may_asked p Update Current x n h = and_both (not x.deleted) _ (ap not h.0) h.1
 may_asked p Update Next x n h = absurd h
 
-besides : (r : Row) (s : Side) (y : LockState) → MayBeside r s y → may_beside r s y ≡ true
-besides FetchHit s y h = refl
-besides FetchMiss s y h = refl
-besides ScanKey s y h = refl
-besides ScanStop s y h = refl
-besides Insert Current y h = and_both (not y.deleted) _ (ap not h.0) (idle_is y h.1)
-besides Insert Next y h = refl
-besides Delete s y h = refl
-besides Update s y h = refl
+besides : (p : Protocol) (r : Row) (s : Side) (y : LockState) → MayBeside p r s y → may_beside r s y ≡ true
+besides p FetchHit s y h = refl
+besides p FetchMiss s y h = refl
+besides p ScanKey s y h = refl
+besides p ScanStop s y h = refl
+besides p Insert Current y h = and_both (not y.deleted) _ (ap not h.0) (idle_is y h.1)
+besides p Insert Next y h = refl
+besides p Delete s y h = refl
+besides p Update s y h = refl
 
 -- The test of a list --
 
@@ -268,7 +269,7 @@ module _ (p : Protocol) (pairs : Pairs) (nexts : List LockState) (checked : is_a
   listed _ _ (turn x y b) = parts x y (listed x y b) 0
   listed _ _ (leave x y b) = parts x y (listed x y b) 1
   listed _ _ (move r s x y n b reached may mb passes) =
-      then_is (may_beside r s y) (λ w. has pairs (after p r s x n) y) (and_second (not (keeps_out y r s)) _ (open_ok x y n (listed x y b) (listed n free reached) r s may passes)) (besides r s y mb)
+      then_is (may_beside r s y) (λ w. has pairs (after p r s x n) y) (and_second (not (keeps_out y r s)) _ (open_ok x y n (listed x y b) (listed n free reached) r s may passes)) (besides p r s y mb)
 
   pub account_safe : IsSafe p
   account_safe r s x y n b reached may out = blocked (is_blocked p r s x n y) refl

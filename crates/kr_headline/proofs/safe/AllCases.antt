@@ -12,8 +12,8 @@ use Rattle.kr_model.specs.declared.Cover.TheVariants.{ReadKey, ReadGap, Inserted
 use Rattle.kr_model.specs.Protocol.{Protocol, IsLawful, IsMode, MovesNoKey}
 use Rattle.kr_model.specs.Covers.{IsCovered, mode_after, conflicts_with}
 use Rattle.kr_model.proofs.Guarantees.{Serves, Conflicts, conflicts_current, conflicts_next, in_updating, after_fetch_hit, after_fetch_miss, after_insert, after_split, after_delete, after_scan_key, after_scan_stop, after_update}
-use Rattle.kr_model.proofs.Keep.{kept_mode}
 use Rattle.kr_headline.proofs.safe.Converted.{converted_serves}
+use Rattle.kr_headline.proofs.safe.Range.{given_range, asks_mode, after_range}
 use Rattle.kr_headline.proofs.step.Covers.{in_updated}
 use Rattle.kr_model.specs.declared.KeyUse.{KeyUse}
 use Rattle.kr_model.specs.declared.KeyUse.TheVariants.{Free as KeyFree, Read as KeyRead, Updated as KeyUpdated, Inserted as KeyInserted}
@@ -63,27 +63,6 @@ gap_too p GapDeleted h m old new = old
 module _ (p : Protocol) (laws : IsLawful p) (cov : IsCovered p) where
   -- Each move --
 
-  given_range : (r : Row) (s : Side) (x n : LockState) → x.mode ≤ p.count → n.mode ≤ p.count → given r s x n ≤ p.count
-  given_range FetchHit Current x n xx nn = omega arith
-  given_range FetchHit Next x n xx nn = omega arith
-  given_range FetchMiss Current x n xx nn = omega arith
-  given_range FetchMiss Next x n xx nn = omega arith
-  given_range ScanKey Current x n xx nn = omega arith
-  given_range ScanKey Next x n xx nn = omega arith
-  given_range ScanStop Current x n xx nn = omega arith
-  given_range ScanStop Next x n xx nn = omega arith
-  given_range Insert Current x n xx nn = nn
-  given_range Insert Next x n xx nn = xx
-  given_range Delete Current x n xx nn = nn
-  given_range Delete Next x n xx nn = xx
-  given_range Update Current x n xx nn = omega arith
-  given_range Update Next x n xx nn = omega arith
-
-  after_range : (o : ℕ) (a : Option (ℕ × Span)) → ((q : ℕ) (span : Span) → a ≡ Some (q, span) → IsMode p q) → o ≤ p.count → mode_after p o a ≤ p.count
-  after_range o None mode le = le
-  after_range o (Some (q, Instant)) mode le = le
-  after_range o (Some (q, Commit)) mode le = let i = mode q Commit refl in let c = kept_mode p o q laws le i.some i.in_range in c.in_range
-
   -- What was served stays served.
   kept : (c : Cover) (o : ℕ) (a : Option (ℕ × Span)) → ((q : ℕ) (span : Span) → a ≡ Some (q, span) → IsMode p q) → o ≤ p.count → Serves p c o → Serves p c (mode_after p o a)
   kept c o None mode le sv = sv
@@ -91,11 +70,8 @@ module _ (p : Protocol) (laws : IsLawful p) (cov : IsCovered p) where
   kept c o (Some (q, Commit)) mode le sv = converted_serves p laws cov c o q le (mode q Commit refl) sv
 
   module _ (x n : LockState) (xs : Served p x) (ns : Served p n) where
-    asks_mode : (r : Row) (s : Side) (q : ℕ) (span : Span) → asked p r s x n ≡ Some (q, span) → IsMode p q
-    asks_mode r s q span e = laws.ask-mode r s (given r s x n) q span (given_range r s x n xs.range ns.range) e
-
     still : (r : Row) (s : Side) (c : Cover) → Serves p c x.mode → Serves p c (mode_after p x.mode (asked p r s x n))
-    still r s c sv = kept c x.mode (asked p r s x n) (asks_mode r s) xs.range sv
+    still r s c sv = kept c x.mode (asked p r s x n) (asks_mode p laws r s x n xs.range ns.range) xs.range sv
 
     key_still : (r : Row) (s : Side) (k : KeyUse) → KeyServed p k x.mode → KeyServed p k (mode_after p x.mode (asked p r s x n))
     key_still r s KeyFree sv = tt
@@ -146,7 +122,7 @@ module _ (p : Protocol) (laws : IsLawful p) (cov : IsCovered p) where
     gap_moved Update Next may = gap_still Update Next x.gap xs.gap
 
     moved : (r : Row) (s : Side) → MayAsk p r s x n → Served p (after p r s x n)
-    moved r s may = record { range = after_range x.mode (asked p r s x n) (asks_mode r s) xs.range; key = key_moved r s may; gap = gap_moved r s may }
+    moved r s may = record { range = after_range p laws x.mode (asked p r s x n) (asks_mode p laws r s x n xs.range ns.range) xs.range; key = key_moved r s may; gap = gap_moved r s may }
 
   -- Each reachable lock state is served --
 
@@ -172,8 +148,8 @@ module _ (p : Protocol) (laws : IsLawful p) (cov : IsCovered p) where
     for_key : (r : Row) (s : Side) → MayAsk p r s x n → (k : KeyUse) → KeyServed p k y.mode → by_key k r s ≡ true → Conflicts p y.mode x.mode (asked p r s x n)
     for_key FetchHit Current may KeyFree sv out = absurd (no out)
     for_key FetchHit Current may KeyRead sv out = absurd (no out)
-    for_key FetchHit Current may KeyUpdated sv out = conflicts_current p UpdatedKey y.mode FetchHit sv.1 (in_updated p (FetchHit, Current) sv.0 (inl refl)) x.mode (given FetchHit Current x n) xs.range (given_range FetchHit Current x n xs.range ns.range)
-    for_key FetchHit Current may KeyInserted sv out = conflicts_current p InsertedKey y.mode FetchHit sv (inl refl) x.mode (given FetchHit Current x n) xs.range (given_range FetchHit Current x n xs.range ns.range)
+    for_key FetchHit Current may KeyUpdated sv out = conflicts_current p UpdatedKey y.mode FetchHit sv.1 (in_updated p (FetchHit, Current) sv.0 (inl refl)) x.mode (given FetchHit Current x n) xs.range (given_range p FetchHit Current x n xs.range ns.range)
+    for_key FetchHit Current may KeyInserted sv out = conflicts_current p InsertedKey y.mode FetchHit sv (inl refl) x.mode (given FetchHit Current x n) xs.range (given_range p FetchHit Current x n xs.range ns.range)
     for_key FetchHit Next may KeyFree sv out = absurd (no out)
     for_key FetchHit Next may KeyRead sv out = absurd (no out)
     for_key FetchHit Next may KeyUpdated sv out = absurd (no out)
@@ -188,8 +164,8 @@ module _ (p : Protocol) (laws : IsLawful p) (cov : IsCovered p) where
     for_key FetchMiss Next may KeyInserted sv out = alike FetchMiss Next x y tt xs.range (conflicts_next p InsertedKey y.mode FetchMiss sv (inr (inl refl)) x.mode xs.range)
     for_key ScanKey Current may KeyFree sv out = absurd (no out)
     for_key ScanKey Current may KeyRead sv out = absurd (no out)
-    for_key ScanKey Current may KeyUpdated sv out = conflicts_current p UpdatedKey y.mode ScanKey sv.1 (in_updated p (ScanKey, Current) sv.0 (inr (inl refl))) x.mode (given ScanKey Current x n) xs.range (given_range ScanKey Current x n xs.range ns.range)
-    for_key ScanKey Current may KeyInserted sv out = conflicts_current p InsertedKey y.mode ScanKey sv (inr (inr (inl refl))) x.mode (given ScanKey Current x n) xs.range (given_range ScanKey Current x n xs.range ns.range)
+    for_key ScanKey Current may KeyUpdated sv out = conflicts_current p UpdatedKey y.mode ScanKey sv.1 (in_updated p (ScanKey, Current) sv.0 (inr (inl refl))) x.mode (given ScanKey Current x n) xs.range (given_range p ScanKey Current x n xs.range ns.range)
+    for_key ScanKey Current may KeyInserted sv out = conflicts_current p InsertedKey y.mode ScanKey sv (inr (inr (inl refl))) x.mode (given ScanKey Current x n) xs.range (given_range p ScanKey Current x n xs.range ns.range)
     for_key ScanKey Next may KeyFree sv out = absurd (no out)
     for_key ScanKey Next may KeyRead sv out = absurd (no out)
     for_key ScanKey Next may KeyUpdated sv out = absurd (no out)
@@ -211,17 +187,17 @@ module _ (p : Protocol) (laws : IsLawful p) (cov : IsCovered p) where
     for_key Insert Next may KeyUpdated sv out = absurd (no out)
     for_key Insert Next may KeyInserted sv out = absurd (no out)
     for_key Delete Current may KeyFree sv out = absurd (no out)
-    for_key Delete Current may KeyRead sv out = conflicts_current p ReadKey y.mode Delete sv (inl refl) x.mode (given Delete Current x n) xs.range (given_range Delete Current x n xs.range ns.range)
-    for_key Delete Current may KeyUpdated sv out = conflicts_current p UpdatedKey y.mode Delete sv.1 (in_updated p (Delete, Current) sv.0 (inr (inr (inl refl)))) x.mode (given Delete Current x n) xs.range (given_range Delete Current x n xs.range ns.range)
-    for_key Delete Current may KeyInserted sv out = conflicts_current p InsertedKey y.mode Delete sv (inr (inr (inr (inr (inl refl))))) x.mode (given Delete Current x n) xs.range (given_range Delete Current x n xs.range ns.range)
+    for_key Delete Current may KeyRead sv out = conflicts_current p ReadKey y.mode Delete sv (inl refl) x.mode (given Delete Current x n) xs.range (given_range p Delete Current x n xs.range ns.range)
+    for_key Delete Current may KeyUpdated sv out = conflicts_current p UpdatedKey y.mode Delete sv.1 (in_updated p (Delete, Current) sv.0 (inr (inr (inl refl)))) x.mode (given Delete Current x n) xs.range (given_range p Delete Current x n xs.range ns.range)
+    for_key Delete Current may KeyInserted sv out = conflicts_current p InsertedKey y.mode Delete sv (inr (inr (inr (inr (inl refl))))) x.mode (given Delete Current x n) xs.range (given_range p Delete Current x n xs.range ns.range)
     for_key Delete Next may KeyFree sv out = absurd (no out)
     for_key Delete Next may KeyRead sv out = absurd (no out)
     for_key Delete Next may KeyUpdated sv out = absurd (no out)
     for_key Delete Next may KeyInserted sv out = conflicts_next p InsertedKey y.mode Delete sv (inr (inr (inr (inr (inr (inl refl)))))) x.mode xs.range
     for_key Update Current may KeyFree sv out = absurd (no out)
-    for_key Update Current may KeyRead sv out = conflicts_current p ReadKey y.mode Update sv (inr (in_updating p (Update, Current) ((Update, Current) ∷ []) may.1 (inl refl))) x.mode (given Update Current x n) xs.range (given_range Update Current x n xs.range ns.range)
-    for_key Update Current may KeyUpdated sv out = conflicts_current p UpdatedKey y.mode Update sv.1 (in_updated p (Update, Current) sv.0 (inr (inr (inr (inl refl))))) x.mode (given Update Current x n) xs.range (given_range Update Current x n xs.range ns.range)
-    for_key Update Current may KeyInserted sv out = conflicts_current p InsertedKey y.mode Update sv (inr (inr (inr (inr (inr (inr (in_updating p (Update, Current) ((Update, Current) ∷ []) may.1 (inl refl)))))))) x.mode (given Update Current x n) xs.range (given_range Update Current x n xs.range ns.range)
+    for_key Update Current may KeyRead sv out = conflicts_current p ReadKey y.mode Update sv (inr (in_updating p (Update, Current) ((Update, Current) ∷ []) may.1 (inl refl))) x.mode (given Update Current x n) xs.range (given_range p Update Current x n xs.range ns.range)
+    for_key Update Current may KeyUpdated sv out = conflicts_current p UpdatedKey y.mode Update sv.1 (in_updated p (Update, Current) sv.0 (inr (inr (inr (inl refl))))) x.mode (given Update Current x n) xs.range (given_range p Update Current x n xs.range ns.range)
+    for_key Update Current may KeyInserted sv out = conflicts_current p InsertedKey y.mode Update sv (inr (inr (inr (inr (inr (inr (in_updating p (Update, Current) ((Update, Current) ∷ []) may.1 (inl refl)))))))) x.mode (given Update Current x n) xs.range (given_range p Update Current x n xs.range ns.range)
     for_key Update Next may KeyFree sv out = absurd (no out)
     for_key Update Next may KeyRead sv out = absurd (no out)
     for_key Update Next may KeyUpdated sv out = absurd (no out)
@@ -242,7 +218,7 @@ module _ (p : Protocol) (laws : IsLawful p) (cov : IsCovered p) where
     for_gap FetchMiss Next may GapDeleted sv out = alike FetchMiss Next x y tt xs.range (conflicts_next p DeletedGap y.mode FetchMiss sv (inl refl) x.mode xs.range)
     for_gap ScanKey Current may GapFree sv out = absurd (no out)
     for_gap ScanKey Current may GapRead sv out = absurd (no out)
-    for_gap ScanKey Current may GapDeleted sv out = conflicts_current p DeletedGap y.mode ScanKey sv (inr (inl refl)) x.mode (given ScanKey Current x n) xs.range (given_range ScanKey Current x n xs.range ns.range)
+    for_gap ScanKey Current may GapDeleted sv out = conflicts_current p DeletedGap y.mode ScanKey sv (inr (inl refl)) x.mode (given ScanKey Current x n) xs.range (given_range p ScanKey Current x n xs.range ns.range)
     for_gap ScanKey Next may GapFree sv out = absurd (no out)
     for_gap ScanKey Next may GapRead sv out = absurd (no out)
     for_gap ScanKey Next may GapDeleted sv out = absurd (no out)
@@ -259,8 +235,8 @@ module _ (p : Protocol) (laws : IsLawful p) (cov : IsCovered p) where
     for_gap Insert Next may GapRead sv out = conflicts_next p ReadGap y.mode Insert sv (inl refl) x.mode xs.range
     for_gap Insert Next may GapDeleted sv out = conflicts_next p DeletedGap y.mode Insert sv (inr (inr (inr (inl refl)))) x.mode xs.range
     for_gap Delete Current may GapFree sv out = absurd (no out)
-    for_gap Delete Current may GapRead sv out = conflicts_current p ReadGap y.mode Delete sv (inr (inl refl)) x.mode (given Delete Current x n) xs.range (given_range Delete Current x n xs.range ns.range)
-    for_gap Delete Current may GapDeleted sv out = conflicts_current p DeletedGap y.mode Delete sv (inr (inr (inr (inr (inl refl))))) x.mode (given Delete Current x n) xs.range (given_range Delete Current x n xs.range ns.range)
+    for_gap Delete Current may GapRead sv out = conflicts_current p ReadGap y.mode Delete sv (inr (inl refl)) x.mode (given Delete Current x n) xs.range (given_range p Delete Current x n xs.range ns.range)
+    for_gap Delete Current may GapDeleted sv out = conflicts_current p DeletedGap y.mode Delete sv (inr (inr (inr (inr (inl refl))))) x.mode (given Delete Current x n) xs.range (given_range p Delete Current x n xs.range ns.range)
     for_gap Delete Next may GapFree sv out = absurd (no out)
     for_gap Delete Next may GapRead sv out = absurd (no out)
     for_gap Delete Next may GapDeleted sv out = conflicts_next p DeletedGap y.mode Delete sv (inr (inr (inr (inr (inr (inl refl)))))) x.mode xs.range

@@ -29,7 +29,7 @@ asked_none p laws r side = by_request (p.ask r side 0) (λ q s e. laws.ask-mode 
 abbrev updated_conflicts : List Ask
 updated_conflicts = (row.FetchHit, Current) ∷ (row.ScanKey, Current) ∷ (row.Delete, Current) ∷ (row.Update, Current) ∷ []
 
--- Who holds no lock has no cover: each cover that the protocol is asked for must conflict with something.
+-- Who holds no lock has no cover: each cover that the protocol has to serve must conflict with something.
 none_serves : (p : Protocol) → IsLawful p → (c : Cover) → IsKnown p c → Serves p c 0 → ⊥
 none_serves p laws ReadKey up s = asked_none p laws row.Delete Current (conflicts_current p ReadKey 0 row.Delete s (inl refl) 0 0 (omega arith) (omega arith))
 none_serves p laws ReadGap up s = asked_none p laws row.Insert Next (conflicts_next p ReadGap 0 row.Insert s (inl refl) 0 (omega arith))
@@ -38,7 +38,7 @@ none_serves p laws DeletedGap up s = asked_none p laws row.FetchMiss Next (confl
 none_serves p laws UpdatedKey up s = asked_none p laws row.FetchHit Current
     (conflicts_current p UpdatedKey 0 row.FetchHit s (in_updating p (row.FetchHit, Current) updated_conflicts up (inl refl)) 0 0 (omega arith) (omega arith))
 
--- A cover that the protocol isn't asked for conflicts with nothing, so every mode serves it.
+-- A cover that the protocol need not serve conflicts with nothing, so every mode serves it.
 known_or_free : (p : Protocol) (c : Cover) → IsKnown p c ⊎ ((h : ℕ) → Serves p c h)
 known_or_free p ReadKey = inl tt
 known_or_free p ReadGap = inl tt

@@ -11,9 +11,10 @@ use Rattle.kr_model.specs.Protocol.{Protocol, IsLawful}
 use Rattle.kr_model.specs.Covers.{mode_after}
 use Rattle.kr_model.specs.Map.{Map, IsMap, at}
 use Rattle.kr_model.specs.Locks.{Locks, own}
-use Rattle.kr_model.proofs.Guarantees.{Serves}
+use Rattle.kr_model.proofs.Guarantees.{Serves, Conflicts}
 use Rattle.kr_model.proofs.Requests.{request_at, asks_one, asks_both, kept_locks}
 use Rattle.kr_headline.proofs.gaps.Gaps.{has, Reach, at-key, reach-refl, reach-dec, at-stable, Alike, alike-outside, at-delete}
+use Rattle.kr_headline.proofs.gaps.Undo.{InsertedIn}
 use Rattle.kr_headline.proofs.step.Parts.{Part, Parts, Moved, with_part}
 use Rattle.kr_headline.proofs.step.Covers.{Granted}
 use Rattle.kr_headline.proofs.step.Guarded.{Taken}
@@ -24,14 +25,14 @@ use Rattle.kr_model.specs.declared.KeyUse.TheVariants.{Free as KeyFree, Read as 
 use Rattle.kr_model.specs.declared.GapUse.{GapUse}
 use Rattle.kr_model.specs.declared.GapUse.TheVariants.{Free as GapFree, Read as GapRead, Deleted as GapDeleted}
 use Rattle.kr_model.specs.declared.LockState.{LockState}
-use Rattle.kr_model.specs.Safe.{free, start, IsIdle, by_key, by_gap, keeps_out, asked, key_after, gap_after, MayAsk, IsSafe}
+use Rattle.kr_model.specs.Safe.{free, start, IsIdle, by_key, by_gap, keeps_out, asked, key_after, gap_after, LetsDelete, MayBeOnAbsent, MayAsk, IsSafe}
 use Rattle.kr_headline.proofs.safe.Shape.{code, shape}
 use Rattle.kr_headline.proofs.safe.Stays.{stays}
 use Rattle.kr_headline.proofs.safe.Gains.{gains}
-use Rattle.kr_headline.proofs.safe.Holding.{Holds, modes, granted_out, granted_shape, same_rolls}
+use Rattle.kr_headline.proofs.safe.Holding.{Holds, modes, open_of, granted_out, granted_shape, same_rolls}
 use Rattle.kr_headline.proofs.safe.Regrant.{key_is}
 use Rattle.kr_headline.proofs.safe.Placed.{Stands, at_stands, IsClear, stands_kept, placed_stepped}
-use Rattle.kr_headline.proofs.safe.Sim.{rolls, Sim, rolls_same, after_serves, moved_out, gap_stays}
+use Rattle.kr_headline.proofs.safe.Sim.{rolls, Sim, rolls_same, after_serves, moved_out, gap_stays, inserted_stays}
 use Rattle.kr_headline.proofs.safe.TwoRequests.{two_holds, two_locks, two_second, two_others, by_two, two_taken, two_paired, range, in_mode, reached}
 
 -- A lock that protects anything on a key has to block a delete of it.
@@ -56,7 +57,7 @@ idle_or_out h = by h.key h.gap refl refl
 module _ (p : Protocol) (laws : IsLawful p) (safe : IsSafe p) (m n : Map) (l : Locks) (part : Parts) (hold : Holds) (c : Map) (i : Invariant shape m (modes hold) part c) (sim : Sim p m l part hold) (t : ℕ) (live : (part t).rolling ≡ false) (k : ℕ)
     (hn : IsMap n) (present : has m k ≡ true) (gone : has n k ≡ false) (alike : Alike k m n)
     (granted_key : Granted p (own l) t Delete Current (Key k) (hold t (at m (suc k))).mode) (granted_next : Granted p (own l) t Delete Next (at m (suc k)) (hold t (at m (suc k))).mode)
-    (q : Part) (moved_in : (y : ℕ) → Moved q y → (Moved (part t) y) ⊎ (y ≡ k)) (moved_old : (y : ℕ) → Moved (part t) y → Moved q y) (moved_new : Moved q k) (same_rolling : q.rolling ≡ (part t).rolling) where
+    (q : Part) (moved_in : (y : ℕ) → Moved q y → (Moved (part t) y) ⊎ (y ≡ k)) (moved_old : (y : ℕ) → Moved (part t) y → Moved q y) (moved_new : Moved q k) (same_rolling : q.rolling ≡ (part t).rolling) (older : (y : ℕ) → InsertedIn q.changes y → InsertedIn (part t).changes y) where
   abbrev pub up : Name
   up = at m (suc k)
 
@@ -70,10 +71,10 @@ module _ (p : Protocol) (laws : IsLawful p) (safe : IsSafe p) (m n : Map) (l : L
   delete_locks = two_locks p laws (rolls part) l hold sim.paired (range p laws safe m l part hold c i sim t live k) t live Delete (Key k) up up_apart
 
   may_key : MayAsk p Delete Current (hold t (Key k)) (hold t up)
-  may_key = (stands_kept m part hold sim.placed t (Key k) live present, stands_kept m part hold sim.placed t up live (at_stands m (suc k) i.is_map))
+  may_key = (stands_kept p m part hold sim.placed t (Key k) live present, stands_kept p m part hold sim.placed t up live (at_stands m (suc k) i.is_map))
 
   may_next : MayAsk p Delete Next (hold t up) free
-  may_next = stands_kept m part hold sim.placed t up live (at_stands m (suc k) i.is_map)
+  may_next = stands_kept p m part hold sim.placed t up live (at_stands m (suc k) i.is_map)
 
   pub key_granted : Granted shape (modes hold) t Delete Current (Key k) (modes hold t up)
   key_granted = granted_shape p laws (rolls part) l hold sim.paired t live safe Delete Current (Key k) (hold t up) (reached p laws safe m l part hold c i sim t live k up) may_key granted_key tt (modes hold t up)
@@ -96,8 +97,22 @@ module _ (p : Protocol) (laws : IsLawful p) (safe : IsSafe p) (m n : Map) (l : L
     ⊎_elim (λ z. z)
         (λ o. absurd (granted_out p laws (rolls part) l hold sim.paired t live safe Delete Current (Key k) (hold t up) (reached p laws safe m l part hold c i sim t live k up) may_key granted_key u ne o))
         (idle_or_out (hold u (Key k))),
-    stands_kept m part hold sim.placed u (Key k) lu present,
+    stands_kept p m part hold sim.placed u (Key k) lu present,
   )
+
+  -- The delete is granted beside every lock on the key.
+  lets_delete : (u : ℕ) → u ≢ t → LetsDelete p (hold u (Key k)).mode
+  lets_delete u ne =
+      let pr = sim.paired in
+      record {
+        own = (hold t (Key k)).mode;
+        next = (hold t up).mode;
+        own_within = in_mode p laws safe m l part hold c i sim t live k (Key k);
+        next_within = in_mode p laws safe m l part hold c i sim t live k up;
+        granted = open_of p (hold u (Key k)).mode (hold t (Key k)).mode (p.ask Delete Current (hold t up).mode)
+            (λ conflict. granted_key u ne (subst (λ h. Conflicts p h (own l t (Key k)) (p.ask Delete Current (hold t up).mode)) (pr.mode u (Key k))
+            (subst (λ o. Conflicts p (hold u (Key k)).mode o (p.ask Delete Current (hold t up).mode)) (pr.mode t (Key k)) conflict)));
+      }
 
   stands_less : (z : Name) → (z ≡ Key k → ⊥) → Stands m z → Stands n z
   stands_less End d s = tt
@@ -117,7 +132,7 @@ module _ (p : Protocol) (laws : IsLawful p) (safe : IsSafe p) (m n : Map) (l : L
             (two_paired p laws (rolls part) l hold sim.paired (range p laws safe m l part hold c i sim t live k) t live Delete (Key k) up up_apart
             (reached p laws safe m l part hold c i sim t live k up) may_key may_next (λ u ne. inl tt) (λ u. tt) granted_key granted_next in_y in_y)
             (rolls_same part t q same_rolling);
-        placed = placed_stepped m n part hold delete_holds t q w
+        placed = placed_stepped p m n part hold delete_holds t q w
             (λ u z ne. other u z ne)
             (λ u z ne lu. ⊎_elim (λ e. inr (subst (λ v. IsClear (hold u (Key v))) (sym e) (clear_deleted u ne lu))) (λ d. inl (alike z d)) (cases_eq z k))
             (λ lq z. both (λ v h. h.deleted ≡ false → IsIdle h ⊎ Stands n v) (λ e. absurd (true≢false e)) (λ e. inr (stands_less up up_apart (at_stands m (suc k) i.is_map)))
@@ -140,5 +155,14 @@ module _ (p : Protocol) (laws : IsLawful p) (safe : IsSafe p) (m n : Map) (l : L
             (λ out. let apart_k : j ≢ k = λ f. out (subst (λ v. Reach m v k) (sym f) (reach-refl m k)) in
             let was = both (λ v h. v ≡ Key j → h.deleted ≡ true → (hold t v).deleted ≡ true) (λ f d. absurd (apart_k (sym (key_is k j f)))) (λ f d. absurd (true≢false (sym d))) (λ v a b f d. d) (Key j) refl e in
             ap (λ v. (delete_holds t v).gap) (at-stable m n j i.is_map hn (alike-outside m n k j alike out)) ∙ keeps (at m j) (w.guard t j live was))
-            (reach-dec m j k i.is_map));
+            (reach-dec m j k i.is_map))
+            (λ u j ne lu e none. inl (⊎_elim (λ same. subst (λ o. LetsDelete p (hold u (Key o)).mode) (sym same) (lets_delete u ne)) (λ d. absurd (true≢false (sym e ∙ sym (alike j d) ∙ none))) (cases_eq j k)))
+            (λ lq j none. both (λ v h. v ≡ Key j → h.deleted ≡ false → MayBeOnAbsent p h.mode)
+            (λ f d. absurd (true≢false d))
+            (λ f d. absurd (true≢false (sym (subst (λ v. Stands n v) f (stands_less up up_apart (at_stands m (suc k) i.is_map))) ∙ none)))
+            (λ v a b f d. subst (λ o. MayBeOnAbsent p (hold t o).mode) (sym f)
+            (w.absent t j live (sym (alike j (λ e. a (f ∙ ap (λ o. Key o) e))) ∙ none) (subst (λ o. (hold t o).deleted ≡ false) f d)))
+            (Key j) refl)
+            (λ j h. both (λ v g. (hold t v).key ≡ KeyInserted → g.key ≡ KeyInserted)
+            (λ e. inserted_stays Delete Current (hold t (Key k)).key e) (λ e. inserted_stays Delete Next (hold t up).key e) (λ v a b e. e) (Key j) (w.put t j (older j h)));
       }

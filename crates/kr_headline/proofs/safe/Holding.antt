@@ -9,13 +9,12 @@ use Rattle.kr_model.specs.declared.Row.TheVariants.{FetchHit, FetchMiss, ScanKey
 use Rattle.kr_model.specs.declared.Side.{Side}
 use Rattle.kr_model.specs.declared.Side.TheVariants.{Current, Next}
 use Rattle.kr_model.specs.declared.Span.{Span}
-use Rattle.kr_model.specs.Protocol.{Protocol, IsLawful, IsMode}
+use Rattle.kr_model.specs.Protocol.{Protocol, IsLawful}
 use Rattle.kr_model.specs.Covers.{mode_after, conflicts_with}
 use Rattle.kr_model.specs.Locks.{Locks, own, release, holder_cmp}
 use Rattle.kr_model.proofs.Guarantees.{Conflicts, Serves}
 use Rattle.kr_model.proofs.LockLaws.{name_or_not, find-release, own-release_other}
 use Rattle.kr_model.proofs.Actives.{tied}
-use Rattle.kr_model.proofs.Keep.{kept_mode}
 use Rattle.kr_headline.proofs.step.Covers.{Modes, Granted}
 use Rattle.kr_headline.proofs.step.Guarded.{Taken}
 use Rattle.kr_model.specs.declared.KeyUse.TheVariants.{Free as KeyFree}
@@ -25,6 +24,7 @@ use Rattle.kr_model.specs.Safe.{free, IsIdle, by_key, by_gap, keeps_out, given, 
 use Rattle.kr_headline.proofs.safe.Shape.{code, shape, more, in_count}
 use Rattle.kr_headline.proofs.safe.KeptOut.{MayKeepOut, kept_out}
 use Rattle.kr_headline.proofs.safe.Stays.{stays}
+use Rattle.kr_headline.proofs.safe.Absent.{free_open, none_on_absent}
 
 -- The lock state of each transaction on each name.
 abbrev pub Holds : Type 0
@@ -98,7 +98,7 @@ pub alone_live : (p : Protocol) (rolls : ℕ → Bool) (l : Locks) (hold : Holds
 alone_live p rolls l hold k t n live = ⊎_elim (λ b. b) (λ void. rolls_not (rolls t) (hold t n) live void) (k.alone t n)
 
 -- A request without a conflict isn't blocked, and one that is blocked has a conflict.
-open_of : (p : Protocol) (h o : ℕ) (a : Option (ℕ × Span)) → (Conflicts p h o a → ⊥) → conflicts_with p h o a ≡ false
+pub open_of : (p : Protocol) (h o : ℕ) (a : Option (ℕ × Span)) → (Conflicts p h o a → ⊥) → conflicts_with p h o a ≡ false
 open_of p h o None none = refl
 open_of p h o (Some (q, span)) none = by (p.ok (p.convert o q) h) none
   where
@@ -114,26 +114,15 @@ conflict_of p h o (Some (q, span)) e = by (p.ok (p.convert o q) h) e
     by true f = absurd (cc)
     by false f = refl
 
--- No request is blocked where no lock is held.
-free_open : (p : Protocol) → IsLawful p → (r : Row) (s : Side) (x n : LockState) → x.mode ≤ p.count → given r s x n ≤ p.count → is_blocked p r s x n free ≡ false
-free_open p laws r s x n io in_given = by (asked p r s x n) (λ q span e. laws.ask-mode r s (given r s x n) q span in_given e)
-  where
-    by : (a : Option (ℕ × Span)) → ((q : ℕ) (span : Span) → a ≡ Some (q, span) → IsMode p q) → conflicts_with p 0 x.mode a ≡ false
-    by None mode = refl
-    by (Some (q, span)) mode =
-        let i = mode q span refl in
-        let c = kept_mode p x.mode q laws io i.some i.in_range in
-        ap not (laws.ok-none_held (p.convert x.mode q) c.in_range)
-
-free_beside : (r : Row) (s : Side) → MayBeside r s free
-free_beside FetchHit s = tt
-free_beside FetchMiss s = tt
-free_beside ScanKey s = tt
-free_beside ScanStop s = tt
-free_beside Insert Current = (refl, record { key = refl; gap = refl })
-free_beside Insert Next = tt
-free_beside Delete s = tt
-free_beside Update s = tt
+free_beside : (p : Protocol) → IsLawful p → (r : Row) (s : Side) → MayBeside p r s free
+free_beside p laws FetchHit s = tt
+free_beside p laws FetchMiss s = tt
+free_beside p laws ScanKey s = tt
+free_beside p laws ScanStop s = tt
+free_beside p laws Insert Current = (refl, record { key = refl; gap = refl }, none_on_absent p laws)
+free_beside p laws Insert Next = tt
+free_beside p laws Delete s = tt
+free_beside p laws Update s = tt
 
 -- A lock with nothing to protect has to keep nobody out.
 pub idle_lets : (r : Row) (s : Side) → (by_key KeyFree r s || by_gap GapFree r s) ≡ false
@@ -168,7 +157,7 @@ module _ (p : Protocol) (laws : IsLawful p) (rolls : ℕ → Bool) (l : Locks) (
 
   -- A granted request keeps the lock states beside the locks.
   pub move_at : (r : Row) (s : Side) (name : Name) (n : LockState) → Beside p n free → MayAsk p r s (hold t name) n
-      → ((u : ℕ) → u ≢ t → MayBeside r s (hold u name) ⊎ IsVoid (rolls u) (hold u name))
+      → ((u : ℕ) → u ≢ t → MayBeside p r s (hold u name) ⊎ IsVoid (rolls u) (hold u name))
       → Granted p (own l) t r s name (given r s (hold t name) n)
       → own l t name ≤ p.count → given r s (hold t name) n ≤ p.count
       → (l' : Locks) → own l' t name ≡ mode_after p (own l t name) (asked p r s (hold t name) n) → ((u : ℕ) (x : Name) → ((u ≡ t) × (x ≡ name) → ⊥) → own l' u x ≡ own l u x)
@@ -184,7 +173,7 @@ module _ (p : Protocol) (laws : IsLawful p) (rolls : ℕ → Bool) (l : Locks) (
       record {
         mode = by_hold (λ u w h. h.mode ≡ own l' u w) hold t name z (ap (λ o. mode_after p o (asked p r s x n)) (k.mode t name) ∙ sym here) (λ u w d. k.mode u w ∙ sym (elsewhere u w d));
         alone = by_hold (λ u w h. (Beside p h free) ⊎ IsVoid (rolls u) h) hold t name z
-            (inl (move r s x free n (alone_live p rolls l hold k t name live) reached may (free_beside r s) free_ok)) (λ u w d. k.alone u w);
+            (inl (move r s x free n (alone_live p rolls l hold k t name live) reached may (free_beside p laws r s) free_ok)) (λ u w d. k.alone u w);
         beside = λ v u w live_v ne. (by_hold (λ v w h. (u : ℕ) → rolls v ≡ false → u ≢ v → (Beside p h (with_hold hold t name z u w)) ⊎ IsVoid (rolls u) (with_hold hold t name z u w)) hold t name z
             (λ u live_t ne. subst (λ y. (Beside p z y) ⊎ IsVoid (rolls u) y) (sym (with_other hold t name z u name (λ e. ne e.0))) (new u ne))
             (λ v w d u live_v ne. ⊎_elim
@@ -272,8 +261,11 @@ rolls_here rolls n u x = ⊎_elim (λ e. ⊎_elim (λ f. inl (e, f)) (λ g. inr 
 abbrev pub voided : Holds → (ℕ → Bool) → Name → Holds
 voided hold rolls n u x = pick (rolls_here rolls n u x) (idle (hold u x)) (hold u x)
 
+pub voided_apart : (hold : Holds) (rolls : ℕ → Bool) (n : Name) (u : ℕ) (x : Name) → ((rolls u ≡ true) × (x ≡ n) → ⊥) → voided hold rolls n u x ≡ hold u x
+voided_apart hold rolls n u x d = pick_second (rolls_here rolls n u x) (idle (hold u x)) (hold u x) d
+
 pub voided_live : (hold : Holds) (rolls : ℕ → Bool) (n : Name) (u : ℕ) (x : Name) → rolls u ≡ false → voided hold rolls n u x ≡ hold u x
-voided_live hold rolls n u x live = pick_second (rolls_here rolls n u x) (idle (hold u x)) (hold u x) (λ h. true≢false (sym h.0 ∙ live))
+voided_live hold rolls n u x live = voided_apart hold rolls n u x (λ h. true≢false (sym h.0 ∙ live))
 
 pub voided_at : (hold : Holds) (rolls : ℕ → Bool) (n : Name) (u : ℕ) → rolls u ≡ true → IsVoid (rolls u) (voided hold rolls n u n)
 voided_at hold rolls n u rolling = (rolling, subst (λ h. IsIdle h) (sym (pick_first (rolls_here rolls n u n) (idle (hold u n)) (hold u n) (rolling, refl))) (record { key = refl; gap = refl }))

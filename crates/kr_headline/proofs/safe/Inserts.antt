@@ -14,22 +14,24 @@ use Rattle.kr_model.specs.Locks.{Locks, own}
 use Rattle.kr_model.proofs.Guarantees.{Serves}
 use Rattle.kr_model.proofs.Requests.{request_at, asks_one, asks_both, kept_locks}
 use Rattle.kr_headline.proofs.gaps.Gaps.{has, at-key, reach-at, reach-dec, at-stable, Alike, alike-outside, at-insert}
+use Rattle.kr_headline.proofs.gaps.Undo.{InsertedIn, inserted_changed}
 use Rattle.kr_headline.proofs.step.Parts.{Part, Parts, Moved, with_part}
 use Rattle.kr_headline.proofs.step.Covers.{Granted}
 use Rattle.kr_headline.proofs.step.Guarded.{Taken}
-use Rattle.kr_headline.proofs.step.Guards.{Guard}
+use Rattle.kr_headline.proofs.step.Guards.{Guard, guard_changed}
 use Rattle.kr_headline.proofs.step.Steps.{insert_outside, insert_not_moved}
 use Rattle.kr_headline.proofs.step.Undoable.{insert_unguarded}
 use Rattle.kr_headline.proofs.step.Invariant.{Invariant, moved_touched}
+use Rattle.kr_model.specs.declared.KeyUse.TheVariants.{Inserted as KeyInserted}
 use Rattle.kr_model.specs.declared.GapUse.TheVariants.{Deleted as GapDeleted}
-use Rattle.kr_model.specs.Safe.{free, start, IsIdle, asked, key_after, gap_after, MayAsk, MayBeside, IsSafe}
+use Rattle.kr_model.specs.Safe.{free, start, IsIdle, asked, key_after, gap_after, MayBeOnAbsent, MayAsk, MayBeside, IsSafe}
 use Rattle.kr_headline.proofs.safe.Shape.{code, shape, in_count}
 use Rattle.kr_headline.proofs.safe.Stays.{stays}
 use Rattle.kr_headline.proofs.safe.Gains.{gains}
 use Rattle.kr_headline.proofs.safe.Holding.{Holds, modes, pick_second, IsVoid, granted_shape, same_rolls, voided, voided_at, voided_live, rolls_here, void_at}
 use Rattle.kr_headline.proofs.safe.Regrant.{key_is, regranted}
 use Rattle.kr_headline.proofs.safe.Placed.{Stands, at_stands, IsClear, stands_kept, placed_stepped, placed_voided}
-use Rattle.kr_headline.proofs.safe.Sim.{rolls, Sim, rolls_same, after_serves, gap_stays, gap_split}
+use Rattle.kr_headline.proofs.safe.Sim.{rolls, Sim, rolls_same, after_serves, gap_stays, gap_split, inserted_stays}
 use Rattle.kr_headline.proofs.safe.TwoRequests.{two_holds, two_locks, two_first, two_others, by_two, two_taken, two_paired, range, in_mode, reached}
 
 module _ (p : Protocol) (laws : IsLawful p) (safe : IsSafe p) (m : Map) (l : Locks) (part : Parts) (hold : Holds) (c : Map) (i : Invariant shape m (modes hold) part c) (sim : Sim p m l part hold) (t : ℕ) (live : (part t).rolling ≡ false) (k : ℕ) where
@@ -41,7 +43,7 @@ module _ (p : Protocol) (laws : IsLawful p) (safe : IsSafe p) (m : Map) (l : Loc
     apart e = let z = at-key m k k i.is_map e in true≢false (sym z.1 ∙ absent)
 
     there : (hold t x).deleted ≡ false
-    there = stands_kept m part hold sim.placed t x live (at_stands m k i.is_map)
+    there = stands_kept p m part hold sim.placed t x live (at_stands m k i.is_map)
 
     -- The fixed protocol grants it on the next name.
     pub next_granted : Granted shape (modes hold) t Insert Next x (modes hold t x)
@@ -75,15 +77,21 @@ module _ (p : Protocol) (laws : IsLawful p) (safe : IsSafe p) (m : Map) (l : Loc
         (λ d. inl (ap (λ h. code h.key h.gap) (pick_second (rolls_here (rolls part) (Key k) u n) _ (hold u n) d)))
         (rolls_here (rolls part) (Key k) u n))
 
-    pub void_sim : Sim p m l part now_void
-    void_sim = record { locks = sim.locks; paired = void_at p (rolls part) l hold (Key k) sim.paired; placed = placed_voided m part hold (Key k) sim.placed }
+    -- None of them has inserted the key.
+    none_inserted : (u j : ℕ) → (part u).rolling ≡ true → Key j ≡ Key k → InsertedIn (part u).changes j → ⊥
+    none_inserted u j rolling e h =
+        unguarded u (not_t u rolling) (guard_changed m (part u).changes k (inserted_changed (part u).changes k (subst (λ z. InsertedIn (part u).changes z) (key_is j k e) h)))
 
-    pub void_clear : (u : ℕ) → u ≢ t → ((part u).rolling ≡ false → IsClear (now_void u (Key k))) × (MayBeside Insert Current (now_void u (Key k)) ⊎ IsVoid (rolls part u) (now_void u (Key k)))
+    pub void_sim : Sim p m l part now_void
+    void_sim = record { locks = sim.locks; paired = void_at p (rolls part) l hold (Key k) sim.paired; placed = placed_voided p m part hold (Key k) none_inserted sim.placed }
+
+    pub void_clear : (u : ℕ) → u ≢ t → ((part u).rolling ≡ false → IsClear (now_void u (Key k))) × (MayBeside p Insert Current (now_void u (Key k)) ⊎ IsVoid (rolls part u) (now_void u (Key k)))
     void_clear u ne = ⊎_elim
         (λ rolling. ((λ lu. absurd (true≢false (sym rolling ∙ lu))), inr (voided_at hold (rolls part) (Key k) u rolling)))
         (λ lu. let z = clear_live u ne lu in
+        let w = sim.placed in
         let same = voided_live hold (rolls part) (Key k) u (Key k) lu in
-        ((λ y. subst (λ h. IsClear h) (sym same) z), inl (subst (λ h. MayBeside Insert Current h) (sym same) (z.1, z.0))))
+        ((λ y. subst (λ h. IsClear h) (sym same) z), inl (subst (λ h. MayBeside p Insert Current h) (sym same) (z.1, z.0, w.absent u k lu absent z.1))))
         (cases_Bool (part u).rolling)
 
     -- The transaction may request on the key.
@@ -93,15 +101,15 @@ module _ (p : Protocol) (laws : IsLawful p) (safe : IsSafe p) (m : Map) (l : Loc
           there,
           ⊎_elim
               (λ e. inr (e, w.guard t k live e))
-              (λ e. inl (e, ⊎_elim (λ z. z) (λ z. absurd (true≢false (sym z ∙ absent))) (w.there t (Key k) live e)))
+              (λ e. inl (e, ⊎_elim (λ z. z) (λ z. absurd (true≢false (sym z ∙ absent))) (w.there t (Key k) live e), w.absent t k live absent e))
               (cases_Bool (hold t (Key k)).deleted),
         )
 
 -- Where others protect nothing on the key, the lock states after an insert of it fit the state after it.
 module _ (p : Protocol) (laws : IsLawful p) (safe : IsSafe p) (m n : Map) (l : Locks) (part : Parts) (hold : Holds) (c : Map) (i : Invariant shape m (modes hold) part c) (sim : Sim p m l part hold) (t : ℕ) (live : (part t).rolling ≡ false) (k : ℕ)
     (hn : IsMap n) (absent : has m k ≡ false) (present : has n k ≡ true) (alike : Alike k m n) (granted_next : Granted p (own l) t Insert Next (at m k) (hold t (at m k)).mode) (granted_key : Granted p (own l) t Insert Current (Key k) (hold t (at m k)).mode)
-    (clear : (u : ℕ) → u ≢ t → ((part u).rolling ≡ false → IsClear (hold u (Key k))) × (MayBeside Insert Current (hold u (Key k)) ⊎ IsVoid (rolls part u) (hold u (Key k))))
-    (q : Part) (moved_in : (y : ℕ) → Moved q y → (Moved (part t) y) ⊎ (y ≡ k)) (moved_old : (y : ℕ) → Moved (part t) y → Moved q y) (same_rolling : q.rolling ≡ (part t).rolling) where
+    (clear : (u : ℕ) → u ≢ t → ((part u).rolling ≡ false → IsClear (hold u (Key k))) × (MayBeside p Insert Current (hold u (Key k)) ⊎ IsVoid (rolls part u) (hold u (Key k))))
+    (q : Part) (moved_in : (y : ℕ) → Moved q y → (Moved (part t) y) ⊎ (y ≡ k)) (moved_old : (y : ℕ) → Moved (part t) y → Moved q y) (same_rolling : q.rolling ≡ (part t).rolling) (inserted_in : (y : ℕ) → InsertedIn q.changes y → (InsertedIn (part t).changes y) ⊎ (y ≡ k)) where
   abbrev pub y : Name
   y = at m k
 
@@ -143,10 +151,10 @@ module _ (p : Protocol) (laws : IsLawful p) (safe : IsSafe p) (m n : Map) (l : L
             (two_paired p laws (rolls part) l hold sim.paired (range p laws safe m l part hold c i sim t live k) t live Insert (Key k) y away
             (reached p laws safe m l part hold c i sim t live k y)
             (may_insert p laws safe m l part hold c i sim t live k absent granted_next)
-            (stands_kept m part hold w t y live (at_stands m k i.is_map))
+            (stands_kept p m part hold w t y live (at_stands m k i.is_map))
             (λ u ne. let z = clear u ne in z.1) (λ u. tt) granted_key granted_next in_y in_y)
             (rolls_same part t q same_rolling);
-        placed = placed_stepped m n part hold insert_holds t q w
+        placed = placed_stepped p m n part hold insert_holds t q w
             (λ u z ne. other u z ne)
             (λ u z ne lu. ⊎_elim (λ e. inr (subst (λ v. IsClear (hold u (Key v))) (sym e) (let f = clear u ne in f.0 lu))) (λ d. inl (alike z d)) (cases_eq z k))
             (λ lq z. both (λ v h. h.deleted ≡ false → IsIdle h ⊎ Stands n v) (λ e. inr present) (λ e. inr (stands_more y (at_stands m k i.is_map)))
@@ -169,5 +177,19 @@ module _ (p : Protocol) (laws : IsLawful p) (safe : IsSafe p) (m n : Map) (l : L
             ∙ ap (λ h. h.gap) (two_first p laws (rolls part) l hold sim.paired (range p laws safe m l part hold c i sim t live k) t live Insert (Key k) y away)
             ∙ gap_split (hold t (Key k)).gap (hold t y).gap (sym (ap (λ v. (hold t v).gap) (reach-at m j k i.is_map reach)) ∙ gap))
             (λ out. ap (λ v. (insert_holds t v).gap) (at-stable m n j i.is_map hn (alike-outside m n k j alike out)) ∙ keeps (at m j) gap)
-            (reach-dec m j k i.is_map));
+            (reach-dec m j k i.is_map))
+            (λ u j ne lu e none. absurd (true≢false (sym (stands_more (Key j) e) ∙ none)))
+            (λ lq j none. both (λ v h. v ≡ Key j → h.deleted ≡ false → MayBeOnAbsent p h.mode)
+            (λ f d. absurd (true≢false (sym present ∙ ap (has n) (key_is k j f) ∙ none)))
+            (λ f d. absurd (true≢false (sym (subst (λ v. Stands n v) f (stands_more y (at_stands m k i.is_map))) ∙ none)))
+            (λ v a b f d. subst (λ o. MayBeOnAbsent p (hold t o).mode) (sym f)
+            (w.absent t j live (sym (alike j (λ e. a (f ∙ ap (λ o. Key o) e))) ∙ none) (subst (λ o. (hold t o).deleted ≡ false) f d)))
+            (Key j) refl)
+            (λ j h. both (λ v g. v ≡ Key j → g.key ≡ KeyInserted) (λ f. refl)
+            (λ f. inserted_stays Insert Next (hold t y).key (ap (λ o. (hold t o).key) f ∙ old_put j f h))
+            (λ v a b f. ap (λ o. (hold t o).key) f ∙ ⊎_elim (λ old. w.put t j old) (λ e. absurd (a (f ∙ ap (λ o. Key o) e))) (inserted_in j h))
+            (Key j) refl);
       }
+    where
+      old_put : (j : ℕ) → y ≡ Key j → InsertedIn q.changes j → (hold t (Key j)).key ≡ KeyInserted
+      old_put j f h = let w = sim.placed in ⊎_elim (λ old. w.put t j old) (λ e. absurd (away (f ∙ ap (λ o. Key o) e))) (inserted_in j h)

@@ -17,15 +17,17 @@ use Rattle.kr_model.specs.Locks.{Locks, own, kept}
 use Rattle.kr_model.proofs.Guarantees.{Serves}
 use Rattle.kr_model.proofs.Requests.{request_at, AreLocks, asks_one, kept_locks}
 use Rattle.kr_headline.proofs.gaps.Gaps.{has, at-unique, reach-refl, at-stable}
+use Rattle.kr_headline.proofs.gaps.Undo.{InsertedIn}
 use Rattle.kr_headline.proofs.step.Parts.{Part, Parts, Moved, with_part, by_part}
 use Rattle.kr_headline.proofs.step.Covers.{Granted, change_cover}
 use Rattle.kr_headline.proofs.step.Guarded.{Taken}
 use Rattle.kr_headline.proofs.step.Invariant.{Invariant}
+use Rattle.kr_model.specs.declared.KeyUse.{KeyUse}
 use Rattle.kr_model.specs.declared.KeyUse.TheVariants.{Inserted as KeyInserted}
 use Rattle.kr_model.specs.declared.GapUse.{GapUse}
 use Rattle.kr_model.specs.declared.GapUse.TheVariants.{Free as GapFree, Read as GapRead, Deleted as GapDeleted}
 use Rattle.kr_model.specs.declared.LockState.{LockState}
-use Rattle.kr_model.specs.Safe.{and_gap, free, start, IsIdle, by_key, keeps_out, given, asked, key_after, gap_after, deleted_after, after, MayAsk, MayBeside, IsSafe}
+use Rattle.kr_model.specs.Safe.{and_gap, free, start, IsIdle, by_key, keeps_out, given, asked, key_after, gap_after, deleted_after, after, MayBeOnAbsent, MayAsk, MayBeside, IsSafe}
 use Rattle.kr_headline.proofs.safe.Shape.{code, shape, more, blocks_all}
 use Rattle.kr_headline.proofs.safe.KeptOut.{MayKeepOut, inserted_keeps_out}
 use Rattle.kr_headline.proofs.safe.Stays.{stays}
@@ -63,6 +65,23 @@ gap_split g h e = ap (λ z. and_gap g z) e ∙ by g
     by GapRead = refl
     by GapDeleted = refl
 
+-- A key that is protected as inserted stays so.
+inserted_still : (r : Row) (s : Side) → key_after r s KeyInserted ≡ KeyInserted
+inserted_still FetchHit Current = refl
+inserted_still FetchHit Next = refl
+inserted_still FetchMiss s = refl
+inserted_still ScanKey Current = refl
+inserted_still ScanKey Next = refl
+inserted_still ScanStop s = refl
+inserted_still Insert Current = refl
+inserted_still Insert Next = refl
+inserted_still Delete s = refl
+inserted_still Update Current = refl
+inserted_still Update Next = refl
+
+pub inserted_stays : (r : Row) (s : Side) (k : KeyUse) → k ≡ KeyInserted → key_after r s k ≡ KeyInserted
+inserted_stays r s k e = ap (λ z. key_after r s z) e ∙ inserted_still r s
+
 -- Who rolls back.
 abbrev pub rolls : Parts → ℕ → Bool
 rolls part u = (part u).rolling
@@ -71,7 +90,7 @@ rolls part u = (part u).rolling
 pub record Sim (p : Protocol) (m : Map) (l : Locks) (part : Parts) (hold : Holds) : Type 0 where
   pub locks : AreLocks p l
   pub paired : Paired p (rolls part) l hold
-  pub placed : Placed m part hold
+  pub placed : Placed p m part hold
 
 -- A part that rolls back as before.
 pub rolls_same : (part : Parts) (t : ℕ) (q : Part) → q.rolling ≡ (part t).rolling → (u : ℕ) → rolls (with_part part t q) u ≡ rolls part u
@@ -108,6 +127,8 @@ sim_keys p m n l part hold hm hn same s =
         gone = λ t x live e. let d = w.gone t x live e in (d.0, d.1, same d.0 ∙ d.2, d.3);
         mine = w.mine;
         guard = λ t k live e. ap (λ z. (hold t z).gap) (at-stable m n k hm hn (λ y reach. same y)) ∙ w.guard t k live e;
+        absent = λ t k live none e. w.absent t k live (sym (same k) ∙ none) e;
+        put = w.put;
       };
     }
   where
@@ -139,9 +160,9 @@ module _ (p : Protocol) (laws : IsLawful p) (safe : IsSafe p) (m : Map) (l : Loc
       subst (λ h. Serves shape x (code h.key h.gap)) (sym (with_same hold t name (after p r s y free)))
       (after_serves (shape.ask r s 0) (code y.key y.gap) (code (key_after r s y.key) (gap_after r s y.gap free.gap)) (gains r s y.key y.gap free.key free.gap) (stays r s y.key y.gap free.gap) x sv)
 
-  pub row_sim : ((u : ℕ) → u ≢ t → MayBeside r s (hold u name)) → Stands m name → deleted_after r s ≡ false → by_key KeyInserted r s ≡ true
-      → (q : Part) → q.moved ≡ (part t).moved → q.rolling ≡ (part t).rolling → Sim p m row_locks (with_part part t q) row_holds
-  row_sim others stands undeleted touch q same_moved same_rolling =
+  pub row_sim : ((u : ℕ) → u ≢ t → MayBeside p r s (hold u name)) → Stands m name → deleted_after r s ≡ false → by_key KeyInserted r s ≡ true
+      → (q : Part) → q.moved ≡ (part t).moved → q.rolling ≡ (part t).rolling → ((k : ℕ) → InsertedIn q.changes k → InsertedIn (part t).changes k) → Sim p m row_locks (with_part part t q) row_holds
+  row_sim others stands undeleted touch q same_moved same_rolling older =
       let w = sim.placed in
       let z : LockState = after p r s (hold t name) free in
       let was : (k : ℕ) → Moved q k → Moved (part t) k = λ k h. subst (λ xs. Moved (record q { moved = xs }) k) same_moved h in
@@ -151,7 +172,7 @@ module _ (p : Protocol) (laws : IsLawful p) (safe : IsSafe p) (m : Map) (l : Loc
             (move_at p laws (rolls part) l hold sim.paired t live r s name free start may (λ u ne. inl (others u ne)) granted (range t name) in_given row_locks
             (here p l t name (asked p r s (hold t name) free)) (λ u x d. elsewhere p l t name (asked p r s (hold t name) free) u x d))
             (rolls_same part t q same_rolling);
-        placed = placed_stepped m m part hold row_holds t q w
+        placed = placed_stepped p m m part hold row_holds t q w
             (λ u x ne. with_other hold t name z u x (λ e. ne e.0))
             (λ u y ne lu. inl refl)
             (λ lq x. by_hold (λ u n h. (part u).rolling ≡ false → h.deleted ≡ false → IsIdle h ⊎ Stands m n) hold t name z (λ lu e. inr stands) (λ u n d lu e. w.there u n lu e) t x live)
@@ -165,5 +186,11 @@ module _ (p : Protocol) (laws : IsLawful p) (safe : IsSafe p) (m : Map) (l : Loc
             t (Key k) refl refl)
             (λ u k ne lu h. refl)
             (λ lq k e. let was = by_hold (λ u n h. u ≡ t → h.deleted ≡ true → (hold u n).deleted ≡ true) hold t name z (λ f d. absurd (true≢false (sym d ∙ undeleted))) (λ u n far f d. d) t (Key k) refl e in
-            by_hold (λ u n h. u ≡ t → (hold u n).gap ≡ GapDeleted → h.gap ≡ GapDeleted) hold t name z (λ f d. gap_stays r s (hold t name).gap free.gap d) (λ u n far f d. d) t (at m k) refl (w.guard t k live was));
+            by_hold (λ u n h. u ≡ t → (hold u n).gap ≡ GapDeleted → h.gap ≡ GapDeleted) hold t name z (λ f d. gap_stays r s (hold t name).gap free.gap d) (λ u n far f d. d) t (at m k) refl (w.guard t k live was))
+            (λ u k ne lu e none. absurd (true≢false (sym e ∙ none)))
+            (λ lq k none kept. by_hold (λ u n h. u ≡ t → n ≡ Key k → h.deleted ≡ false → MayBeOnAbsent p h.mode) hold t name z
+            (λ e f d. absurd (true≢false (sym (subst (λ x. Stands m x) f stands) ∙ none)))
+            (λ u n far e f d. subst (λ x. MayBeOnAbsent p (hold u x).mode) (sym f) (subst (λ x. MayBeOnAbsent p (hold x (Key k)).mode) (sym e) (w.absent t k live none (subst (λ x. (hold x (Key k)).deleted ≡ false) e (subst (λ x. (hold u x).deleted ≡ false) f d)))))
+            t (Key k) refl refl kept)
+            (λ k h. by_hold (λ u n y. (hold u n).key ≡ KeyInserted → y.key ≡ KeyInserted) hold t name z (λ e. inserted_stays r s (hold t name).key e) (λ u n far e. e) t (Key k) (w.put t k (older k h)));
       }

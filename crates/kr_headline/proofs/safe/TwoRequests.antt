@@ -78,7 +78,7 @@ module _ (p : Protocol) (laws : IsLawful p) (rolling : ℕ → Bool) (l : Locks)
       (subst (λ h. Taken shape (modes one_hold) (modes (with_hold one_hold t x (after p r Next h free))) t) still (taken_at p one_hold t r Next x free))
 
   module _ (reached : Beside p (hold t x) free) (may_first : MayAsk p r Current (hold t y) (hold t x)) (may_second : MayAsk p r Next (hold t x) free)
-      (clear : (u : ℕ) → u ≢ t → MayBeside r Current (hold u y) ⊎ IsVoid (rolling u) (hold u y)) (any : (u : ℕ) → MayBeside r Next (hold u x))
+      (clear : (u : ℕ) → u ≢ t → MayBeside p r Current (hold u y) ⊎ IsVoid (rolling u) (hold u y)) (any : (u : ℕ) → MayBeside p r Next (hold u x))
       (granted_first : Granted p (own l) t r Current y (given r Current (hold t y) (hold t x))) (granted_second : Granted p (own l) t r Next x (given r Next (hold t x) free))
       (in_first : given r Current (hold t y) (hold t x) ≤ p.count) (in_second : given r Next (hold t x) free ≤ p.count) where
     one_paired : Paired p rolling one_lock one_hold
@@ -93,7 +93,7 @@ module _ (p : Protocol) (laws : IsLawful p) (rolling : ℕ → Bool) (l : Locks)
         (subst (λ (h : LockState). Paired p rolling (kept p one_lock t (request_at (Some x) (asked p r Next h free))) (with_hold one_hold t x (after p r Next h free))) still
         (move_at p laws rolling one_lock one_hold one_paired t live r Next x free start
         (subst (λ h. MayAsk p r Next h free) (sym still) may_second)
-        (λ u ne. inl (subst (λ h. MayBeside r Next h) (sym (with_other hold t y first u x (λ e. ne e.0))) (any u)))
+        (λ u ne. inl (subst (λ h. MayBeside p r Next h) (sym (with_other hold t y first u x (λ e. ne e.0))) (any u)))
         (subst (λ h. Granted p (own one_lock) t r Next x (given r Next h free)) (sym still) (granted_as p (own l) (own one_lock) t r Next x (given r Next (hold t x) free) same_x granted_second))
         (subst (λ o. o ≤ p.count) (sym (same_x t)) (range t x))
         (subst (λ h. given r Next h free ≤ p.count) (sym still) in_second)

@@ -29,7 +29,7 @@ change_cover false = DeletedGap
 abbrev pub Modes : Type 0
 Modes = ℕ → Name → ℕ
 
--- No other transaction's mode conflicts with what t asks for at the row and side; `on` is the mode of t on the next name.
+-- No other transaction's mode conflicts with what t requests at the row and side; `on` is the mode of t on the next name.
 abbrev pub Granted : Protocol → Modes → ℕ → Row → Side → Name → ℕ → Type 0
 Granted p own t row side name on = (u : ℕ) → u ≢ t → Conflicts p (own u name) (own t name) (p.ask row side on) → ⊥
 

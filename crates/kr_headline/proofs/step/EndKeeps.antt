@@ -1,4 +1,4 @@
--- A commit, an abort and a change taken back keep the invariant; at a commit the program has its answers on the committed map.
+-- A commit, an abort and a change undone keep the invariant; at a commit the program has its answers on the committed map.
 use Rattle.std.proofs.Common.{ℕ, ◌∷◌, Option, false, ◌≤◌, ◌≡◌, ◌≢◌, ◌⊎◌, inl, inr, ⊎_elim, refl, sym, ap, ◌∙◌, subst, true≢false}
 use Rattle.kr_model.specs.declared.Name.{Name}
 use Rattle.kr_model.specs.Protocol.{Protocol}
@@ -52,7 +52,7 @@ module _ (p : Protocol) (m : Map) (own : Modes) (part : Parts) (c : Map) (i : In
       (end_step p m i.is_map own part i.guarded t n hn own' range others (moved_touched p m own part w) undone)
       (end_owned n values) (undoable_end p m i.is_map own part i.guarded i.undoable t n hn own' others undone) (λ l. blank_replays n) tt (committed_undo m part c t i.committed)
 
--- The newest change of t is taken back: no point that another touched loses its name or its cover, and what t has left is covered by the level below.
+-- The newest change of t is undone: no point that another touched loses its name or its cover, and what t has left is covered by the level below.
 module _ (p : Protocol) (m : Map) (own : Modes) (part : Parts) (c : Map) (i : Invariant p m own part c) (t : ℕ) (x : ℕ × Option ℕ) (cs : Changes) (is : (part t).changes ≡ x ∷ cs) where
   pub back_keeps : Invariant p (restore m x.0 x.1) own (with_part part t (rolling_with (restore m x.0 x.1) cs)) c
   back_keeps =

@@ -1,4 +1,4 @@
--- What keeps a transaction able to take its changes back one at a time: the points that its changes keep others from, and the covers in each map that is then to come.
+-- What keeps a transaction able to undo its changes one at a time: the points that its changes keep others from, and the covers in each map that is then to come.
 use Rattle.std.proofs.Common.{ℕ, suc, [], ◌∷◌, Option, Some, None, ◌≡◌, ◌≢◌, ◌⊎◌, inl, inr, ⊎_elim, refl, sym, ap, ◌∙◌, arith, Bool, true, false, subst, true≢false}
 use Rattle.std.proofs.lemmas.Bool.{cases_lt, cases_eq, cases_Bool}
 use Rattle.kr_model.specs.declared.Name.{Name}
@@ -64,7 +64,7 @@ pub record Level (r : Protocol) (own : Name → ℕ) (m : Map) (l : Changes) (y 
   pub changed : has m y ≡ true → ChangedIn l y → Holds r (own (at m y))
   pub above : has m y ≡ true → (ChangedIn l y → ⊥) → Serves r DeletedGap (own (at m y))
 
--- The covers stand in the present map, and in each that the changes taken back would leave.
+-- The covers stand in the present map, and in each that the changes undone would leave.
 abbrev pub Stack : Protocol → (Name → ℕ) → Map → Changes → Type 0
 Stack r own m [] = Unit
 Stack r own m (c ∷ l) = ((y : ℕ) → Guard m (c ∷ l) y → Level r own m (c ∷ l) y) × Stack r own (restore m c.0 c.1) l

@@ -36,7 +36,7 @@ pub record Invariant (p : Protocol) (m : Map) (own : Modes) (part : Parts) (c : 
   -- the locks guard what was touched and moved, and each transaction alone owns what it changed
   pub guarded : Guarded p m own part
   pub owned : Owned p m own part
-  -- each transaction can take its changes back one at a time
+  -- each transaction can undo its changes one at a time
   pub undoable : Undoable p m own part
   -- each program replays, but for those that roll back, and each scan has read what lies in its range so far
   pub replay : (t : ℕ) → (part t).rolling ≡ false → Replays m (part t)
@@ -132,7 +132,7 @@ committed_change m part c t q k b hm now fresh old =
           ∙ sym (restore_apart m k b y ne);
     }
 
--- The changes of t are taken back.
+-- The changes of t are undone.
 pub committed_undo : (m : Map) (part : Parts) (c : Map) (t : ℕ) → Committed m c part → Committed (restore_all m (part t).changes) c (with_part part t blank)
 committed_undo m part c t old =
     let cs = (part t).changes in
@@ -146,7 +146,7 @@ committed_undo m part c t old =
           (changed_or_not cs y);
     }
 
--- The newest change of t is taken back.
+-- The newest change of t is undone.
 pub committed_back : (m : Map) (part : Parts) (c : Map) (t : ℕ) (x : ℕ × Option ℕ) (cs : Changes) → (part t).changes ≡ x ∷ cs
     → Committed m c part → Committed (restore m x.0 x.1) c (with_part part t (rolling_with (restore m x.0 x.1) cs))
 committed_back m part c t x cs is old =

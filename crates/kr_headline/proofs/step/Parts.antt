@@ -68,7 +68,7 @@ abbrev pub Scanned : Option Progress → ℕ → Type 0
 Scanned None k = ⊥
 Scanned (Some s) k = (s.low ≤ k) × (k ≤ s.last)
 
--- Changed by the transaction, and not taken back.
+-- Changed by the transaction, and not undone.
 abbrev pub Changed : Part → ℕ → Type 0
 Changed q k = ChangedIn q.changes k
 
@@ -91,7 +91,7 @@ changed_touched q k h = inr (inr h)
 pub blank_untouched : (k : ℕ) → Touched blank k → ⊥
 blank_untouched k h = ⊎_elim (λ a. a) (λ b. ⊎_elim (λ c. c) (λ d. d) b) h
 
--- One change taken back --
+-- One change undone --
 
 -- The part of a transaction that rolls back and has these changes left in the map m.
 abbrev pub rolling_with : Map → Changes → Part

@@ -203,7 +203,7 @@ module _ (p : Protocol) (m : Map) (hm : IsMap m) (own : Modes) (part : Parts) (g
         (λ e. update_outside u k up granted there ne (subst (λ z. Touched (part u) z) (alone_there m k c there (subst (λ z. Reach m z c) e back)) (held u c b)))
         (touched y touch))
 
-  -- A fetch or a scan: new points, under the name that was asked for.
+  -- A fetch or a scan: new points, under the name that was requested.
   pub read_step : (own' : Modes) (q : Part) → Taken p own own' t → ((u k : ℕ) → Moved (part u) k → Touched (part u) k) → (New : ℕ → Type 0)
       → ((k : ℕ) → Touched q k → (Touched (part t) k) ⊎ New k)
       → ((k : ℕ) → Moved q k → Moved (part t) k)

@@ -1,4 +1,4 @@
--- Each transaction can take its changes back one at a time: what a step has to show to keep that, and how each kind of step does.
+-- Each transaction can undo its changes one at a time: what a step has to show to keep that, and how each kind of step does.
 use Rattle.std.proofs.Common.{ℕ, suc, ◌∷◌, Option, Some, None, ◌≡◌, ◌≢◌, ◌⊎◌, inl, inr, ⊎_elim, refl, sym, ap, ◌∙◌, true, false, subst}
 use Rattle.kr_model.specs.declared.Name.{Name}
 use Rattle.kr_model.specs.declared.Name.TheVariants.{Key}
@@ -21,7 +21,7 @@ use Rattle.kr_headline.proofs.step.Guarded.{Taken, Guarded}
 use Rattle.kr_headline.proofs.step.Guards.{Guard, Stack, guard_frame, stack_frame, stack_keeps, stack_top, stack_insert, stack_delete, stack_update}
 use Rattle.kr_headline.proofs.step.Steps.{alone_there, insert_not_moved, delete_not_moved, delete_none_above}
 
--- What lets changes be taken back one at a time.
+-- What lets changes be undone one at a time.
 pub record Undoable (p : Protocol) (m : Map) (own : Modes) (part : Parts) : Type 0 where
   -- in the present map, and in each that taking changes back leaves, what the changes left guard is covered
   pub levels : (t : ℕ) → Stack p (own t) m (part t).changes
@@ -162,7 +162,7 @@ module _ (p : Protocol) (m : Map) (hm : IsMap m) (own : Modes) (part : Parts) (g
       (λ u y ne h. ⊎_elim (λ same. same) (λ moved. absurd (d.outside u t y (λ e. ne (sym e)) moved h)) (undone y))
       tt (λ u y ne moved h. moved) (λ u y ne moved h. h)
 
-  -- The newest change is taken back: the level below is what has to hold.
+  -- The newest change is undone: the level below is what has to hold.
   pub undoable_back : (c : ℕ × Option ℕ) (cs : Changes) → (part t).changes ≡ c ∷ cs → (part t).moved ≡ moved_by m (part t).changes
       → Undoable p (restore m c.0 c.1) own (with_part part t (rolling_with (restore m c.0 c.1) cs))
   undoable_back c cs is counted =
