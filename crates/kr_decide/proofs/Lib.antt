@@ -3,4 +3,5 @@ pub mod Growing
 pub mod Following
 pub mod Complete
 pub mod Openings
+pub mod Covered
 pub mod Surveyed

@@ -2,22 +2,26 @@
 use Rattle.std.proofs.Common.{ℕ, Bool, true, false, ◌≡◌, ◌<◌, ◌+◌, ◌∙◌, ◌↔◌, IsTrue, List, [], ◌∷◌, ◌++◌, length, get_or, ap, refl, sym, subst, inl, inr, arith, ◌⊎◌}
 use Rattle.std.proofs.Math.ListN.{get_or-append}
 use Rattle.std.proofs.Math.Seq.{get_or-append_seam}
+use Rattle.kr_model.specs.declared.Cover.{Cover}
+use Rattle.kr_model.specs.declared.LockState.{LockState}
 use Rattle.kr_model.specs.Protocol.{Protocol}
 use Rattle.kr_decide.specs.declared.pair.Pair.{Pair}
 use Rattle.kr_decide.specs.declared.opening.Opening.{Opening}
+use Rattle.kr_decide.specs.Protects.{protects, only}
 use Rattle.kr_decide.specs.Pairs.{pair_at, AreDerived}
-use Rattle.kr_decide.specs.Opens.{OpensAt, IsOpening, IsOpenedAt, NoneOpens}
+use Rattle.kr_decide.specs.Opens.{OpensAt, OpensFor, IsOpening, IsOpenedAt, NoneOpens}
 use Rattle.kr_decide.proofs.Complete.{above_alone}
 
-pub opens_at : (p : Protocol) (pairs : List Pair) (x : Pair) (o : Opening) → AreDerived p pairs → IsOpening p pairs x.own x.other o → OpensAt p x.own x.other
-opens_at p pairs x o derived i = record { row = o.row; side = o.side; next = o.above.state; alone = above_alone p pairs o.above derived i.above; lets_in = i.lets_in }
+opens_at : (p : Protocol) (pairs : List Pair) (x y : LockState) (o : Opening) → AreDerived p pairs → IsOpening p pairs x y o → OpensAt p x y
+opens_at p pairs x y o derived i = record { row = o.row; side = o.side; next = o.above.state; alone = above_alone p pairs o.above derived i.above; lets_in = i.lets_in }
 
-pub opens_some : (p : Protocol) (pairs : List Pair) (at : ℕ) (x : Pair) (o : Opening) → AreDerived p pairs → pair_at pairs at ≡ x → IsOpening p pairs x.own x.other o
-    → IsTrue true ↔ OpensAt p (pair_at pairs at).own (pair_at pairs at).other
-opens_some p pairs at x o derived is i = ((λ _. subst (λ (z : Pair). OpensAt p z.own z.other) (sym is) (opens_at p pairs x o derived i)), (λ _. refl))
+pub opens_some : (p : Protocol) (c : Cover) (pairs : List Pair) (at : ℕ) (x : Pair) (o : Opening) → AreDerived p pairs → pair_at pairs at ≡ x → protects x.other c ≡ true → IsOpening p pairs x.own (only c x.other) o
+    → IsTrue true ↔ OpensFor p c (pair_at pairs at).own (pair_at pairs at).other
+opens_some p c pairs at x o derived is protected i =
+    ((λ _. subst (λ (z : Pair). OpensFor p c z.own z.other) (sym is) (record { protects = protected; opens = opens_at p pairs x.own (only c x.other) o derived i })), (λ _. refl))
 
-pub opens_none : (p : Protocol) (pairs : List Pair) (at : ℕ) (x : Pair) → pair_at pairs at ≡ x → (OpensAt p x.own x.other → ⊥) → IsTrue false ↔ OpensAt p (pair_at pairs at).own (pair_at pairs at).other
-opens_none p pairs at x is none = ((λ t. cc), (λ o. absurd (none (subst (λ (z : Pair). OpensAt p z.own z.other) is o))))
+pub opens_none : (p : Protocol) (c : Cover) (pairs : List Pair) (at : ℕ) (x : Pair) → pair_at pairs at ≡ x → (OpensFor p c x.own x.other → ⊥) → IsTrue false ↔ OpensFor p c (pair_at pairs at).own (pair_at pairs at).other
+opens_none p c pairs at x is none = ((λ t. cc), (λ o. absurd (none (subst (λ (z : Pair). OpensFor p c z.own z.other) is o))))
 
 -- A fact of each place of a list of tests stays one with one more.
 pub one_more_test : (P : ℕ → Bool → Type 0) (bs : List Bool) (b : Bool) (n : ℕ) → length bs ≡ n → ((k : ℕ) → k < n → P k (get_or bs k false)) → P n b → (k : ℕ) → k < n + 1 → P k (get_or (bs ++ b ∷ []) k false)

@@ -13,14 +13,15 @@ use Rattle.kr_decide.specs.declared.finding.Found.{Found}
 use Rattle.kr_decide.specs.Protects.{protects}
 use Rattle.kr_decide.specs.Pairs.{no_pair, pair_at, IsWay, AreDerived, LetsIn}
 use Rattle.kr_decide.specs.Findings.{IsAbove, IsGoing}
-use Rattle.kr_decide.specs.Opens.{IsHeldBy, OpensAt, AreOpenings, IsHoledIn, AreHeld, AreHoled, IsOpenedAt, NoneOpens}
-use Rattle.kr_decide.specs.Survey.{IsHeld, HasHole, IsHole, of_cover, IsSurvey}
+use Rattle.kr_decide.specs.Opens.{IsHeldBy, OpensAt, OpensFor, AreOpenings, IsHoledIn, AreHeld, AreHoled, IsOpenedAt, NoneOpens}
+use Rattle.kr_decide.specs.Survey.{IsHeld, HasHole, AreHoles, IsHole, of_cover, IsSurvey}
 use Rattle.kr_decide.specs.declared.survey.ByCover.{ByCover}
 use Rattle.std.specs.Option.{is_some, IfSome, IfNone}
 use Rattle.std.proofs.lemmas.Bool.{cases_lt}
 use Rattle.std.proofs.Math.ListN.{get_or-eq_default}
 use Rattle.kr_decide.proofs.Growing.{way_kept}
 use Rattle.kr_decide.proofs.Following.{pair_read}
+use Rattle.kr_decide.proofs.Covered.{kept_out_for}
 use Rattle.kr_decide.proofs.Complete.{beside_at, above_alone, listed}
 
 -- The first pairs of a list come about as in the whole.
@@ -95,14 +96,16 @@ module _ (p : Protocol) (f : Found) (going : IsGoing p f (length f.pairs.items))
           let l = listed p f going h.own h.other h.beside in
           (l.place, pair_at f.pairs.items l.place, l.within, get_or_default f.pairs.items l.place (pair_at f.pairs.items l.place) no_pair l.within, (subst (λ (y : LockState). y.mode ≡ m) (sym l.other) h.held, subst (λ (y : LockState). protects y c ≡ true) (sym l.other) h.protects))
 
-  -- Where a pair that was found opens is where schedules lead to a hole.
-  pub holed_both : (opens : List Bool) → AreOpenings p f.pairs.items opens → (c : Cover) (m : ℕ) (b : Bool) → (b ≡ true ↔ IsHoledIn f.pairs.items opens c m) → b ≡ true ↔ HasHole p c m
-  holed_both opens each c m b told = ((λ t. there (told.0 t)), (λ h. told.1 (back h)))
+  -- Where a pair that was found opens for a cover is where schedules lead to a hole.
+  pub holed_both : (opens : List Bool) (c : Cover) → AreOpenings p c f.pairs.items opens → (m : ℕ) (b : Bool) → (b ≡ true ↔ IsHoledIn f.pairs.items opens c m) → b ≡ true ↔ HasHole p c m
+  holed_both opens c each m b told = ((λ t. there (told.0 t)), (λ h. told.1 (back h)))
     where
       there : IsHoledIn f.pairs.items opens c m → HasHole p c m
       there i =
           let e = each.each i.place i.within in
-          let o = e.0 i.open_there in
+          let for_cover = e.0 i.open_there in
+          let o = for_cover.opens in
+          let l = o.lets_in in
           record {
             row = o.row;
             side = o.side;
@@ -111,7 +114,21 @@ module _ (p : Protocol) (f : Found) (going : IsGoing p f (length f.pairs.items))
             next = o.next;
             held = i.held.0;
             protects = i.held.1;
-            reached = record { beside = beside_at p f.pairs.items i.place derived i.within; alone = o.alone; lets_in = o.lets_in };
+            kept_out = l.kept_out;
+            reached = record {
+              beside = beside_at p f.pairs.items i.place derived i.within;
+              alone = o.alone;
+              lets_in = record { asks = l.asks; kept_out = kept_out_for c (pair_at f.pairs.items i.place).other o.row o.side i.held.1 l.kept_out; granted = l.granted };
+            };
+          }
+
+      opens_for : (h : HasHole p c m) → OpensFor p c h.own h.other
+      opens_for h =
+          let r = h.reached in
+          let l = r.lets_in in
+          record {
+            protects = h.protects;
+            opens = record { row = h.row; side = h.side; next = h.next; alone = r.alone; lets_in = record { asks = l.asks; kept_out = h.kept_out; granted = l.granted } };
           }
 
       back : HasHole p c m → IsHoledIn f.pairs.items opens c m
@@ -122,9 +139,12 @@ module _ (p : Protocol) (f : Found) (going : IsGoing p f (length f.pairs.items))
           record {
             place = l.place;
             within = l.within;
-            open_there = e.1 (subst (λ (x : LockState). OpensAt p x (pair_at f.pairs.items l.place).other) (sym l.own) (subst (λ (y : LockState). OpensAt p h.own y) (sym l.other) (record { row = h.row; side = h.side; next = h.next; alone = r.alone; lets_in = r.lets_in })));
+            open_there = e.1 (subst (λ (x : LockState). OpensFor p c x (pair_at f.pairs.items l.place).other) (sym l.own) (subst (λ (y : LockState). OpensFor p c h.own y) (sym l.other) (opens_for h)));
             held = (subst (λ (y : LockState). y.mode ≡ m) (sym l.other) h.held, subst (λ (y : LockState). protects y c ≡ true) (sym l.other) h.protects);
           }
+
+  pub holes_of : (opens : List Bool) (c : Cover) (n : ℕ) (list : List Bool) → AreOpenings p c f.pairs.items opens → AreHoled f.pairs.items opens c n list → AreHoles p c n list
+  holes_of opens c n list openings row = record { size = row.size; each = λ m h. holed_both opens c openings m (get_or list m false) (row.each m h) }
 
   -- Where none opens, the protocol is safe.
   pub safe_of_none : NoneOpens p f.pairs.items (length f.pairs.items) → IsSafe p
@@ -157,14 +177,14 @@ module _ (p : Protocol) (f : Found) (going : IsGoing p f (length f.pairs.items))
       split (inl h) = held_both c m (get_or list m false) (row.each m h)
       split (inr h) = ((λ t. absurd (let e = past_end list m row.size h in cc)), (λ held. absurd (none_past c m h held)))
 
-  pub each_holed : (opens : List Bool) → AreOpenings p f.pairs.items opens → (c : Cover) (list : List Bool) → AreHoled f.pairs.items opens c (p.count + 1) list → (m : ℕ) → get_or list m false ≡ true ↔ HasHole p c m
-  each_holed opens openings c list row m = split (cases_lt m (p.count + 1))
+  pub each_holed : (c : Cover) (list : List Bool) → AreHoles p c (p.count + 1) list → (m : ℕ) → get_or list m false ≡ true ↔ HasHole p c m
+  each_holed c list row m = split (cases_lt m (p.count + 1))
     where
       is_held : HasHole p c m → IsHeld p c m
       is_held h = let r = h.reached in record { own = h.own; other = h.other; beside = r.beside; held = h.held; protects = h.protects }
 
       split : (m < p.count + 1) ⊎ (p.count + 1 ≤ m) → get_or list m false ≡ true ↔ HasHole p c m
-      split (inl h) = holed_both opens openings c m (get_or list m false) (row.each m h)
+      split (inl h) = row.each m h
       split (inr h) = ((λ t. absurd (let e = past_end list m row.size h in cc)), (λ hole. absurd (none_past c m h (is_held hole))))
 
 -- A hole shows that the protocol isn't safe.
@@ -177,12 +197,12 @@ hole_unsafe p h i safe =
     cc
 
 -- The survey is right: what is told of the pairs that were found, and the first hole among them.
-pub survey_right : (p : Protocol) (f : Found) (opens : List Bool) (held holed : ByCover) (hole : Option Hole) → IsGoing p f (length f.pairs.items) → AreOpenings p f.pairs.items opens
-    → ((c : Cover) → AreHeld f.pairs.items c (p.count + 1) (of_cover held c)) → ((c : Cover) → AreHoled f.pairs.items opens c (p.count + 1) (of_cover holed c))
+pub survey_right : (p : Protocol) (f : Found) (held holed : ByCover) (hole : Option Hole) → IsGoing p f (length f.pairs.items)
+    → ((c : Cover) → AreHeld f.pairs.items c (p.count + 1) (of_cover held c)) → ((c : Cover) → AreHoles p c (p.count + 1) (of_cover holed c))
     → IfSome hole (IsHole p) → IfNone hole (NoneOpens p f.pairs.items (length f.pairs.items)) → IsSurvey p (record { held = held; holed = holed; hole = hole })
-survey_right p f opens held holed hole going openings are_held are_holed some none = record {
+survey_right p f held holed hole going are_held are_holed some none = record {
   held = λ c m. each_held p f going c (of_cover held c) (are_held c) m;
-  holes = λ c m. each_holed p f going opens openings c (of_cover holed c) (are_holed c) m;
+  holes = λ c m. each_holed p f going c (of_cover holed c) (are_holed c) m;
   safe = by_hole hole some none;
   hole = some;
 }

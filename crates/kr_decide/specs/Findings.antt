@@ -60,7 +60,7 @@ pub record IsSpot (pairs : List Pair) (s : Spot) : Type 0 where
 
 -- What one who has x on a name, and n on the next one, comes to beside y by a request that isn't blocked is in the list.
 abbrev pub MovesTo : Protocol → List Pair → LockState → LockState → LockState → Row → Side → Type 0
-MovesTo p pairs x y n r s = MayAsk p r s x n → MayBeside r s y → is_blocked p r s x n y ≡ false → Has pairs (after p r s x n) y
+MovesTo p pairs x y n r s = MayAsk p r s x n → MayBeside p r s y → is_blocked p r s x n y ≡ false → Has pairs (after p r s x n) y
 
 -- Whether what is requested goes by what the transaction has on the next name.
 abbrev pub goes_by_next : Row → Side → Bool

@@ -12,7 +12,7 @@ use Rattle.kr_model.specs.Safe.{free, Beside}
 use Rattle.kr_decide.specs.declared.pair.Pair.{Pair}
 use Rattle.kr_decide.specs.declared.finding.Above.{Above}
 use Rattle.kr_decide.specs.declared.opening.Opening.{Opening}
-use Rattle.kr_decide.specs.Protects.{protects}
+use Rattle.kr_decide.specs.Protects.{protects, only}
 use Rattle.kr_decide.specs.Pairs.{pair_at, LetsIn}
 use Rattle.kr_decide.specs.Findings.{IsAbove, above_at, goes_by_next}
 
@@ -36,15 +36,20 @@ pub record OpensAt (p : Protocol) (x y : LockState) : Type 0 where
   pub alone : Beside p next free
   pub lets_in : LetsIn p row side x y next
 
+-- y has the cover to protect, and whoever has x may come to be granted there what y has to keep out for its sake.
+pub record OpensFor (p : Protocol) (c : Cover) (x y : LockState) : Type 0 where
+  pub protects : protects y c ≡ true
+  pub opens : OpensAt p x (only c y)
+
 -- The opening lets in what y has to keep out, and what is above is in the list.
 pub record IsOpening (p : Protocol) (pairs : List Pair) (x y : LockState) (o : Opening) : Type 0 where
   pub lets_in : LetsIn p o.row o.side x y o.above.state
   pub above : IsAbove pairs o.above
 
--- Of each pair, the list says whether it opens.
-pub record AreOpenings (p : Protocol) (pairs : List Pair) (opens : List Bool) : Type 0 where
+-- Of each pair, the list says whether it opens for the cover.
+pub record AreOpenings (p : Protocol) (c : Cover) (pairs : List Pair) (opens : List Bool) : Type 0 where
   pub size : length opens ≡ length pairs
-  pub each : (k : ℕ) → k < length pairs → IsTrue (slice_index_or opens k false) ↔ OpensAt p (pair_at pairs k).own (pair_at pairs k).other
+  pub each : (k : ℕ) → k < length pairs → IsTrue (slice_index_or opens k false) ↔ OpensFor p c (pair_at pairs k).own (pair_at pairs k).other
 
 -- Some pair of the first n opens, of which the second holds the mode and has the cover to protect.
 pub record IsHoledBelow (pairs : List Pair) (opens : List Bool) (c : Cover) (m n : ℕ) : Type 0 where

@@ -21,7 +21,7 @@ pair_at pairs k = slice_index_or pairs k no_pair
 pub record IsMoved (p : Protocol) (from next : Pair) (r : Row) (s : Side) (x y : LockState) : Type 0 where
   pub alone : next.other ≡ free
   pub asks : MayAsk p r s from.own next.own
-  pub beside : MayBeside r s from.other
+  pub beside : MayBeside p r s from.other
   pub granted : is_blocked p r s from.own next.own from.other ≡ false
   pub own : x ≡ after p r s from.own next.own
   pub other : y ≡ from.other

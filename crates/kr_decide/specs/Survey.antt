@@ -1,5 +1,5 @@
 -- Which modes can be held with what to protect, where a lock lets in what it has to keep out, and what a survey and a decision say of it.
-use Rattle.std.specs.Prelude.{◌≡◌, ℕ, ◌<◌, ◌↔◌, Bool, true, false, not, List, length, slice_index_or, IfSome}
+use Rattle.std.specs.Prelude.{◌≡◌, ℕ, ◌<◌, ◌↔◌, Bool, true, false, IsTrue, not, List, length, slice_index_or, IfSome}
 use Rattle.std.specs.Option.{is_some}
 use Rattle.kr_model.specs.declared.Row.{Row}
 use Rattle.kr_model.specs.declared.Side.{Side}
@@ -15,7 +15,7 @@ use Rattle.kr_decide.specs.declared.decision.Decision.{Decision}
 use Rattle.kr_decide.specs.declared.decision.Decision.TheVariants as decision
 use Rattle.kr_decide.specs.declared.safe.Cause.{Cause}
 use Rattle.kr_decide.specs.declared.safe.Cause.TheVariants as cause
-use Rattle.kr_decide.specs.Protects.{protects}
+use Rattle.kr_decide.specs.Protects.{protects, keeps_out_for}
 use Rattle.kr_decide.specs.Pairs.{pair_at, AreDerived, LetsIn, IsReachedHole}
 
 -- Some transaction can hold this mode on a name, while its lock there has this cover to protect.
@@ -26,7 +26,7 @@ pub record IsHeld (p : Protocol) (c : Cover) (mode : ℕ) : Type 0 where
   pub held : other.mode ≡ mode
   pub protects : protects other c ≡ true
 
--- And another can be granted there what the lock has to keep out, for the sake of this cover or of another that it has to protect.
+-- And another can be granted there what the lock has to keep out for the sake of this cover.
 pub record HasHole (p : Protocol) (c : Cover) (mode : ℕ) : Type 0 where
   pub row : Row
   pub side : Side
@@ -35,7 +35,13 @@ pub record HasHole (p : Protocol) (c : Cover) (mode : ℕ) : Type 0 where
   pub next : LockState
   pub held : other.mode ≡ mode
   pub protects : protects other c ≡ true
+  pub kept_out : keeps_out_for c row side ≡ true
   pub reached : IsReachedHole p row side own other next
+
+-- Of each of the first n modes, from 0 for no lock, the list says whether it has such a hole.
+pub record AreHoles (p : Protocol) (c : Cover) (n : ℕ) (list : List Bool) : Type 0 where
+  pub size : length list ≡ n
+  pub each : (m : ℕ) → m < n → IsTrue (slice_index_or list m false) ↔ HasHole p c m
 
 -- The hole is one: its pairs come about one after another, the two lock states are among them, what the requester has on the next name is so too, and the lock lets the request in.
 pub record IsHole (p : Protocol) (h : Hole) : Type 0 where

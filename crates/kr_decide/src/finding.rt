@@ -111,7 +111,7 @@ impl Found {
         ensures moves { OnOk result (MovesTo (P.table protocol.now) self.new.pairs.items spot.pair.own spot.pair.other spot.above.state row side) }
     {
         let (own, other, next) = (spot.pair.own, spot.pair.other, spot.above.state);
-        if !may_ask(protocol, row, side, own, next) || !may_beside(row, side, other) {
+        if !may_ask(protocol, row, side, own, next) || !may_beside(protocol, row, side, other) {
             return Ok(());
         }
         if is_blocked(protocol, row, side, own, next, other) {

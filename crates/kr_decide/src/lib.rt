@@ -3,6 +3,7 @@
 //! commit order.
 #![tactic(auto)]
 
+mod absent;
 mod decision;
 mod finding;
 mod moves;

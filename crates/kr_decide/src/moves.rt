@@ -1,9 +1,10 @@
 //! What a transaction may come to request on a name, what blocks it, and what it has afterwards.
-ghost use Rattle.std.specs.Prelude.{◌≡◌, ◌≤◌, ◌↔◌, IsTrue};
-ghost use Rattle.kr_model.specs.Covers.{mode_after};
+ghost use Rattle.std.specs.Prelude.{◌≡◌, ◌≤◌, ◌↔◌, false, IsTrue};
+ghost use Rattle.kr_model.specs.Covers.{mode_after, conflicts_with};
 ghost use Rattle.kr_model.specs.Safe as safe;
-ghost use Rattle.kr_model.specs.Safe.{MayAsk, MayBeside, IsIdle};
+ghost use Rattle.kr_model.specs.Safe.{MayAsk, MayInsert, MayBeside, IsIdle, MayBeOnAbsent};
 
+use crate::absent::may_be_on_absent;
 use kr_model::{GapUse, KeyUse, LockState, Mode, Row, Side, Span};
 use kr_protocol::Protocol;
 
@@ -28,6 +29,27 @@ fn given(row: Row, side: Side, own: LockState, next: LockState) -> Mode
     }
 }
 
+/// Whether a lock of the mode `held` conflicts with the request of another transaction that has the mode `own` on the name. The
+/// request goes by the mode `given`.
+pub(crate) fn conflicts<P: Protocol>(
+    protocol: &P,
+    row: Row,
+    side: Side,
+    given: Mode,
+    own: Mode,
+    held: Mode,
+) -> bool
+    requires given { given ≤ (P.table protocol.now).count }
+    requires own { own ≤ (P.table protocol.now).count }
+    requires held { held ≤ (P.table protocol.now).count }
+    ensures { result ≡ conflicts_with (P.table protocol.now) held own ((P.table protocol.now).ask row side given) }
+{
+    match protocol.ask(row, side, given) {
+        Some((mode, _)) => !protocol.ok(protocol.convert(own, mode), held),
+        None => false,
+    }
+}
+
 /// Whether another's lock blocks the request of a transaction that has `own` on the name and `next` on the next one.
 pub(crate) fn is_blocked<P: Protocol>(
     protocol: &P,
@@ -42,10 +64,14 @@ pub(crate) fn is_blocked<P: Protocol>(
     requires other { other.mode ≤ (P.table protocol.now).count }
     ensures { result ≡ safe.is_blocked (P.table protocol.now) row side own next other }
 {
-    match protocol.ask(row, side, given(row, side, own, next)) {
-        Some((mode, _)) => !protocol.ok(protocol.convert(own.mode, mode), other.mode),
-        None => false,
-    }
+    conflicts(
+        protocol,
+        row,
+        side,
+        given(row, side, own, next),
+        own.mode,
+        other.mode,
+    )
 }
 
 /// The lock state after a request is granted.
@@ -143,6 +169,22 @@ fn is_idle(state: LockState) -> bool
     state.key == KeyUse::Free && state.gap == GapUse::Free
 }
 
+/// Whether a transaction may have this lock state on an absent key that it hasn't deleted: it has nothing to protect there.
+fn is_on_absent<P: Protocol>(protocol: &P, state: LockState) -> bool
+    requires { state.mode ≤ (P.table protocol.now).count }
+    ensures { IsTrue result ↔ (state.deleted ≡ false) × IsIdle state × MayBeOnAbsent (P.table protocol.now) state.mode }
+{
+    !state.deleted && is_idle(state) && may_be_on_absent(protocol, state.mode)
+}
+
+/// Whether a transaction that has `own` on a name, and `next` on the next one, may insert the key.
+fn may_insert<P: Protocol>(protocol: &P, own: LockState, next: LockState) -> bool
+    requires { own.mode ≤ (P.table protocol.now).count }
+    ensures { IsTrue result ↔ MayInsert (P.table protocol.now) own next }
+{
+    is_on_absent(protocol, own) || own.deleted && next.gap == GapUse::Deleted
+}
+
 /// Whether a transaction that has `own` on a name, and `next` on the next one, may come to request a lock there at this row and
 /// side.
 pub(crate) fn may_ask<P: Protocol>(
@@ -152,6 +194,7 @@ pub(crate) fn may_ask<P: Protocol>(
     own: LockState,
     next: LockState,
 ) -> bool
+    requires { own.mode ≤ (P.table protocol.now).count }
     ensures { IsTrue result ↔ MayAsk (P.table protocol.now) row side own next }
 {
     match (row, side) {
@@ -159,10 +202,7 @@ pub(crate) fn may_ask<P: Protocol>(
         (Row::FetchMiss, Side::Next) => !own.deleted,
         (Row::ScanKey, Side::Current) => !own.deleted,
         (Row::ScanStop, Side::Next) => !own.deleted,
-        (Row::Insert, Side::Current) => {
-            !next.deleted
-                && (!own.deleted && is_idle(own) || own.deleted && next.gap == GapUse::Deleted)
-        }
+        (Row::Insert, Side::Current) => !next.deleted && may_insert(protocol, own, next),
         (Row::Insert, Side::Next) => !own.deleted,
         (Row::Delete, Side::Current) => !own.deleted && !next.deleted,
         (Row::Delete, Side::Next) => !own.deleted,
@@ -172,11 +212,12 @@ pub(crate) fn may_ask<P: Protocol>(
 }
 
 /// Whether it may beside another's lock state on the name.
-pub(crate) fn may_beside(row: Row, side: Side, other: LockState) -> bool
-    ensures { IsTrue result ↔ MayBeside row side other }
+pub(crate) fn may_beside<P: Protocol>(protocol: &P, row: Row, side: Side, other: LockState) -> bool
+    requires { other.mode ≤ (P.table protocol.now).count }
+    ensures { IsTrue result ↔ MayBeside (P.table protocol.now) row side other }
 {
     match (row, side) {
-        (Row::Insert, Side::Current) => !other.deleted && is_idle(other),
+        (Row::Insert, Side::Current) => is_on_absent(protocol, other),
         _ => true,
     }
 }

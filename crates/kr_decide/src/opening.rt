@@ -3,10 +3,10 @@ ghost use Rattle.std.specs.Prelude.{◌≡◌, ◌<◌, ◌≤◌, ◌↔◌, Is
 ghost use Rattle.kr_model.specs.declared.Row.TheVariants as row;
 ghost use Rattle.kr_model.specs.declared.Side.TheVariants as side;
 ghost use Rattle.kr_model.specs.Safe.{free};
-ghost use Rattle.kr_decide.specs.Protects.{of_key, of_gap, protects};
+ghost use Rattle.kr_decide.specs.Protects.{of_key, of_gap, key_of, gap_of, only, protects};
 ghost use Rattle.kr_decide.specs.Pairs.{pair_at, LetsIn};
 ghost use Rattle.kr_decide.specs.Findings.{IsFound, IsGoing, IsFirst, IsAbove, AreNexts};
-ghost use Rattle.kr_decide.specs.Opens.{LetsNoneIn, LetsNoDeleteIn, OpensAt, IsOpening, AreOpenings, IsOpenedAt, NoneOpens};
+ghost use Rattle.kr_decide.specs.Opens.{LetsNoneIn, LetsNoDeleteIn, OpensAt, OpensFor, IsOpening, AreOpenings, IsOpenedAt, NoneOpens};
 
 use crate::finding::{Above, Found, NOTHING_ABOVE};
 use crate::moves::{FREE, is_blocked, keeps_out, may_ask};
@@ -51,6 +51,41 @@ pub(crate) fn protects(state: LockState, cover: Cover) -> bool
     ensures { result ≡ protects state cover }
 {
     of_key(state.key, cover) || of_gap(state.gap, cover)
+}
+
+/// What was done with a key that has this cover, and free for a cover of a gap.
+fn key_of(cover: Cover) -> KeyUse
+    ensures { result ≡ key_of cover }
+{
+    match cover {
+        Cover::ReadKey => KeyUse::Read,
+        Cover::UpdatedKey => KeyUse::Updated,
+        Cover::InsertedKey => KeyUse::Inserted,
+        _ => KeyUse::Free,
+    }
+}
+
+/// What was done in a gap that has it, and free for a cover of a key.
+fn gap_of(cover: Cover) -> GapUse
+    ensures { result ≡ gap_of cover }
+{
+    match cover {
+        Cover::ReadGap => GapUse::Read,
+        Cover::DeletedGap => GapUse::Deleted,
+        _ => GapUse::Free,
+    }
+}
+
+/// A lock state with this cover alone to protect.
+fn only(cover: Cover, state: LockState) -> LockState
+    ensures { result ≡ only cover state }
+{
+    LockState {
+        mode: state.mode,
+        key: key_of(cover),
+        gap: gap_of(cover),
+        deleted: state.deleted,
+    }
 }
 
 /// Whether a lock lets in a request that it has to keep out.
@@ -193,31 +228,36 @@ impl Found {
         }
     }
 
-    /// Whether the second of the pair at a place lets in what it has to keep out.
-    fn opens<P: Protocol>(&self, protocol: &P, at: usize) -> bool
+    /// Whether the second of the pair at a place has a cover to protect, and lets in what it has to keep out for its sake.
+    fn opens<P: Protocol>(&self, protocol: &P, at: usize, cover: Cover) -> bool
         requires going { IsGoing (P.table protocol.now) self.now (length self.now.pairs.items) }
         requires at { at < length self.now.pairs.items }
-        ensures { IsTrue result ↔ OpensAt (P.table protocol.now) (pair_at self.now.pairs.items at).own (pair_at self.now.pairs.items at).other }
+        ensures { IsTrue result ↔ OpensFor (P.table protocol.now) cover (pair_at self.now.pairs.items at).own (pair_at self.now.pairs.items at).other }
     {
         let pair = self.pairs[at];
-        match self.opening(protocol, pair) {
+        if !protects(pair.other, cover) {
+            return false;
+        }
+        let (own, other, way) = (pair.own, only(cover, pair.other), pair.way);
+        match self.opening(protocol, Pair { own, other, way }) {
             Some(_) => true,
             None => false,
         }
     }
 
-    /// Of each pair, whether its second lets in what it has to keep out.
+    /// Of each pair, whether its second has a cover to protect, and lets in what it has to keep out for its sake.
     pub(crate) fn openings<P: Protocol>(
         &self,
         alloc: Global,
         protocol: &P,
+        cover: Cover,
     ) -> Result<Vec<bool>, Memory>
         requires { IsGoing (P.table protocol.now) self.now (length self.now.pairs.items) }
-        ensures { IfOk result (λ list. AreOpenings (P.table protocol.now) self.now.pairs.items list.items) }
+        ensures { IfOk result (λ list. AreOpenings (P.table protocol.now) cover self.now.pairs.items list.items) }
     {
         let mut list = Vec::with_capacity(alloc, self.pairs.len())?;
         for at in 0..self.pairs.len() {
-            list.push(self.opens(protocol, at))?;
+            list.push(self.opens(protocol, at, cover))?;
         }
         Ok(list)
     }

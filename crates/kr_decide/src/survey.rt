@@ -3,7 +3,7 @@ ghost use Rattle.std.specs.Prelude.{◌≡◌, ◌+◌, ◌≤◌, ◌↔◌, Is
 ghost use Rattle.std.specs.List.{Any};
 ghost use Rattle.kr_decide.specs.Findings.{IsFound, IsGoing};
 ghost use Rattle.kr_decide.specs.Opens.{IsHeldBy, IsHoledIn, AreHeld, AreHoled, IsOpenedAt, NoneOpens};
-ghost use Rattle.kr_decide.specs.Survey.{IsHole, IsSurvey, of_cover, told, is_held, has_hole, is_safe};
+ghost use Rattle.kr_decide.specs.Survey.{IsHole, IsSurvey, AreHoles, of_cover, told, is_held, has_hole, is_safe};
 
 use crate::finding::Found;
 use crate::opening::{Opening, protects};
@@ -67,10 +67,9 @@ impl Survey {
         ensures { IfOk result (IsSurvey (P.table protocol.now)) }
     {
         let found = Found::all(alloc, protocol)?;
-        let opens = found.openings(alloc, protocol)?;
         let count = protocol.count();
         let held = held(alloc, &found.pairs, count)?;
-        let holed = holed(alloc, &found.pairs, &opens, count)?;
+        let holed = holed(alloc, protocol, &found, count)?;
         let hole = first_hole(protocol, found);
         Ok(Survey { held, holed, hole })
     }
@@ -92,7 +91,7 @@ impl Survey {
         self.held.tells(cover, mode)
     }
 
-    /// Whether another transaction can be granted there what the lock has to keep out.
+    /// Whether another transaction can be granted there what the lock has to keep out for the sake of the cover.
     pub fn has_hole(&self, cover: Cover, mode: Mode) -> bool
         ensures { result ≡ has_hole self.now cover mode }
     {
@@ -146,8 +145,8 @@ fn held_of(alloc: Global, pairs: &[Pair], cover: Cover, count: Mode) -> Result<V
     Ok(list)
 }
 
-/// Of each mode up to `count`, whether it then lets in what it has to keep out.
-fn holed_of(
+/// Of each mode up to `count`, whether the second of some pair that opens holds it, and has the cover to protect.
+fn holed_in(
     alloc: Global,
     pairs: &[Pair],
     opens: &[bool],
@@ -165,6 +164,23 @@ fn holed_of(
     Ok(list)
 }
 
+/// Of each mode up to `count`, whether its lock lets in what it has to keep out for the sake of a cover.
+fn holed_of<P: Protocol>(
+    alloc: Global,
+    protocol: &P,
+    found: &Found,
+    cover: Cover,
+    count: Mode,
+) -> Result<Vec<bool>, Memory>
+    requires count { count ≤ 15 }
+    requires going { IsGoing (P.table protocol.now) found.now (length found.now.pairs.items) }
+    ensures { IfOk result (λ list. AreHoles (P.table protocol.now) cover (count + 1) list.items) }
+{
+    let opens = found.openings(alloc, protocol, cover)?;
+    let list = holed_in(alloc, &found.pairs, &opens, cover, count)?;
+    Ok(list)
+}
+
 /// Of each cover and mode, whether it can be held.
 fn held(alloc: Global, pairs: &[Pair], count: Mode) -> Result<ByCover, Memory>
     requires { count ≤ 15 }
@@ -179,18 +195,23 @@ fn held(alloc: Global, pairs: &[Pair], count: Mode) -> Result<ByCover, Memory>
     })
 }
 
-/// Of each cover and mode, whether it lets in what it has to keep out.
-fn holed(alloc: Global, pairs: &[Pair], opens: &[bool], count: Mode) -> Result<ByCover, Memory>
+/// Of each cover and mode, whether it lets in what it has to keep out for the sake of the cover.
+fn holed<P: Protocol>(
+    alloc: Global,
+    protocol: &P,
+    found: &Found,
+    count: Mode,
+) -> Result<ByCover, Memory>
     requires count { count ≤ 15 }
-    requires opens { length opens.now ≡ length pairs.now }
-    ensures { IfOk result (λ t. (c : Cover) → AreHoled pairs.now opens.now c (count + 1) (of_cover t c)) }
+    requires going { IsGoing (P.table protocol.now) found.now (length found.now.pairs.items) }
+    ensures { IfOk result (λ t. (c : Cover) → AreHoles (P.table protocol.now) c (count + 1) (of_cover t c)) }
 {
     Ok(ByCover {
-        read_key: holed_of(alloc, pairs, opens, Cover::ReadKey, count)?,
-        read_gap: holed_of(alloc, pairs, opens, Cover::ReadGap, count)?,
-        inserted_key: holed_of(alloc, pairs, opens, Cover::InsertedKey, count)?,
-        deleted_gap: holed_of(alloc, pairs, opens, Cover::DeletedGap, count)?,
-        updated_key: holed_of(alloc, pairs, opens, Cover::UpdatedKey, count)?,
+        read_key: holed_of(alloc, protocol, found, Cover::ReadKey, count)?,
+        read_gap: holed_of(alloc, protocol, found, Cover::ReadGap, count)?,
+        inserted_key: holed_of(alloc, protocol, found, Cover::InsertedKey, count)?,
+        deleted_gap: holed_of(alloc, protocol, found, Cover::DeletedGap, count)?,
+        updated_key: holed_of(alloc, protocol, found, Cover::UpdatedKey, count)?,
     })
 }
 

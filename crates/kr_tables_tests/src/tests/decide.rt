@@ -5,6 +5,7 @@ use kr_causes::{Change, Changed};
 use kr_decide::{Cause, Decision, Hole, Rejected, Safe, Survey, Way, decide};
 use kr_model::{Cover, GapUse, KeyUse, LockState, Row, Side, Span};
 use kr_protocol::{Im, Kvl, KvlUpdate, Protocol, RangeKey, SafeProtocol};
+use kr_table::read;
 use std::alloc::Global;
 use std::process::Abort;
 use std::test::Fail;
@@ -16,6 +17,44 @@ const SIX_TO_IS: Change = Change::Convert { held: 4, requested: 2, mode: 1 };
 /// A delete doesn't keep its lock on the next name.
 #[rattlefmt::skip]
 const NEXT_INSTANT: Change = Change::Ask { row: Row::Delete, side: Side::Next, own_next: None, mode: 5, span: Span::Instant };
+
+/// A table that is safe only because no lock of M2 that has nothing to protect is on an absent key: a request of M2 conflicts
+/// with every lock, and each delete requests M2, so nobody takes the key away beside such a lock.
+const NO_M2_ON_ABSENT: &str = r#"
+format = 2
+modes = ["M1", "M2"]
+
+[compatible]
+M1 = ["M1", "M2"]
+M2 = []
+
+[convert]
+M1 = { M1 = "M2", M2 = "M2" }
+M2 = { M1 = "M1", M2 = "M2" }
+
+[rules.fetch-hit]
+current = [{ mode = "M2", span = "commit" }]
+
+[rules.fetch-miss]
+next = [{ mode = "M2", span = "commit" }]
+
+[rules.scan-key]
+current = [{ mode = "M2", span = "commit" }]
+
+[rules.scan-stop]
+next = [{ mode = "M2", span = "commit" }]
+
+[rules.insert]
+next = [{ mode = "M2", span = "commit" }]
+current = [{ own = ["none", "M1"], mode = "M1", span = "commit" }, { mode = "M2", span = "commit" }]
+
+[rules.delete]
+next = [{ own = ["none"], mode = "M2", span = "commit" }, { mode = "M1", span = "commit" }]
+current = [{ mode = "M2", span = "commit" }]
+
+[rules.update]
+current = [{ mode = "M2", span = "commit" }]
+"#;
 
 /// What a transaction has where it has requested nothing.
 #[rattlefmt::skip]
@@ -87,6 +126,14 @@ fn safe_though_cases_fail(rt: HostRuntime) -> Result<(), Fail> {
         }
         Err(_) => panic!(rt; "not safe"),
     }
+    Ok(())
+}
+
+#[test]
+fn safe_as_no_idle_lock_is_on_an_absent_key(rt: HostRuntime) -> Result<(), Fail> {
+    let alloc = rt.alloc();
+    let table = read(alloc, NO_M2_ON_ABSENT.as_bytes())?;
+    same!(rt; is_decided_safe(alloc, &table)?, true);
     Ok(())
 }
 

@@ -1,13 +1,14 @@
-use Rattle.std.proofs.Common.{ℕ, Bool, List, false, ◌↔◌, IsTrue, get_or, sym, subst, rules}
-use Rattle.kr_decide.specs.Opens.{IsHoledIn}
-use Rattle.kr_decide.proofs.Openings.{one_more_test}
+use Rattle.std.proofs.Common.{Bool, List, ◌+◌, subst}
+use Rattle.kr_decide.specs.declared.pair.Pair.{Pair}
+use Rattle.kr_decide.specs.Opens.{AreHoled}
+use Rattle.kr_decide.proofs.Surveyed.{holes_of}
 use Rattle.kr_decide.proofs.survey.holed_of.Goals as goal
 
-pub loop-mode-preserved : goal.loop-mode-preserved
-loop-mode-preserved c =
-    let P : ℕ → Bool → Type 0 = λ m b. IsTrue b ↔ IsHoledIn c.args.pairs.now c.args.opens.now c.args.cover m in
-    record {
-      size = search rules;
-      each = λ k below. subst (λ (l : List Bool). P k (get_or l k false)) (sym c.in_ok-push.ensures.items)
-          (one_more_test P c.loop-mode.list.items c.is_holed_in.result c.loop-mode.mode c.loop-mode.invariant.size c.loop-mode.invariant.each c.is_holed_in.ensures k below);
-    }
+pub returns : goal.returns
+returns g c =
+    let p = g.P.Protocol.table c.args.protocol.now in
+    let list = c.in_ok-list.list.items in
+    let n = c.args.count + 1 in
+    holes_of p c.args.found.now c.requires.going c.in_ok-opens.opens.items c.args.cover n list c.in_ok-opens.ensures
+    (subst (λ (l : List Pair). AreHoled l c.in_ok-opens.opens.items c.args.cover n list) c.deref.ensures.value
+    (subst (λ (os : List Bool). AreHoled c.deref.result.now os c.args.cover n list) c.deref-2.ensures.value c.in_ok-list.ensures))
