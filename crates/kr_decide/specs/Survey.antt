@@ -13,8 +13,8 @@ use Rattle.kr_decide.specs.declared.survey.ByCover.{ByCover}
 use Rattle.kr_decide.specs.declared.survey.Survey.{Survey}
 use Rattle.kr_decide.specs.declared.decision.Decision.{Decision}
 use Rattle.kr_decide.specs.declared.decision.Decision.TheVariants as decision
-use Rattle.kr_decide.specs.declared.safe.Cause.{Cause}
-use Rattle.kr_decide.specs.declared.safe.Cause.TheVariants as cause
+use Rattle.kr_decide.specs.declared.safe.WhyRejected.{WhyRejected}
+use Rattle.kr_decide.specs.declared.safe.WhyRejected.TheVariants as cause
 use Rattle.kr_decide.specs.Protects.{protects, keeps_out_for}
 use Rattle.kr_decide.specs.Pairs.{pair_at, AreDerived, LetsIn, IsReachedHole}
 
@@ -89,7 +89,7 @@ abbrev pub Decides : Protocol → Decision → Type 0
 Decides p decision.Safe = IsSafe p
 Decides p (decision.Unsafe hole) = IsHole p hole × (IsSafe p → ⊥)
 
--- Why a protocol isn't taken to be safe: a hole; or want of memory.
-abbrev pub Tells : Protocol → Cause → Type 0
+-- Why a protocol isn't taken to be safe: a hole; or out of memory.
+abbrev pub Tells : Protocol → WhyRejected → Type 0
 Tells p (cause.Hole hole) = IsHole p hole × (IsSafe p → ⊥)
 Tells p cause.Memory = Unit {0}

@@ -16,5 +16,5 @@ mod survey;
 pub use decision::{Decision, decide};
 pub use kr_model::{Cover, GapUse, KeyUse, LockState, Memory, Mode, Row, Side};
 pub use pair::{Hole, Pair, Way};
-pub use safe::{Cause, Rejected, Safe};
+pub use safe::{Rejected, Safe, WhyRejected};
 pub use survey::Survey;

@@ -29,11 +29,11 @@ impl<P: Protocol> Safe<P> {
             Ok(Decision::Safe) => Ok(Safe { protocol }),
             Ok(Decision::Unsafe(hole)) => Err(Rejected {
                 protocol,
-                cause: Cause::Hole(hole),
+                cause: WhyRejected::Hole(hole),
             }),
             Err(_) => Err(Rejected {
                 protocol,
-                cause: Cause::Memory,
+                cause: WhyRejected::Memory,
             }),
         }
     }
@@ -97,7 +97,7 @@ impl<P: Protocol> SafeProtocol for Safe<P> {
 
 /// Why a protocol isn't taken to be safe.
 #[derive(Debug, Drop, Error)]
-pub enum Cause {
+pub enum WhyRejected {
     /// It isn't: this lock lets in what it has to keep out.
     #[error("a lock lets in what it has to keep out")]
     Hole(Hole),
@@ -110,5 +110,5 @@ pub enum Cause {
 #[derive(Drop)]
 pub struct Rejected<P: Protocol> {
     pub protocol: P,
-    pub cause: Cause,
+    pub cause: WhyRejected,
 }

@@ -2,7 +2,7 @@
 //!
 //! Modes of key-value locking: IS is 1, IX 2, S 3, SIX 4, X 5.
 use kr_causes::{Change, Changed};
-use kr_decide::{Cause, Decision, Hole, Rejected, Safe, Survey, Way, decide};
+use kr_decide::{Decision, Hole, Rejected, Safe, Survey, Way, WhyRejected, decide};
 use kr_model::{Cover, GapUse, KeyUse, LockState, Row, Side, Span};
 use kr_protocol::{Im, Kvl, KvlUpdate, Protocol, RangeKey, SafeProtocol};
 use kr_table::read;
@@ -149,8 +149,8 @@ fn unsafe_by_an_unlocked_delete(rt: HostRuntime) -> Result<(), Fail> {
         Err(Rejected { protocol, cause }) => {
             same!(rt; protocol.count(), 5);
             match cause {
-                Cause::Hole(hole) => is_unlocked_delete(&rt, &hole),
-                Cause::Memory => panic!(rt; "out of memory"),
+                WhyRejected::Hole(hole) => is_unlocked_delete(&rt, &hole),
+                WhyRejected::Memory => panic!(rt; "out of memory"),
             }
         }
     }
