@@ -11,7 +11,7 @@ use crate::cause::Cause;
 use crate::change::Change;
 use crate::changed::Changed;
 use crate::reasons::{asked, own_next};
-use kr_cases::{Memory, Rejected, check};
+use kr_cases::{Memory, Rejected, WhyRejected, check};
 use kr_decide::{Decision, decide};
 use kr_model::{FailedCase, Mode, Row, Side, Span};
 use kr_protocol::Protocol;
@@ -120,7 +120,7 @@ fn judged<P: Protocol>(
                 cause,
             },
         ) => match cause {
-            kr_cases::Cause::Failed(after) => {
+            WhyRejected::Failed(after) => {
                 if is_safe {
                     Ok(Verdict::Neither)
                 } else if is_made_safe(alloc, &changed)? {
@@ -131,7 +131,7 @@ fn judged<P: Protocol>(
                     Ok(Verdict::Neither)
                 }
             }
-            kr_cases::Cause::Memory => Err(AllocError),
+            WhyRejected::Memory => Err(AllocError),
         },
     }
 }

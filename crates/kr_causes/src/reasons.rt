@@ -77,7 +77,7 @@ fn is_void<P: Protocol>(protocol: &P, row: Row, side: Side) -> bool {
 fn void_place<P: Protocol>(protocol: &P, cover: Cover) -> Option<Blame> {
     for (row, side) in must_conflict(protocol, cover) {
         if is_void(protocol, *row, *side) {
-            return Some(Blame::Requester {
+            return Some(Blame::Place {
                 row: *row,
                 side: *side,
             });
@@ -193,7 +193,7 @@ pub(crate) fn reasons_for<P: Protocol>(protocol: &P, case: &FailedCase) -> Reaso
             let (row, side) = taken_at(case.case);
             let asked = asked(protocol, row, side, own_next(case));
             let first = if is_void(protocol, row, side) {
-                Blame::Requester { row, side }
+                Blame::Place { row, side }
             } else {
                 Blame::Request { row, side, asked }
             };

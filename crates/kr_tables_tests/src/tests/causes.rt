@@ -150,7 +150,7 @@ fn asks_nothing(rt: HostRuntime) -> Result<(), Fail> {
     ];
     same!(rt; causes.len(), told.len());
     for (cause, (row, side, cases)) in causes.iter().zip(told) {
-        same!(rt; cause.blame, Blame::Requester { row, side });
+        same!(rt; cause.blame, Blame::Place { row, side });
         same!(rt; cause.cases.len(), cases);
         let mend = mends(alloc, &table, &failed, cause, false)?;
         assert!(rt; mend.accepted.is_empty() && mend.safe.is_empty() && mend.mended.is_empty());
