@@ -12,12 +12,12 @@ accepted_words cases = codes "accepted: all " ++ (decimal cases ++ codes " cases
 
 -- The words that the text of a table begins with that is safe, though cases of it fail.
 abbrev pub safe_words : ℕ → ℕ → List ℕ
-safe_words failed cases = codes "safe: " ++ (decimal failed ++ (codes " of " ++ (decimal cases ++ codes " cases fail, but no schedule reaches their locks. Every run under this table is serializable in commit order.")))
+safe_words failed cases = codes "safe: " ++ (decimal failed ++ (codes " of " ++ (decimal cases ++ codes " cases fail, but no schedule reaches their locks. Every run is serializable in commit order.")))
 
 -- The words that the text of a table begins with that isn't safe, where a run is known that goes wrong, or where none is.
 abbrev pub rejected_words : Bool → ℕ → ℕ → List ℕ
-rejected_words true failed cases = codes "rejected: " ++ (decimal failed ++ (codes " of " ++ (decimal cases ++ codes " cases fail, by ")))
-rejected_words false failed cases = codes "not known to be safe: " ++ (decimal failed ++ (codes " of " ++ (decimal cases ++ codes " cases fail, by ")))
+rejected_words true failed cases = codes "rejected: " ++ (decimal failed ++ (codes " of " ++ (decimal cases ++ codes " cases fail. ")))
+rejected_words false failed cases = codes "not known to be safe: " ++ (decimal failed ++ (codes " of " ++ (decimal cases ++ codes " cases fail. ")))
 
 -- The words that a text begins with: the verdict, and how many cases hold or fail.
 abbrev pub verdict_words : Explanation → List ℕ

@@ -16,8 +16,8 @@ use std::alloc::Global;
 
 impl Explanation {
     /// The text for a person, each line ended by a line feed: the verdict, and where cases fail, each cause with why it is
-    /// harmless or with its run, and the changes that mend it. `word` names the table in the last line. The table is to be
-    /// the one that was explained: its names, steps and answers are told. The only fault is that a growth was refused.
+    /// harmless or with its schedule, and its fixes. `word` names the table in the last lines. The table is to be the one
+    /// that was explained: its names, steps and answers are written. The only fault is that a growth was refused.
     pub fn text<P: Protocol>(
         &self,
         alloc: Global,
@@ -28,10 +28,10 @@ impl Explanation {
     {
         let telling = match self {
             Explanation::Accepted { .. } => String::new(alloc),
-            Explanation::Safe(failures) => causes_text(alloc, protocol, failures, word, true)?,
+            Explanation::Safe(failures) => causes_text(alloc, protocol, failures, word)?,
             Explanation::Rejected(failures) => {
                 let count = causes_words(alloc, failures.causes.len())?;
-                let causes = causes_text(alloc, protocol, failures, word, false)?;
+                let causes = causes_text(alloc, protocol, failures, word)?;
                 format!(in alloc; "{count}{causes}")?
             }
         };
@@ -69,7 +69,7 @@ fn safe_words(alloc: Global, failed: usize, cases: usize) -> Result<String, Memo
     ensures { IfOk result (λ text. string_bytes text ≡ safe_words failed cases) }
 {
     format!(in alloc;
-        "safe: {failed} of {cases} cases fail, but no schedule reaches their locks. Every run under this table is serializable in commit order."
+        "safe: {failed} of {cases} cases fail, but no schedule reaches their locks. Every run is serializable in commit order."
     )
 }
 
@@ -84,23 +84,22 @@ fn rejected_words(
     ensures { IfOk result (λ text. string_bytes text ≡ rejected_words has_run failed cases) }
 {
     if has_run {
-        format!(in alloc; "rejected: {failed} of {cases} cases fail, by ")
+        format!(in alloc; "rejected: {failed} of {cases} cases fail. ")
     } else {
-        format!(in alloc; "not known to be safe: {failed} of {cases} cases fail, by ")
+        format!(in alloc; "not known to be safe: {failed} of {cases} cases fail. ")
     }
 }
 
-/// What is told of each cause of a table, which is safe or isn't, without its last line feed.
+/// What is said of each cause of a table, without its last line feed.
 fn causes_text<P: Protocol>(
     alloc: Global,
     protocol: &P,
     failures: &Failures,
     word: &str,
-    is_safe: bool,
 ) -> Result<String, Memory> {
     let mut out = String::from_str(alloc, "\n")?;
     for (at, explained) in failures.causes.iter().enumerate() {
-        write_cause(alloc, protocol, &mut out, at, explained, is_safe)?;
+        write_cause(alloc, protocol, &mut out, at, explained)?;
     }
     if failures.has_run() {
         write_command(&mut out, word)?;
@@ -109,22 +108,29 @@ fn causes_text<P: Protocol>(
     Ok(out)
 }
 
-/// Writes the cause at this place of the list, from 0, of a table that is safe or isn't: its title, what is said of it, why
-/// it is harmless or its run, and what mends it.
+/// Writes the cause at this place of the list, from 0: its title, what is said of it, why it is harmless or its schedule, and
+/// its fixes.
 fn write_cause<P: Protocol>(
     alloc: Global,
     protocol: &P,
     out: &mut String,
     at: usize,
     explained: &Explained,
-    is_safe: bool,
 ) -> Result<(), Memory> {
     write_title(alloc, protocol, out, at.saturating_add(1), &explained.cause)?;
     match &explained.run {
         Some(run) => write_with_run(alloc, protocol, out, explained, run)?,
         None => write_without_run(alloc, protocol, out, explained)?,
     }
-    write_mend(alloc, protocol, out, &explained.mend, MOST_MENDED, is_safe)
+    let is_harmless = explained.harmless.is_some();
+    write_mend(
+        alloc,
+        protocol,
+        out,
+        &explained.mend,
+        MOST_MENDED,
+        is_harmless,
+    )
 }
 
 /// How many of a cause's cases were tried.
@@ -136,7 +142,7 @@ fn tries_of(explained: &Explained) -> Tries {
     }
 }
 
-/// Writes what is said of a cause with its run.
+/// Writes what is said of a cause with its schedule.
 fn write_with_run<P: Protocol>(
     alloc: Global,
     protocol: &P,
@@ -144,12 +150,12 @@ fn write_with_run<P: Protocol>(
     explained: &Explained,
     run: &Run,
 ) -> Result<(), Memory> {
-    write_body(alloc, protocol, out, &explained.cause, &run.case)?;
+    write_body(alloc, protocol, out, &explained.cause, &run.case, "can")?;
     let tries = tries_of(explained);
     write_run(alloc, protocol, out, &run.case, &run.script, tries)
 }
 
-/// Writes what is said of a cause that has no run: why it is harmless, or that none is known.
+/// Writes what is said of a cause that has no schedule: why it is harmless, or that none is known.
 fn write_without_run<P: Protocol>(
     alloc: Global,
     protocol: &P,
@@ -162,15 +168,15 @@ fn write_without_run<P: Protocol>(
     };
     match &explained.harmless {
         Some(Harmless::NeverHeld) => {
-            write_body(alloc, protocol, out, &explained.cause, first)?;
+            write_body(alloc, protocol, out, &explained.cause, first, "could")?;
             write_never_held(alloc, protocol, out, cases)
         }
         Some(Harmless::NeverLetIn(held)) => {
-            write_body(alloc, protocol, out, &explained.cause, held)?;
+            write_body(alloc, protocol, out, &explained.cause, held, "could")?;
             write_never_let_in(alloc, protocol, out, cases, held)
         }
         None => {
-            write_body(alloc, protocol, out, &explained.cause, first)?;
+            write_body(alloc, protocol, out, &explained.cause, first, "can")?;
             let tries = tries_of(explained);
             write_no_run(alloc, protocol, out, first, explained.is_reached, tries)
         }

@@ -1,13 +1,14 @@
-//! The sentences under the title of a cause: whose lock it is, what it has to protect, and what it lets in.
+//! The sentences under the title of a cause: what its lock must protect, what is wrong with it, and which request is then
+//! granted.
 
-use crate::answers::{asked, converted, name_of};
+use crate::answers::name_of;
+use crate::granted::granted_sentence;
 use crate::lists::{listed, modes_listed, put_once};
-use crate::title::beside;
-use crate::words::{comer_words, cover_words, row_word, rule_step, side_words};
+use crate::words::{cover_words, deed_words, row_word, rule_step};
 use crate::wrap::{INDENT, write_paragraph};
 use kr_cases::Memory;
 use kr_causes::{Blame, Cause, must_conflict, own_next};
-use kr_model::{Cover, FailedCase, Mode, Row, Rule, Side};
+use kr_model::{Cover, FailedCase, Mode, Origin, Row, Rule, Side, Span};
 use kr_protocol::Protocol;
 use std::alloc::Global;
 
@@ -20,75 +21,70 @@ const COVERS: [Cover; 5] = [
     Cover::UpdatedKey,
 ];
 
-/// Writes the paragraphs under the title, where `case` is the one whose run is shown. The only fault is that a growth was
-/// refused.
+/// Writes the paragraphs under the title, where `case` is the one whose schedule is shown, and `can` says whether another
+/// transaction can come to be granted what the lock doesn't block, or only could. The only fault is that a growth was refused.
 pub fn write_body<P: Protocol>(
     alloc: Global,
     protocol: &P,
     out: &mut String,
     cause: &Cause,
     case: &FailedCase,
+    can: &str,
 ) -> Result<(), Memory> {
-    for sentence in body(alloc, protocol, cause, case)?.iter() {
+    for sentence in body(alloc, protocol, cause, case, can)?.iter() {
         write_paragraph(out, sentence.as_str(), INDENT, 0)?;
     }
     Ok(())
 }
 
-/// The paragraphs under the title, where `case` is the one whose run is shown.
+/// The paragraphs under the title, where `case` is the one whose schedule is shown.
 fn body<P: Protocol>(
     alloc: Global,
     protocol: &P,
     cause: &Cause,
     case: &FailedCase,
+    can: &str,
 ) -> Result<Vec<String>, Memory> {
     let cases = cause.cases.as_slice();
     let mut out = Vec::new(alloc);
-    put_blame_sentences(alloc, protocol, &mut out, cases, cause.blame)?;
+    match cause.blame {
+        Blame::Place { row, side } => {
+            put_void_sentences(alloc, protocol, &mut out, cases, row, side, can)?
+        }
+        Blame::Request { row, asked, .. } => {
+            put_request_sentences(alloc, protocol, &mut out, cases, row, asked)?
+        }
+        Blame::Conversion { .. } => out.push(conversion_sentence(alloc, cases)?)?,
+        Blame::Pair { held, .. } => out.push(pair_sentence(alloc, protocol, cases, held)?)?,
+    }
     if !matches!(cause.blame, Blame::Place { .. }) {
-        put_let_in_sentence(alloc, protocol, &mut out, case)?;
+        put_granted_sentence(alloc, protocol, &mut out, case, can)?;
     }
     Ok(out)
 }
 
-/// What is said of what is to blame.
-fn put_blame_sentences<P: Protocol>(
-    alloc: Global,
-    protocol: &P,
-    out: &mut Vec<String>,
-    cases: &[FailedCase],
-    blame: Blame,
-) -> Result<(), Memory> {
-    match blame {
-        Blame::Place { row, side } => void_sentences(alloc, protocol, out, cases, row, side)?,
-        Blame::Request { row, .. } => request_sentences(alloc, protocol, out, cases, row)?,
-        Blame::Conversion { .. } => out.push(conversion_sentence(alloc, cases)?)?,
-        Blame::Pair { held, .. } => out.push(pair_sentence(alloc, protocol, cases, held)?)?,
-    }
-    Ok(())
-}
-
-/// Puts what the mode of a case lets in behind the others.
-fn put_let_in_sentence<P: Protocol>(
+/// Puts what is granted beside the mode of a case behind the others.
+fn put_granted_sentence<P: Protocol>(
     alloc: Global,
     protocol: &P,
     out: &mut Vec<String>,
     case: &FailedCase,
+    can: &str,
 ) -> Result<(), Memory> {
-    out.push(let_in_sentence(alloc, protocol, case)?)?;
+    out.push(granted_sentence(alloc, protocol, case, can)?)?;
     Ok(())
 }
 
-/// Which locks a conversion weakens.
+/// After which steps a conversion is wrong, and what must be protected then.
 fn conversion_sentence(alloc: Global, cases: &[FailedCase]) -> Result<String, Memory> {
     let covers = protected(alloc, cases, "and")?;
     let steps = steps_of(alloc, cases)?;
     format!(in alloc;
-        "Locks are tested and kept in the converted mode. This concerns {covers}, after {steps}."
+        "Locks are tested and held in the converted mode. After {steps} a transaction must protect {covers}."
     )
 }
 
-/// Which locks a mode beside this held one is let in by.
+/// After which steps the held mode of a pair is held, and what it must protect then.
 fn pair_sentence<P: Protocol>(
     alloc: Global,
     protocol: &P,
@@ -98,10 +94,10 @@ fn pair_sentence<P: Protocol>(
     let held = name_of(protocol, held);
     let covers = protected(alloc, cases, "and")?;
     let steps = steps_of(alloc, cases)?;
-    format!(in alloc; "{held} is the lock after {steps}, and has to protect {covers}.")
+    format!(in alloc; "After {steps} a transaction that holds {held} must protect by it {covers}.")
 }
 
-/// What the covers of the cases protect, in the order of the covers.
+/// What the locks of the cases must protect, in the order of the covers.
 pub fn protected(alloc: Global, cases: &[FailedCase], last: &str) -> Result<String, Memory> {
     let mut words = Vec::new(alloc);
     for cover in &COVERS {
@@ -112,23 +108,24 @@ pub fn protected(alloc: Global, cases: &[FailedCase], last: &str) -> Result<Stri
     listed(alloc, &words, last)
 }
 
-/// The steps after which the cases ask for their covers, each once.
+/// The steps after which the cases require their covers, each once.
 fn steps_of(alloc: Global, cases: &[FailedCase]) -> Result<String, Memory> {
     let mut words = Vec::new(alloc);
     for case in cases {
         put_once(&mut words, rule_step(case.case))?;
     }
-    listed(alloc, &words, "and")
+    listed(alloc, &words, "or")
 }
 
-/// What no lock keeps out, and what isn't safe then.
-fn void_sentences<P: Protocol>(
+/// What no lock blocks, and what can't be protected then.
+fn put_void_sentences<P: Protocol>(
     alloc: Global,
     protocol: &P,
     out: &mut Vec<String>,
     cases: &[FailedCase],
     row: Row,
     side: Side,
+    can: &str,
 ) -> Result<(), Memory> {
     let mut others = Vec::new(alloc);
     for case in cases {
@@ -137,10 +134,10 @@ fn void_sentences<P: Protocol>(
         }
     }
     if !others.is_empty() {
-        let comer = comer_words(row, side);
+        let deed = deed_words(row, side);
         let covers = protected(alloc, &others, "or")?;
         out.push(format!(in alloc;
-            "So no lock at all keeps out {comer}. Under none is {covers} safe."
+            "So another transaction {can} {deed} whatever locks are held: no lock protects {covers}."
         )?)?;
     }
     if others.len() < cases.len() {
@@ -149,113 +146,118 @@ fn void_sentences<P: Protocol>(
         } else {
             "reads"
         };
-        out.push(format!(in alloc; "And what it {what} is not protected.")?)?;
+        out.push(format!(in alloc; "What it {what} is not protected.")?)?;
     }
     Ok(())
 }
 
-/// Where the request is too weak, and what it has to protect.
-fn request_sentences<P: Protocol>(
+/// What must be protected after a row, what is wrong with its request, and for which own modes.
+fn put_request_sentences<P: Protocol>(
     alloc: Global,
     protocol: &P,
     out: &mut Vec<String>,
     cases: &[FailedCase],
     row: Row,
+    asked: Option<(Mode, Span)>,
 ) -> Result<(), Memory> {
-    if matches!(row, Row::Insert | Row::Delete) {
-        let owns = owns_of(alloc, protocol.count(), cases)?;
-        if owns.len() <= protocol.count() as usize {
-            out.push(own_next_sentence(alloc, protocol, &owns)?)?;
+    out.push(must_protect_sentence(alloc, cases, row)?)?;
+    let owns = owns_words(alloc, protocol, cases, row)?;
+    match asked {
+        Some((mode, Span::Instant)) => {
+            let mode = name_of(protocol, mode);
+            let held = held_words(alloc, protocol, cases)?;
+            let owns = if row == Row::Delete {
+                ""
+            } else {
+                owns.as_str()
+            };
+            out.push(format!(in alloc;
+                "It requests {mode} there for instant duration{owns}, so it then holds {held}."
+            )?)?;
         }
+        Some((mode, Span::Commit)) if !owns.is_empty() => {
+            let mode = name_of(protocol, mode);
+            out.push(format!(in alloc; "It requests only {mode} there{owns}.")?)?;
+        }
+        None if !owns.is_empty() => {
+            out.push(format!(in alloc; "It requests no lock there{owns}.")?)?;
+        }
+        _ => {}
     }
-    let covers = protected(alloc, cases, "and")?;
-    let split = if cases.iter().all(|case| case.case == Rule::Split) {
-        ", which its insert splits"
-    } else {
-        ""
-    };
-    out.push(format!(in alloc; "Its lock there has to protect {covers}{split}.")?)?;
     Ok(())
 }
 
-/// The own modes on the next name that the cases are taken at, of a protocol of so many modes, rising.
-fn owns_of(alloc: Global, count: Mode, cases: &[FailedCase]) -> Result<Vec<Mode>, Memory> {
-    let mut owns = Vec::new(alloc);
-    for own in 0..=count {
-        if cases.iter().any(|case| own_next(case) == own) {
-            owns.push(own)?;
+/// What a transaction must protect after a row.
+fn must_protect_sentence(alloc: Global, cases: &[FailedCase], row: Row) -> Result<String, Memory> {
+    let row = row_word(row);
+    let covers = protected(alloc, cases, "and")?;
+    let split = if cases.iter().all(|case| case.case == Rule::Split) {
+        ", which the insert splits"
+    } else {
+        ""
+    };
+    format!(in alloc; "After `{row}` a transaction must protect, until it ends, {covers}{split}.")
+}
+
+/// The own modes on the next key that the cases of a row are taken at; nothing where these are all, or where the row doesn't
+/// go by them.
+fn owns_words<P: Protocol>(
+    alloc: Global,
+    protocol: &P,
+    cases: &[FailedCase],
+    row: Row,
+) -> Result<String, Memory> {
+    let owns = owns_of(alloc, protocol.count(), cases)?;
+    if !matches!(row, Row::Insert | Row::Delete) || owns.len() > protocol.count() as usize {
+        return Ok(String::new(alloc));
+    }
+    let owns = modes_listed(alloc, protocol, &owns)?;
+    format!(in alloc; " where its own mode on the next key is {owns}")
+}
+
+/// What the transactions of the cases hold after a request for instant duration: what they held before.
+fn held_words<P: Protocol>(
+    alloc: Global,
+    protocol: &P,
+    cases: &[FailedCase],
+) -> Result<String, Memory> {
+    let owns = held_before(alloc, protocol.count(), cases)?;
+    if owns.iter().all(|own| *own == 0) {
+        return String::from_str(alloc, "no lock there");
+    }
+    let owns = modes_listed(alloc, protocol, &owns)?;
+    format!(in alloc; "only what it held before: {owns}")
+}
+
+/// The modes of a list, of a protocol of so many modes, rising and each once.
+fn rising(alloc: Global, count: Mode, modes: &[Mode]) -> Result<Vec<Mode>, Memory> {
+    let mut rising = Vec::new(alloc);
+    for mode in 0..=count {
+        if modes.contains(&mode) {
+            rising.push(mode)?;
         }
     }
-    Ok(owns)
+    Ok(rising)
 }
 
-/// For which own modes on the next name a request is too weak.
-fn own_next_sentence<P: Protocol>(
-    alloc: Global,
-    protocol: &P,
-    owns: &[Mode],
-) -> Result<String, Memory> {
-    let owns = modes_listed(alloc, protocol, owns)?;
-    format!(in alloc; "This is so where the own mode on the next name is {owns}.")
-}
-
-/// What the mode of a case lets in.
-fn let_in_sentence<P: Protocol>(
-    alloc: Global,
-    protocol: &P,
-    case: &FailedCase,
-) -> Result<String, Memory> {
-    let who = if case.mode == 0 {
-        "Where nothing is held, nothing is refused: it"
-    } else {
-        name_of(protocol, case.mode)
-    };
-    let what = let_in(alloc, protocol, case)?;
-    format!(in alloc; "{who} lets in {what}.")
-}
-
-/// Why a mode doesn't serve a cover: its first open place.
-fn let_in<P: Protocol>(alloc: Global, protocol: &P, case: &FailedCase) -> Result<String, Memory> {
-    let place = case.hole;
-    let comer = comer_words(place.row, place.side);
-    let side = side_words(place.side);
-    let Some((mode, _)) = asked(protocol, place.row, place.side, place.own_next) else {
-        return format!(in alloc; "{comer} asks for no lock on {side}");
-    };
-    let row = row_word(place.row);
-    let asks = name_of(protocol, mode);
-    let made = converted(protocol, place.own, mode);
-    let own = own_words(alloc, protocol, place.own, made)?;
-    let beside = beside_words(alloc, protocol, made, case.mode)?;
-    format!(in alloc; "{comer}, for which `{row}` asks {asks} on {side}{own}{beside}")
-}
-
-/// What the mode that is asked for makes of a mode that its asker holds already; nothing where no lock is held.
-fn own_words<P: Protocol>(
-    alloc: Global,
-    protocol: &P,
-    own: Mode,
-    made: Mode,
-) -> Result<String, Memory> {
-    if own == 0 {
-        return Ok(String::new(alloc));
+/// The own modes on the next key that the cases are taken at, rising.
+fn owns_of(alloc: Global, count: Mode, cases: &[FailedCase]) -> Result<Vec<Mode>, Memory> {
+    let mut owns = Vec::new(alloc);
+    for case in cases {
+        owns.push(own_next(case))?;
     }
-    let own = name_of(protocol, own);
-    let made = name_of(protocol, made);
-    format!(in alloc; "; to one who holds {own} there already that is {made}")
+    rising(alloc, count, &owns)
 }
 
-/// Beside which held mode that one stands; nothing where no lock is held.
-fn beside_words<P: Protocol>(
-    alloc: Global,
-    protocol: &P,
-    made: Mode,
-    held: Mode,
-) -> Result<String, Memory> {
-    if held == 0 {
-        return Ok(String::new(alloc));
+/// The modes that the transactions of the cases held on the name before, rising.
+fn held_before(alloc: Global, count: Mode, cases: &[FailedCase]) -> Result<Vec<Mode>, Memory> {
+    let mut modes = Vec::new(alloc);
+    for case in cases {
+        modes.push(match case.from {
+            Origin::Own(own) => own,
+            Origin::Conversion { held, .. } => held,
+            Origin::Insert { own, .. } => own,
+        })?;
     }
-    let other = beside(protocol, made, held);
-    let made = name_of(protocol, made);
-    format!(in alloc; ", and {made} stands beside {other}")
+    rising(alloc, count, &modes)
 }

@@ -30,7 +30,7 @@ pub fn write_never_held<P: Protocol>(
 }
 
 /// Writes that a cause of these cases is harmless, since no transaction can come to request what the mode of one of them,
-/// `held`, lets in. The only fault is that a growth was refused.
+/// `held`, has to block and doesn't. The only fault is that a growth was refused.
 pub fn write_never_let_in<P: Protocol>(
     alloc: Global,
     protocol: &P,
@@ -42,7 +42,7 @@ pub fn write_never_let_in<P: Protocol>(
     let others = if cases.iter().all(|case| is_alike(case, held)) {
         ""
     } else {
-        " It is so with its other cases, or no transaction ever comes to their modes."
+        " The same is true of the other cases, or no schedule reaches their locks."
     };
     let text = format!(in alloc; "{why}{others}")?;
     write_harmless(alloc, out, text.as_str())
@@ -55,12 +55,12 @@ fn is_alike(case: &FailedCase, other: &FailedCase) -> bool {
 
 /// Writes why a cause is harmless.
 fn write_harmless(alloc: Global, out: &mut String, why: &str) -> Result<(), Memory> {
-    let text = format!(in alloc; "This cause is harmless: {why}")?;
+    let text = format!(in alloc; "Harmless: {why}")?;
     write_line(out, "")?;
     write_paragraph(out, text.as_str(), INDENT, 0)
 }
 
-/// That nobody comes to request what the mode of this case lets in.
+/// That nobody comes to request what the mode of this case has to block and doesn't.
 fn never_let_in<P: Protocol>(
     alloc: Global,
     protocol: &P,
@@ -69,12 +69,12 @@ fn never_let_in<P: Protocol>(
     let covers = protected(alloc, &[*case], "or")?;
     if case.mode == 0 {
         return format!(in alloc;
-            "a transaction may have {covers} to protect and hold no lock there, but no other can then come to make a request there that has to be kept out."
+            "a transaction can hold no lock where it must protect {covers}, but no schedule leads another transaction to a request there that has to be blocked."
         );
     }
     let mode = name_of(protocol, case.mode);
     format!(in alloc;
-        "a transaction may hold {mode} where it has {covers} to protect, but no other can then come to make a request there that {mode} lets in."
+        "a transaction can hold {mode} where it must protect {covers}, but no schedule leads another transaction to a request there that {mode} has to block and does not."
     )
 }
 
@@ -88,14 +88,14 @@ fn never_held<P: Protocol>(
     for group in groups(alloc, protocol, cases)?.iter() {
         let modes = held_listed(alloc, protocol, &group.modes)?;
         let covers = group.covers.as_str();
-        phrases.push(format!(in alloc; "{modes} where it has {covers} to protect")?)?;
+        phrases.push(format!(in alloc; "{modes} where it must protect {covers}")?)?;
     }
     let mut words = Vec::new(alloc);
     for phrase in phrases.iter() {
         words.push(phrase.as_str())?;
     }
     let held = listed(alloc, &words, "nor")?;
-    format!(in alloc; "no transaction ever holds {held}.")
+    format!(in alloc; "in no schedule does a transaction hold {held}.")
 }
 
 /// The modes of the cases, put together by what they have to protect.

@@ -1,9 +1,12 @@
-//! The words and sentences that say why a lock table is rejected: each part of the text of a cause, and a script as a line
-//! of JSON.
+//! The words and sentences that say why a protocol table is rejected: each part of the text of a cause, and a script as a
+//! line of JSON.
 #![tactic(auto)]
 
+mod anomaly;
 mod answers;
 mod body;
+mod edits;
+mod granted;
 mod harmless;
 mod json;
 mod lists;

@@ -1,6 +1,7 @@
-//! What is said of the run of a cause, and where none is known.
+//! What is said of the schedule of a cause, and where none is known.
 ghost use Rattle.kr_model.specs.Map.{IsMap};
 
+use crate::anomaly::anomaly;
 use crate::seen::seen;
 use crate::spoken::{origin_text, pairs_text};
 use crate::steps::write_steps;
@@ -33,11 +34,11 @@ fn case_text<P: Protocol>(
     let rule = rule_code(case.case);
     let cover = cover_code(case.cover);
     let from = origin_text(alloc, protocol, case)?;
-    format!(in alloc; "{rule} for {cover} from {from}")
+    format!(in alloc; "{rule} for {cover}, {from}.")
 }
 
-/// Writes the run of a cause that was made from this case: its steps, what is seen, the verdict, and how many of the cases
-/// gave a run, unless all did. The only fault is that a growth was refused.
+/// Writes the schedule of a cause that was made from this case: its anomaly, its steps, what is wrong with it, the verdict,
+/// the case, and how many of the cases gave a schedule, unless all did. The only fault is that a growth was refused.
 pub fn write_run<P: Protocol>(
     alloc: Global,
     protocol: &P,
@@ -48,58 +49,53 @@ pub fn write_run<P: Protocol>(
 ) -> Result<(), Memory>
     requires { IsMap script.now.opening.items }
 {
-    write_run_head(alloc, protocol, out, case, script)?;
+    write_run_head(alloc, out, script)?;
     write_steps(alloc, protocol, out, script)?;
     write_line(out, "")?;
     write_paragraph(out, seen(alloc, script)?.as_str(), INDENT, 0)?;
     write_verdict(alloc, protocol, out, script)?;
-    write_share(alloc, out, tries)
+    write_case(alloc, protocol, out, case, tries)
 }
 
-/// Writes the line above a run, which says from which case and on which opening map it goes wrong.
-fn write_run_head<P: Protocol>(
+/// Writes the line above a schedule: its anomaly and the initial index.
+fn write_run_head(alloc: Global, out: &mut String, script: &Counterexample) -> Result<(), Memory> {
+    let anomaly = anomaly(script.ending);
+    let opening = pairs_text(alloc, script.opening.as_slice())?;
+    write!(out, "\n   {anomaly}. Initial index: {opening}.\n\n")
+}
+
+/// Writes the case that a schedule was made from, and how many of the cause's cases gave one, unless all did.
+fn write_case<P: Protocol>(
     alloc: Global,
     protocol: &P,
     out: &mut String,
     case: &FailedCase,
-    script: &Counterexample,
+    tries: Tries,
 ) -> Result<(), Memory> {
     let case = case_text(alloc, protocol, case)?;
-    let opening = pairs_text(alloc, script.opening.as_slice())?;
-    write!(
-        out,
-        "\n   A run that goes wrong by {case}, on {opening}:\n\n"
-    )
+    let share = share_text(alloc, tries)?;
+    let text = format!(in alloc; "Case: {case}{share}")?;
+    write_paragraph(out, text.as_str(), INDENT, 0)
 }
 
-/// Writes how many of the cause's cases gave a run, unless all did.
-fn write_share(alloc: Global, out: &mut String, tries: Tries) -> Result<(), Memory> {
-    match share_sentence(alloc, tries)? {
-        Some(share) => write_paragraph(out, share.as_str(), INDENT, 0),
-        None => Ok(()),
-    }
-}
-
-/// How many of the cause's cases gave a run, unless all did.
-fn share_sentence(alloc: Global, tries: Tries) -> Result<Option<String>, Memory> {
+/// How many of the cause's cases gave a schedule, behind a space; nothing where all did.
+fn share_text(alloc: Global, tries: Tries) -> Result<String, Memory> {
     let Tries { cases, tried, runs } = tries;
-    let have = if runs == 1 { "has" } else { "have" };
+    let give = if runs == 1 { "gives" } else { "give" };
     if tried < cases {
         let rest = cases - tried;
-        let text = format!(in alloc;
-            "{runs} of the {tried} cases that were tried {have} such a run; not tried: {rest}."
-        )?;
-        Ok(Some(text))
+        format!(in alloc;
+            " {runs} of the {tried} cases that were tried {give} a schedule; not tried: {rest}."
+        )
     } else if runs < cases {
-        let text = format!(in alloc; "{runs} of the {cases} cases {have} such a run.")?;
-        Ok(Some(text))
+        format!(in alloc; " {runs} of the {cases} cases {give} a schedule.")
     } else {
-        Ok(None)
+        Ok(String::new(alloc))
     }
 }
 
-/// Writes that no run is known, where `case` is the first of the cause, and `is_reached` says whether one transaction comes
-/// to the modes of a case that was tried. The only fault is that a growth was refused.
+/// Writes that no schedule is known, where `case` is the first of the cause, and `is_reached` says whether one transaction
+/// comes to the modes of a case that was tried. The only fault is that a growth was refused.
 pub fn write_no_run<P: Protocol>(
     alloc: Global,
     protocol: &P,
@@ -113,7 +109,7 @@ pub fn write_no_run<P: Protocol>(
     write_paragraph(out, text.as_str(), INDENT, 0)
 }
 
-/// That no run is known.
+/// That no schedule is known.
 fn no_run_text<P: Protocol>(
     alloc: Global,
     protocol: &P,
@@ -122,14 +118,14 @@ fn no_run_text<P: Protocol>(
     tries: Tries,
 ) -> Result<String, Memory> {
     let why = if is_reached {
-        "nobody else comes through in what was tried."
+        "none of those tried gets past its locks and goes wrong"
     } else {
-        "no set-up that was tried comes to the modes of these cases."
+        "none of those tried reaches the modes of its cases"
     };
     let left_out = left_out_text(alloc, tries)?;
     let case = case_text(alloc, protocol, case)?;
     format!(in alloc;
-        "No run that goes wrong is known for it: {why} (The first case is {case}.){left_out} That does not say that there is none."
+        "No schedule that goes wrong is known for this cause: {why}. That does not prove that no schedule does.{left_out} First case: {case}"
     )
 }
 

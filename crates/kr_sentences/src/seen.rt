@@ -1,4 +1,4 @@
-//! What is seen at the end of a run: a sentence for each ending.
+//! What is wrong with a schedule: a sentence for each ending.
 
 use kr_cases::Memory;
 use kr_counterexample::{Counterexample, Ending};
@@ -24,7 +24,7 @@ fn name_after(alloc: Global, opening: &[(u64, u64)]) -> Result<String, Memory> {
     String::from_str(alloc, "End")
 }
 
-/// What is seen at the end of a run.
+/// What is wrong with a schedule.
 pub fn seen(alloc: Global, script: &Counterexample) -> Result<String, Memory> {
     let t = script.holder;
     let u = script.intruder;
@@ -67,25 +67,23 @@ fn seen_by_reader(
 ) -> Result<String, Memory> {
     match ending {
         Ending::ReadKeyGone => {
-            format!(in alloc; "T{t} reads {A}, and again; in between T{u} deletes it.")
+            format!(in alloc; "T{t} reads {A} twice, and T{u} deletes it in between.")
         }
         Ending::ReadKeyUpdated => {
-            format!(in alloc; "T{t} reads {A}, and again; in between T{u} updates it.")
+            format!(in alloc; "T{t} reads {A} twice, and T{u} updates it in between.")
         }
         Ending::ReadGapFilled => {
-            format!(in alloc;
-                "T{t} reads that {P} is not there, and again; in between T{u} inserts it."
-            )
+            format!(in alloc; "T{t} looks for {P} twice, and T{u} inserts it in between.")
         }
         _ => {
             format!(in alloc;
-                "The lock of T{t} on the gap that it read is on {A}. T{u} deletes {A}: the gap now ends at {y}, where T{t} has no such lock, and T{u} inserts {P}."
+                "T{t} looks for {P} twice, and has locked the gap at {A}. T{u} deletes {A}, so that the gap ends at {y}, where T{t} has no such lock, and inserts {P}."
             )
         }
     }
 }
 
-/// The intruder `u` sees what the holder `t` has inserted.
+/// The intruder `u` sees or changes what the holder `t` has inserted.
 fn seen_of_inserted(alloc: Global, ending: Ending, t: Txn, u: Txn) -> Result<String, Memory> {
     let does = match ending {
         Ending::InsertFetched => "reads",
@@ -93,10 +91,10 @@ fn seen_of_inserted(alloc: Global, ending: Ending, t: Txn, u: Txn) -> Result<Str
         Ending::InsertUpdated => "updates",
         _ => "deletes",
     };
-    format!(in alloc; "T{u} {does} {A}, which T{t} has inserted and takes back.")
+    format!(in alloc; "T{u} {does} {A}, whose insert T{t} then undoes.")
 }
 
-/// The third `v` comes through below what the holder `t` has inserted, where the intruder `u` was.
+/// The third `v` comes below what the holder `t` has inserted, where the intruder `u` was.
 fn seen_below_inserted(
     alloc: Global,
     ending: Ending,
@@ -107,7 +105,7 @@ fn seen_below_inserted(
     match ending {
         Ending::InsertMissedBelow | Ending::InsertStoppedBelow => {
             format!(in alloc;
-                "T{u} finds nothing at {C}; its lock on that gap is on {A}, which T{t} has inserted and takes back. Nothing is locked where T{v} then inserts {C}."
+                "T{u} looks for {C} twice, and has locked the gap at {A}, whose insert T{t} undoes. No lock then blocks T{v}, which inserts {C} in between."
             )
         }
         _ => {
@@ -117,7 +115,7 @@ fn seen_below_inserted(
                 P
             };
             format!(in alloc;
-                "T{u} deletes {key}; its lock on that gap is on {A}, which T{t} has inserted and takes back. Nothing is locked where T{v} then misses {key}, which T{u} brings back."
+                "T{u} deletes {key}, and has locked the gap at {A}, whose insert T{t} undoes. No lock then blocks T{v}, which does not find {key}, and T{u} undoes the delete."
             )
         }
     }
@@ -135,40 +133,40 @@ fn seen_by_deleted(
     match ending {
         Ending::DeleteSplit => {
             format!(in alloc;
-                "T{u} inserts {C} into the gap in which T{t} has deleted {P}: its lower part now ends at {C}, where T{t} has no lock. T{v} misses {P}, which T{t} brings back."
+                "T{u} inserts {C} into the gap in which T{t} has deleted {P}: its lower part ends at {C}, where T{t} has no lock. T{v} does not find {P}, whose delete T{t} then undoes."
             )
         }
         Ending::DeleteGrown => {
             format!(in alloc;
-                "The lock of T{t} on the gap in which it deleted {P} is on {A}. T{u} deletes {A}: the gap now ends at {y}. T{v} misses {P}, which T{t} brings back."
+                "T{t} has locked the gap in which it deleted {P} at {A}. T{u} deletes {A}, so that the gap ends at {y}. T{v} does not find {P}, whose delete T{t} then undoes."
             )
         }
         _ => {
             format!(in alloc;
-                "T{u} deletes {K}, the key before {P}, which T{t} has deleted; its lock on that gap is on {A}. T{t} brings {P} back: the gap below it has no lock. T{v} misses {K}, which T{u} brings back."
+                "T{t} has deleted {P}. T{u} deletes {K}, the key before it, and has locked the gap at {A}. T{t} undoes its delete, and the gap below {P} has no lock. T{v} does not find {K}, whose delete T{u} then undoes."
             )
         }
     }
 }
 
-/// The intruder `u` sees a value that the holder `t` takes back.
+/// The intruder `u` sees or changes a value that the holder `t` undoes.
 fn seen_of_updated(alloc: Global, ending: Ending, t: Txn, u: Txn) -> Result<String, Memory> {
-    let (does, sees) = match ending {
-        Ending::UpdateFetched => ("reads", "with"),
-        Ending::UpdateScanned => ("scans", "with"),
-        Ending::UpdateDeleted => ("deletes", "with"),
-        _ => ("updates", "and is told"),
+    let does = match ending {
+        Ending::UpdateFetched => "reads",
+        Ending::UpdateScanned => "scans",
+        Ending::UpdateDeleted => "deletes",
+        _ => "updates",
     };
-    format!(in alloc; "T{u} {does} {A} {sees} the value that T{t} has given it and takes back.")
+    format!(in alloc; "T{u} {does} {A} with the value of an update that T{t} then undoes.")
 }
 
 /// The intruder `u` misses what the holder `t` has deleted, or fills its place.
 fn seen_of_deleted(alloc: Global, ending: Ending, t: Txn, u: Txn) -> Result<String, Memory> {
     let does = match ending {
-        Ending::DeleteMissed => "finds nothing at",
-        Ending::DeleteScanned => "scans over",
-        Ending::DeleteStopped => "scans",
+        Ending::DeleteMissed => "does not find",
+        Ending::DeleteScanned => "scans without finding",
+        Ending::DeleteStopped => "scans without finding",
         _ => "inserts",
     };
-    format!(in alloc; "T{u} {does} {P}, which T{t} has deleted and brings back.")
+    format!(in alloc; "T{u} {does} {P}, whose delete T{t} then undoes.")
 }

@@ -113,20 +113,19 @@ pub fn origin_text<P: Protocol>(
     case: &FailedCase,
 ) -> Result<String, Memory> {
     match case.from {
-        Origin::Own(own) => String::from_str(alloc, name_of(protocol, own)),
-        Origin::Conversion { held, asked } => two_modes(alloc, protocol, held, asked),
-        Origin::Insert { own_next, own } => two_modes(alloc, protocol, own_next, own),
+        Origin::Own(own) => {
+            let own = name_of(protocol, own);
+            format!(in alloc; "own mode {own}")
+        }
+        Origin::Conversion { held, asked } => {
+            let held = name_of(protocol, held);
+            let requested = name_of(protocol, asked);
+            format!(in alloc; "{held} held and {requested} requested")
+        }
+        Origin::Insert { own_next, own } => {
+            let own_next = name_of(protocol, own_next);
+            let own = name_of(protocol, own);
+            format!(in alloc; "own modes {own_next} on the next key and {own} on the key")
+        }
     }
-}
-
-/// Two modes by their names.
-fn two_modes<P: Protocol>(
-    alloc: Global,
-    protocol: &P,
-    first: Mode,
-    second: Mode,
-) -> Result<String, Memory> {
-    let first = name_of(protocol, first);
-    let second = name_of(protocol, second);
-    format!(in alloc; "{first} and {second}")
 }

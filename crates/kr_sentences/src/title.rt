@@ -2,7 +2,7 @@
 
 use crate::answers::{asked, converted, name_of};
 use crate::words::{row_word, rule_code, side_words};
-use crate::wrap::write_line;
+use crate::wrap::{INDENT, write_line, write_paragraph};
 use kr_cases::Memory;
 use kr_causes::{Blame, Cause};
 use kr_model::{FailedCase, Mode, Row, Rule, Side, Span};
@@ -31,7 +31,12 @@ pub fn write_title<P: Protocol>(
     cause: &Cause,
 ) -> Result<(), Memory> {
     write_line(out, "")?;
-    write_line(out, title(alloc, protocol, number, cause)?.as_str())
+    write_paragraph(
+        out,
+        title(alloc, protocol, number, cause)?.as_str(),
+        0,
+        INDENT,
+    )
 }
 
 /// The title of the cause of this number, from 1.
@@ -46,15 +51,6 @@ fn title<P: Protocol>(
     format!(in alloc; "{number}. {blame} [{groups}]")
 }
 
-/// How many cases.
-pub fn cases_words(alloc: Global, count: usize) -> Result<String, Memory> {
-    if count == 1 {
-        String::from_str(alloc, "1 case")
-    } else {
-        format!(in alloc; "{count} cases")
-    }
-}
-
 /// How many of the cases are of each group.
 fn groups(alloc: Global, cases: &[FailedCase]) -> Result<String, Memory> {
     let mut out = String::new(alloc);
@@ -65,10 +61,10 @@ fn groups(alloc: Global, cases: &[FailedCase]) -> Result<String, Memory> {
                 out.push_str(", ")?;
             }
             let code = rule_code(*rule);
-            let cases = cases_words(alloc, count)?;
-            write!(out, "{code}: {cases}")?;
+            write!(out, "{code}: {count}")?;
         }
     }
+    out.push_str(if cases.len() == 1 { " case" } else { " cases" })?;
     Ok(out)
 }
 
@@ -87,26 +83,19 @@ fn blame_sentence<P: Protocol>(
             let made = name_of(protocol, converted(protocol, held, requested));
             let held = name_of(protocol, held);
             let requested = name_of(protocol, requested);
-            format!(in alloc; "{held} held and {requested} asked make {made}, which protects less.")
+            format!(in alloc;
+                "{held} held and {requested} requested convert to {made}, a weaker mode."
+            )
         }
         Blame::Pair { requested, held } => {
-            let other = beside(protocol, requested, held);
+            let held = name_of(protocol, held);
             let requested = name_of(protocol, requested);
-            format!(in alloc; "{requested} stands beside {other}.")
+            format!(in alloc; "Requested {requested} is compatible with held {held}.")
         }
     }
 }
 
-/// The mode beside which one stands.
-pub fn beside<P: Protocol>(protocol: &P, requested: Mode, held: Mode) -> &str {
-    if requested == held {
-        "itself"
-    } else {
-        name_of(protocol, held)
-    }
-}
-
-/// A place at which no lock conflicts with anything.
+/// A request that conflicts with no lock.
 fn place_sentence<P: Protocol>(
     alloc: Global,
     protocol: &P,
@@ -117,15 +106,15 @@ fn place_sentence<P: Protocol>(
     let row = row_word(row);
     let side = side_words(side);
     match mode {
-        None => format!(in alloc; "`{row}` asks for no lock on {side}."),
+        None => format!(in alloc; "`{row}` requests no lock on {side}."),
         Some((mode, _)) => {
             let mode = name_of(protocol, mode);
-            format!(in alloc; "What `{row}` asks on {side}, {mode}, stands beside every mode.")
+            format!(in alloc; "`{row}` requests {mode} on {side}, which conflicts with no mode.")
         }
     }
 }
 
-/// A request that is too weak.
+/// A request that is too weak, or whose lock is released too early.
 fn request_sentence<P: Protocol>(
     alloc: Global,
     protocol: &P,
@@ -136,11 +125,13 @@ fn request_sentence<P: Protocol>(
     let row = row_word(row);
     let side = side_words(side);
     match asked {
-        None => format!(in alloc; "`{row}` asks for no lock on {side}."),
-        Some((_, Span::Instant)) => format!(in alloc; "`{row}` does not keep its lock on {side}."),
+        None => format!(in alloc; "`{row}` requests no lock on {side}."),
+        Some((_, Span::Instant)) => {
+            format!(in alloc; "`{row}` releases its lock on {side} too early.")
+        }
         Some((mode, Span::Commit)) => {
             let mode = name_of(protocol, mode);
-            format!(in alloc; "`{row}` takes too weak a lock on {side}: {mode}.")
+            format!(in alloc; "`{row}` requests too weak a lock on {side}: {mode}.")
         }
     }
 }

@@ -36,7 +36,7 @@ fn committed(alloc: Global, programs: &[Program]) -> Result<Vec<Txn>, Memory> {
     Ok(txns)
 }
 
-/// An operation of a program that the serial run answers otherwise.
+/// An operation of a program that the serial run gives another answer to.
 #[derive(Clone, Copy)]
 struct Difference<'a> {
     txn: Txn,
@@ -84,29 +84,12 @@ fn write_difference(
     difference: Difference,
 ) -> Result<(), Memory> {
     let order = committed(alloc, ran.programs.as_slice())?;
-    write_answers(alloc, out, ran, difference, &order)?;
-    if order.len() > 1 {
-        write_orders(alloc, out, ran)
+    let differs = difference_sentence(alloc, ran, difference, &order)?;
+    let text = if order.len() > 1 {
+        with_orders(alloc, differs.as_str(), orders(alloc, ran)?)?
     } else {
-        Ok(())
-    }
-}
-
-/// Writes which answer differs.
-fn write_answers(
-    alloc: Global,
-    out: &mut String,
-    ran: &Ran,
-    difference: Difference,
-    order: &[Txn],
-) -> Result<(), Memory> {
-    let text = difference_sentence(alloc, ran, difference, order)?;
-    write_paragraph(out, text.as_str(), INDENT, 0)
-}
-
-/// Writes whether another order would give the answers of the run.
-fn write_orders(alloc: Global, out: &mut String, ran: &Ran) -> Result<(), Memory> {
-    let text = orders_sentence(alloc, ran)?;
+        format!(in alloc; "Not serializable: {differs}")?
+    };
     write_paragraph(out, text.as_str(), INDENT, 0)
 }
 
@@ -128,31 +111,29 @@ fn difference_sentence(
     let serial = answer_text(alloc, serial)?;
     if order.len() == 1 {
         return format!(in alloc;
-            "Not serial: T{txn} alone commits, and its operation {operation}, {op}, was answered {given}. Run alone it is answered {serial}."
+            "only T{txn} commits. Its operation {operation}, {op}, returned {given}; run alone it returns {serial}."
         );
     }
     let order = txns_text(alloc, order)?;
     format!(in alloc;
-        "Not serial: operation {operation} of T{txn}, {op}, was answered {given}. Run one after another in the order of the commits ({order}) it is answered {serial}."
+        "operation {operation} of T{txn}, {op}, returned {given}; run serially in commit order ({order}) it returns {serial}."
     )
 }
 
-/// Whether another order of the committed programs gives the answers of the run.
-fn orders_sentence(alloc: Global, ran: &Ran) -> Result<String, Memory> {
-    match orders(alloc, ran)? {
+/// Which answer differs, and what is known of the other orders of the committed programs.
+fn with_orders(alloc: Global, differs: &str, others: OtherOrders) -> Result<String, Memory> {
+    match others {
         OtherOrders::Gives(order) => {
             let order = txns_text(alloc, &order)?;
             format!(in alloc;
-                "The order {order} would give the answers of this run; what is proved of accepted tables is the order of the commits."
+                "Not serializable in commit order: {differs} The serial order {order} gives the answers of this schedule, but an accepted table guarantees commit order."
             )
         }
-        OtherOrders::NoneGives => String::from_str(
-            alloc,
-            "No other order of them gives the answers of this run either.",
+        OtherOrders::NoneGives => format!(in alloc;
+            "Not serializable: {differs} No other serial order gives the answers of this schedule either."
         ),
-        OtherOrders::TooMany => String::from_str(
-            alloc,
-            "Other orders of them were not tried: there are too many.",
+        OtherOrders::TooMany => format!(in alloc;
+            "Not serializable in commit order: {differs} Other serial orders were not tried: there are too many."
         ),
     }
 }

@@ -1,4 +1,4 @@
-//! The words for the parts of a lock table.
+//! The words for the parts of a protocol table.
 
 use kr_model::{Cover, Row, Rule, Side, Span};
 
@@ -15,15 +15,23 @@ pub fn row_word(row: Row) -> &'static str {
     }
 }
 
+/// A side, as tables name it.
+pub fn side_word(side: Side) -> &'static str {
+    match side {
+        Side::Current => "current",
+        Side::Next => "next",
+    }
+}
+
 /// A side, seen from the row.
 pub fn side_words(side: Side) -> &'static str {
     match side {
         Side::Current => "its key",
-        Side::Next => "the next name",
+        Side::Next => "the next key",
     }
 }
 
-/// A span, as tables name it.
+/// A duration, as tables name it.
 pub fn span_word(span: Span) -> &'static str {
     match span {
         Span::Instant => "instant",
@@ -46,7 +54,7 @@ pub fn rule_code(rule: Rule) -> &'static str {
     }
 }
 
-/// The step after which the cases of a group ask for their cover.
+/// The step after which the cases of a group require their cover.
 pub fn rule_step(rule: Rule) -> &'static str {
     match rule {
         Rule::Conversion => "a conversion",
@@ -71,27 +79,28 @@ pub fn cover_code(cover: Cover) -> &'static str {
     }
 }
 
-/// What a cover protects.
+/// What a transaction must protect by a lock with a cover.
 pub fn cover_words(cover: Cover) -> &'static str {
     match cover {
-        Cover::ReadKey => "a key that was read",
-        Cover::ReadGap => "a gap that was read",
-        Cover::InsertedKey => "an own inserted key",
-        Cover::DeletedGap => "a gap with an own deleted key",
-        Cover::UpdatedKey => "an own updated key",
+        Cover::ReadKey => "a key that it read",
+        Cover::ReadGap => "a gap that it read",
+        Cover::InsertedKey => "a key that it inserted",
+        Cover::DeletedGap => "a gap in which it deleted a key",
+        Cover::UpdatedKey => "a key that it updated",
     }
 }
 
-/// What comes through at a place: a step of another transaction.
-pub fn comer_words(row: Row, side: Side) -> &'static str {
+/// What a transaction does whose request for a row at a side is granted on a key.
+pub fn deed_words(row: Row, side: Side) -> &'static str {
     match (row, side) {
-        (Row::FetchHit, _) => "a fetch of that key",
-        (Row::FetchMiss, _) => "a fetch that finds nothing in the gap below",
-        (Row::ScanKey, _) => "a scan over that key",
-        (Row::ScanStop, _) => "a scan that ends in the gap below",
-        (Row::Insert, _) => "an insert into the gap below",
-        (Row::Delete, Side::Current) => "a delete of that key",
-        (Row::Delete, Side::Next) => "a delete of the key before it",
-        (Row::Update, _) => "an update of that key",
+        (Row::FetchHit, _) => "fetch that key",
+        (Row::FetchMiss, _) => "fetch in the gap below that key and find nothing",
+        (Row::ScanKey, _) => "scan that key",
+        (Row::ScanStop, _) => "end a scan in the gap below that key",
+        (Row::Insert, Side::Current) => "insert that key",
+        (Row::Insert, Side::Next) => "insert a key into the gap below that key",
+        (Row::Delete, Side::Current) => "delete that key",
+        (Row::Delete, Side::Next) => "delete the key before that key",
+        (Row::Update, _) => "update that key",
     }
 }

@@ -1,4 +1,4 @@
-//! Paragraphs, in lines of at most 118 characters.
+//! Paragraphs, in lines of at most 110 characters.
 
 use kr_cases::Memory;
 
@@ -6,7 +6,7 @@ use kr_cases::Memory;
 pub const INDENT: usize = 3;
 
 /// So many characters a line has at most, unless one word is longer.
-const WIDTH: usize = 118;
+const WIDTH: usize = 110;
 
 /// Writes spaces.
 pub fn write_spaces(out: &mut String, count: usize) -> Result<(), Memory> {
@@ -22,8 +22,7 @@ pub fn write_line(out: &mut String, line: &str) -> Result<(), Memory> {
     out.push_str("\n")
 }
 
-/// Writes the words of a text in lines, each behind `indent` spaces, and from the second line on behind `hang` more, which
-/// aren't counted.
+/// Writes the words of a text in lines, the first behind `indent` spaces, and the others behind `hang` more.
 pub fn write_paragraph(
     out: &mut String,
     text: &str,
@@ -32,14 +31,14 @@ pub fn write_paragraph(
 ) -> Result<(), Memory> {
     write_spaces(out, indent)?;
     let mut used = indent;
+    let mut begins_line = true;
     for word in text.split(' ') {
         let length = word.chars().count();
-        if used > indent {
+        if !begins_line {
             if used.saturating_add(1).saturating_add(length) > WIDTH {
                 out.push_str("\n")?;
-                write_spaces(out, indent)?;
-                write_spaces(out, hang)?;
-                used = indent;
+                used = indent.saturating_add(hang);
+                write_spaces(out, used)?;
             } else {
                 out.push_str(" ")?;
                 used = used.saturating_add(1);
@@ -47,6 +46,7 @@ pub fn write_paragraph(
         }
         out.push_str(word)?;
         used = used.saturating_add(length);
+        begins_line = false;
     }
     out.push_str("\n")
 }
