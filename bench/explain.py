@@ -19,11 +19,11 @@ from samples import Draft
 
 EXPLAIN = os.path.join(TOP, "crates", "kr_explain", "out", "kr_explain")
 BUNDLED = ["im", "kvl", "kvl-update", "range-key"]
-BOUNDS = ["; not tried: ", "Tried: the first ", "No change was tried"]  # what a text says of what was left out
+BOUNDS = ["; not tried: ", " Tried: ", "No fix was tried"]  # what a text says of what was left out
 
 
 def explained(table):
-    """The processor time in seconds, the status and the text of one run."""
+    """The processor time in seconds, the status and the text of one run, on one line."""
     with tempfile.NamedTemporaryFile("w+") as text:
         child = subprocess.Popen([EXPLAIN, table], stdout=text)
         _, status, used = os.wait4(child.pid, 0)
@@ -31,7 +31,7 @@ def explained(table):
         if child.returncode not in (0, 1):
             sys.exit(f"{table}: status {child.returncode}")
         text.seek(0)
-        return used.ru_utime + used.ru_stime, child.returncode, text.read()
+        return used.ru_utime + used.ru_stime, child.returncode, " ".join(text.read().split())
 
 
 def neighbour(name, draws):

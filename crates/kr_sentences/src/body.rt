@@ -94,7 +94,7 @@ fn pair_sentence<P: Protocol>(
     let held = name_of(protocol, held);
     let covers = protected(alloc, cases, "and")?;
     let steps = steps_of(alloc, cases)?;
-    format!(in alloc; "After {steps} a transaction that holds {held} must protect by it {covers}.")
+    format!(in alloc; "After {steps} a transaction that holds {held} must protect {covers}.")
 }
 
 /// What the locks of the cases must protect, in the order of the covers.
@@ -137,16 +137,16 @@ fn put_void_sentences<P: Protocol>(
         let deed = deed_words(row, side);
         let covers = protected(alloc, &others, "or")?;
         out.push(format!(in alloc;
-            "So another transaction {can} {deed} whatever locks are held: no lock protects {covers}."
+            "So whatever locks are held, another transaction {can} {deed}: no transaction can protect {covers}."
         )?)?;
     }
     if others.len() < cases.len() {
         let what = if row == Row::Insert {
-            "inserts"
+            "The key that it inserts is not protected."
         } else {
-            "reads"
+            "What it reads is not protected."
         };
-        out.push(format!(in alloc; "What it {what} is not protected.")?)?;
+        out.push(String::from_str(alloc, what)?)?;
     }
     Ok(())
 }

@@ -4,20 +4,19 @@ use std::test::Fail;
 
 /// What is explained of the table that is safe.
 const SAFE_TEXT: &str =
-    r#"safe: 19 of 244 cases fail, but no schedule reaches their locks. Every run under this table is serializable in commit order.
+    r#"safe: 19 of 244 cases fail, but no schedule reaches their locks. Every run is serializable in commit order.
 
-1. SIX held and IX asked make IS, which protects less. [G1: 1 case, G3: 5 cases, G4: 5 cases, G5: 5 cases, G6: 3 cases]
-   Locks are tested and kept in the converted mode. This concerns a gap that was read and an own inserted key, after a
-   conversion, `fetch-miss`, `scan-key`, `scan-stop` and `insert`.
-   S lets in an insert into the gap below, for which `insert` asks IX on the next name; to one who holds SIX there
-   already that is IS, and IS stands beside S.
+1. SIX held and IX requested convert to IS, a weaker mode. [G1: 1, G3: 5, G4: 5, G5: 5, G6: 3 cases]
+   Locks are tested and held in the converted mode. After a conversion, `fetch-miss`, `scan-key`, `scan-stop`
+   or `insert` a transaction must protect a gap that it read and a key that it inserted.
+   Where another transaction itself holds SIX there, the IX that `insert` requests on the next key converts to
+   IS, which does not conflict with held S: it could insert a key into the gap below that key.
 
-   This cause is harmless: a transaction may hold S where it has a gap that was read to protect, but no other can then
-   come to make a request there that S lets in. It is so with its other cases, or no transaction ever comes to their
-   modes.
+   Harmless: a transaction can hold S where it must protect a gap that it read, but no schedule leads another
+   transaction to a request there that S has to block and does not. The same is true of the other cases, or no
+   schedule reaches their locks.
 
-   To have it accepted (each change tried by itself):
-     - let SIX held and IX asked make SIX or X: the table is then accepted
+   No fix is needed. To have the table accepted: in [convert], SIX: IX = "SIX" or "X".
 "#;
 
 /// The script of the short scan's cause.

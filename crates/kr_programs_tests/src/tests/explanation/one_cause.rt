@@ -16,15 +16,15 @@ const ROWS: &[Told] = &[
             )],
         },
         word: "delete-of-five-modes.toml",
-        text: r#"rejected: 4 of 244 cases fail, by one cause
+        text: r#"rejected: 4 of 244 cases fail. One cause.
 
-1. `delete` does not keep its lock on the next name. [G8: 4 cases]
-   This is so where the own mode on the next name is none, IS, IX or S.
-   Its lock there has to protect a gap with an own deleted key.
-   Where nothing is held, nothing is refused: it lets in a fetch that finds nothing in the gap below, for which
-   `fetch-miss` asks S on the next name.
+1. `delete` releases its lock on the next key too early. [G8: 4 cases]
+   After `delete` a transaction must protect, until it ends, a gap in which it deleted a key.
+   It requests X there for instant duration, so it then holds only what it held before: none, IS, IX or S.
+   No held lock conflicts with the S that `fetch-miss` requests on the next key: another transaction can fetch
+   in the gap below that key and find nothing.
 
-   A run that goes wrong by G8 for DG from none, on 10:1, 15:2, 20:3, 30:4:
+   Dirty read. Initial index: 10:1, 15:2, 20:3, 30:4.
 
         T1         T2        answer     locks afterwards
      1  delete 15            deleted 2                    <- too weak
@@ -32,15 +32,16 @@ const ROWS: &[Told] = &[
      3  abort                aborted    20: T2 S
      4             commit    committed
 
-   T2 finds nothing at 15, which T1 has deleted and brings back.
-   Not serial: T2 alone commits, and its operation 1, fetch 15, was answered none. Run alone it is answered found 2.
-   3 of the 4 cases have such a run.
+   T2 does not find 15, whose delete T1 then undoes.
+   Not serializable: only T2 commits. Its operation 1, fetch 15, returned none; run alone it returns found 2.
+   Case: G8 for DG, own mode none. 3 of the 4 cases give a schedule.
 
-   To mend it (each change tried by itself):
-     - let `delete` ask X or SIX (commit) on the next name, where the own mode on the next name is none, IS, IX or S:
-       the table is then accepted
+   Fix: in [rules.delete], next: request X or SIX for commit duration where the own mode on the next key is
+   none, IS, IX or S. The table is then accepted.
 
-The script of run N, for `kr run delete-of-five-modes.toml SCRIPT`: kr_explain delete-of-five-modes.toml --script N
+To replay the schedule of cause N:
+    kr_explain delete-of-five-modes.toml --script N >schedule.json
+    kr run delete-of-five-modes.toml schedule.json
 "#,
         scripts: &[Some(
             r#"{"format":1,"opening":[[10,1],[15,2],[20,3],[30,4]],"steps":[[1,"delete",15],[2,"fetch",15],[1,"abort"],[2,"commit"]]}"#,
@@ -56,12 +57,12 @@ The script of run N, for `kr run delete-of-five-modes.toml SCRIPT`: kr_explain d
             changes: &[("current = [{ mode = \"X\", span = \"commit\" }]", "")],
         },
         word: "no-insert.toml",
-        text: r#"rejected: 10 of 61 cases fail, by one cause
+        text: r#"rejected: 10 of 61 cases fail. One cause.
 
-1. `insert` asks for no lock on its key. [G6: 6 cases, G7: 4 cases]
-   And what it inserts is not protected.
+1. `insert` requests no lock on its key. [G6: 6, G7: 4 cases]
+   The key that it inserts is not protected.
 
-   A run that goes wrong by G6 for IK from none and none, on 10:1, 30:2:
+   Dirty read. Initial index: 10:1, 30:2.
 
         T1           T2        answer     locks afterwards
      1  insert 20 5            done                         <- too weak
@@ -69,14 +70,15 @@ The script of run N, for `kr run delete-of-five-modes.toml SCRIPT`: kr_explain d
      3  abort                  aborted    20: T2 S
      4               commit    committed
 
-   T2 reads 20, which T1 has inserted and takes back.
-   Not serial: T2 alone commits, and its operation 1, fetch 20, was answered found 5. Run alone it is answered none.
-   8 of the 10 cases have such a run.
+   T2 reads 20, whose insert T1 then undoes.
+   Not serializable: only T2 commits. Its operation 1, fetch 20, returned found 5; run alone it returns none.
+   Case: G6 for IK, own modes none on the next key and none on the key. 8 of the 10 cases give a schedule.
 
-   To mend it (each change tried by itself):
-     - let `insert` ask X (commit) on its key: the table is then accepted
+   Fix: in [rules.insert], current: request X for commit duration. The table is then accepted.
 
-The script of run N, for `kr run no-insert.toml SCRIPT`: kr_explain no-insert.toml --script N
+To replay the schedule of cause N:
+    kr_explain no-insert.toml --script N >schedule.json
+    kr run no-insert.toml schedule.json
 "#,
         scripts: &[Some(
             r#"{"format":1,"opening":[[10,1],[30,2]],"steps":[[1,"insert",20,5],[2,"fetch",20],[1,"abort"],[2,"commit"]]}"#,
@@ -92,14 +94,15 @@ The script of run N, for `kr run no-insert.toml SCRIPT`: kr_explain no-insert.to
             )],
         },
         word: "goes-on.toml",
-        text: r#"rejected: 36 of 988 cases fail, by one cause
+        text: r#"rejected: 36 of 988 cases fail. One cause.
 
-1. I-X held and N-S asked make I-N, which protects less. [G6: 36 cases]
-   Locks are tested and kept in the converted mode. This concerns an own inserted key, after `insert`.
-   I-X lets in a fetch of that key, for which `fetch-hit` asks N-S on its key; to one who holds I-X there already that
-   is I-N, and I-N stands beside I-X.
+1. I-X held and N-S requested convert to I-N, a weaker mode. [G6: 36 cases]
+   Locks are tested and held in the converted mode. After `insert` a transaction must protect a key that it
+   inserted.
+   Where another transaction itself holds I-X there, the N-S that `fetch-hit` requests on its key converts to
+   I-N, which does not conflict with held I-X: it can fetch that key.
 
-   A run that goes wrong by G6 for IK from none and none, on 10:1, 30:2:
+   Dirty read. Initial index: 10:1, 30:2.
 
         T1           T2        answer     locks afterwards
      1  insert 20 5            done       20: T1 I-X
@@ -108,14 +111,15 @@ The script of run N, for `kr run no-insert.toml SCRIPT`: kr_explain no-insert.to
      4  abort                  aborted    20: T2 N-S
      5               commit    committed
 
-   T2 reads 20, which T1 has inserted and takes back.
-   Not serial: T2 alone commits, and its operation 1, fetch 20, was answered found 5. Run alone it is answered none.
-   5 of the 36 cases have such a run.
+   T2 reads 20, whose insert T1 then undoes.
+   Not serializable: only T2 commits. Its operation 1, fetch 20, returned found 5; run alone it returns none.
+   Case: G6 for IK, own modes none on the next key and none on the key. 5 of the 36 cases give a schedule.
 
-   To mend it (each change tried by itself):
-     - let I-X held and N-S asked make I-X or X-X: the table is then accepted
+   Fix: in [convert], I-X: N-S = "I-X" or "X-X". The table is then accepted.
 
-The script of run N, for `kr run goes-on.toml SCRIPT`: kr_explain goes-on.toml --script N
+To replay the schedule of cause N:
+    kr_explain goes-on.toml --script N >schedule.json
+    kr run goes-on.toml schedule.json
 "#,
         scripts: &[Some(
             r#"{"format":1,"opening":[[10,1],[30,2]],"steps":[[1,"insert",20,5],[1,"fetch",20],[2,"fetch",20],[1,"abort"],[2,"commit"]]}"#,
@@ -131,13 +135,15 @@ The script of run N, for `kr run goes-on.toml SCRIPT`: kr_explain goes-on.toml -
             )],
         },
         word: "update-of-five-modes.toml",
-        text: r#"rejected: 3 of 275 cases fail, by one cause
+        text: r#"rejected: 3 of 275 cases fail. One cause.
 
-1. `update` does not keep its lock on its key. [G9: 3 cases]
-   Its lock there has to protect an own updated key.
-   Where nothing is held, nothing is refused: it lets in a fetch of that key, for which `fetch-hit` asks S on its key.
+1. `update` releases its lock on its key too early. [G9: 3 cases]
+   After `update` a transaction must protect, until it ends, a key that it updated.
+   It requests X there for instant duration, so it then holds only what it held before: none, IS or S.
+   No held lock conflicts with the S that `fetch-hit` requests on its key: another transaction can fetch that
+   key.
 
-   A run that goes wrong by G9 for UK from none, on 10:1, 20:2, 30:3:
+   Dirty read. Initial index: 10:1, 20:2, 30:3.
 
         T1           T2        answer     locks afterwards
      1  update 20 5            updated 2                    <- too weak
@@ -145,15 +151,16 @@ The script of run N, for `kr run goes-on.toml SCRIPT`: kr_explain goes-on.toml -
      3  abort                  aborted    20: T2 S
      4               commit    committed
 
-   T2 reads 20 with the value that T1 has given it and takes back.
-   Not serial: T2 alone commits, and its operation 1, fetch 20, was answered found 5. Run alone it is answered found
+   T2 reads 20 with the value of an update that T1 then undoes.
+   Not serializable: only T2 commits. Its operation 1, fetch 20, returned found 5; run alone it returns found
    2.
-   2 of the 3 cases have such a run.
+   Case: G9 for UK, own mode none. 2 of the 3 cases give a schedule.
 
-   To mend it (each change tried by itself):
-     - let `update` ask X or SIX (commit) on its key: the table is then accepted
+   Fix: in [rules.update], current: request X or SIX for commit duration. The table is then accepted.
 
-The script of run N, for `kr run update-of-five-modes.toml SCRIPT`: kr_explain update-of-five-modes.toml --script N
+To replay the schedule of cause N:
+    kr_explain update-of-five-modes.toml --script N >schedule.json
+    kr run update-of-five-modes.toml schedule.json
 "#,
         scripts: &[Some(
             r#"{"format":2,"opening":[[10,1],[20,2],[30,3]],"steps":[[1,"update",20,5],[2,"fetch",20],[1,"abort"],[2,"commit"]]}"#,
@@ -169,13 +176,13 @@ The script of run N, for `kr run update-of-five-modes.toml SCRIPT`: kr_explain u
             )],
         },
         word: "no-lock-of-updates.toml",
-        text: r#"rejected: 54 of 275 cases fail, by one cause
+        text: r#"rejected: 54 of 275 cases fail. One cause.
 
-1. `update` asks for no lock on its key. [G2: 6 cases, G4: 6 cases, G6: 36 cases, G9: 6 cases]
-   So no lock at all keeps out an update of that key. Under none is a key that was read, an own inserted key or an own
-   updated key safe.
+1. `update` requests no lock on its key. [G2: 6, G4: 6, G6: 36, G9: 6 cases]
+   So whatever locks are held, another transaction can update that key: no transaction can protect a key that
+   it read, a key that it inserted or a key that it updated.
 
-   A run that goes wrong by G6 for IK from none and none, on 10:1, 30:2:
+   Dirty write. Initial index: 10:1, 30:2.
 
         T1           T2           answer     locks afterwards
      1  insert 20 5               done       20: T1 IX         <- too weak
@@ -183,15 +190,16 @@ The script of run N, for `kr run update-of-five-modes.toml SCRIPT`: kr_explain u
      3  abort                     aborted
      4               commit       committed
 
-   T2 updates 20, which T1 has inserted and takes back.
-   Not serial: T2 alone commits, and its operation 1, update 20 6, was answered updated 5. Run alone it is answered
+   T2 updates 20, whose insert T1 then undoes.
+   Not serializable: only T2 commits. Its operation 1, update 20 6, returned updated 5; run alone it returns
    absent.
-   24 of the 54 cases have such a run.
+   Case: G6 for IK, own modes none on the next key and none on the key. 24 of the 54 cases give a schedule.
 
-   To mend it (each change tried by itself):
-     - let `update` ask SIX or X (commit) on its key: the table is then accepted
+   Fix: in [rules.update], current: request SIX or X for commit duration. The table is then accepted.
 
-The script of run N, for `kr run no-lock-of-updates.toml SCRIPT`: kr_explain no-lock-of-updates.toml --script N
+To replay the schedule of cause N:
+    kr_explain no-lock-of-updates.toml --script N >schedule.json
+    kr run no-lock-of-updates.toml schedule.json
 "#,
         scripts: &[Some(
             r#"{"format":2,"opening":[[10,1],[30,2]],"steps":[[1,"insert",20,5],[2,"update",20,6],[1,"abort"],[2,"commit"]]}"#,

@@ -15,15 +15,15 @@ const SEVERAL: &[Told] = &[
             )],
         },
         word: "two-causes.toml",
-        text: r#"rejected: 18 of 244 cases fail, by 2 causes
+        text: r#"rejected: 18 of 244 cases fail. Two causes.
 
-1. `insert` takes too weak a lock on its key: IX. [G6: 15 cases]
-   This is so where the own mode on the next name is none, IS or IX.
-   Its lock there has to protect an own inserted key.
-   IX lets in a fetch that finds nothing in the gap below, for which `fetch-miss` asks IS on the next name, and IS
-   stands beside IX.
+1. `insert` requests too weak a lock on its key: IX. [G6: 15 cases]
+   After `insert` a transaction must protect, until it ends, a key that it inserted.
+   It requests only IX there where its own mode on the next key is none, IS or IX.
+   Held IX does not conflict with the IS that `fetch-miss` requests on the next key: another transaction can
+   fetch in the gap below that key and find nothing.
 
-   A run that goes wrong by G6 for IK from none and none, on 10:1, 30:2:
+   Phantom. Initial index: 10:1, 30:2.
 
         T1           T2        T3           answer     locks afterwards
      1  insert 20 5                         done       20: T1 IX             <- too weak
@@ -34,22 +34,20 @@ const SEVERAL: &[Told] = &[
      6               fetch 17               found 6    17: T2 S; 20: T2 IS
      7               commit                 committed
 
-   T2 finds nothing at 17; its lock on that gap is on 20, which T1 has inserted and takes back. Nothing is locked
-   where T3 then inserts 17.
-   Not serial: operation 1 of T2, fetch 17, was answered none. Run one after another in the order of the commits (T3,
-   T2) it is answered found 6.
-   No other order of them gives the answers of this run either.
-   3 of the 15 cases have such a run.
+   T2 looks for 17 twice, and has locked the gap at 20, whose insert T1 undoes. No lock then blocks T3, which
+   inserts 17 in between.
+   Not serializable: operation 1 of T2, fetch 17, returned none; run serially in commit order (T3, T2) it
+   returns found 6. No other serial order gives the answers of this schedule either.
+   Case: G6 for IK, own modes none on the next key and none on the key. 3 of the 15 cases give a schedule.
 
-   To mend it (each change tried by itself):
-     - let `insert` ask X (commit) on its key, where the own mode on the next name is none, IS or IX: these cases then
-       hold
+   Fix: in [rules.insert], current: request X for commit duration. The cases of this cause then hold.
 
-2. `fetch-miss` takes too weak a lock on the next name: IS. [G3: 3 cases]
-   Its lock there has to protect a gap that was read.
-   IS lets in an insert into the gap below, for which `insert` asks IX on the next name, and IX stands beside IS.
+2. `fetch-miss` requests too weak a lock on the next key: IS. [G3: 3 cases]
+   After `fetch-miss` a transaction must protect, until it ends, a gap that it read.
+   Held IS does not conflict with the IX that `insert` requests on the next key: another transaction can
+   insert a key into the gap below that key.
 
-   A run that goes wrong by G3 for RG from none, on 10:1, 20:2, 30:3:
+   Phantom. Initial index: 10:1, 20:2, 30:3.
 
         T1        T2           answer     locks afterwards
      1  fetch 15               none       20: T1 IS             <- too weak
@@ -58,15 +56,16 @@ const SEVERAL: &[Told] = &[
      4  fetch 15               found 5    15: T1 S; 20: T1 IS
      5  commit                 committed
 
-   T1 reads that 15 is not there, and again; in between T2 inserts it.
-   Not serial: operation 1 of T1, fetch 15, was answered none. Run one after another in the order of the commits (T2,
-   T1) it is answered found 5.
-   No other order of them gives the answers of this run either.
+   T1 looks for 15 twice, and T2 inserts it in between.
+   Not serializable: operation 1 of T1, fetch 15, returned none; run serially in commit order (T2, T1) it
+   returns found 5. No other serial order gives the answers of this schedule either.
+   Case: G3 for RG, own mode none.
 
-   To mend it (each change tried by itself):
-     - let `fetch-miss` ask S, SIX or X (commit) on the next name: the table is then accepted
+   Fix: in [rules.fetch-miss], next: request S, SIX or X for commit duration. The table is then accepted.
 
-The script of run N, for `kr run two-causes.toml SCRIPT`: kr_explain two-causes.toml --script N
+To replay the schedule of cause N:
+    kr_explain two-causes.toml --script N >schedule.json
+    kr run two-causes.toml schedule.json
 "#,
         scripts: &[
             Some(
@@ -84,12 +83,13 @@ The script of run N, for `kr run two-causes.toml SCRIPT`: kr_explain two-causes.
             changes: &[],
         },
         word: "nothing.toml",
-        text: r#"rejected: 16 of 28 cases fail, by 4 causes
+        text: r#"rejected: 16 of 28 cases fail. Four causes.
 
-1. `delete` asks for no lock on its key. [G2: 2 cases, G4: 2 cases]
-   So no lock at all keeps out a delete of that key. Under none is a key that was read safe.
+1. `delete` requests no lock on its key. [G2: 2, G4: 2 cases]
+   So whatever locks are held, another transaction can delete that key: no transaction can protect a key that
+   it read.
 
-   A run that goes wrong by G2 for RK from none, on 10:1, 20:2, 30:3:
+   Non-repeatable read. Initial index: 10:1, 20:2, 30:3.
 
         T1        T2         answer     locks afterwards
      1  fetch 20             found 2                      <- too weak
@@ -98,16 +98,18 @@ The script of run N, for `kr run two-causes.toml SCRIPT`: kr_explain two-causes.
      4  fetch 20             none
      5  commit               committed
 
-   T1 reads 20, and again; in between T2 deletes it.
-   Not serial: operation 1 of T1, fetch 20, was answered found 2. Run one after another in the order of the commits
-   (T2, T1) it is answered none.
-   No other order of them gives the answers of this run either.
-   2 of the 4 cases have such a run.
+   T1 reads 20 twice, and T2 deletes it in between.
+   Not serializable: operation 1 of T1, fetch 20, returned found 2; run serially in commit order (T2, T1) it
+   returns none. No other serial order gives the answers of this schedule either.
+   Case: G2 for RK, own mode none. 2 of the 4 cases give a schedule.
 
-2. `insert` asks for no lock on the next name. [G3: 2 cases, G4: 2 cases, G5: 2 cases]
-   So no lock at all keeps out an insert into the gap below. Under none is a gap that was read safe.
+   No fix by a change of this entry alone was found.
 
-   A run that goes wrong by G3 for RG from none, on 10:1, 20:2, 30:3:
+2. `insert` requests no lock on the next key. [G3: 2, G4: 2, G5: 2 cases]
+   So whatever locks are held, another transaction can insert a key into the gap below that key: no
+   transaction can protect a gap that it read.
+
+   Phantom. Initial index: 10:1, 20:2, 30:3.
 
         T1        T2           answer     locks afterwards
      1  fetch 15               none                         <- too weak
@@ -116,16 +118,18 @@ The script of run N, for `kr run two-causes.toml SCRIPT`: kr_explain two-causes.
      4  fetch 15               found 5
      5  commit                 committed
 
-   T1 reads that 15 is not there, and again; in between T2 inserts it.
-   Not serial: operation 1 of T1, fetch 15, was answered none. Run one after another in the order of the commits (T2,
-   T1) it is answered found 5.
-   No other order of them gives the answers of this run either.
-   3 of the 6 cases have such a run.
+   T1 looks for 15 twice, and T2 inserts it in between.
+   Not serializable: operation 1 of T1, fetch 15, returned none; run serially in commit order (T2, T1) it
+   returns found 5. No other serial order gives the answers of this schedule either.
+   Case: G3 for RG, own mode none. 3 of the 6 cases give a schedule.
 
-3. `fetch-hit` asks for no lock on its key. [G6: 4 cases]
-   So no lock at all keeps out a fetch of that key. Under none is an own inserted key safe.
+   No fix by a change of this entry alone was found.
 
-   A run that goes wrong by G6 for IK from none and none, on 10:1, 30:2:
+3. `fetch-hit` requests no lock on its key. [G6: 4 cases]
+   So whatever locks are held, another transaction can fetch that key: no transaction can protect a key that
+   it inserted.
+
+   Dirty read. Initial index: 10:1, 30:2.
 
         T1           T2        answer     locks afterwards
      1  insert 20 5            done                         <- too weak
@@ -133,15 +137,17 @@ The script of run N, for `kr run two-causes.toml SCRIPT`: kr_explain two-causes.
      3  abort                  aborted
      4               commit    committed
 
-   T2 reads 20, which T1 has inserted and takes back.
-   Not serial: T2 alone commits, and its operation 1, fetch 20, was answered found 5. Run alone it is answered none.
-   1 of the 4 cases has such a run.
+   T2 reads 20, whose insert T1 then undoes.
+   Not serializable: only T2 commits. Its operation 1, fetch 20, returned found 5; run alone it returns none.
+   Case: G6 for IK, own modes none on the next key and none on the key. 1 of the 4 cases gives a schedule.
 
-4. `fetch-miss` asks for no lock on the next name. [G8: 2 cases]
-   So no lock at all keeps out a fetch that finds nothing in the gap below. Under none is a gap with an own deleted
-   key safe.
+   No fix by a change of this entry alone was found.
 
-   A run that goes wrong by G8 for DG from none, on 10:1, 15:2, 20:3, 30:4:
+4. `fetch-miss` requests no lock on the next key. [G8: 2 cases]
+   So whatever locks are held, another transaction can fetch in the gap below that key and find nothing: no
+   transaction can protect a gap in which it deleted a key.
+
+   Dirty read. Initial index: 10:1, 15:2, 20:3, 30:4.
 
         T1         T2        answer     locks afterwards
      1  delete 15            deleted 2                    <- too weak
@@ -149,11 +155,15 @@ The script of run N, for `kr run two-causes.toml SCRIPT`: kr_explain two-causes.
      3  abort                aborted
      4             commit    committed
 
-   T2 finds nothing at 15, which T1 has deleted and brings back.
-   Not serial: T2 alone commits, and its operation 1, fetch 15, was answered none. Run alone it is answered found 2.
-   1 of the 2 cases has such a run.
+   T2 does not find 15, whose delete T1 then undoes.
+   Not serializable: only T2 commits. Its operation 1, fetch 15, returned none; run alone it returns found 2.
+   Case: G8 for DG, own mode none. 1 of the 2 cases gives a schedule.
 
-The script of run N, for `kr run nothing.toml SCRIPT`: kr_explain nothing.toml --script N
+   No fix by a change of this entry alone was found.
+
+To replay the schedule of cause N:
+    kr_explain nothing.toml --script N >schedule.json
+    kr run nothing.toml schedule.json
 "#,
         scripts: &[
             Some(
