@@ -4,7 +4,7 @@
 use crate::answers::name_of;
 use crate::granted::granted_sentence;
 use crate::lists::{listed, modes_listed, put_once};
-use crate::words::{cover_words, deed_words, row_word, rule_step};
+use crate::words::{cover_words, deed_words, row_word, rule_step, side_words};
 use crate::wrap::{INDENT, write_paragraph};
 use kr_cases::Memory;
 use kr_causes::{Blame, Cause, must_conflict, own_next};
@@ -51,8 +51,8 @@ fn body<P: Protocol>(
         Blame::Place { row, side } => {
             put_void_sentences(alloc, protocol, &mut out, cases, row, side, can)?
         }
-        Blame::Request { row, asked, .. } => {
-            put_request_sentences(alloc, protocol, &mut out, cases, row, asked)?
+        Blame::Request { row, side, asked } => {
+            put_request_sentences(alloc, protocol, &mut out, cases, row, side, asked)?
         }
         Blame::Conversion { .. } => out.push(conversion_sentence(alloc, cases)?)?,
         Blame::Pair { held, .. } => out.push(pair_sentence(alloc, protocol, cases, held)?)?,
@@ -158,8 +158,10 @@ fn put_request_sentences<P: Protocol>(
     out: &mut Vec<String>,
     cases: &[FailedCase],
     row: Row,
+    side: Side,
     asked: Option<(Mode, Span)>,
 ) -> Result<(), Memory> {
+    let side = side_words(side);
     out.push(must_protect_sentence(alloc, cases, row)?)?;
     let owns = owns_words(alloc, protocol, cases, row)?;
     match asked {
@@ -172,15 +174,15 @@ fn put_request_sentences<P: Protocol>(
                 owns.as_str()
             };
             out.push(format!(in alloc;
-                "It requests {mode} there for instant duration{owns}, so it then holds {held}."
+                "It requests {mode} on {side} for instant duration{owns}, so it then holds {held}."
             )?)?;
         }
         Some((mode, Span::Commit)) if !owns.is_empty() => {
             let mode = name_of(protocol, mode);
-            out.push(format!(in alloc; "It requests only {mode} there{owns}.")?)?;
+            out.push(format!(in alloc; "It requests only {mode} on {side}{owns}.")?)?;
         }
         None if !owns.is_empty() => {
-            out.push(format!(in alloc; "It requests no lock there{owns}.")?)?;
+            out.push(format!(in alloc; "It requests no lock on {side}{owns}.")?)?;
         }
         _ => {}
     }

@@ -50,10 +50,9 @@ fn the_effort_is_bounded(rt: HostRuntime) -> Result<(), Fail> {
     let explanation = explain(alloc, &table)?;
     let text = explanation.text(alloc, &table, "t")?;
     let text = text.as_str();
-    assert!(rt; text.starts_with("rejected: 216 of 988 cases fail, by 4 causes\n"));
+    assert!(rt; text.starts_with("rejected: 216 of 988 cases fail. Four causes.\n"));
     assert!(rt; text.contains("[G6: 144 cases]"));
-    assert!(rt;
-        text.contains("28 of the 101 cases that were tried have such a run; not tried: 43.")
-    );
+    assert!(rt; text.contains("28 of the 101 cases that were tried"));
+    assert!(rt; text.contains("give a schedule; not tried: 43."));
     Ok(())
 }

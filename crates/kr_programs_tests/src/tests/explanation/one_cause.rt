@@ -20,7 +20,8 @@ const ROWS: &[Told] = &[
 
 1. `delete` releases its lock on the next key too early. [G8: 4 cases]
    After `delete` a transaction must protect, until it ends, a gap in which it deleted a key.
-   It requests X there for instant duration, so it then holds only what it held before: none, IS, IX or S.
+   It requests X on the next key for instant duration, so it then holds only what it held before: none, IS, IX
+   or S.
    No held lock conflicts with the S that `fetch-miss` requests on the next key: another transaction can fetch
    in the gap below that key and find nothing.
 
@@ -139,7 +140,7 @@ To replay the schedule of cause N:
 
 1. `update` releases its lock on its key too early. [G9: 3 cases]
    After `update` a transaction must protect, until it ends, a key that it updated.
-   It requests X there for instant duration, so it then holds only what it held before: none, IS or S.
+   It requests X on its key for instant duration, so it then holds only what it held before: none, IS or S.
    No held lock conflicts with the S that `fetch-hit` requests on its key: another transaction can fetch that
    key.
 

@@ -19,7 +19,7 @@ const SEVERAL: &[Told] = &[
 
 1. `insert` requests too weak a lock on its key: IX. [G6: 15 cases]
    After `insert` a transaction must protect, until it ends, a key that it inserted.
-   It requests only IX there where its own mode on the next key is none, IS or IX.
+   It requests only IX on its key where its own mode on the next key is none, IS or IX.
    Held IX does not conflict with the IS that `fetch-miss` requests on the next key: another transaction can
    fetch in the gap below that key and find nothing.
 
