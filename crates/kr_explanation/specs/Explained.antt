@@ -1,4 +1,4 @@
--- What is explained of a lock table: whether it is accepted, or else safe; and where cases fail, what is to blame, with why it
+-- What is explained of a protocol table: whether it is accepted, or else safe; and where cases fail, what is to blame, with why it
 -- is harmless or runs that go wrong, and changes that mend.
 use Rattle.std.specs.Prelude.{◌≡◌, ◌≤◌, ◌↔◌, ℕ, ◌-◌, ◌==◌, List, All, map, length, Bool, true, false, Option, None, IfSome, is_some, slice_get, option_and_then, if◌then◌else◌}
 use Rattle.std.specs.List.{list_any}

@@ -1,5 +1,5 @@
-//! Why cases of a lock table fail: what is to blame, why it is harmless or a run that goes wrong by it, and what mends it; as
-//! a text, and each run as a script.
+//! Why cases of a protocol table fail: what is to blame, why it is harmless or a schedule that goes wrong by it, and its fixes;
+//! as a text, and each schedule as a script.
 #![tactic(auto)]
 
 mod effort;

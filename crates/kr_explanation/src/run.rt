@@ -1,4 +1,4 @@
-//! Runs that are told, each with its script as a line of JSON.
+//! Schedules that are shown, each with its script as a line of JSON.
 ghost use Rattle.std.specs.Prelude.{string_bytes};
 ghost use Rattle.kr_model.specs.Map.{IsMap};
 ghost use Rattle.kr_explanation.specs.Lines.{IsLineOf};

@@ -1,4 +1,4 @@
-//! The scripts of the runs that are told.
+//! The scripts of the schedules that are shown.
 ghost use Rattle.std.specs.Prelude.{◌≡◌, IfOk, IfSome, option_map, string_bytes};
 ghost use Rattle.kr_model.specs.Map.{IsMap};
 ghost use Rattle.kr_explanation.specs.Explained.{run_at};

@@ -1,4 +1,4 @@
-//! The answers of a protocol at any numbers. One that is no mode of it has no name, asks nothing, and converts to none.
+//! What a protocol says of any numbers. One that is no mode of it has no name, requests nothing, and converts to no lock.
 
 use kr_model::{Mode, Row, Side, Span};
 use kr_protocol::Protocol;
@@ -12,7 +12,7 @@ pub fn name_of<P: Protocol>(protocol: &P, mode: Mode) -> &str {
     }
 }
 
-/// What the row asks for at the side, of one who holds `own_next` on the next name.
+/// What the row requests at the side, of one who holds `own_next` on the next name.
 pub fn asked<P: Protocol>(
     protocol: &P,
     row: Row,
@@ -26,7 +26,7 @@ pub fn asked<P: Protocol>(
     }
 }
 
-/// The mode of one who holds a mode and asks for another.
+/// The mode that a held and a requested mode convert to.
 pub fn converted<P: Protocol>(protocol: &P, held: Mode, requested: Mode) -> Mode {
     let count = protocol.count();
     if held <= count && requested <= count {

@@ -84,7 +84,7 @@ fn copies_of(alloc: Global, order: &[&Program]) -> Result<Vec<Program>, Memory> 
     Ok(programs)
 }
 
-/// A run of which only the opening map and the committed programs are told.
+/// A run of which only the opening map and the committed programs are known.
 fn ran_with(alloc: Global, opening: Index, programs: Vec<Program>) -> Ran {
     Ran {
         opening,

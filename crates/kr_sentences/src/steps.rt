@@ -114,7 +114,7 @@ fn mark(script: &Counterexample, at: usize) -> &'static str {
     }
 }
 
-/// Attempts a step, and answers its line, of this number and with this mark.
+/// Attempts a step, and returns its line, of this number and with this mark.
 fn step_line<P: Protocol>(
     alloc: Global,
     machine: &mut Machine<&P, Tree, Buckets>,
@@ -147,7 +147,7 @@ fn lines_of<P: Protocol>(
     lines_by(alloc, protocol, &mut machine, &columns, script)
 }
 
-/// The same, by a machine that stands at the beginning.
+/// The same, by a machine that has taken no step.
 fn lines_by<P: Protocol>(
     alloc: Global,
     protocol: &P,
@@ -187,7 +187,7 @@ fn widths(alloc: Global, lines: &[Line]) -> Result<Vec<usize>, Memory> {
     Ok(widths)
 }
 
-/// Writes a line of the table behind five spaces: numbers stand on the right of their column, and all else on the left.
+/// Writes a line of the table behind five spaces: numbers are on the right of their column, and all else on the left.
 /// No line ends in a space.
 fn write_row(out: &mut String, line: &Line, widths: &[usize]) -> Result<(), Memory> {
     let mut gap: usize = 5;

@@ -2,7 +2,7 @@
 
 use kr_cases::Memory;
 
-/// So many spaces stand before what is said of a cause.
+/// So many spaces come before what is said of a cause.
 pub const INDENT: usize = 3;
 
 /// So many characters a line has at most, unless one word is longer.
