@@ -171,12 +171,19 @@ impl<P: Protocol> Stage<'_, P> {
         let footings = Footings::beside(self.alloc, &self.table, above)?;
         for (at, footing) in footings.reached.iter().enumerate() {
             let beside = if footing.is_between { FREE } else { above };
-            if self.lets_delete(held.scene, footing.state, beside) {
+            let may_be = !footing.is_between || self.is_of_key();
+            if may_be && self.lets_delete(held.scene, footing.state, beside) {
                 let steps = footings.steps(self.alloc, at)?;
                 return self.ended(held, entrance, &steps, runs_left);
             }
         }
         Ok(None)
+    }
+
+    /// Whether the case is about a key. What is said of one about a gap takes Y for the name after A, so that the intruder may
+    /// not put a key in between.
+    fn is_of_key(&self) -> bool {
+        !matches!(self.case.cover, Cover::ReadGap | Cover::DeletedGap)
     }
 
     /// Whether the intruder can delete A with this lock state on the next name, beside another's there.
