@@ -12,6 +12,8 @@ pub(crate) const C: u64 = 17;
 pub(crate) const A: u64 = 20;
 /// A free point between A and Y.
 pub(crate) const G: u64 = 25;
+/// A free point between A and G.
+pub(crate) const BELOW_G: u64 = 24;
 /// The next name of A, which stands in the opening.
 pub(crate) const Y: u64 = 30;
 

@@ -1,7 +1,9 @@
 //! What a lock table says of modes.
 ghost use Rattle.std.specs.Prelude.{◌≡◌, ◌≤◌};
 
-use kr_model::{Cover, Mode, Row, Side, Span};
+use crate::request::Request;
+use kr_decide::{after, is_blocked};
+use kr_model::{Cover, LockState, Mode, Row, Side, Span};
 use kr_protocol::Protocol;
 
 /// A lock table, asked about any numbers: one past the table's modes is taken for 0, no lock.
@@ -67,6 +69,41 @@ impl<P: Protocol> Table<'_, P> {
             Some((mode, _)) => self.stands_beside(self.convert(own, mode), held),
             None => true,
         }
+    }
+
+    /// The lock state, its mode 0 where it is past the table's modes.
+    fn known_state(&self, state: LockState) -> LockState
+        ensures { result.mode ≤ (P.table self.now.protocol.now).count }
+    {
+        LockState {
+            mode: self.known(state.mode),
+            ..state
+        }
+    }
+
+    /// What one has on a name after its request there is granted, where it has `next` on the next name.
+    pub(crate) fn moved(&self, request: Request, own: LockState, next: LockState) -> LockState {
+        let (row, side) = request;
+        let (own, next) = (self.known_state(own), self.known_state(next));
+        after(self.protocol, row, side, own, next)
+    }
+
+    /// Whether another's lock state on the name grants the request.
+    pub(crate) fn lets_in_at(
+        &self,
+        request: Request,
+        own: LockState,
+        next: LockState,
+        other: LockState,
+    ) -> bool {
+        let (row, side) = request;
+        let (own, next) = (self.known_state(own), self.known_state(next));
+        !is_blocked(self.protocol, row, side, own, next, self.known_state(other))
+    }
+
+    /// Whether a row is offered: that of updates only where they are.
+    pub(crate) fn has_row(&self, row: Row) -> bool {
+        self.protocol.updates() || row != Row::Update
     }
 
     /// Whether a cover has to conflict with what a row asks for: an update only where updates are offered.

@@ -15,6 +15,9 @@ mod survey;
 
 pub use decision::{Decision, decide};
 pub use kr_model::{Cover, GapUse, KeyUse, LockState, Memory, Mode, Row, Side};
+pub use moves::{FREE, after, is_blocked, keeps_out};
+pub use numbers::{STATES, state_number};
+pub use opening::protects;
 pub use pair::{Hole, Pair, Way};
 pub use safe::{Rejected, Safe, WhyRejected};
 pub use survey::Survey;

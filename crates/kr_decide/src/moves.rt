@@ -9,7 +9,7 @@ use kr_model::{GapUse, KeyUse, LockState, Mode, Row, Side, Span};
 use kr_protocol::Protocol;
 
 /// What a transaction has on a name where it has requested nothing.
-pub(crate) const FREE: LockState = LockState {
+pub const FREE: LockState = LockState {
     mode: 0,
     key: KeyUse::Free,
     gap: GapUse::Free,
@@ -51,7 +51,7 @@ pub(crate) fn conflicts<P: Protocol>(
 }
 
 /// Whether another's lock blocks the request of a transaction that has `own` on the name and `next` on the next one.
-pub(crate) fn is_blocked<P: Protocol>(
+pub fn is_blocked<P: Protocol>(
     protocol: &P,
     row: Row,
     side: Side,
@@ -75,7 +75,7 @@ pub(crate) fn is_blocked<P: Protocol>(
 }
 
 /// The lock state after a request is granted.
-pub(crate) fn after<P: Protocol>(
+pub fn after<P: Protocol>(
     protocol: &P,
     row: Row,
     side: Side,
@@ -223,7 +223,7 @@ pub(crate) fn may_beside<P: Protocol>(protocol: &P, row: Row, side: Side, other:
 }
 
 /// Whether no other transaction may be granted a request at this row and side beside a lock state.
-pub(crate) fn keeps_out(state: LockState, row: Row, side: Side) -> bool
+pub fn keeps_out(state: LockState, row: Row, side: Side) -> bool
     ensures { result ≡ safe.keeps_out state row side }
 {
     keeps_out_by_key(state.key, row, side) || keeps_out_by_gap(state.gap, row, side)

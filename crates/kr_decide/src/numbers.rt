@@ -5,7 +5,7 @@ ghost use Rattle.kr_decide.specs.Numbers.{key_number, gap_number, deleted_number
 use kr_model::{GapUse, KeyUse, LockState};
 
 /// How many lock states there are, of at most 15 modes.
-pub(crate) const STATES: usize = 384;
+pub const STATES: usize = 384;
 
 /// How many pairs of lock states there are.
 pub(crate) const PAIRS: usize = 147456;
@@ -34,7 +34,7 @@ fn gap_number(gap: GapUse) -> usize
 }
 
 /// The number of a lock state, below `STATES`: each has its own.
-pub(crate) fn state_number(state: LockState) -> usize
+pub fn state_number(state: LockState) -> usize
     requires { state.mode ≤ 15 }
     ensures value { result ≡ state_number state }
     ensures below { result < 384 }

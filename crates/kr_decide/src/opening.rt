@@ -47,7 +47,7 @@ fn of_gap(gap: GapUse, cover: Cover) -> bool
 }
 
 /// Whether a lock with this state has a cover to protect.
-pub(crate) fn protects(state: LockState, cover: Cover) -> bool
+pub fn protects(state: LockState, cover: Cover) -> bool
     ensures { result ≡ protects state cover }
 {
     of_key(state.key, cover) || of_gap(state.gap, cover)

@@ -9,6 +9,12 @@ const MOST_RUNS: usize = 4_000;
 /// A search for one case runs so many scripts at most.
 const MOST_RUNS_OF_CASE: usize = 100;
 
+/// Scripts by scenes are sought for so many cases of a cause at most.
+pub const MOST_STAGED: usize = 100;
+
+/// Of these, so many are run for one case at most.
+pub const MOST_STAGED_RUNS: usize = 10;
+
 /// Changes are tried for so many causes of a table at most.
 pub const MOST_MENDED: usize = 16;
 

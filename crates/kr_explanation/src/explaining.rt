@@ -10,7 +10,7 @@ use crate::harmless::{is_harmless, why_harmless};
 use crate::told_run::{ToldRun, told_run};
 use kr_cases::{Memory, WhyRejected, cases, check};
 use kr_causes::{Blame, Cause, Mend, causes, mends};
-use kr_counterexample::Closure;
+use kr_counterexample::{Closure, Scenes};
 use kr_decide::Survey;
 use kr_model::FailedCase;
 use kr_protocol::Protocol;
@@ -21,6 +21,7 @@ use std::alloc::{AllocError, Global};
 struct Known<'a> {
     survey: &'a Survey,
     closure: &'a Closure,
+    scenes: &'a Scenes,
     /// All its failed cases.
     failed: &'a [FailedCase],
     /// What may be tried for each cause.
@@ -86,9 +87,11 @@ fn explained<P: Protocol>(
     ensures told { IfOk result (λ list. All (IsTold (P.table protocol.now) failed.now) list.items) }
 {
     let closure = Closure::of(alloc, protocol)?;
+    let scenes = Scenes::of(alloc, protocol)?;
     let known = Known {
         survey,
         closure: &closure,
+        scenes: &scenes,
         failed,
         effort: Effort::of_each(harmful(survey, failed, &causes)),
     };
@@ -177,7 +180,15 @@ fn sought<P: Protocol>(
         _ => None,
     };
     let cases = holes_first(alloc, known.survey, &cause.cases)?;
-    told_run(alloc, protocol, known.closure, &cases, prefer, known.effort)
+    told_run(
+        alloc,
+        protocol,
+        known.closure,
+        known.scenes,
+        &cases,
+        prefer,
+        known.effort,
+    )
 }
 
 /// The cases, those first to whose cover and mode a hole belongs; and before the others the first of each rule, cover and

@@ -3,11 +3,11 @@ ghost use Rattle.std.specs.Prelude.{◌≡◌, ◌≤◌, None, IfOk, IfSome, le
 ghost use Rattle.kr_counterexample.specs.GoesWrong.{GoesWrong};
 ghost use Rattle.kr_explanation.specs.Explained.{GoesWrongWith};
 
-use crate::effort::Effort;
+use crate::effort::{Effort, MOST_STAGED, MOST_STAGED_RUNS};
 use crate::run::Run;
 use crate::scripts::run_of;
 use kr_cases::Memory;
-use kr_counterexample::{Closure, Counterexample};
+use kr_counterexample::{Closure, Counterexample, Fit, Scenes};
 use kr_model::{FailedCase, Row, Side};
 use kr_protocol::Protocol;
 use std::alloc::Global;
@@ -46,6 +46,7 @@ pub fn told_run<P: Protocol>(
     alloc: Global,
     protocol: &P,
     closure: &Closure,
+    scenes: &Scenes,
     cases: &[FailedCase],
     prefer: Option<(Row, Side)>,
     effort: Effort,
@@ -54,7 +55,8 @@ pub fn told_run<P: Protocol>(
     ensures tried { IfOk result (λ told. told.tried ≤ length cases.now) }
     ensures runs { IfOk result (λ told. told.runs ≤ told.tried) }
 {
-    let mut told = tried(alloc, protocol, closure, cases, prefer, effort)?;
+    let told = tried(alloc, protocol, closure, cases, prefer, effort)?;
+    let mut told = or_staged(alloc, protocol, scenes, cases, told)?;
     told.is_reached = told.run.is_none() && is_reached(protocol, closure, cases, told.tried);
     Ok(told)
 }
@@ -92,6 +94,58 @@ fn tried<P: Protocol>(
         }
     }
     Ok(told)
+}
+
+/// What was told; or where that is no run, the run that scenes give for one of the cases that were tried.
+fn or_staged<P: Protocol>(
+    alloc: Global,
+    protocol: &P,
+    scenes: &Scenes,
+    cases: &[FailedCase],
+    told: ToldRun,
+) -> Result<ToldRun, Memory>
+    requires wrong { IfSome told.run (GoesWrongWith (P.table protocol.now)) }
+    requires tried { told.tried ≤ length cases.now }
+    requires runs { told.runs ≤ told.tried }
+    ensures wrong { IfOk result (λ told. IfSome told.run (GoesWrongWith (P.table protocol.now))) }
+    ensures tried { IfOk result (λ told. told.tried ≤ length cases.now) }
+    ensures runs { IfOk result (λ told. told.runs ≤ told.tried) }
+{
+    if told.run.is_some() || told.tried == 0 {
+        return Ok(told);
+    }
+    let tried = told.tried;
+    match staged(alloc, protocol, scenes, cases, tried)? {
+        Some(run) => Ok(ToldRun {
+            run: Some(run),
+            runs: 1,
+            tried,
+            is_reached: false,
+        }),
+        None => Ok(told),
+    }
+}
+
+/// The run that scenes give for one of the first cases, of which so many were tried: one that comes to the case's mode as the
+/// case says, if there is one.
+fn staged<P: Protocol>(
+    alloc: Global,
+    protocol: &P,
+    scenes: &Scenes,
+    cases: &[FailedCase],
+    tried: usize,
+) -> Result<Option<Run>, Memory>
+    ensures { IfOk result (λ run. IfSome run (GoesWrongWith (P.table protocol.now))) }
+{
+    for fit in [Fit::Case, Fit::Mode] {
+        for case in cases.iter().take(tried.min(MOST_STAGED)) {
+            let sought = scenes.find(alloc, protocol, case, fit, MOST_STAGED_RUNS)?;
+            if let Some(script) = sought.script {
+                return run_of(alloc, *case, script);
+            }
+        }
+    }
+    Ok(None)
 }
 
 /// Whether some state of the closure has a step that one of the first cases is about, of which so many were tried.
