@@ -9,11 +9,11 @@ or_false : (x : Bool) → (x || false) ≡ x
 or_false true = refl
 or_false false = refl
 
--- a step that can always be taken is found where it is asked for
+-- a step that can always be taken is found where it is wanted
 pub asked : (found asks is : Bool) → found ≡ (asks && true) → asks ≡ is → found ≡ is
 asked found asks is e same = e ∙ and_true asks ∙ same
 
--- a step is found where it is asked for and can be taken
+-- a step is found where it is wanted and can be taken
 pub asked_if : (found asks is can may : Bool) → found ≡ (asks && can) → asks ≡ is → can ≡ may → found ≡ (is && may)
 asked_if found asks is can may e same_asks same_can = e ∙ ap (λ x. x && can) same_asks ∙ ap (λ x. is && x) same_can
 

@@ -43,7 +43,7 @@ has_cover InsertedKey s = is_inserted s.did_a
 has_cover DeletedGap s = not s.p && is_deleted s.did_p
 has_cover UpdatedKey s = is_updated s.did_a
 
--- Whether what is asked for is this mode until commit.
+-- Whether what is requested is this mode until commit.
 abbrev pub is_for_commit : ℕ → Option (ℕ × Span) → Bool
 is_for_commit mode (Some (asked, Commit)) = asked == mode
 is_for_commit mode _ = false

@@ -1,4 +1,4 @@
--- What it is for a script to go wrong under a lock table: the table grants each of its steps, and yet the transactions that
+-- What it is for a script to go wrong under a table: the table grants each of its steps, and yet the transactions that
 -- commit have answers that they don't have when they are run whole, one after another in the order of their commits.
 use Rattle.std.specs.Prelude.{ℕ, List, Option, IsTrue, All, slice_get, option_map}
 use Rattle.kr_model.specs.declared.Event.{Event}

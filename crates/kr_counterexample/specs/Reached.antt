@@ -1,4 +1,4 @@
--- What it is for a transaction to come to a state under a lock table: a script leads to it.
+-- What it is for a transaction to come to a state under a table: a script leads to it.
 use Rattle.std.specs.Prelude.{◌≡◌, ℕ, ◌==◌, Bool, List, IsTrue, All}
 use Rattle.std.specs.List.{list_any}
 use Rattle.kr_model.specs.declared.Event.{Event}

@@ -12,7 +12,7 @@ pub struct Counterexample {
     pub opening: Vec<(u64, u64)>,
     /// The steps, in order.
     pub events: Vec<Event>,
-    /// The row and the side of the lock table at which the intruder comes through.
+    /// The row and the side of the table at which the intruder comes through.
     pub row: Row,
     pub side: Side,
     /// How it ends, and so what is seen.

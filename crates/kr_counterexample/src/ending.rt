@@ -12,19 +12,19 @@ pub enum Ending {
     ReadGapFilled,
     /// The intruder deletes A, so that the gap grows past the holder's lock: the holder reads that P isn't there, then P.
     ReadGapGrown,
-    /// The intruder fetched A, which the holder takes back.
+    /// The intruder fetched A, which the holder undoes.
     InsertFetched,
-    /// The intruder fetched nothing below A: its lock is on A, which the holder takes back.
+    /// The intruder fetched nothing below A: its lock is on A, which the holder undoes.
     InsertMissedBelow,
-    /// The intruder scanned A, which the holder takes back.
+    /// The intruder scanned A, which the holder undoes.
     InsertScanned,
-    /// The intruder scanned nothing below A: its lock is on A, which the holder takes back.
+    /// The intruder scanned nothing below A: its lock is on A, which the holder undoes.
     InsertStoppedBelow,
-    /// The intruder deleted A, which the holder takes back.
+    /// The intruder deleted A, which the holder undoes.
     InsertDeleted,
-    /// The intruder deleted K, with its lock on A, which the holder takes back: a third misses K, which comes back.
+    /// The intruder deleted K, with its lock on A, which the holder undoes: a third misses K, which comes back.
     InsertDeletedBelow,
-    /// The intruder deleted P, with its lock on A, which the holder takes back: a third misses P, which comes back.
+    /// The intruder deleted P, with its lock on A, which the holder undoes: a third misses P, which comes back.
     InsertDeletedPoint,
     /// The intruder gave A another value, and the holder takes A back.
     InsertUpdated,
@@ -42,12 +42,12 @@ pub enum Ending {
     DeleteGrown,
     /// The intruder deletes K, and P comes back between K and the intruder's lock: a third misses K, which comes back.
     DeleteDeletedBelow,
-    /// The intruder fetched a value of A that the holder takes back.
+    /// The intruder fetched a value of A that the holder undoes.
     UpdateFetched,
-    /// The intruder scanned a value of A that the holder takes back.
+    /// The intruder scanned a value of A that the holder undoes.
     UpdateScanned,
-    /// The intruder deleted A with a value that the holder takes back.
+    /// The intruder deleted A with a value that the holder undoes.
     UpdateDeleted,
-    /// The intruder gave A another value in place of one that the holder takes back.
+    /// The intruder gave A another value in place of one that the holder undoes.
     UpdateUpdated,
 }

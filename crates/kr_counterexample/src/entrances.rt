@@ -3,7 +3,7 @@
 use crate::ending::Ending;
 use kr_model::{Cover, Row, Side};
 
-/// A row and a side of the lock table at which an intruder may come through, and how the script then ends.
+/// A row and a side of the table at which an intruder may come through, and how the script then ends.
 pub(crate) type Entrance = (Row, Side, Ending);
 
 /// The entrances that a lock with the cover has to keep shut, in the cover's order; those of updates too, where none are

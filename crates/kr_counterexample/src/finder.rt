@@ -60,7 +60,7 @@ impl<P: Protocol> Finder<'_, P> {
         Ok(draft)
     }
 
-    /// The entrances of the case's cover that an asker without modes comes through beside a mode, in the cover's order.
+    /// The entrances of the case's cover that a requester without modes comes through beside a mode, in the cover's order.
     pub(crate) fn open_entrances(&self, mode: Mode) -> Result<Vec<Entrance>, Memory> {
         let mut open = Vec::new(self.alloc);
         for entrance in entrances(self.case.cover) {

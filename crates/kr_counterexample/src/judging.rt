@@ -29,8 +29,8 @@ pub(crate) fn goes_wrong<P: Protocol>(
     is_wrong(alloc, &ran)
 }
 
-/// Whether no step of a run is blocked or refused, and the transactions that commit aren't serial. The only fault is that a
-/// growth was refused.
+/// Whether no step of a run is blocked or refused, and the transactions that commit aren't serializable in commit order. The
+/// only fault is that a growth was refused.
 fn is_wrong(alloc: Global, ran: &Ran) -> Result<bool, Memory>
     ensures granted { IfOk result (λ wrong. IsTrue wrong → All (λ r. IsTrue (is_granted r)) ran.now.replies) }
     ensures not_serial { IfOk result (λ wrong. IsTrue wrong → AreSerial ran.now.opening ran.now.programs → ⊥) }

@@ -22,7 +22,7 @@ const P_FILLED_AND_READ_AGAIN: Steps = &[
     (Holder, Commit),
 ];
 
-/// The holder takes back what the intruder met, and the intruder commits.
+/// The holder undoes what the intruder met, and the intruder commits.
 const TAKEN_BACK: Steps = &[(Holder, Abort), (Intruder, Commit)];
 
 /// The holder takes A back, on which the intruder's lock is: a third puts C in, which the intruder then reads.

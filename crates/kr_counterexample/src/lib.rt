@@ -1,4 +1,4 @@
-//! A script that goes wrong under a lock table, made from a case of it that fails. Nothing is searched for among
+//! A script that goes wrong under a table, made from a case of it that fails. Nothing is searched for among
 //! interleavings: a script is what one transaction does to come to the modes of the case, the step that the case is about,
 //! and an ending from a table. Where none of these goes wrong, the steps are a way to lock states that two transactions have,
 //! found by the lock states alone. Each script is run and judged before it is shown.

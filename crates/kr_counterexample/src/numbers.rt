@@ -7,7 +7,7 @@ use std::alloc::{AllocError, Global};
 /// The value before the first that a script's steps are given; those of its opening map are below.
 const VALUES_OF_OPENING: u64 = 4;
 
-/// Numbers of transactions, from 1, and values, from 5: each is given as it is first asked for.
+/// Numbers of transactions, from 1, and values, from 5: each is given when it is first needed.
 #[derive(Drop)]
 pub(crate) struct Numbers {
     given: Vec<(Actor, Txn)>,

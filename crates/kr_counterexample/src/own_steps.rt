@@ -102,7 +102,7 @@ fn converting<T: Protocol>(
     }
 }
 
-/// The steps that can be taken and ask for the mode on A until commit.
+/// The steps that can be taken and request the mode on A until commit.
 fn asking<T: Protocol>(table: &Table<'_, T>, state: State, asked: Mode) -> OwnSteps
     requires { state.on_a ≤ (T.table table.now.protocol.now).count }
     ensures { list_any is_some result ≡ is_asked_for (T.table table.now.protocol.now) asked state }
@@ -145,7 +145,7 @@ fn can_take(state: State) -> bool
     state.p || !state.b && state.k
 }
 
-/// The step, if it asks for the mode and can be taken.
+/// The step, if it requests the mode and can be taken.
 fn step_if(asks: bool, can: bool, op: Op) -> Option<Op>
     ensures { is_some result ≡ (asks && can) }
 {

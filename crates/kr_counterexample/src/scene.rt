@@ -60,7 +60,7 @@ impl Scene {
         }
     }
 
-    /// The scene as the second sees it, if asked for, or as the first does.
+    /// The scene as the second sees it, if wanted, or as the first does.
     pub(crate) fn seen_by(self, by_second: bool) -> Scene {
         if by_second { self.turned() } else { self }
     }

@@ -132,7 +132,7 @@ impl<P: Protocol> Stage<'_, P> {
         Ok(None)
     }
 
-    /// Whether A is left when the holder takes back that it put A in anew: then who came on the next side has its lock there.
+    /// Whether A is left when the holder undoes that it put A in anew: then who came on the next side has its lock there.
     fn is_left(&self, scene: Scene, side: Side) -> bool {
         self.case.cover == Cover::InsertedKey && scene.stood && side == Side::Next
     }

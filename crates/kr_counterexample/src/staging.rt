@@ -121,7 +121,7 @@ pub(crate) fn staged(
     }))
 }
 
-/// The opening map: K, Y, the keys that are deleted, and A if asked for. No value is above 4.
+/// The opening map: K, Y, the keys that are deleted, and A if wanted. No value is above 4.
 fn opening(alloc: Global, taken: &[u64], stood: bool) -> Result<Vec<(u64, u64)>, AllocError> {
     let mut keys = taken.to_vec(alloc)?;
     keys.push(K)?;

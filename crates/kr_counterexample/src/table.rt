@@ -1,4 +1,4 @@
-//! What a lock table says of modes.
+//! What a table says of modes.
 ghost use Rattle.std.specs.Prelude.{◌≡◌, ◌≤◌};
 
 use crate::request::Request;
@@ -6,7 +6,7 @@ use kr_decide::{after, is_blocked};
 use kr_model::{Cover, LockState, Mode, Row, Side, Span};
 use kr_protocol::Protocol;
 
-/// A lock table, asked about any numbers: one past the table's modes is taken for 0, no lock.
+/// A table, asked about any numbers: one past the table's modes is taken for 0, no lock.
 #[derive(Drop)]
 pub(crate) struct Table<'a, P: Protocol> {
     pub protocol: &'a P,
@@ -25,25 +25,25 @@ impl<P: Protocol> Table<'_, P> {
         }
     }
 
-    /// What a row asks for.
+    /// What a row requests.
     pub(crate) fn ask(&self, row: Row, side: Side, own_next: Mode) -> Option<(Mode, Span)>
         ensures { own_next ≤ (P.table self.now.protocol.now).count → result ≡ (P.table self.now.protocol.now).ask row side own_next }
     {
         self.protocol.ask(row, side, self.known(own_next))
     }
 
-    /// Whether a request may stand beside a lock.
+    /// Whether a request is compatible with a lock.
     fn stands_beside(&self, requested: Mode, held: Mode) -> bool {
         self.protocol.ok(self.known(requested), self.known(held))
     }
 
-    /// The mode of one who holds a mode and asks for another.
+    /// The mode of one who holds a mode and requests another.
     fn convert(&self, held: Mode, requested: Mode) -> Mode {
         self.protocol
             .convert(self.known(held), self.known(requested))
     }
 
-    /// The mode on a name of one who held `own`, after what a row asks for there was granted.
+    /// The mode on a name of one who held `own`, after what a row requests there was granted.
     pub(crate) fn after(&self, own: Mode, row: Row, side: Side, own_next: Mode) -> Mode {
         match self.ask(row, side, own_next) {
             Some((mode, Span::Commit)) => self.convert(own, mode),
@@ -51,7 +51,7 @@ impl<P: Protocol> Table<'_, P> {
         }
     }
 
-    /// Whether one without modes may be granted what a row asks for on A and on Y beside these modes.
+    /// Whether one without modes may be granted what a row requests on A and on Y beside these modes.
     pub(crate) fn lets_in(&self, row: Row, on_a: Mode, on_y: Mode) -> bool {
         self.is_open(row, Side::Current, 0, 0, on_a) && self.is_open(row, Side::Next, 0, 0, on_y)
     }
@@ -106,7 +106,7 @@ impl<P: Protocol> Table<'_, P> {
         self.protocol.updates() || row != Row::Update
     }
 
-    /// Whether a cover has to conflict with what a row asks for: an update only where updates are offered.
+    /// Whether a cover has to conflict with what a row requests: an update only where updates are offered.
     pub(crate) fn offers(&self, cover: Cover, row: Row) -> bool {
         self.protocol.updates() || cover != Cover::UpdatedKey && row != Row::Update
     }

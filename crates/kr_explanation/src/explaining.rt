@@ -141,7 +141,7 @@ fn told<P: Protocol>(
     })
 }
 
-/// The changes that mend a cause, where they are asked for.
+/// The changes that mend a cause, where they are wanted.
 fn mend_of<P: Protocol>(
     alloc: Global,
     protocol: &P,

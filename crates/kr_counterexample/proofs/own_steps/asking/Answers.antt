@@ -1,7 +1,7 @@
 use Rattle.kr_counterexample.proofs.Choice.{asked, asked_if, or_both, last}
 use Rattle.kr_counterexample.proofs.own_steps.asking.Goals as goal
 
--- each step is there where it is asked for and can be taken
+-- each step is there where it is wanted and can be taken
 pub returns : goal.returns
 returns g c =
     or_both _ _ _ _ (asked _ _ _ c.step_if.ensures c.asks-hits.ensures)
