@@ -2,9 +2,9 @@
 //! harmless, and names changes that mend it.
 #![tactic(auto)]
 
-use kr_explain_program::{NAME, execute};
+use kr_explain_program::{MANUAL, execute};
 use kr_script::Io;
-use kr_shell::{Disk, finish, words_given};
+use kr_shell::{Disk, words_given};
 use std::process::ExitCode;
 
 fn main(rt: HostRuntime) -> ExitCode {
@@ -12,6 +12,6 @@ fn main(rt: HostRuntime) -> ExitCode {
     let mut err = Io::new(rt.stderr());
     ExitCode::from(match words_given(&rt) {
         Ok(words) => execute(&rt, words.as_slice(), &Disk, &mut out, &mut err),
-        Err(ending) => finish(NAME, &Err(ending), &mut err),
+        Err(ending) => MANUAL.finish(&Err(ending), &mut err),
     })
 }

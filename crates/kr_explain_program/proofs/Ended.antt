@@ -9,6 +9,7 @@ use Rattle.kr_shell.specs.declared.tables.AnyTable.{AnyTable}
 use Rattle.kr_shell.specs.Endings.{MemoryOrTold}
 use Rattle.kr_shell.specs.Lines.{told_line}
 use Rattle.kr_shell.specs.Named.{NamesTable}
+use Rattle.kr_shell.specs.Questions.{IsNoQuestion}
 use Rattle.kr_shell.specs.Tables.{table_of}
 use Rattle.kr_explanation.specs.Explained.{IsExplained, run_at}
 use Rattle.kr_explanation.specs.Told.{IsScriptOf}
@@ -49,6 +50,6 @@ ends_at may_give words table w t Place are asked names ends = absurd ends
 ends_at may_give words table w t Output are asked names ends = tt
 ends_at may_give words table w t (Told line) are asked names ends = (table, (w, (are, (asked, inr (t, (names, ends))))))
 
-pub report_ends : (may_give : List ℕ → Option (List ℕ) → Type 0) (words : List (List ℕ)) (r : Result Bool Ending) (table : List ℕ) (w : Wanted) (t : AnyTable) → words ≡ words_of table w → IsAsked table w → NamesTable may_give table t → IfErr r (EndsReport (table_of t) table w) → IfErr r (Ends may_give words)
+pub report_ends : (may_give : List ℕ → Option (List ℕ) → Type 0) (words : List (List ℕ)) (r : Result Bool Ending) (table : List ℕ) (w : Wanted) (t : AnyTable) → words ≡ words_of table w → IsAsked table w → NamesTable may_give table t → IfErr r (EndsReport (table_of t) table w) → IfErr r (λ e. IsNoQuestion words → Ends may_give words e)
 report_ends may_give words (Ok accepted) table w t are asked names ends = tt
-report_ends may_give words (Err e) table w t are asked names ends = ends_at may_give words table w t e are asked names ends
+report_ends may_give words (Err e) table w t are asked names ends = λ own. ends_at may_give words table w t e are asked names ends

@@ -15,8 +15,9 @@ use Rattle.kr_shell.specs.declared.endings.Ending.TheVariants.{NotUnderstood, Me
 use Rattle.kr_shell.specs.declared.tables.AnyTable.{AnyTable}
 use Rattle.kr_shell.specs.Lines.{told_line}
 use Rattle.kr_shell.specs.Named.{NamesTable, TellsNoTable}
+use Rattle.kr_shell.specs.Questions.{IsNoQuestion}
 use Rattle.kr_shell.specs.Tables.{table_of}
-use Rattle.kr_explain_program.specs.Words.{words_of, IsAsked}
+use Rattle.kr_explain_program.specs.Words.{words_of, AskNothingOfTables, IsAsked}
 use Rattle.kr_explain_program.specs.declared.words.Wanted.{Wanted}
 use Rattle.kr_explain_program.specs.declared.words.Wanted.TheVariants as wanted
 
@@ -83,9 +84,13 @@ abbrev pub TellsWord : (List ℕ → Option (List ℕ) → Type 0) → List ℕ 
 TellsWord may_give table wanted line =
     TellsNoTable may_give table line ⊎ ((t : AnyTable) × (NamesTable may_give table t × TellsMissing (table_of t) table wanted line))
 
+-- The words aren't understood: they ask nothing about the program, and for nothing of a table.
+abbrev pub AskNothing : List (List ℕ) → Type 0
+AskNothing words = IsNoQuestion words × AskNothingOfTables words
+
 -- Why the program ends without what these words ask for, or with a prefix of it.
 abbrev pub Ends : (List ℕ → Option (List ℕ) → Type 0) → List (List ℕ) → Ending → Type 0
-Ends may_give words NotUnderstood = (table : List ℕ) (wanted : Wanted) → IsAsked table wanted → words ≡ words_of table wanted → ⊥
+Ends may_give words NotUnderstood = AskNothing words
 Ends may_give words Memory = Unit {0}
 Ends may_give words Place = ⊥
 Ends may_give words Output = Unit {0}

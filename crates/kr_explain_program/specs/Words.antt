@@ -1,5 +1,5 @@
 -- The words that the program is called with.
-use Rattle.std.specs.Prelude.{ℕ, ◌<◌, ◌^◌, List, [], ◌∷◌, codes}
+use Rattle.std.specs.Prelude.{◌≡◌, ℕ, ◌<◌, ◌^◌, List, [], ◌∷◌, codes}
 use Rattle.std.specs.Fmt.{decimal}
 use Rattle.kr_shell.specs.Words.{IsPlain}
 use Rattle.kr_explain_program.specs.declared.words.Wanted.{Wanted}
@@ -14,3 +14,7 @@ words_of table (Script number) = table ∷ codes "--script" ∷ decimal number �
 abbrev pub IsAsked : List ℕ → Wanted → Type 0
 IsAsked table Explanation = IsPlain table
 IsAsked table (Script number) = IsPlain table × ((0 < number) × (number < 2 ^ 64))
+
+-- The words ask for nothing of a table.
+abbrev pub AskNothingOfTables : List (List ℕ) → Type 0
+AskNothingOfTables words = (table : List ℕ) (wanted : Wanted) → IsAsked table wanted → words ≡ words_of table wanted → ⊥

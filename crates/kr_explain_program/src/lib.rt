@@ -2,9 +2,11 @@
 #![tactic(auto)]
 
 mod explaining;
+mod manual;
 mod program;
 mod words;
 
 pub use explaining::{write_explanation, write_script};
-pub use program::{NAME, execute};
+pub use manual::{MANUAL, NAME, USAGE, WORDS};
+pub use program::execute;
 pub use words::{Asked, Wanted, read_words};

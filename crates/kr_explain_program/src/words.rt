@@ -2,7 +2,7 @@
 ghost use Rattle.std.specs.Prelude.{◌≡◌, ◌<◌, ◌^◌, ℕ, List, IfOk, IfErr, OnErr, IfSome, IfNone, map, string_bytes};
 ghost use Rattle.std.specs.Fmt.{decimal};
 ghost use Rattle.kr_shell.specs.declared.endings.Ending.TheVariants as ending;
-ghost use Rattle.kr_explain_program.specs.Words.{words_of, IsAsked};
+ghost use Rattle.kr_explain_program.specs.Words.{words_of, AskNothingOfTables, IsAsked};
 ghost use Rattle.kr_explain_program.specs.declared.words.Wanted.{Wanted};
 
 use kr_shell::{Ending, is_plain};
@@ -30,7 +30,7 @@ pub enum Wanted {
 pub fn read_words<'a>(words: &'a [String]) -> Result<Asked<'a>, Ending>
     ensures words { IfOk result (λ a. map string_bytes words.now ≡ words_of a.table.now a.wanted) }
     ensures asked { IfOk result (λ a. IsAsked a.table.now a.wanted) }
-    ensures none { OnErr result ((table : List ℕ) (wanted : Wanted) → IsAsked table wanted → map string_bytes words.now ≡ words_of table wanted → ⊥) }
+    ensures none { OnErr result (AskNothingOfTables (map string_bytes words.now)) }
     ensures err { IfErr result (λ e. e ≡ ending.NotUnderstood) }
 {
     match words {

@@ -1,3 +1,4 @@
 pub mod Finished
 pub mod Fronts
 pub mod TableFaults
+pub mod Told

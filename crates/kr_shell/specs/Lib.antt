@@ -1,7 +1,9 @@
 pub mod Endings
 pub mod Files
 pub mod Lines
+pub mod Manual
 pub mod Named
+pub mod Questions
 pub mod Tables
 pub mod Lawful
 pub mod Words

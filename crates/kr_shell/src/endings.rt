@@ -1,6 +1,7 @@
 //! How a program ends.
-ghost use Rattle.std.specs.Prelude.{◌≡◌, ◌≤◌, ◌↔◌, true, false, Ok, OnOk, IfErr};
-ghost use Rattle.kr_script.specs.Puts.{AppendsFront};
+ghost use Rattle.std.specs.Prelude.{◌≡◌, ◌≤◌, ◌↔◌, true, false, Ok, OnOk, OnErr, IfErr};
+ghost use Rattle.std.specs.Io.KnownBytes.{Appends};
+ghost use Rattle.kr_script.specs.Puts.{AppendsFront, HasCause};
 ghost use Rattle.kr_shell.specs.Endings.{MemoryOrTold, is_output, line_of, ending_line};
 ghost use Rattle.kr_shell.specs.Lines.{told_line};
 ghost use Rattle.kr_shell.specs.declared.endings.Ending.TheVariants as ending;
@@ -67,6 +68,19 @@ impl From<PrintFault> for Ending {
     }
 }
 
+/// The status of a program that ended so: 0 where all was well, 1 where it wasn't, and 2 where it ended without its output.
+pub(crate) fn status_of(done: &Result<bool, Ending>) -> u8
+    ensures within { result ≤ 2 }
+    ensures well { (result ≡ 0) ↔ (done.now ≡ Ok true) }
+    ensures not_well { (result ≡ 1) ↔ (done.now ≡ Ok false) }
+{
+    match done {
+        Ok(true) => 0,
+        Ok(false) => 1,
+        Err(_) => 2,
+    }
+}
+
 /// Tells on `err` how the program of this name ended, and answers its status: 0 where all was well, 1 where it wasn't, and 2
 /// where it ended without its output, which is told on one line.
 pub fn finish<E: Sink>(name: &str, done: &Result<bool, Ending>, err: &mut E) -> u8
@@ -76,19 +90,18 @@ pub fn finish<E: Sink>(name: &str, done: &Result<bool, Ending>, err: &mut E) -> 
     ensures told { IfErr done.now (λ e. AppendsFront (E.taken err.old) (E.taken err.new) (ending_line name.now e)) }
     ensures silent { OnOk done.now (err.new ≡ err.old) }
 {
-    match done {
-        Ok(true) => 0,
-        Ok(false) => 1,
-        Err(ending) => {
-            let _ = tell(name, ending, err);
-            2
-        }
+    if let Err(ending) = done {
+        let _ = tell(name, ending, err);
     }
+    status_of(done)
 }
 
 /// Prints the line of an ending.
-fn tell<E: Sink>(name: &str, ending: &Ending, err: &mut E) -> Result<(), PrintFault>
-    ensures { AppendsFront (E.taken err.old) (E.taken err.new) (ending_line name.now ending.now) }
+pub(crate) fn tell<E: Sink>(name: &str, ending: &Ending, err: &mut E) -> Result<(), PrintFault>
+    ensures ok { OnOk result (Appends (E.taken err.old) (E.taken err.new) (ending_line name.now ending.now)) }
+    ensures front { AppendsFront (E.taken err.old) (E.taken err.new) (ending_line name.now ending.now) }
+    ensures count { OnOk result (E.failures err.new ≡ E.failures err.old) }
+    ensures cause { OnErr result (HasCause (E.failures err.old) (E.failures err.new)) }
 {
     put_all(err, name.as_bytes())?;
     put_all(err, b": ")?;

@@ -1,14 +1,18 @@
-//! What the programs share: the words that name tables and files, and how a program ends.
+//! What the programs share: the words that name tables and files, what a program says of itself, and how it ends.
 #![tactic(auto)]
 
 mod endings;
 mod faults;
 mod files;
 mod lines;
+mod manual;
+mod questions;
 mod tables;
 mod words;
 
 pub use endings::{Ending, finish};
 pub use files::{Disk, FileFault, Files, at_fault, read_file, script_at, unreadable, whole};
+pub use manual::{Manual, VERSION};
+pub use questions::{Question, question_in};
 pub use tables::{AnyTable, table_at};
 pub use words::{is_plain, words_given};

@@ -2,8 +2,8 @@
 #![tactic(auto)]
 
 use kr_script::Io;
-use kr_shell::{Disk, finish, words_given};
-use kr_view_program::{NAME, execute};
+use kr_shell::{Disk, words_given};
+use kr_view_program::{MANUAL, execute};
 use std::process::ExitCode;
 
 fn main(rt: HostRuntime) -> ExitCode {
@@ -11,6 +11,6 @@ fn main(rt: HostRuntime) -> ExitCode {
     let mut err = Io::new(rt.stderr());
     ExitCode::from(match words_given(&rt) {
         Ok(words) => execute(&rt, words.as_slice(), &Disk, &mut out, &mut err),
-        Err(ending) => finish(NAME, &Err(ending), &mut err),
+        Err(ending) => MANUAL.finish(&Err(ending), &mut err),
     })
 }

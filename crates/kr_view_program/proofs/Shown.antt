@@ -10,8 +10,9 @@ use Rattle.kr_shell.specs.declared.endings.Ending.TheVariants.{NotUnderstood, Me
 use Rattle.kr_shell.specs.declared.tables.AnyTable.{AnyTable}
 use Rattle.kr_shell.specs.Endings.{MemoryOrTold}
 use Rattle.kr_shell.specs.Named.{NamesTable, TellsNoTable, NamesScript, TellsNoScript}
+use Rattle.kr_shell.specs.Questions.{IsNoQuestion}
 use Rattle.kr_shell.specs.Tables.{table_of}
-use Rattle.kr_view_program.specs.Program.{AreWords, IsSerialScript, ShowsAsked, Explains}
+use Rattle.kr_view_program.specs.Program.{AreWords, AskNoPage, IsSerialScript, ShowsAsked, Explains}
 
 -- a page that was written, with the verdict on a script's run under a lawful table that words name
 pub shown : (may_give : List ℕ → Option (List ℕ) → Type 0) (words : List (List ℕ)) (r : Result Bool Ending) (t : AnyTable) (table script : List ℕ) (old new : Option (List ℕ)) (s : Script) → AreWords words table script → NamesTable may_give table t → IsLawful (table_of t) → NamesScript may_give script s → IfOk r (λ serial. (page : List ℕ) × (IsPage table serial page × Appends old new page)) → IfOk r (λ serial. IsTrue serial ↔ IsSerialScript (table_of t) s) → IfOk r (ShowsAsked may_give words old new)
@@ -19,14 +20,14 @@ shown may_give words (Ok serial) t table script old new s are_words names lawful
 shown may_give words (Err e) t table script old new s are_words names lawful named written same = tt
 
 -- an ending of a page that isn't written tells of no word
-pub page_fault : (may_give : List ℕ → Option (List ℕ) → Type 0) (words : List (List ℕ)) (r : Result Bool Ending) → IfErr r (λ e. (e ≡ Memory) ⊎ (e ≡ Output)) → IfErr r (Explains may_give words)
+pub page_fault : (may_give : List ℕ → Option (List ℕ) → Type 0) (words : List (List ℕ)) (r : Result Bool Ending) → IfErr r (λ e. (e ≡ Memory) ⊎ (e ≡ Output)) → IfErr r (λ e. IsNoQuestion words → Explains may_give words e)
 page_fault may_give words (Ok serial) h = tt
-page_fault may_give words (Err e) (inl memory) = let P : Ending → Type 0 = λ x. Explains may_give words x in subst P (sym memory) tt
-page_fault may_give words (Err e) (inr output) = let P : Ending → Type 0 = λ x. Explains may_give words x in subst P (sym output) tt
+page_fault may_give words (Err e) (inl memory) = λ own. let P : Ending → Type 0 = λ x. Explains may_give words x in subst P (sym memory) tt
+page_fault may_give words (Err e) (inr output) = λ own. let P : Ending → Type 0 = λ x. Explains may_give words x in subst P (sym output) tt
 
 -- words of no form
-pub no_form : (may_give : List ℕ → Option (List ℕ) → Type 0) (words : List (List ℕ)) (e : Ending) → e ≡ NotUnderstood → ((table script : List ℕ) → AreWords words table script → ⊥) → Explains may_give words e
-no_form may_give words e is isnt = let P : Ending → Type 0 = λ x. Explains may_give words x in subst P (sym is) isnt
+pub no_form : (may_give : List ℕ → Option (List ℕ) → Type 0) (words : List (List ℕ)) (e : Ending) → e ≡ NotUnderstood → AskNoPage words → IsNoQuestion words → Explains may_give words e
+no_form may_give words e is isnt own = let P : Ending → Type 0 = λ x. Explains may_give words x in subst P (sym is) (own, isnt)
 
 -- the word of a table that names none
 pub no_table : (may_give : List ℕ → Option (List ℕ) → Type 0) (words : List (List ℕ)) (table script : List ℕ) (e : Ending) → AreWords words table script → MemoryOrTold e (TellsNoTable may_give table) → Explains may_give words e

@@ -10,6 +10,7 @@ use Rattle.kr_shell.specs.declared.endings.Ending.{Ending}
 use Rattle.kr_shell.specs.declared.endings.Ending.TheVariants.{NotUnderstood, Memory, Place, Output, Told}
 use Rattle.kr_shell.specs.declared.tables.AnyTable.{AnyTable}
 use Rattle.kr_shell.specs.Named.{NamesTable, TellsNoTable, NamesScript, TellsNoScript}
+use Rattle.kr_shell.specs.Questions.{IsNoQuestion}
 use Rattle.kr_shell.specs.Tables.{table_of}
 use Rattle.kr_shell.specs.Words.{IsPlain}
 use Rattle.kr_picture.specs.Page.{IsPage}
@@ -17,6 +18,14 @@ use Rattle.kr_picture.specs.Page.{IsPage}
 -- The program's words: one names a table, and the other a script. Neither begins with a hyphen.
 abbrev pub AreWords : List (List ℕ) → List ℕ → List ℕ → Type 0
 AreWords words table script = (words ≡ table ∷ script ∷ []) × (IsPlain table × IsPlain script)
+
+-- The words ask for no page.
+abbrev pub AskNoPage : List (List ℕ) → Type 0
+AskNoPage words = (table script : List ℕ) → AreWords words table script → ⊥
+
+-- The words aren't understood: they ask nothing about the program, and for no page.
+abbrev pub AskNothing : List (List ℕ) → Type 0
+AskNothing words = IsNoQuestion words × AskNoPage words
 
 -- The transactions that commit in a script's run under a protocol are serializable.
 abbrev pub IsSerialScript : Protocol → Script → Type 0
@@ -43,7 +52,7 @@ TellsWord may_give table script line =
 
 -- Why the program ends without a page, or with a prefix of it.
 abbrev pub Explains : (List ℕ → Option (List ℕ) → Type 0) → List (List ℕ) → Ending → Type 0
-Explains may_give words NotUnderstood = (table script : List ℕ) → AreWords words table script → ⊥
+Explains may_give words NotUnderstood = AskNothing words
 Explains may_give words Memory = Unit {0}
 Explains may_give words Place = ⊥
 Explains may_give words Output = Unit {0}

@@ -1,8 +1,10 @@
 //! The program that shows a run: its words, its files, and from a table and a script to the page, on sinks.
 #![tactic(auto)]
 
+mod manual;
 mod program;
 mod words;
 
-pub use program::{NAME, execute, write_page};
+pub use manual::{MANUAL, NAME, USAGE, WORDS};
+pub use program::{execute, write_page};
 pub use words::{Asked, read_words};

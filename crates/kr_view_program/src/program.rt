@@ -1,25 +1,26 @@
 //! The program over its words, files and streams.
-ghost use Rattle.std.specs.Prelude.{◌≡◌, ◌⊎◌, ◌↔◌, ◌≤◌, ℕ, List, true, false, IfOk, IfErr, IsTrue, map, string_bytes};
+ghost use Rattle.std.specs.Prelude.{◌≡◌, ◌⊎◌, ◌↔◌, ◌≤◌, ℕ, List, true, false, Ok, Err, IfOk, IfErr, IsTrue, map, string_bytes};
 ghost use Rattle.std.specs.Io.KnownBytes.{Appends};
 ghost use Rattle.kr_model.specs.Protocol.{IsLawful};
 ghost use Rattle.kr_model.specs.Covers.{IsCovered};
 ghost use Rattle.kr_model.specs.Safe.{IsSafe};
-ghost use Rattle.kr_script.specs.Puts.{HasCause, AppendsFront};
-ghost use Rattle.kr_shell.specs.Endings.{is_output, ending_line};
+ghost use Rattle.kr_script.specs.Puts.{HasCause};
+ghost use Rattle.kr_shell.specs.Endings.{is_output};
+ghost use Rattle.kr_shell.specs.Manual.{IsTold, answer_of, ending_text};
+ghost use Rattle.kr_shell.specs.Questions.{IsQuestion, IsNoQuestion};
 ghost use Rattle.kr_shell.specs.declared.endings.Ending.{Ending};
 ghost use Rattle.kr_shell.specs.declared.endings.Ending.TheVariants as ending;
+ghost use Rattle.kr_shell.specs.declared.questions.Question.{Question};
 ghost use Rattle.kr_picture.specs.Page.{IsPage};
-ghost use Rattle.kr_view_program.specs.Program.{IsSerialScript, ShowsAsked, Explains};
+ghost use Rattle.kr_view_program.specs.Program.{AskNothing, AskNoPage, IsSerialScript, ShowsAsked, Explains};
 
+use crate::manual::{MANUAL, NAME, USAGE, WORDS};
 use crate::words::read_words;
 use kr_picture::picture;
 use kr_protocol::Protocol;
 use kr_script::{Script, Sink, put_all};
-use kr_shell::{Ending, Files, finish, script_at, table_at};
+use kr_shell::{Ending, Files, VERSION, question_in, script_at, table_at};
 use std::alloc::Global;
-
-/// The program's name.
-pub const NAME: &str = "kr_view";
 
 /// Does nothing: a protocol is lawful.
 fn are_laws_kept<P: Protocol>(protocol: &P)
@@ -51,7 +52,7 @@ pub fn write_page<P: Protocol, W: Sink>(
     Ok(is_serial)
 }
 
-/// Does what the words ask, and answers whether the run is serializable.
+/// Writes the page that the words ask for, and answers whether the run is serializable.
 fn view<R: std::rt::Files + AllocGlobal, F: Files, W: Sink>(
     rt: &R,
     words: &[String],
@@ -59,7 +60,9 @@ fn view<R: std::rt::Files + AllocGlobal, F: Files, W: Sink>(
     out: &mut W,
 ) -> Result<bool, Ending>
     ensures shows { IfOk result (ShowsAsked (F.may_give files.now) (map string_bytes words.now) (W.taken out.old) (W.taken out.new)) }
-    ensures err { IfErr result (Explains (F.may_give files.now) (map string_bytes words.now)) }
+    ensures err { IfErr result (λ e. IsNoQuestion (map string_bytes words.now)
+        → Explains (F.may_give files.now) (map string_bytes words.now) e) }
+    ensures unknown { AskNoPage (map string_bytes words.now) → (result ≡ Err ending.NotUnderstood) × (out.new ≡ out.old) }
     ensures cause { IfErr result (λ e. IsTrue (is_output e) → HasCause (W.failures out.old) (W.failures out.new)) }
     ensures nothing { IfErr result (λ e. IsTrue (is_output e) ⊎ (out.new ≡ out.old)) }
 {
@@ -70,10 +73,37 @@ fn view<R: std::rt::Files + AllocGlobal, F: Files, W: Sink>(
     write_page(rt.alloc(), &table, asked.table, &script, out)
 }
 
+/// Does what the words ask, of the program or of a run, and answers whether the run that they name is serializable.
+fn answered<R: std::rt::Files + AllocGlobal, F: Files, W: Sink>(
+    rt: &R,
+    words: &[String],
+    files: &F,
+    out: &mut W,
+) -> Result<bool, Ending>
+    ensures question { (q : Question) → IsQuestion (map string_bytes words.now) q
+        → ((result ≡ Ok true) × Appends (W.taken out.old) (W.taken out.new) (answer_of NAME.now USAGE.now WORDS.now VERSION.now q))
+        ⊎ ((result ≡ Err ending.Output) × HasCause (W.failures out.old) (W.failures out.new)) }
+    ensures shows { IsNoQuestion (map string_bytes words.now)
+        → IfOk result (ShowsAsked (F.may_give files.now) (map string_bytes words.now) (W.taken out.old) (W.taken out.new)) }
+    ensures err { IfErr result (Explains (F.may_give files.now) (map string_bytes words.now)) }
+    ensures unknown { AskNothing (map string_bytes words.now) → (result ≡ Err ending.NotUnderstood) × (out.new ≡ out.old) }
+    ensures cause { IfErr result (λ e. IsTrue (is_output e) → HasCause (W.failures out.old) (W.failures out.new)) }
+    ensures nothing { IfErr result (λ e. IsTrue (is_output e) ⊎ (out.new ≡ out.old)) }
+{
+    match question_in(words) {
+        Some(question) => {
+            MANUAL.answer(question, out)?;
+            Ok(true)
+        }
+        None => view(rt, words, files, out),
+    }
+}
+
 /// Runs the program on words without its own name, and answers its status: 0 where the run is serializable, 1 where it isn't,
 /// and 2 where it told a fault on `err`. At 0 and 1 the whole page is written on `out`, of the run of the script that the
 /// second word names under the table that the first names, and nothing on `err`; at a fault of words, files, tables, scripts
-/// or memory nothing is written on `out`.
+/// or memory nothing is written on `out`. Words that ask for help or the version are answered on `out` with 0. Behind the
+/// line of words that aren't understood `err` has the usage.
 pub fn execute<R: std::rt::Files + AllocGlobal, F: Files, W: Sink, E: Sink>(
     rt: &R,
     words: &[String],
@@ -82,13 +112,21 @@ pub fn execute<R: std::rt::Files + AllocGlobal, F: Files, W: Sink, E: Sink>(
     err: &mut E,
 ) -> u8
     ensures within { result ≤ 2 }
-    ensures serial { result ≡ 0 → ShowsAsked (F.may_give files.now) (map string_bytes words.now) (W.taken out.old) (W.taken out.new) true }
+    ensures question { (q : Question) → IsQuestion (map string_bytes words.now) q
+        → ((result ≡ 0) × Appends (W.taken out.old) (W.taken out.new) (answer_of NAME.now USAGE.now WORDS.now VERSION.now q))
+        ⊎ ((result ≡ 2) × HasCause (W.failures out.old) (W.failures out.new)) }
+    ensures serial { IsNoQuestion (map string_bytes words.now) → result ≡ 0
+        → ShowsAsked (F.may_give files.now) (map string_bytes words.now) (W.taken out.old) (W.taken out.new) true }
     ensures not_serial { result ≡ 1 → ShowsAsked (F.may_give files.now) (map string_bytes words.now) (W.taken out.old) (W.taken out.new) false }
+    ensures unknown { AskNothing (map string_bytes words.now) → (result ≡ 2) × ((out.new ≡ out.old)
+        × IsTold (E.taken err.old) (E.taken err.new) (E.failures err.old) (E.failures err.new)
+        (ending_text NAME.now USAGE.now ending.NotUnderstood)) }
     ensures told { result ≡ 2 → (e : Ending) × (Explains (F.may_give files.now) (map string_bytes words.now) e
-        × AppendsFront (E.taken err.old) (E.taken err.new) (ending_line NAME.now e)) }
+        × IsTold (E.taken err.old) (E.taken err.new) (E.failures err.old) (E.failures err.new)
+        (ending_text NAME.now USAGE.now e)) }
     ensures fault { result ≡ 2 → HasCause (W.failures out.old) (W.failures out.new) ⊎ (out.new ≡ out.old) }
     ensures silent { (err.new ≡ err.old) ⊎ (result ≡ 2) }
 {
-    let done = view(rt, words, files, out);
-    finish(NAME, &done, err)
+    let done = answered(rt, words, files, out);
+    MANUAL.finish(&done, err)
 }

@@ -6,6 +6,7 @@ use std::alloc::AllocError;
 use std::test::Fail;
 
 mod faults;
+mod manual;
 mod pages;
 
 /// A table of one mode in which no row requests anything: it is rejected.

@@ -1,18 +1,5 @@
-use Rattle.std.specs.Prelude.{true, false}
-use Rattle.kr_shell.proofs.Finished.{ok_at, ending_at, fault_at, silent_at}
+use Rattle.kr_shell.proofs.Finished.{ending_at}
 use Rattle.kr_explain_program.proofs.program.execute.Goals as goal
 
-pub returns-clause-accepts : goal.returns-clause-accepts
-returns-clause-accepts g c zero = ok_at c.explained-done.result true _ c.explained-done.ensures.answers (c.finish.ensures.well.0 zero)
-
-pub returns-clause-refuses : goal.returns-clause-refuses
-returns-clause-refuses g c one = ok_at c.explained-done.result false _ c.explained-done.ensures.answers (c.finish.ensures.not_well.0 one)
-
-pub returns-clause-fault : goal.returns-clause-fault
-returns-clause-fault g c two = fault_at c.explained-done.result c.finish.result _ _ c.finish.ensures.well c.finish.ensures.not_well c.explained-done.ensures.nothing c.explained-done.ensures.cause two
-
 pub returns-clause-told : goal.returns-clause-told
-returns-clause-told g c two = ending_at c.explained-done.result c.finish.result _ _ c.finish.ensures.well c.finish.ensures.not_well c.explained-done.ensures.err c.finish.ensures.told two
-
-pub returns-clause-silent : goal.returns-clause-silent
-returns-clause-silent g c = silent_at c.explained-done.result c.finish.result _ c.finish.ensures.within c.finish.ensures.well c.finish.ensures.not_well c.finish.ensures.silent
+returns-clause-told g c two = ending_at c.answered-done.result c.finish.result _ _ c.finish.ensures.well c.finish.ensures.not_well c.answered-done.ensures.err c.finish.ensures.told two

@@ -23,6 +23,15 @@ const SAFE_TEXT: &str =
 const SHORT_SCAN_SCRIPT: &str =
     "{\"format\":1,\"opening\":[[10,1],[20,2],[30,3]],\"steps\":[[1,\"scan\",15,20],[2,\"delete\",20],[2,\"commit\"],[1,\"fetch\",20],[1,\"commit\"]]}\n";
 
+/// What the program says of its use.
+const HELP: &str = r#"usage: kr_explain TABLE [--script N]
+  TABLE       @kvl, @kvl-update, @im, @range-key, or a file in TOML
+  --script N  print the script of the schedule of cause N, for kr run
+  -h, --help  print this text
+  --version   print the version
+status: 0 accepted or safe; 1 rejected, not known to be safe, or a script printed; 2 a fault
+"#;
+
 /// Words and the table that is named `table`, with the status and what is printed.
 const ROWS: &[(&[&str], &str, u8, &str)] = &[
     (
@@ -56,6 +65,9 @@ const ROWS: &[(&[&str], &str, u8, &str)] = &[
         1,
         SHORT_SCAN_SCRIPT,
     ),
+    (&["--help"], SHORT_SCAN, 0, HELP),
+    (&["-h"], SHORT_SCAN, 0, HELP),
+    (&["--version"], SHORT_SCAN, 0, "kr_explain 0.9.0\n"),
 ];
 
 #[test]

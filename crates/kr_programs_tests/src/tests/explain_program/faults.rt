@@ -6,31 +6,39 @@ use kr_script::Io;
 use std::process::Abort;
 use std::test::Fail;
 
+/// What is told of words that aren't understood, behind the program's name.
+const NOT_UNDERSTOOD: &str = "words not understood\nusage: kr_explain TABLE [--script N]";
+
 /// Words, with the line behind the program's name.
 const WORDS: &[(&[&str], &str)] = &[
-    (&[], "words not understood"),
-    (&["-"], "words not understood"),
-    (&["--help"], "words not understood"),
-    (&["--script"], "words not understood"),
-    (&["@kvl", "@im"], "words not understood"),
-    (&["@kvl", "--script"], "words not understood"),
-    (&["--script", "1", "table"], "words not understood"),
-    (&["-table", "--script", "1"], "words not understood"),
-    (&["table", "-script", "1"], "words not understood"),
-    (&["table", "--scripts", "1"], "words not understood"),
-    (&["table", "--script=1"], "words not understood"),
-    (&["table", "--script", ""], "words not understood"),
-    (&["table", "--script", "0"], "words not understood"),
-    (&["table", "--script", "01"], "words not understood"),
-    (&["table", "--script", "+1"], "words not understood"),
-    (&["table", "--script", "-1"], "words not understood"),
-    (&["table", "--script", "1x"], "words not understood"),
-    (&["table", "--script", ":"], "words not understood"),
+    (&[], NOT_UNDERSTOOD),
+    (&["-"], NOT_UNDERSTOOD),
+    (&["-V"], NOT_UNDERSTOOD),
+    (&["--helps"], NOT_UNDERSTOOD),
+    (&["--help", "@kvl"], NOT_UNDERSTOOD),
+    (&["@kvl", "--help"], NOT_UNDERSTOOD),
+    (&["@kvl", "-h"], NOT_UNDERSTOOD),
+    (&["--version", "--version"], NOT_UNDERSTOOD),
+    (&["--script"], NOT_UNDERSTOOD),
+    (&["@kvl", "@im"], NOT_UNDERSTOOD),
+    (&["@kvl", "--script"], NOT_UNDERSTOOD),
+    (&["--script", "1", "table"], NOT_UNDERSTOOD),
+    (&["-table", "--script", "1"], NOT_UNDERSTOOD),
+    (&["table", "-script", "1"], NOT_UNDERSTOOD),
+    (&["table", "--scripts", "1"], NOT_UNDERSTOOD),
+    (&["table", "--script=1"], NOT_UNDERSTOOD),
+    (&["table", "--script", ""], NOT_UNDERSTOOD),
+    (&["table", "--script", "0"], NOT_UNDERSTOOD),
+    (&["table", "--script", "01"], NOT_UNDERSTOOD),
+    (&["table", "--script", "+1"], NOT_UNDERSTOOD),
+    (&["table", "--script", "-1"], NOT_UNDERSTOOD),
+    (&["table", "--script", "1x"], NOT_UNDERSTOOD),
+    (&["table", "--script", ":"], NOT_UNDERSTOOD),
     (
         &["table", "--script", "18446744073709551616"],
-        "words not understood",
+        NOT_UNDERSTOOD,
     ),
-    (&["table", "--script", "1", "2"], "words not understood"),
+    (&["table", "--script", "1", "2"], NOT_UNDERSTOOD),
     (&[""], ": cannot be read"),
     (&["none"], "none: cannot be read"),
     (&["kvl"], "kvl: cannot be read"),
@@ -89,7 +97,12 @@ const SHELF: Shelf = Shelf(&[("table", SHORT_SCAN)]);
 
 #[test]
 fn output_that_fails(rt: HostRuntime) -> Result<(), Fail> {
-    for words in [["@kvl"].as_slice(), ["table", "--script", "1"].as_slice()] {
+    for words in [
+        ["@kvl"].as_slice(),
+        ["table", "--script", "1"].as_slice(),
+        ["--help"].as_slice(),
+        ["--version"].as_slice(),
+    ] {
         let words = owned(rt.alloc(), words)?;
         let mut err = Io::new(Vec::new(rt.alloc()));
         let status = execute(&rt, words.as_slice(), &SHELF, &mut Full, &mut err);

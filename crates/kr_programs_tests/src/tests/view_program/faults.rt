@@ -5,14 +5,21 @@ use kr_script::Io;
 use kr_view_program::execute;
 use std::test::Fail;
 
+/// What is told of words that aren't understood, behind the program's name.
+const NOT_UNDERSTOOD: &str = "words not understood\nusage: kr_view TABLE SCRIPT";
+
 /// Words, with the line behind the program's name.
 const WORDS: &[(&[&str], &str)] = &[
-    (&[], "words not understood"),
-    (&["@kvl"], "words not understood"),
-    (&["-", "s"], "words not understood"),
-    (&["--help"], "words not understood"),
-    (&["@kvl", "-s"], "words not understood"),
-    (&["@kvl", "s", "s"], "words not understood"),
+    (&[], NOT_UNDERSTOOD),
+    (&["@kvl"], NOT_UNDERSTOOD),
+    (&["-", "s"], NOT_UNDERSTOOD),
+    (&["-V"], NOT_UNDERSTOOD),
+    (&["--helps"], NOT_UNDERSTOOD),
+    (&["--help", "@kvl"], NOT_UNDERSTOOD),
+    (&["@kvl", "-h"], NOT_UNDERSTOOD),
+    (&["--version", "s"], NOT_UNDERSTOOD),
+    (&["@kvl", "-s"], NOT_UNDERSTOOD),
+    (&["@kvl", "s", "s"], NOT_UNDERSTOOD),
     (&["none", "s"], "none: cannot be read"),
     (&["kvl", "s"], "kvl: cannot be read"),
     (&["@kvl2", "s"], "@kvl2: cannot be read"),
@@ -83,15 +90,21 @@ fn faults_of_scripts_are_told(rt: HostRuntime) -> Result<(), Fail> {
 
 #[test]
 fn output_that_fails(rt: HostRuntime) -> Result<(), Fail> {
-    let words = owned(rt.alloc(), ["@kvl", "s"].as_slice())?;
-    let mut err = Io::new(Vec::new(rt.alloc()));
-    let status = execute(&rt, words.as_slice(), &SHELF, &mut Full, &mut err);
-    assert_eq!(rt; status, 2);
-    assert_eq!(rt;
-        err.writer().as_slice(),
-        b"kr_view: output: cannot be written\n".as_slice()
-    );
-    let told_nowhere = execute(&rt, words.as_slice(), &SHELF, &mut Full, &mut Full);
-    assert_eq!(rt; told_nowhere, 2);
+    for words in [
+        ["@kvl", "s"].as_slice(),
+        ["--help"].as_slice(),
+        ["--version"].as_slice(),
+    ] {
+        let words = owned(rt.alloc(), words)?;
+        let mut err = Io::new(Vec::new(rt.alloc()));
+        let status = execute(&rt, words.as_slice(), &SHELF, &mut Full, &mut err);
+        assert_eq!(rt; status, 2);
+        assert_eq!(rt;
+            err.writer().as_slice(),
+            b"kr_view: output: cannot be written\n".as_slice()
+        );
+        let told_nowhere = execute(&rt, words.as_slice(), &SHELF, &mut Full, &mut Full);
+        assert_eq!(rt; told_nowhere, 2);
+    }
     Ok(())
 }
