@@ -11,6 +11,8 @@ use kr_model::FailedCase;
 pub struct Run {
     /// The case that it was made from.
     pub case: FailedCase,
+    /// Whether the holder comes to the case's mode as the case says; if not, it comes to that mode in another way.
+    pub is_as_case: bool,
     /// Its opening map and its steps, and how it was put together.
     pub script: Counterexample,
     /// Its script as a line of JSON, with no line feed.

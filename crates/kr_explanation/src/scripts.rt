@@ -39,6 +39,7 @@ impl Explanation {
 pub fn run_of(
     alloc: Global,
     case: FailedCase,
+    is_as_case: bool,
     script: Counterexample,
 ) -> Result<Option<Run>, Memory>
     requires { IsMap script.opening.items }
@@ -46,7 +47,12 @@ pub fn run_of(
 {
     let line = json_line(alloc, &script.opening, &script.events)?;
     if is_line_of(alloc, line.as_str(), &script.opening, &script.events)? {
-        Ok(Some(Run { case, script, line }))
+        Ok(Some(Run {
+            case,
+            is_as_case,
+            script,
+            line,
+        }))
     } else {
         Ok(None)
     }

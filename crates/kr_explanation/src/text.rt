@@ -9,7 +9,7 @@ use crate::run::Run;
 use kr_cases::Memory;
 use kr_protocol::Protocol;
 use kr_sentences::{
-    Tries, causes_words, write_body, write_command, write_mend, write_never_held,
+    Tries, causes_words, write_body, write_case, write_command, write_mend, write_never_held,
     write_never_let_in, write_no_run, write_run, write_title,
 };
 use std::alloc::Global;
@@ -152,7 +152,8 @@ fn write_with_run<P: Protocol>(
 ) -> Result<(), Memory> {
     write_body(alloc, protocol, out, &explained.cause, &run.case, "can")?;
     let tries = tries_of(explained);
-    write_run(alloc, protocol, out, &run.case, &run.script, tries)
+    write_run(alloc, protocol, out, &run.script)?;
+    write_case(alloc, protocol, out, &run.case, run.is_as_case, tries)
 }
 
 /// Writes what is said of a cause that has no schedule: why it is harmless, or that none is known.

@@ -87,7 +87,7 @@ fn tried<P: Protocol>(
         if let Some(script) = sought.script {
             told.runs += 1;
             if is_told_before(&script, &told.run, prefer) {
-                if let Some(run) = run_of(alloc, *case, script)? {
+                if let Some(run) = run_of(alloc, *case, true, script)? {
                     told.run = Some(run);
                 }
             }
@@ -141,7 +141,7 @@ fn staged<P: Protocol>(
         for case in cases.iter().take(tried.min(MOST_STAGED)) {
             let sought = scenes.find(alloc, protocol, case, fit, MOST_STAGED_RUNS)?;
             if let Some(script) = sought.script {
-                return run_of(alloc, *case, script);
+                return run_of(alloc, *case, fit == Fit::Case, script);
             }
         }
     }

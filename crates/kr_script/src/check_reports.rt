@@ -82,7 +82,11 @@ fn from_value<P: Protocol>(alloc: Global, protocol: &P, from: Origin) -> Result<
     }
 }
 
-fn place_value<P: Protocol>(alloc: Global, protocol: &P, place: Requester) -> Result<Value, AllocError>
+fn place_value<P: Protocol>(
+    alloc: Global,
+    protocol: &P,
+    place: Requester,
+) -> Result<Value, AllocError>
     ensures { IfOk result (λ v. view v ≡ place_data (P.names protocol.now) place) }
 {
     let row = row_name(place.row);

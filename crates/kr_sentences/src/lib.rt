@@ -27,6 +27,6 @@ pub use harmless::{write_never_held, write_never_let_in};
 pub use json::json_line;
 pub use kr_cases::Memory;
 pub use mending::write_mend;
-pub use runs::{Tries, write_no_run, write_run};
+pub use runs::{Tries, write_case, write_no_run, write_run};
 pub use title::write_title;
 pub use whole::{causes_words, write_command};

@@ -37,15 +37,13 @@ fn case_text<P: Protocol>(
     format!(in alloc; "{rule} for {cover}, {from}.")
 }
 
-/// Writes the schedule of a cause that was made from this case: its anomaly, its steps, what is wrong with it, the verdict,
-/// the case, and how many of the cases gave a schedule, unless all did. The only fault is that a growth was refused.
+/// Writes the schedule of a cause: its anomaly, its steps, what is wrong with it, and the verdict. The only fault is that a
+/// growth was refused.
 pub fn write_run<P: Protocol>(
     alloc: Global,
     protocol: &P,
     out: &mut String,
-    case: &FailedCase,
     script: &Counterexample,
-    tries: Tries,
 ) -> Result<(), Memory>
     requires { IsMap script.now.opening.items }
 {
@@ -53,8 +51,7 @@ pub fn write_run<P: Protocol>(
     write_steps(alloc, protocol, out, script)?;
     write_line(out, "")?;
     write_paragraph(out, seen(alloc, script)?.as_str(), INDENT, 0)?;
-    write_verdict(alloc, protocol, out, script)?;
-    write_case(alloc, protocol, out, case, tries)
+    write_verdict(alloc, protocol, out, script)
 }
 
 /// Writes the line above a schedule: its anomaly and the initial index.
@@ -64,17 +61,24 @@ fn write_run_head(alloc: Global, out: &mut String, script: &Counterexample) -> R
     write!(out, "\n   {anomaly}. Initial index: {opening}.\n\n")
 }
 
-/// Writes the case that a schedule was made from, and how many of the cause's cases gave one, unless all did.
-fn write_case<P: Protocol>(
+/// Writes the case that a schedule was made from, whether the holder comes to its mode in another way than the case says, and
+/// how many of the cause's cases gave a schedule, unless all did. The only fault is that a growth was refused.
+pub fn write_case<P: Protocol>(
     alloc: Global,
     protocol: &P,
     out: &mut String,
     case: &FailedCase,
+    is_as_case: bool,
     tries: Tries,
 ) -> Result<(), Memory> {
     let case = case_text(alloc, protocol, case)?;
+    let way = if is_as_case {
+        ""
+    } else {
+        " Its mode is reached in another way here."
+    };
     let share = share_text(alloc, tries)?;
-    let text = format!(in alloc; "Case: {case}{share}")?;
+    let text = format!(in alloc; "Case: {case}{way}{share}")?;
     write_paragraph(out, text.as_str(), INDENT, 0)
 }
 

@@ -1,6 +1,6 @@
 use kr_model::{
-    Answers, Cover, Event, FailedCase, Name, Op, Origin, Pairs, Requester, Program, Programs, Refusal,
-    Reply, Row, Rule, Side, Step, Txns,
+    Answers, Cover, Event, FailedCase, Name, Op, Origin, Pairs, Program, Programs, Refusal, Reply,
+    Requester, Row, Rule, Side, Step, Txns,
 };
 use std::alloc::{AllocError, Global};
 
