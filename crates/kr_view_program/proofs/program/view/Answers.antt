@@ -26,3 +26,6 @@ returns-clause-shows g c =
 pub returns-clause-err : goal.returns-clause-err
 returns-clause-err g c =
     page_fault (g.F.Files.may_give c.args.files.now) (map string_bytes c.args.words.now) c.write_page.result c.write_page.ensures.err
+
+pub returns-clause-unknown : goal.returns-clause-unknown
+returns-clause-unknown g c unknown = absurd (unknown c.in_ok-asked.asked.table.now c.in_ok-asked.asked.script.now c.in_ok-asked.ensures.words)
