@@ -14,7 +14,7 @@ fn failed<P: Protocol>(rt: &impl Abort, alloc: Global, protocol: &P) -> Vec<Fail
         Err(
             Rejected {
                 protocol: _,
-                cause: kr_cases::Cause::Failed(failed),
+                cause: kr_cases::WhyRejected::Failed(failed),
             },
         ) => failed,
         _ => panic!(rt; "not rejected"),
