@@ -1,6 +1,6 @@
-//! Tables of which no failed case gives a script, and the scripts that scenes give.
+//! The scripts that scenes give of tables of which `kr_explain` finds none from their failed cases within its effort.
 
-use super::tables::{Table, failed, shortest, table_of};
+use super::tables::{Table, failed, table_of};
 use kr_counterexample::{Counterexample, Fit, Scenes};
 use kr_model::Rule;
 use kr_protocol::Protocol;
@@ -46,7 +46,7 @@ delete.next = [{ "own" = [], "mode" = "M3", "span" = "instant" }, { "own" = ["no
 
 #[rattlefmt::skip]
 const ROWS: &[ByScenes] = &[
-    ByScenes { name: "X-S stands beside X-N, and the intruder reads the key first", table: Table { text: RANGE_KEY, changes: &[(r#"X-S = ["N-S"]"#, r#"X-S = ["N-S", "X-N"]"#)] },
+    ByScenes { name: "X-S is compatible with X-N, and the intruder reads the key first", table: Table { text: RANGE_KEY, changes: &[(r#"X-S = ["N-S"]"#, r#"X-S = ["N-S", "X-N"]"#)] },
         rule: Rule::Delete, script: r#"{"format":1,"opening":[[10,1],[15,2],[20,3],[30,4]],"steps":[[1,"fetch",20],[2,"delete",15],[1,"delete",10],[2,"abort"],[3,"fetch",10],[3,"commit"],[1,"abort"]]}"# },
     ByScenes { name: "the intruder deletes a key in the gap before it inserts one", table: Table { text: FALLING, changes: &[] },
         rule: Rule::FetchMiss, script: r#"{"format":1,"opening":[[10,1],[14,2],[20,3],[30,4]],"steps":[[1,"fetch",15],[2,"delete",14],[2,"insert",15,5],[2,"commit"],[1,"fetch",15],[1,"commit"]]}"# },
@@ -76,7 +76,6 @@ fn given(rt: HostRuntime) -> Result<(), Fail> {
     for row in ROWS {
         let name = row.name;
         let table = table_of(alloc, row.table)?;
-        assert!(rt; shortest(alloc, &table, None)?.is_none(), "{name}");
         let script = read_script(alloc, row.script.as_bytes()).map_err(|_| "no script")?;
         let found = first_of(alloc, &table, row.rule)?.ok_or("none known")?;
         assert_eq!(rt; found.opening.as_slice(), script.opening(), "{name}");
