@@ -1,14 +1,11 @@
 """When a table is safe: what two transactions can have on one name at the same time, written from
 crates/kr_model/specs/Safe.antt alone. A set of lock states is a whole number, with a bit for each."""
 
-from collections import deque
 from typing import NamedTuple
 
 FREE = 0
 KEY_READ, KEY_UPDATED, KEY_INSERTED = 1, 2, 3  # what was done with the key; the greater one takes in the smaller
 GAP_READ, GAP_DELETED = 1, 2  # what was done in the gap below
-KEY_COVERS = {KEY_READ: 'RK', KEY_UPDATED: 'UK', KEY_INSERTED: 'IK'}
-GAP_COVERS = {GAP_READ: 'RG', GAP_DELETED: 'DG'}
 
 HIT, MISS, READ, STOP = ('fetch-hit', 'current'), ('fetch-miss', 'next'), ('scan-key', 'current'), ('scan-stop', 'next')
 INSERT, INSERT_NEXT = ('insert', 'current'), ('insert', 'next')
@@ -46,10 +43,6 @@ class State(NamedTuple):
     def keeps_out(self):
         """The places at which no other transaction may be granted a request."""
         return dict.fromkeys(KEPT_OUT_BY_KEY[self.key] + KEPT_OUT_BY_GAP[self.gap])
-
-    def covers(self):
-        """What its lock has to protect."""
-        return [it[use] for it, use in ((KEY_COVERS, self.key), (GAP_COVERS, self.gap)) if use != FREE]
 
 
 NOTHING = State(0, FREE, FREE, False)
@@ -189,58 +182,6 @@ class Closure:
 
     def is_safe(self):
         return next(self.holes(), None) is None
-
-    def hole_beside(self, x, y):
-        """A request of one with the lock state x that isn't blocked, beside y, which has to block it."""
-        keeps_out = self.states[y].keeps_out()
-        moves = (it for it in self.moves[x] if it.place in keeps_out and self.lets_in[it.tested] >> y & 1)
-        return next((Hole(it.place, self.states[x], it.next, self.states[y]) for it in moves), None)
-
-    def first_hole(self):
-        """A hole that the fewest steps lead to, with these steps: each who takes it, the move or None where it ends, and the
-        two lock states after it. What it has on the next name by then isn't counted."""
-        before = {(0, 0): None}
-        todo = deque(before)
-        while todo:
-            pair = todo.popleft()
-            hole = self.hole_beside(*pair) or self.hole_beside(*pair[::-1])
-            if hole:
-                return hole, self.way(before, pair)
-            for who in (0, 1):
-                x, y = pair[who], pair[1 - who]
-                for move in [*self.moves[x], None]:
-                    beside = self.lets_in[move.tested] if move else self.all
-                    beside &= self.idle if move and move.place == INSERT else self.all
-                    if not beside >> y & 1:
-                        continue
-                    z = self.number[move.after] if move else 0
-                    after = (z, y) if who == 0 else (y, z)
-                    if after not in before:
-                        before[after] = pair, (who + 1, move)
-                        todo.append(after)
-        return None
-
-    def way(self, before, pair):
-        steps = []
-        while before[pair]:
-            steps.append((*before[pair][1], tuple(self.states[it] for it in pair)))
-            pair = before[pair][0]
-        return steps[::-1]
-
-    def held(self):
-        """Each mode with a cover that a lock in it can have to serve."""
-        return {(it.mode, cover) for it in self.states for cover in it.covers()}
-
-    def holes_by_cover(self):
-        """The holes of each mode and cover, of the covers that have to keep the request out."""
-        found = {}
-        for hole in self.holes():
-            y, covers = hole.holder, []
-            covers += [KEY_COVERS[y.key]] if hole.place in KEPT_OUT_BY_KEY[y.key] else []
-            covers += [GAP_COVERS[y.gap]] if hole.place in KEPT_OUT_BY_GAP[y.gap] else []
-            for cover in covers:
-                found.setdefault((y.mode, cover), []).append(hole)
-        return found
 
 
 def is_safe(table):

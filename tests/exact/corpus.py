@@ -1,5 +1,5 @@
 #!/usr/bin/env python3
-"""Makes the lock tables on which exactness is held, by kinds; the same ones each time.
+"""Makes the protocol tables on which exactness is held, by kinds; the same ones each time.
 
     corpus.py                       how many tables each kind has
     corpus.py --write FOLDER KIND   writes those of a kind to FOLDER/0001.toml and so on
@@ -156,7 +156,7 @@ def changed(draws, draft):
 
 
 def nearly_accepted(draws, format):
-    """A table drawn at random, but that its last mode lets nobody in and is mostly what changes ask for, and that of two
+    """A table drawn at random, but that its last mode is compatible with none and is mostly what changes request, and that of two
     modes the later one is the converted mode, and lets in fewer."""
     draft = drawn_at_random(draws, draws.choice([1, 2, 2, 3, 3, 4, 4, 5, 5]), format, 0)
     modes = draft.modes

@@ -1,4 +1,4 @@
-"""The checker of lock tables, written from docs/DEFINITIONS.md ("Covers and cases") alone."""
+"""The checker of protocol tables, written from docs/DEFINITIONS.md ("Covers and cases") alone."""
 
 COVERS = ['RK', 'RG', 'IK', 'DG', 'UK']
 MUST_CONFLICT = {  # UK, and the places in the row update, only where updates are offered

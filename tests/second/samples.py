@@ -1,4 +1,4 @@
-"""Random lock tables and scripts."""
+"""Random protocol tables and scripts."""
 
 import json
 import tomllib
@@ -54,7 +54,7 @@ class Draft:
         return clause
 
     def offer_updates(self, random):
-        """Makes the table one of format 2. Mostly an update asks for what a delete asks of its key, and keeps it."""
+        """Makes the table one of format 2. Mostly an update requests what a delete requests on its key, to commit."""
         self.format = 2
         clause = self.clause(random, 'update')
         asked = self.rules.get(('delete', 'current'))

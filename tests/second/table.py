@@ -1,4 +1,4 @@
-"""A lock table from its TOML file, as docs/TABLES.md and docs/DEFINITIONS.md have it. A mode is a number: 0 is none."""
+"""A protocol table from its TOML file, as docs/TABLES.md and docs/DEFINITIONS.md have it. A mode is a number: 0 is none."""
 
 import tomllib
 
@@ -42,15 +42,15 @@ class Table:
         }
 
     def ok(self, requested, held):
-        """Whether a request may stand beside a lock of another transaction."""
+        """Whether a request is compatible with a lock of another transaction."""
         return NONE in (requested, held) or (requested, held) in self.compatible
 
     def convert(self, held, requested):
-        """The mode of one who holds a mode and asks for another."""
+        """The mode of one who holds a mode and requests another."""
         return held + requested if NONE in (held, requested) else self.conversion[held, requested]
 
     def ask(self, row, side, own_next):
-        """The mode and the span that are asked for, or None. A row that reads has no clause with `own`."""
+        """The mode and the span that are requested, or None. A row that reads has no clause with `own`."""
         for own, mode, span in self.clauses.get((row, side), []):
             if own is None or own_next in own:
                 return mode, span

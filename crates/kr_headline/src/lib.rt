@@ -121,7 +121,7 @@ pub fn states_are_well_formed()
 {}
 
 /// The log of steps has the programs that are read from their history: those that have committed, and of each active
-/// transaction its operations so far, but for the changes undone. Any of the steps may have been refused memory.
+/// transaction its operations so far without the backs. Any of the steps may have been refused memory.
 pub fn logs_tell_programs()
     ensures committed { (p : Protocol) (opening : Map) (h : List Entry) (s : State)
         → AreSteps p (start opening) h s → (log_after no_log h).committed ≡ programs h }

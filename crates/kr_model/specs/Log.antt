@@ -22,7 +22,7 @@ no_log = record { unfinished = []; committed = [] }
 abbrev pub operations_so_far : Log → ℕ → List Answered
 operations_so_far l t = unwrap_or (find nat_cmp t l.unfinished) []
 
--- The operations but for the changes undone.
+-- The operations without the backs, which no program has; what they undid stays among them.
 abbrev pub without_backs : List Answered → List Answered
 without_backs os = filter (λ x. not (is_back x.0)) os
 

@@ -1,4 +1,4 @@
-//! The steps of a run done once more on a machine, each drawn as it is done.
+//! The bands of a page: one for each step, with its drawing.
 ghost use Rattle.std.specs.Prelude.{◌≡◌, None};
 
 use crate::band::write_band;
