@@ -1,8 +1,9 @@
 //! The program over its words, files and streams.
-ghost use Rattle.std.specs.Prelude.{◌≡◌, ◌⊎◌, ◌≤◌, true, false, Ok, Err, IfOk, IfErr, IsTrue, map, string_bytes};
+ghost use Rattle.std.specs.Prelude.{◌≡◌, ◌⊎◌, ◌≤◌, ◌++◌, ℕ, List, true, false, Ok, Err, IfOk, IfErr, OnOk, IsTrue, map, string_bytes};
 ghost use Rattle.std.specs.Io.KnownBytes.{Appends};
 ghost use Rattle.kr_model.specs.Protocol.{IsLawful};
 ghost use Rattle.kr_script.specs.Puts.{HasCause};
+ghost use Rattle.kr_diagnosis.specs.Finding.{AreLines, AddsLines};
 ghost use Rattle.kr_shell.specs.Endings.{is_output};
 ghost use Rattle.kr_shell.specs.Manual.{IsTold, answer_of, ending_text};
 ghost use Rattle.kr_shell.specs.Questions.{IsQuestion, IsNoQuestion};
@@ -17,7 +18,8 @@ use crate::manual::{MANUAL, NAME, USAGE, WORDS};
 use crate::words::{Wanted, read_words};
 use kr_protocol::Protocol;
 use kr_script::Sink;
-use kr_shell::{Ending, Files, VERSION, question_in, table_at};
+use kr_diagnosis::table_at;
+use kr_shell::{Ending, Files, VERSION, question_in};
 use std::alloc::Global;
 
 /// Does nothing: a protocol is lawful.
@@ -50,12 +52,13 @@ fn report<P: Protocol, W: Sink>(
     }
 }
 
-/// Does what the words ask of a table, and answers whether it is safe.
+/// Does what the words ask of a table, and answers whether it is safe. Where they name none, `help` gets what helps.
 fn explained<R: std::rt::Files + AllocGlobal, F: Files, W: Sink>(
     rt: &R,
     words: &[String],
     files: &F,
     out: &mut W,
+    help: &mut String,
 ) -> Result<bool, Ending>
     ensures answers { IfOk result (Answers (F.may_give files.now) (map string_bytes words.now) (W.taken out.old) (W.taken out.new)) }
     ensures err { IfErr result (λ e. IsNoQuestion (map string_bytes words.now)
@@ -64,19 +67,23 @@ fn explained<R: std::rt::Files + AllocGlobal, F: Files, W: Sink>(
         → (result ≡ Err ending.NotUnderstood) × (out.new ≡ out.old) }
     ensures nothing { IfErr result (λ e. IsTrue (is_output e) ⊎ (out.new ≡ out.old)) }
     ensures cause { IfErr result (λ e. IsTrue (is_output e) → HasCause (W.failures out.old) (W.failures out.new)) }
+    ensures unhelped { OnOk result (help.new ≡ help.old) }
+    ensures help { AddsLines (string_bytes help.old) (string_bytes help.new) }
 {
     let asked = read_words(words)?;
-    let table = table_at(rt, asked.table, files)?;
+    let table = table_at(rt, asked.table, files, help)?;
     are_laws_kept(&table);
     report(rt.alloc(), &table, asked.table, asked.wanted, out)
 }
 
-/// Does what the words ask, of the program or of a table, and answers whether a table that they name is safe.
+/// Does what the words ask, of the program or of a table, and answers whether a table that they name is safe. Where they name
+/// none, `help` gets what helps.
 fn answered<R: std::rt::Files + AllocGlobal, F: Files, W: Sink>(
     rt: &R,
     words: &[String],
     files: &F,
     out: &mut W,
+    help: &mut String,
 ) -> Result<bool, Ending>
     ensures question { (q : Question) → IsQuestion (map string_bytes words.now) q
         → ((result ≡ Ok true) × Appends (W.taken out.old) (W.taken out.new) (answer_of NAME.now USAGE.now WORDS.now VERSION.now q))
@@ -87,13 +94,15 @@ fn answered<R: std::rt::Files + AllocGlobal, F: Files, W: Sink>(
     ensures unknown { AskNothing (map string_bytes words.now) → (result ≡ Err ending.NotUnderstood) × (out.new ≡ out.old) }
     ensures nothing { IfErr result (λ e. IsTrue (is_output e) ⊎ (out.new ≡ out.old)) }
     ensures cause { IfErr result (λ e. IsTrue (is_output e) → HasCause (W.failures out.old) (W.failures out.new)) }
+    ensures unhelped { OnOk result (help.new ≡ help.old) }
+    ensures help { AddsLines (string_bytes help.old) (string_bytes help.new) }
 {
     match question_in(words) {
         Some(question) => {
             MANUAL.answer(question, out)?;
             Ok(true)
         }
-        None => explained(rt, words, files, out),
+        None => explained(rt, words, files, out, help),
     }
 }
 
@@ -120,11 +129,13 @@ pub fn execute<R: std::rt::Files + AllocGlobal, F: Files, W: Sink, E: Sink>(
         × IsTold (E.taken err.old) (E.taken err.new) (E.failures err.old) (E.failures err.new)
         (ending_text NAME.now USAGE.now ending.NotUnderstood)) }
     ensures fault { result ≡ 2 → HasCause (W.failures out.old) (W.failures out.new) ⊎ (out.new ≡ out.old) }
-    ensures told { result ≡ 2 → (e : Ending) × (Ends (F.may_give files.now) (map string_bytes words.now) e
+    ensures told { result ≡ 2 → (help : List ℕ) × (AreLines help × ((e : Ending)
+        × (Ends (F.may_give files.now) (map string_bytes words.now) e
         × IsTold (E.taken err.old) (E.taken err.new) (E.failures err.old) (E.failures err.new)
-        (ending_text NAME.now USAGE.now e)) }
+        (ending_text NAME.now USAGE.now e ++ help)))) }
     ensures silent { (err.new ≡ err.old) ⊎ (result ≡ 2) }
 {
-    let done = answered(rt, words, files, out);
-    MANUAL.finish(&done, err)
+    let mut help = String::new(rt.alloc());
+    let done = answered(rt, words, files, out, &mut help);
+    MANUAL.finish(&done, help.as_str(), err)
 }

@@ -10,7 +10,7 @@ use Rattle.kr_script.specs.declared.threaded.Threaded.{Threaded}
 use Rattle.kr_threads.specs.Threaded.{IsThreaded}
 use Rattle.kr_shell.specs.declared.endings.Ending.{Ending}
 use Rattle.kr_shell.specs.declared.tables.AnyTable.{AnyTable}
-use Rattle.kr_shell.specs.Files.{MayBeHad}
+use Rattle.kr_shell.specs.Files.{MayBeScript}
 use Rattle.kr_shell.specs.Lawful.{lawful_of}
 use Rattle.kr_shell.specs.Named.{NamesTable, NamesScript}
 use Rattle.kr_shell.specs.Tables.{table_of, names_of}
@@ -20,18 +20,18 @@ use Rattle.kr_program.specs.Program.{Reports, Answers}
 use Rattle.kr_program.specs.declared.words.Task.{Task}
 
 -- a word names the script that bytes which may be had for it read as
-names_script : (may_give : List ℕ → Option (List ℕ) → Type 0) (word bytes read : List ℕ) (s : Script) → read ≡ bytes → MayBeHad may_give word (Some bytes) → reading read ≡ Ok s → NamesScript may_give word s
+names_script : (may_give : List ℕ → Option (List ℕ) → Type 0) (word bytes read : List ℕ) (s : Script) → read ≡ bytes → MayBeScript may_give word (Some bytes) → reading read ≡ Ok s → NamesScript may_give word s
 names_script may_give word bytes read s same had reads =
-    let P : List ℕ → Type 0 = λ bs. MayBeHad may_give word (Some bs) in
+    let P : List ℕ → Type 0 = λ bs. MayBeScript may_give word (Some bs) in
     (read, (subst P (sym same) had, reads))
 
 -- it is of a run of the script that a word names
-pub run_reported : (may_give : List ℕ → Option (List ℕ) → Type 0) (p : Protocol) (names : List (List ℕ)) (word bytes read : List ℕ) (old new : Option (List ℕ)) (serial : Bool) → read ≡ bytes → MayBeHad may_give word (Some bytes) → (s : Script) × ((reading read ≡ Ok s) × Appends old new (report_line p names s)) → IfOk (reading read) (λ s. IsTrue serial ↔ IsSerialScript p s) → (s : Script) × (NamesScript may_give word s × (Appends old new (report_line p names s) × (IsTrue serial ↔ IsSerialScript p s)))
+pub run_reported : (may_give : List ℕ → Option (List ℕ) → Type 0) (p : Protocol) (names : List (List ℕ)) (word bytes read : List ℕ) (old new : Option (List ℕ)) (serial : Bool) → read ≡ bytes → MayBeScript may_give word (Some bytes) → (s : Script) × ((reading read ≡ Ok s) × Appends old new (report_line p names s)) → IfOk (reading read) (λ s. IsTrue serial ↔ IsSerialScript p s) → (s : Script) × (NamesScript may_give word s × (Appends old new (report_line p names s) × (IsTrue serial ↔ IsSerialScript p s)))
 run_reported may_give p names word bytes read old new serial same had (s, (reads, written)) told =
     (s, (names_script may_give word bytes read s same had reads, (written, IfOk-at_ok (λ x. IsTrue serial ↔ IsSerialScript p x) reads told)))
 
 -- or of a run of it by several threads
-pub threads_reported : (may_give : List ℕ → Option (List ℕ) → Type 0) (p : Protocol) (word bytes read : List ℕ) (old new : Option (List ℕ)) (serial : Bool) → read ≡ bytes → MayBeHad may_give word (Some bytes) → (s : Script) × ((d : Threaded) × ((reading read ≡ Ok s) × (IsThreaded p s.opening s.steps d × Appends old new (threads_line d)))) → IsTrue serial → IsTrue serial × ((s : Script) × (NamesScript may_give word s × ((d : Threaded) × (IsThreaded p s.opening s.steps d × Appends old new (threads_line d)))))
+pub threads_reported : (may_give : List ℕ → Option (List ℕ) → Type 0) (p : Protocol) (word bytes read : List ℕ) (old new : Option (List ℕ)) (serial : Bool) → read ≡ bytes → MayBeScript may_give word (Some bytes) → (s : Script) × ((d : Threaded) × ((reading read ≡ Ok s) × (IsThreaded p s.opening s.steps d × Appends old new (threads_line d)))) → IsTrue serial → IsTrue serial × ((s : Script) × (NamesScript may_give word s × ((d : Threaded) × (IsThreaded p s.opening s.steps d × Appends old new (threads_line d)))))
 threads_reported may_give p word bytes read old new serial same had (s, (d, (reads, (threaded, written)))) is_serial =
     (is_serial, (s, (names_script may_give word bytes read s same had reads, (d, (threaded, written)))))
 

@@ -7,7 +7,7 @@ use Rattle.kr_shell.specs.declared.endings.Ending.{Ending}
 use Rattle.kr_shell.specs.declared.endings.Ending.TheVariants.{NotUnderstood, Memory, Place, Output, Told}
 use Rattle.kr_shell.specs.declared.tables.AnyTable.{AnyTable}
 use Rattle.kr_shell.specs.Endings.{MemoryOrTold}
-use Rattle.kr_shell.specs.Files.{MayBeHad}
+use Rattle.kr_shell.specs.Files.{MayBeScript}
 use Rattle.kr_shell.specs.Lines.{told_line, unreadable_line, script_fault_text}
 use Rattle.kr_shell.specs.Named.{NamesTable, TellsNoTable, TellsUnreadable, TellsNoScript}
 use Rattle.kr_batch.specs.Names.{IsFirst, HasFault}
@@ -31,13 +31,13 @@ unreadable_ends may_give word Output told = tt
 unreadable_ends may_give word (Told line) told = inl told
 
 -- the bytes that may be had for a word are no script
-pub script_ends : (may_give : List ℕ → Option (List ℕ) → Type 0) (word bytes read : List ℕ) (f : ScriptFault) (e : Ending) → read ≡ bytes → MayBeHad may_give word (Some bytes) → (x : Fault) × ((fault_of f ≡ Some x) × (reading read ≡ Err x)) → MemoryOrTold e (λ line. line ≡ told_line word (script_fault_text f)) → Unreported (TellsNoScript may_give word) e
+pub script_ends : (may_give : List ℕ → Option (List ℕ) → Type 0) (word bytes read : List ℕ) (f : ScriptFault) (e : Ending) → read ≡ bytes → MayBeScript may_give word (Some bytes) → (x : Fault) × ((fault_of f ≡ Some x) × (reading read ≡ Err x)) → MemoryOrTold e (λ line. line ≡ told_line word (script_fault_text f)) → Unreported (TellsNoScript may_give word) e
 script_ends may_give word bytes read f NotUnderstood same had is_fault told = absurd told
 script_ends may_give word bytes read f Memory same had is_fault told = tt
 script_ends may_give word bytes read f Place same had is_fault told = tt
 script_ends may_give word bytes read f Output same had is_fault told = tt
 script_ends may_give word bytes read f (Told line) same had is_fault told =
-    let P : List ℕ → Type 0 = λ bs. MayBeHad may_give word (Some bs) in
+    let P : List ℕ → Type 0 = λ bs. MayBeScript may_give word (Some bs) in
     inr (read, (subst P (sym same) had, (f, (is_fault, told))))
 
 -- Of several words --
@@ -54,7 +54,7 @@ word_at bytes_of (w ∷ words) (b ∷ before) rest word (suc place) other split 
     word_at bytes_of words before rest word place other behind (omega (arith, long))
 
 -- the file that the first names can't be read
-pub first_unreadable : {N : Type 0} (may_give : List ℕ → Option (List ℕ) → Type 0) (bytes_of : N → List ℕ) (words : List N) (place : ℕ) (other : N) (e : Ending) → IsFirst (MayBeHad may_give) (map bytes_of words) place (λ word. MayBeHad may_give word None) → MemoryOrTold e (λ line. line ≡ unreadable_line (bytes_of (get_or words place other))) → Unreported (TellsFirst may_give (map bytes_of words)) e
+pub first_unreadable : {N : Type 0} (may_give : List ℕ → Option (List ℕ) → Type 0) (bytes_of : N → List ℕ) (words : List N) (place : ℕ) (other : N) (e : Ending) → IsFirst (MayBeScript may_give) (map bytes_of words) place (λ word. MayBeScript may_give word None) → MemoryOrTold e (λ line. line ≡ unreadable_line (bytes_of (get_or words place other))) → Unreported (TellsFirst may_give (map bytes_of words)) e
 first_unreadable may_give bytes_of words place other NotUnderstood first told = absurd told
 first_unreadable may_give bytes_of words place other Memory first told = tt
 first_unreadable may_give bytes_of words place other Place first told = tt
@@ -65,7 +65,7 @@ first_unreadable may_give bytes_of words place other (Told line) (before, word, 
     (place, (before, word, rest, ss, split, long, are, inl (none, subst P same told)))
 
 -- the bytes that may be had for the first are no script
-pub first_faulty : {N : Type 0} (may_give : List ℕ → Option (List ℕ) → Type 0) (bytes_of : N → List ℕ) (words : List N) (place : ℕ) (other : N) (f : ScriptFault) (e : Ending) → (x : Fault) × ((fault_of f ≡ Some x) × IsFirst (MayBeHad may_give) (map bytes_of words) place (HasFault (MayBeHad may_give) x)) → MemoryOrTold e (λ line. line ≡ told_line (bytes_of (get_or words place other)) (script_fault_text f)) → Unreported (TellsFirst may_give (map bytes_of words)) e
+pub first_faulty : {N : Type 0} (may_give : List ℕ → Option (List ℕ) → Type 0) (bytes_of : N → List ℕ) (words : List N) (place : ℕ) (other : N) (f : ScriptFault) (e : Ending) → (x : Fault) × ((fault_of f ≡ Some x) × IsFirst (MayBeScript may_give) (map bytes_of words) place (HasFault (MayBeScript may_give) x)) → MemoryOrTold e (λ line. line ≡ told_line (bytes_of (get_or words place other)) (script_fault_text f)) → Unreported (TellsFirst may_give (map bytes_of words)) e
 first_faulty may_give bytes_of words place other f NotUnderstood first told = absurd told
 first_faulty may_give bytes_of words place other f Memory first told = tt
 first_faulty may_give bytes_of words place other f Place first told = tt

@@ -7,7 +7,7 @@ use Rattle.kr_script.specs.Script.{Script}
 use Rattle.kr_shell.specs.declared.endings.Ending.{Ending}
 use Rattle.kr_shell.specs.declared.endings.Ending.TheVariants.{NotUnderstood, Memory, Place, Output, Told}
 use Rattle.kr_shell.specs.declared.tables.AnyTable.{AnyTable}
-use Rattle.kr_shell.specs.Files.{MayBeHad}
+use Rattle.kr_shell.specs.Files.{MayBeScript}
 use Rattle.kr_shell.specs.Named.{NamesTable, TellsNoTable, NamesScript, TellsNoScript}
 use Rattle.kr_shell.specs.Tables.{table_of, names_of}
 use Rattle.kr_batch.specs.Names.{AreNamed, IsFirst}
@@ -31,7 +31,7 @@ abbrev pub Reports : (List ℕ → Option (List ℕ) → Type 0) → Protocol �
 Reports may_give p names Check old new well = Appends old new (check_line p names) × (IsTrue well ↔ IsCovered p)
 Reports may_give p names (Run word) old new well =
     (s : Script) × (NamesScript may_give word.now s × (Appends old new (report_line p names s) × (IsTrue well ↔ IsSerialScript p s)))
-Reports may_give p names (Judge words) old new well = (ss : List Script) × (AreNamed (MayBeHad may_give) (map (λ w. w.now) words.items) ss
+Reports may_give p names (Judge words) old new well = (ss : List Script) × (AreNamed (MayBeScript may_give) (map (λ w. w.now) words.items) ss
     × (Appends old new (judge_lines p (map (λ w. w.now) words.items) ss) × (IsTrue well ↔ All (IsSerialScript p) ss)))
 Reports may_give p names (Threads word workers) old new well = ThreadsReported may_give p names word.now old new well
 
@@ -54,7 +54,7 @@ Unreported P (Told line) = P (string_bytes line)
 
 -- The line tells why the first of the words that names no script names none.
 abbrev pub TellsFirst : (List ℕ → Option (List ℕ) → Type 0) → List (List ℕ) → List ℕ → Type 0
-TellsFirst may_give words line = (place : ℕ) × IsFirst (MayBeHad may_give) words place (λ word. TellsNoScript may_give word line)
+TellsFirst may_give words line = (place : ℕ) × IsFirst (MayBeScript may_give) words place (λ word. TellsNoScript may_give word line)
 
 -- The line tells why a word of a task names no script; of several, it is the first.
 abbrev pub TellsTask : (List ℕ → Option (List ℕ) → Type 0) → Task → List ℕ → Type 0

@@ -5,7 +5,7 @@ ghost use Rattle.kr_model.specs.Covers.{IsCovered};
 ghost use Rattle.kr_script.specs.Puts.{AppendsFront, HasCause};
 ghost use Rattle.kr_script.specs.Script.{Script};
 ghost use Rattle.kr_shell.specs.Endings.{is_output, ending_line};
-ghost use Rattle.kr_shell.specs.Files.{MayBeHad};
+ghost use Rattle.kr_shell.specs.Files.{MayBeScript};
 ghost use Rattle.kr_shell.specs.Named.{NamesScript, TellsNoScript};
 ghost use Rattle.kr_shell.specs.declared.endings.Ending.{Ending};
 ghost use Rattle.kr_shell.specs.declared.endings.Ending.TheVariants as ending;
@@ -29,7 +29,8 @@ use kr_cases::{Rejected, WhyRejected, check};
 use kr_protocol::{Covered, Protocol};
 use kr_script::Sink;
 use kr_shell::{
-    Ending, FileFault, Files, at_fault, finish, read_file, table_at, unreadable, whole,
+    Ending, FileFault, Files, SCRIPT_BYTES, at_fault, finish, read_file, table_at, unreadable,
+    whole,
 };
 use std::alloc::Global;
 use std::sync::Wait;
@@ -68,7 +69,7 @@ fn run_script<R: std::rt::Files + AllocGlobal, P: Protocol, F: Files, W: Sink>(
     ensures cause { IfErr result (λ e. IsTrue (is_output e) → HasCause (W.failures out.old) (W.failures out.new)) }
 {
     let alloc = rt.alloc();
-    let bytes = whole(rt, script, files)?;
+    let bytes = whole(rt, script, files, SCRIPT_BYTES)?;
     match run_over(alloc, protocol, bytes.as_slice(), out) {
         Ok(is_serial) => Ok(is_serial),
         Err(OverFault::Script(fault)) => Err(at_fault(alloc, script, fault)),
@@ -84,13 +85,13 @@ struct Scripts<'a, R, F> {
 }
 
 impl<R: std::rt::Files + AllocGlobal, F: Files> Texts for Scripts<'_, R, F> {
-    ghost may_be = { λ s. MayBeHad (F.may_give s.files.now) };
+    ghost may_be = { λ s. MayBeScript (F.may_give s.files.now) };
 
     fn text(&self, _alloc: Global, name: &str) -> Result<Vec<u8>, TextFault> {
-        match read_file(self.rt, name, self.files) {
+        match read_file(self.rt, name, self.files, SCRIPT_BYTES) {
             Ok(bytes) => Ok(bytes),
             Err(FileFault::Memory) => Err(TextFault::Memory),
-            Err(FileFault::Unreadable) => Err(TextFault::Unreadable),
+            Err(_) => Err(TextFault::Unreadable),
         }
     }
 }
@@ -98,7 +99,7 @@ impl<R: std::rt::Files + AllocGlobal, F: Files> Texts for Scripts<'_, R, F> {
 impl<R: std::rt::Files + AllocGlobal, F: Files> Scripts<'_, R, F> {
     /// How the program ends at this fault of the first of the words that names no script.
     fn ending_for(&self, words: &[&str], judge_fault: JudgeFault) -> Ending
-        requires { ExplainsNames (MayBeHad (F.may_give self.now.files.now)) (map (λ w. w.now) words.now) judge_fault }
+        requires { ExplainsNames (MayBeScript (F.may_give self.now.files.now)) (map (λ w. w.now) words.now) judge_fault }
         ensures ends { Unreported (TellsFirst (F.may_give self.now.files.now) (map (λ w. w.now) words.now)) result }
         ensures other { is_output result ≡ false }
     {
@@ -122,7 +123,7 @@ fn judge_scripts<
 where
     R::File: Send + Sync,
     R::Dir: Send + Sync,
-    ensures reports { IfOk result (λ serial. (ss : List Script) × (AreNamed (MayBeHad (F.may_give files.now)) (map (λ w. w.now) words.now) ss
+    ensures reports { IfOk result (λ serial. (ss : List Script) × (AreNamed (MayBeScript (F.may_give files.now)) (map (λ w. w.now) words.now) ss
         × (Appends (W.taken out.old) (W.taken out.new) (judge_lines (P.table protocol.now) (map (λ w. w.now) words.now) ss)
         × (IsTrue serial ↔ All (IsSerialScript (P.table protocol.now)) ss)))) }
     ensures covered { IsCovered (P.table protocol.now) → IfOk result (λ serial. IsTrue serial) }
@@ -160,7 +161,7 @@ fn thread_script<
     ensures cause { IfErr result (λ e. IsTrue (is_output e) → HasCause (W.failures out.old) (W.failures out.new)) }
 {
     let alloc = rt.alloc();
-    let bytes = whole(rt, script, files)?;
+    let bytes = whole(rt, script, files, SCRIPT_BYTES)?;
     match threads_over(rt, alloc, protocol, bytes.as_slice(), workers.count(), out) {
         Ok(answer) => Ok(answer),
         Err(OverFault::Script(fault)) => Err(at_fault(alloc, script, fault)),

@@ -1,6 +1,6 @@
 //! Files that a test gives a program.
 
-use kr_shell::{FileFault, Files};
+use kr_shell::{FileFault, Files, first_bytes};
 
 /// Texts by their names. To read `big` takes more memory than there is, and nothing else can be read.
 #[derive(Clone, Copy)]
@@ -13,14 +13,15 @@ impl Files for Shelf<'_> {
         &self,
         rt: &R,
         word: &str,
+        most: usize,
     ) -> Result<Vec<u8>, FileFault> {
         if word == "big" {
             return Err(FileFault::Memory);
         }
         for (name, text) in self.0 {
             if *name == word {
-                let bytes = text.as_bytes().to_vec(rt.alloc());
-                return bytes.map_err(|_| FileFault::Memory);
+                let mut text = text.as_bytes();
+                return Ok(first_bytes(rt.alloc(), &mut text, most)?);
             }
         }
         Err(FileFault::Unreadable)

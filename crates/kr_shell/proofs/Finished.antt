@@ -1,5 +1,5 @@
 -- What the status of a program that is finished tells of how it ended.
-use Rattle.std.specs.Prelude.{◌≡◌, ◌≢◌, ◌≤◌, ◌↔◌, ◌⊎◌, ℕ, Bool, true, false, Result, Ok, Err, IfOk, IfErr, OnOk, IsTrue, refl}
+use Rattle.std.specs.Prelude.{◌≡◌, ◌≢◌, ◌≤◌, ◌↔◌, ◌⊎◌, ℕ, List, Bool, true, false, Result, Ok, Err, IfOk, IfErr, OnOk, IsTrue, refl}
 use Rattle.std.proofs.Common.{subst, arith, inl, inr}
 use Rattle.kr_shell.specs.declared.endings.Ending.{Ending}
 use Rattle.kr_shell.specs.Endings.{is_output}
@@ -29,3 +29,11 @@ silent_at (Err e) n Same within well not_well silent =
     let not_zero : n ≢ 0 = λ zero. let k : Err e ≡ Ok true = well.0 zero in absurd (cc) in
     let not_one : n ≢ 1 = λ one. let k : Err e ≡ Ok false = not_well.0 one in absurd (cc) in
     inr (omega arith)
+
+-- and elsewhere it warns
+pub warned_at : (r : Result Bool Ending) (n : ℕ) (help : List ℕ) (Are Told : List ℕ → Type 0) → Are help → n ≤ 2 → ((n ≡ 0) ↔ (r ≡ Ok true)) → ((n ≡ 1) ↔ (r ≡ Ok false)) → OnOk r (Told help) → (n ≡ 2) ⊎ ((text : List ℕ) × (Are text × Told text))
+warned_at (Ok b) n help Are Told are within well not_well warned = inr (help, (are, warned))
+warned_at (Err e) n help Are Told are within well not_well warned =
+    let not_zero : n ≢ 0 = λ zero. let k : Err e ≡ Ok true = well.0 zero in absurd (cc) in
+    let not_one : n ≢ 1 = λ one. let k : Err e ≡ Ok false = not_well.0 one in absurd (cc) in
+    inl (omega arith)

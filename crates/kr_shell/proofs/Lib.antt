@@ -1,4 +1,6 @@
+pub mod Begun
 pub mod Finished
 pub mod Fronts
+pub mod ScriptFaults
 pub mod TableFaults
 pub mod Told

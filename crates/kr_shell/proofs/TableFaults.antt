@@ -8,7 +8,7 @@ use Rattle.kr_table.specs.Reading.{reading}
 use Rattle.kr_shell.specs.declared.endings.Ending.{Ending}
 use Rattle.kr_shell.specs.declared.endings.Ending.TheVariants.{NotUnderstood, Memory, Place, Output, Told}
 use Rattle.kr_shell.specs.Endings.{MemoryOrTold}
-use Rattle.kr_shell.specs.Files.{MayBeHad}
+use Rattle.kr_shell.specs.Files.{MayBeTable}
 use Rattle.kr_shell.specs.Lines.{told_line, table_fault_text}
 use Rattle.kr_shell.specs.Named.{TellsNoTable}
 
@@ -26,12 +26,12 @@ of_bytes (told_as.Rule path) P h = inr (rule (string_bytes path), (refl, h))
 of_bytes (told_as.OwnNotAllowed path) P h = inr (own_not_allowed (string_bytes path), (refl, h))
 of_bytes told_as.Memory P h = inl refl
 
-told_fault : (may_give : List ℕ → Option (List ℕ) → Type 0) (word bytes line : List ℕ) (f : TableFault) → MayBeHad may_give word (Some bytes) → ((f ≡ told_as.Memory) → ⊥) → line ≡ told_line word (table_fault_text f) → (f ≡ told_as.Memory) ⊎ ((x : Fault) × ((fault_of f ≡ Some x) × (reading bytes ≡ Err x))) → TellsNoTable may_give word line
+told_fault : (may_give : List ℕ → Option (List ℕ) → Type 0) (word bytes line : List ℕ) (f : TableFault) → MayBeTable may_give word (Some bytes) → ((f ≡ told_as.Memory) → ⊥) → line ≡ told_line word (table_fault_text f) → (f ≡ told_as.Memory) ⊎ ((x : Fault) × ((fault_of f ≡ Some x) × (reading bytes ≡ Err x))) → TellsNoTable may_give word line
 told_fault may_give word bytes line f had other told (inl memory) = absurd (other memory)
 told_fault may_give word bytes line f had other told (inr is_fault) = inr (bytes, (had, (f, (is_fault, told))))
 
 -- what is told of a fault of bytes that may be had is why the word names no table
-pub no_table : (may_give : List ℕ → Option (List ℕ) → Type 0) (word bytes : List ℕ) (f : TableFault) (e : Ending) → MayBeHad may_give word (Some bytes) → IfSome (fault_of f) (λ x. reading bytes ≡ Err x) → (f ≡ told_as.Memory → e ≡ Memory) → MemoryOrTold e (λ line. line ≡ told_line word (table_fault_text f)) → MemoryOrTold e (TellsNoTable may_give word)
+pub no_table : (may_give : List ℕ → Option (List ℕ) → Type 0) (word bytes : List ℕ) (f : TableFault) (e : Ending) → MayBeTable may_give word (Some bytes) → IfSome (fault_of f) (λ x. reading bytes ≡ Err x) → (f ≡ told_as.Memory → e ≡ Memory) → MemoryOrTold e (λ line. line ≡ told_line word (table_fault_text f)) → MemoryOrTold e (TellsNoTable may_give word)
 no_table may_give word bytes f NotUnderstood had reads memory told = absurd told
 no_table may_give word bytes f Memory had reads memory told = tt
 no_table may_give word bytes f Place had reads memory told = absurd told

@@ -7,12 +7,16 @@ mod files;
 mod lines;
 mod manual;
 mod questions;
+mod reading;
 mod tables;
 mod words;
 
 pub use endings::{Ending, finish};
-pub use files::{Disk, FileFault, Files, at_fault, read_file, script_at, unreadable, whole};
+pub use files::{
+    Disk, FileFault, Files, SCRIPT_BYTES, at_fault, read_file, script_at, unreadable, whole,
+};
 pub use manual::{Manual, VERSION};
 pub use questions::{Question, question_in};
-pub use tables::{AnyTable, table_at};
-pub use words::{is_plain, words_given};
+pub use reading::first_bytes;
+pub use tables::{AnyTable, TABLE_BYTES, at_table_fault, table_at};
+pub use words::{is_no_file, is_plain, words_given};

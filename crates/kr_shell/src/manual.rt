@@ -1,5 +1,5 @@
 //! What a program says of itself.
-ghost use Rattle.std.specs.Prelude.{◌≡◌, ◌≤◌, ◌↔◌, true, false, Ok, OnOk, OnErr, IfErr};
+ghost use Rattle.std.specs.Prelude.{◌≡◌, ◌≤◌, ◌↔◌, ◌++◌, [], true, false, Ok, OnOk, OnErr, IfErr};
 ghost use Rattle.std.specs.Io.KnownBytes.{Appends};
 ghost use Rattle.kr_script.specs.Puts.{AppendsFront, HasCause};
 ghost use Rattle.kr_shell.specs.Manual.{IsTold, answer_of, ending_text};
@@ -43,20 +43,37 @@ impl Manual<'_> {
         }
     }
 
-    /// Tells on `err` how the program ended, and answers its status, as `finish` does. The line of words that aren't
-    /// understood has the usage behind it.
-    pub fn finish<E: Sink>(&self, done: &Result<bool, Ending>, err: &mut E) -> u8
+    /// Tells on `err` how the program ended and what helps, and answers its status, as `finish` does. The help is whole lines or
+    /// nothing, and stands behind the line of the ending; behind the line of words that aren't understood stands the usage.
+    pub fn finish<E: Sink>(&self, done: &Result<bool, Ending>, help: &str, err: &mut E) -> u8
         ensures within { result ≤ 2 }
         ensures well { (result ≡ 0) ↔ (done.now ≡ Ok true) }
         ensures not_well { (result ≡ 1) ↔ (done.now ≡ Ok false) }
         ensures told { IfErr done.now (λ e. IsTold (E.taken err.old) (E.taken err.new) (E.failures err.old) (E.failures err.new)
-            (ending_text self.now.name.now self.now.usage.now e)) }
-        ensures silent { OnOk done.now (err.new ≡ err.old) }
+            (ending_text self.now.name.now self.now.usage.now e ++ help.now)) }
+        ensures warned { OnOk done.now (IsTold (E.taken err.old) (E.taken err.new) (E.failures err.old) (E.failures err.new) help.now) }
+        ensures silent { OnOk done.now (help.now ≡ [] → err.new ≡ err.old) }
     {
-        if let Err(ending) = done {
-            let _ = self.tell(ending, err);
-        }
+        let _ = match done {
+            Err(ending) => self.tell_all(ending, help, err),
+            Ok(_) if help.is_empty() => Ok(()),
+            Ok(_) => put_all(err, help.as_bytes()),
+        };
         status_of(done)
+    }
+
+    /// Prints what is told at an ending, and behind it what helps.
+    #[tactic(auto, using(kr_script::proofs::Grows::front_of_more, kr_script::proofs::Grows::front_behind, kr_script::proofs::Grows::appends_more))]
+    fn tell_all<E: Sink>(&self, ending: &Ending, help: &str, err: &mut E) -> Result<(), PrintFault>
+        ensures ok { OnOk result (Appends (E.taken err.old) (E.taken err.new)
+            (ending_text self.now.name.now self.now.usage.now ending.now ++ help.now)) }
+        ensures err { OnErr result (AppendsFront (E.taken err.old) (E.taken err.new)
+            (ending_text self.now.name.now self.now.usage.now ending.now ++ help.now)) }
+        ensures cause { OnErr result (HasCause (E.failures err.old) (E.failures err.new)) }
+    {
+        self.tell(ending, err)?;
+        put_all(err, help.as_bytes())?;
+        Ok(())
     }
 
     /// Prints the line of an ending, and behind it the usage where the words aren't understood.
@@ -66,6 +83,7 @@ impl Manual<'_> {
             (ending_text self.now.name.now self.now.usage.now ending.now)) }
         ensures err { OnErr result (AppendsFront (E.taken err.old) (E.taken err.new)
             (ending_text self.now.name.now self.now.usage.now ending.now)) }
+        ensures count { OnOk result (E.failures err.new ≡ E.failures err.old) }
         ensures cause { OnErr result (HasCause (E.failures err.old) (E.failures err.new)) }
     {
         tell(self.name, ending, err)?;

@@ -16,6 +16,9 @@ use kr_protocol::{Im, Kvl, KvlUpdate, Mode, Protocol, RangeKey, Row, Side, Span}
 use kr_table::{Table, TableFault};
 use std::alloc::Global;
 
+/// How many bytes of a table are read at most: one more than a table may have, so that one that is too long is seen to be.
+pub const TABLE_BYTES: usize = 65_537;
+
 /// One of the tables that the programs bring, or one that was read.
 #[derive(Debug, Drop)]
 pub enum AnyTable {
@@ -142,7 +145,7 @@ fn read_table<R: std::rt::Files + AllocGlobal, F: Files>(
     ensures fault { IfErr result (λ e. MemoryOrTold e (TellsNoTable (F.may_give files.now) word.now)) }
     ensures other { IfErr result (λ e. is_output e ≡ false) }
 {
-    let bytes = whole(rt, word, files)?;
+    let bytes = whole(rt, word, files, TABLE_BYTES)?;
     match kr_table::read(rt.alloc(), bytes.as_slice()) {
         Ok(table) => Ok(AnyTable::Read(table)),
         Err(fault) => Err(at_table_fault(rt.alloc(), word, fault)),
@@ -150,7 +153,7 @@ fn read_table<R: std::rt::Files + AllocGlobal, F: Files>(
 }
 
 /// How a program ends at a fault of the table that a word names.
-fn at_table_fault(alloc: Global, word: &str, fault: TableFault) -> Ending
+pub fn at_table_fault(alloc: Global, word: &str, fault: TableFault) -> Ending
     ensures line { MemoryOrTold result (λ line. line ≡ told_line word.now (table_fault_text fault)) }
     ensures memory { fault ≡ table_fault.Memory → result ≡ ending.Memory }
     ensures other { is_output result ≡ false }

@@ -11,6 +11,6 @@ fn main(rt: HostRuntime) -> ExitCode {
     let mut err = Io::new(rt.stderr());
     ExitCode::from(match words_given(&rt) {
         Ok(words) => execute(&rt, words.as_slice(), &Disk, &mut out, &mut err),
-        Err(ending) => MANUAL.finish(&Err(ending), &mut err),
+        Err(ending) => MANUAL.finish(&Err(ending), "", &mut err),
     })
 }

@@ -1,10 +1,11 @@
 //! The program over its words, files and streams.
-ghost use Rattle.std.specs.Prelude.{◌≡◌, ◌⊎◌, ◌↔◌, ◌≤◌, ℕ, List, true, false, Ok, Err, IfOk, IfErr, IsTrue, map, string_bytes};
+ghost use Rattle.std.specs.Prelude.{◌≡◌, ◌⊎◌, ◌↔◌, ◌≤◌, ◌++◌, ℕ, List, true, false, Ok, Err, IfOk, IfErr, IsTrue, map, string_bytes};
 ghost use Rattle.std.specs.Io.KnownBytes.{Appends};
 ghost use Rattle.kr_model.specs.Protocol.{IsLawful};
 ghost use Rattle.kr_model.specs.Covers.{IsCovered};
 ghost use Rattle.kr_model.specs.Safe.{IsSafe};
 ghost use Rattle.kr_script.specs.Puts.{HasCause};
+ghost use Rattle.kr_diagnosis.specs.Finding.{AreLines, AddsLines};
 ghost use Rattle.kr_shell.specs.Endings.{is_output};
 ghost use Rattle.kr_shell.specs.Manual.{IsTold, answer_of, ending_text};
 ghost use Rattle.kr_shell.specs.Questions.{IsQuestion, IsNoQuestion};
@@ -19,7 +20,8 @@ use crate::words::read_words;
 use kr_picture::picture;
 use kr_protocol::Protocol;
 use kr_script::{Script, Sink, put_all};
-use kr_shell::{Ending, Files, VERSION, question_in, script_at, table_at};
+use kr_diagnosis::{script_at, table_at};
+use kr_shell::{Ending, Files, VERSION, question_in};
 use std::alloc::Global;
 
 /// Does nothing: a protocol is lawful.
@@ -52,12 +54,14 @@ pub fn write_page<P: Protocol, W: Sink>(
     Ok(is_serial)
 }
 
-/// Writes the page that the words ask for, and answers whether the run is serializable.
+/// Writes the page that the words ask for, and answers whether the run is serializable. `help` gets what helps where they name
+/// no table or no script, and a warning of each member that the script has twice.
 fn view<R: std::rt::Files + AllocGlobal, F: Files, W: Sink>(
     rt: &R,
     words: &[String],
     files: &F,
     out: &mut W,
+    help: &mut String,
 ) -> Result<bool, Ending>
     ensures shows { IfOk result (ShowsAsked (F.may_give files.now) (map string_bytes words.now) (W.taken out.old) (W.taken out.new)) }
     ensures err { IfErr result (λ e. IsNoQuestion (map string_bytes words.now)
@@ -65,20 +69,23 @@ fn view<R: std::rt::Files + AllocGlobal, F: Files, W: Sink>(
     ensures unknown { AskNoPage (map string_bytes words.now) → (result ≡ Err ending.NotUnderstood) × (out.new ≡ out.old) }
     ensures cause { IfErr result (λ e. IsTrue (is_output e) → HasCause (W.failures out.old) (W.failures out.new)) }
     ensures nothing { IfErr result (λ e. IsTrue (is_output e) ⊎ (out.new ≡ out.old)) }
+    ensures help { AddsLines (string_bytes help.old) (string_bytes help.new) }
 {
     let asked = read_words(words)?;
-    let table = table_at(rt, asked.table, files)?;
-    let script = script_at(rt, asked.script, files)?;
+    let table = table_at(rt, asked.table, files, help)?;
+    let script = script_at(rt, asked.script, files, help)?;
     are_laws_kept(&table);
     write_page(rt.alloc(), &table, asked.table, &script, out)
 }
 
-/// Does what the words ask, of the program or of a run, and answers whether the run that they name is serializable.
+/// Does what the words ask, of the program or of a run, and answers whether the run that they name is serializable. `help`
+/// gets what helps, and warnings.
 fn answered<R: std::rt::Files + AllocGlobal, F: Files, W: Sink>(
     rt: &R,
     words: &[String],
     files: &F,
     out: &mut W,
+    help: &mut String,
 ) -> Result<bool, Ending>
     ensures question { (q : Question) → IsQuestion (map string_bytes words.now) q
         → ((result ≡ Ok true) × Appends (W.taken out.old) (W.taken out.new) (answer_of NAME.now USAGE.now WORDS.now VERSION.now q))
@@ -89,20 +96,21 @@ fn answered<R: std::rt::Files + AllocGlobal, F: Files, W: Sink>(
     ensures unknown { AskNothing (map string_bytes words.now) → (result ≡ Err ending.NotUnderstood) × (out.new ≡ out.old) }
     ensures cause { IfErr result (λ e. IsTrue (is_output e) → HasCause (W.failures out.old) (W.failures out.new)) }
     ensures nothing { IfErr result (λ e. IsTrue (is_output e) ⊎ (out.new ≡ out.old)) }
+    ensures help { AddsLines (string_bytes help.old) (string_bytes help.new) }
 {
     match question_in(words) {
         Some(question) => {
             MANUAL.answer(question, out)?;
             Ok(true)
         }
-        None => view(rt, words, files, out),
+        None => view(rt, words, files, out, help),
     }
 }
 
 /// Runs the program on words without its own name, and answers its status: 0 where the run is serializable, 1 where it isn't,
 /// and 2 where it told a fault on `err`. At 0 and 1 the whole page is written on `out`, of the run of the script that the
-/// second word names under the table that the first names, and nothing on `err`; at a fault of words, files, tables, scripts
-/// or memory nothing is written on `out`. Words that ask for help or the version are answered on `out` with 0. Behind the
+/// second word names under the table that the first names, and on `err` at most a warning of each member that the script has
+/// twice; at a fault of words, files, tables, scripts or memory nothing is written on `out`. Words that ask for help or the version are answered on `out` with 0. Behind the
 /// line of words that aren't understood `err` has the usage.
 pub fn execute<R: std::rt::Files + AllocGlobal, F: Files, W: Sink, E: Sink>(
     rt: &R,
@@ -121,12 +129,15 @@ pub fn execute<R: std::rt::Files + AllocGlobal, F: Files, W: Sink, E: Sink>(
     ensures unknown { AskNothing (map string_bytes words.now) → (result ≡ 2) × ((out.new ≡ out.old)
         × IsTold (E.taken err.old) (E.taken err.new) (E.failures err.old) (E.failures err.new)
         (ending_text NAME.now USAGE.now ending.NotUnderstood)) }
-    ensures told { result ≡ 2 → (e : Ending) × (Explains (F.may_give files.now) (map string_bytes words.now) e
+    ensures told { result ≡ 2 → (help : List ℕ) × (AreLines help × ((e : Ending)
+        × (Explains (F.may_give files.now) (map string_bytes words.now) e
         × IsTold (E.taken err.old) (E.taken err.new) (E.failures err.old) (E.failures err.new)
-        (ending_text NAME.now USAGE.now e)) }
+        (ending_text NAME.now USAGE.now e ++ help)))) }
+    ensures warned { (result ≡ 2) ⊎ ((help : List ℕ) × (AreLines help
+        × IsTold (E.taken err.old) (E.taken err.new) (E.failures err.old) (E.failures err.new) help)) }
     ensures fault { result ≡ 2 → HasCause (W.failures out.old) (W.failures out.new) ⊎ (out.new ≡ out.old) }
-    ensures silent { (err.new ≡ err.old) ⊎ (result ≡ 2) }
 {
-    let done = answered(rt, words, files, out);
-    MANUAL.finish(&done, err)
+    let mut help = String::new(rt.alloc());
+    let done = answered(rt, words, files, out, &mut help);
+    MANUAL.finish(&done, help.as_str(), err)
 }

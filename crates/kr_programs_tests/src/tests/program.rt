@@ -39,6 +39,7 @@ impl Files for Texts<'_> {
         &self,
         rt: &R,
         word: &str,
+        most: usize,
     ) -> Result<Vec<u8>, FileFault> {
         if word == "big" {
             return Err(FileFault::Memory);
@@ -50,10 +51,7 @@ impl Files for Texts<'_> {
             "b.json" => SPLIT,
             _ => return Err(FileFault::Unreadable),
         };
-        match text.as_bytes().to_vec(rt.alloc()) {
-            Ok(bytes) => Ok(bytes),
-            Err(_) => Err(FileFault::Memory),
-        }
+        Ok(first_bytes(rt.alloc(), &mut text.as_bytes(), most)?)
     }
 }
 

@@ -1,5 +1,9 @@
+use Rattle.std.specs.Prelude.{string_bytes}
 use Rattle.kr_shell.proofs.Finished.{ending_at}
+use Rattle.kr_diagnosis.proofs.Helped.{all_lines}
 use Rattle.kr_explain_program.proofs.program.execute.Goals as goal
 
 pub returns-clause-told : goal.returns-clause-told
-returns-clause-told g c two = ending_at c.answered-done.result c.finish.result _ _ c.finish.ensures.well c.finish.ensures.not_well c.answered-done.ensures.err c.finish.ensures.told two
+returns-clause-told g c two =
+    let help = string_bytes c.answered-done.new.help in
+    (help, (all_lines help c.answered-done.ensures.help, ending_at c.answered-done.result c.finish.result _ _ c.finish.ensures.well c.finish.ensures.not_well c.answered-done.ensures.err c.finish.ensures.told two))

@@ -1,9 +1,11 @@
 //! The bytes, the tables and the scripts that words name.
 use super::{
-    AnyTable, FileFault, SCRIPT, TABLE, read_file, read_script, script_at, table_at, whole,
+    AnyTable, FileFault, SCRIPT, TABLE, first_bytes, read_file, read_script, script_at, table_at,
+    whole,
 };
 use kr_program_testing::Shelf;
 use kr_protocol::Protocol;
+use std::io::repeat;
 use std::test::Fail;
 
 /// A file of three letters.
@@ -11,21 +13,40 @@ const LETTERS: Shelf = Shelf(&[("file", "abc")]);
 
 #[test]
 fn bytes(rt: HostRuntime) -> Result<(), Fail> {
-    let read = read_file(&rt, "file", &LETTERS).map_err(|_| "not read")?;
+    let read = read_file(&rt, "file", &LETTERS, 4).map_err(|_| "not read")?;
     assert_eq!(rt; read.as_slice(), b"abc".as_slice());
-    let had = whole(&rt, "file", &LETTERS).map_err(|_| "not had")?;
+    let had = whole(&rt, "file", &LETTERS, 4).map_err(|_| "not had")?;
     assert_eq!(rt; had.as_slice(), b"abc".as_slice());
     assert_eq!(rt;
-        read_file(&rt, "big", &LETTERS).err(),
+        read_file(&rt, "big", &LETTERS, 4).err(),
         Some(FileFault::Memory)
     );
     for word in ["@file", "@", "other", ""] {
         assert_eq!(rt;
-            read_file(&rt, word, &LETTERS).err(),
+            read_file(&rt, word, &LETTERS, 4).err(),
             Some(FileFault::Unreadable),
             "{word}"
         );
     }
+    Ok(())
+}
+
+#[test]
+fn no_more_than_is_wanted(rt: HostRuntime) -> Result<(), Fail> {
+    for (most, read) in [(0, ""), (1, "a"), (2, "ab"), (3, "abc"), (4, "abc")] {
+        let had = whole(&rt, "file", &LETTERS, most).map_err(|_| "not had")?;
+        assert_eq!(rt; had.as_slice(), read.as_bytes());
+    }
+    Ok(())
+}
+
+/// A reader that never ends is read to where it is wanted, in several reads.
+#[test]
+fn an_endless_reader(rt: HostRuntime) -> Result<(), Fail> {
+    let mut endless = repeat(7);
+    let had = first_bytes(rt.alloc(), &mut endless, 40_000)?;
+    assert_eq!(rt; had.len(), 40_000);
+    assert!(rt; had.iter().all(|byte| *byte == 7));
     Ok(())
 }
 

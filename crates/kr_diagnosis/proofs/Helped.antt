@@ -1,0 +1,53 @@
+-- What helps is whole lines.
+use Rattle.std.proofs.Common.{◌≡◌, ◌⊎◌, ◌∷◌, ◌++◌, ℕ, List, [], refl, sym, ap, ◌∙◌, inl, inr, append-nil, append_assoc}
+use Rattle.std.specs.Prelude.{Result, Ok, Err, is_ok, if◌then◌else◌}
+use Rattle.std.proofs.lemmas.List.Concat.{flat_map-append}
+use Rattle.kr_diagnosis.specs.Lines.{line, lines}
+use Rattle.kr_diagnosis.specs.Help.{IsHelp, IsOfFile, IsOfPlace, AreThreeHelps, of_file}
+use Rattle.kr_diagnosis.specs.Finding.{AddsHelp, AddsHelps, AreLines, AddsLines}
+
+-- a text that was put behind another, or wasn't
+pub put_behind : {A E : Type 0} (r : Result A E) (old new text : List ℕ) (Q : List ℕ → Type 0) → Q [] → Q text → new ≡ (if is_ok r then old ++ text else old) → (t : List ℕ) × (Q t × (new ≡ old ++ t))
+put_behind (Ok x) old new text Q none some put = (text, (some, put))
+put_behind (Err e) old new text Q none some put = ([], (none, put ∙ sym (append-nil old)))
+
+-- what helps, put behind what was there
+pub put_help : (word bytes old new : List ℕ) → (t : List ℕ) × (IsHelp word bytes t × (new ≡ old ++ t)) → AddsHelp word old new
+put_help word bytes old new (text, (help, is)) = (bytes, (text, (help, is)))
+
+-- lines behind lines are lines
+both : (a b : List ℕ) → AreLines a → AreLines b → AreLines (a ++ b)
+both a b (xs, is_a) (ys, is_b) = (xs ++ ys, ap (λ x. x ++ b) is_a ∙ (ap (λ y. lines xs ++ y) is_b ∙ sym (flat_map-append line xs ys)))
+
+help_lines : (word bytes text : List ℕ) → IsHelp word bytes text → AreLines text
+help_lines word bytes text (inl none) = ([], none)
+help_lines word bytes text (inr (inl (what, (hints, is)))) = (of_file word what ∷ hints, is)
+help_lines word bytes text (inr (inr (what, (told, (hints, (placed, is)))))) = (told ++ hints, is)
+
+three_lines : (word bytes text : List ℕ) → AreThreeHelps word bytes text → AreLines text
+three_lines word bytes text (a, (is_a, (b, (is_b, (c, (is_c, is)))))) =
+    let all = both a (b ++ c) (help_lines word bytes a is_a) (both b c (help_lines word bytes b is_b) (help_lines word bytes c is_c)) in
+    (all.0, is ∙ all.1)
+
+pub adds_lines : (word old new : List ℕ) → AddsHelp word old new → AddsLines old new
+adds_lines word old new (bytes, (text, (help, is))) = (text, (help_lines word bytes text help, is))
+
+pub helps_lines : (word old new : List ℕ) → AddsHelps word old new → AddsLines old new
+helps_lines word old new (bytes, (text, (inl help, is))) = (text, (help_lines word bytes text help, is))
+helps_lines word old new (bytes, (text, (inr three, is))) = (text, (three_lines word bytes text three, is))
+
+-- where nothing was put behind
+pub no_help : (word old new : List ℕ) → new ≡ old → AddsHelp word old new
+no_help word old new same = ([], ([], (inl refl, same ∙ sym (append-nil old))))
+
+-- helps that are also one of the others
+pub one_help : (word old new : List ℕ) → AddsHelp word old new → AddsHelps word old new
+one_help word old new (bytes, (text, (help, is))) = (bytes, (text, (inl help, is)))
+
+-- lines that were put behind lines
+pub more_lines : (a b c : List ℕ) → AddsLines a b → AddsLines b c → AddsLines a c
+more_lines a b c (x, (are_x, is_b)) (y, (are_y, is_c)) = (x ++ y, (both x y are_x are_y, is_c ∙ (ap (λ z. z ++ y) is_b ∙ append_assoc a x y)))
+
+-- all that stands behind nothing
+pub all_lines : (old new : List ℕ) → old ≡ [] → AddsLines old new → AreLines new
+all_lines old new none (text, (are, is)) = (are.0, is ∙ (ap (λ x. x ++ text) none ∙ are.1))

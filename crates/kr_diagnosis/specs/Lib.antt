@@ -1,0 +1,5 @@
+pub mod Finding
+pub mod Help
+pub mod Lines
+pub mod Nearest
+pub mod Place

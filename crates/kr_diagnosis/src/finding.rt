@@ -1,0 +1,127 @@
+//! Tables and scripts that words name, and what helps where they name none.
+ghost use Rattle.std.specs.Prelude.{◌≡◌, ◌++◌, ℕ, List, [], false, IfOk, IfErr, IsOk, IsTrue, OnOk, string_bytes};
+ghost use Rattle.kr_shell.specs.Endings.{MemoryOrTold, is_output};
+ghost use Rattle.kr_shell.specs.Lines.{unreadable_line};
+ghost use Rattle.kr_shell.specs.Named.{NamesScript, NamesTable, TellsNoScript, TellsNoTable};
+ghost use Rattle.kr_shell.specs.Words.{is_bundled};
+ghost use Rattle.kr_diagnosis.specs.Finding.{AddsHelp, AddsHelps, AddsLines};
+
+use crate::bundled::bundled_help;
+use crate::repeated::repeated_help;
+use crate::scripts::script_help;
+use crate::tables::table_help;
+use crate::unreadable::file_help;
+use kr_script::{Script, read_script};
+use kr_shell::{
+    AnyTable, Ending, FileFault, Files, SCRIPT_BYTES, TABLE_BYTES, at_fault, at_table_fault,
+    is_no_file, read_file, unreadable,
+};
+use std::alloc::{AllocError, Global};
+
+/// Puts a text behind what helps, where memory allows: what holds of the text and of none holds of what was put there.
+fn add(help: &mut String, more: Result<String, AllocError>)
+    ensures { (Q : List ℕ → Type 0) → Q [] → IfOk more (λ text. Q (string_bytes text))
+        → (text : List ℕ) × (Q text × (string_bytes help.new ≡ string_bytes help.old ++ text)) }
+{
+    if let Ok(text) = more {
+        let _ = help.push_str(text.as_str());
+    }
+}
+
+/// The table that a word names, as `kr_shell::table_at` finds it. Where it names none, what helps is put behind `help`, and
+/// else `help` stays as it is.
+pub fn table_at<R: std::rt::Files + AllocGlobal, F: Files>(
+    rt: &R,
+    word: &str,
+    files: &F,
+    help: &mut String,
+) -> Result<AnyTable, Ending>
+    ensures table { IfOk result (NamesTable (F.may_give files.now) word.now) }
+    ensures bundled { IsTrue (is_bundled word.now) → IsOk result }
+    ensures fault { IfErr result (λ e. MemoryOrTold e (TellsNoTable (F.may_give files.now) word.now)) }
+    ensures other { IfErr result (λ e. is_output e ≡ false) }
+    ensures unhelped { OnOk result (help.new ≡ help.old) }
+    ensures help { AddsHelp word.now (string_bytes help.old) (string_bytes help.new) }
+    ensures lines { AddsLines (string_bytes help.old) (string_bytes help.new) }
+{
+    let alloc = rt.alloc();
+    if is_no_file(word) {
+        let table = kr_shell::table_at(rt, word, files);
+        if table.is_err() {
+            add(help, bundled_help(alloc, word));
+        }
+        return table;
+    }
+    table_in_file(rt, word, files, help)
+}
+
+/// The table in the file that a word names.
+fn table_in_file<R: std::rt::Files + AllocGlobal, F: Files>(
+    rt: &R,
+    word: &str,
+    files: &F,
+    help: &mut String,
+) -> Result<AnyTable, Ending>
+    ensures table { IfOk result (NamesTable (F.may_give files.now) word.now) }
+    ensures fault { IfErr result (λ e. MemoryOrTold e (TellsNoTable (F.may_give files.now) word.now)) }
+    ensures other { IfErr result (λ e. is_output e ≡ false) }
+    ensures unhelped { OnOk result (help.new ≡ help.old) }
+    ensures help { AddsHelp word.now (string_bytes help.old) (string_bytes help.new) }
+{
+    let alloc = rt.alloc();
+    let bytes = match read_file(rt, word, files, TABLE_BYTES) {
+        Ok(bytes) => bytes,
+        Err(fault) => return Err(no_file(alloc, word, fault, help)),
+    };
+    match kr_table::read(alloc, bytes.as_slice()) {
+        Ok(table) => Ok(AnyTable::Read(table)),
+        Err(fault) => {
+            add(help, table_help(alloc, word, bytes.as_slice(), &fault));
+            Err(at_table_fault(alloc, word, fault))
+        }
+    }
+}
+
+/// How a program ends at a word whose file can't be read. What helps is put behind `help`.
+fn no_file(alloc: Global, word: &str, fault: FileFault, help: &mut String) -> Ending
+    ensures line { MemoryOrTold result (λ line. line ≡ unreadable_line word.now) }
+    ensures other { is_output result ≡ false }
+    ensures help { AddsHelp word.now (string_bytes help.old) (string_bytes help.new) }
+{
+    if fault == FileFault::Memory {
+        return Ending::Memory;
+    }
+    add(help, file_help(alloc, word, fault));
+    unreadable(alloc, word)
+}
+
+/// The script that a word names, as `kr_shell::script_at` finds it. Where it names none, what helps is put behind `help`, and
+/// else a warning of each member that the script has twice.
+pub fn script_at<R: std::rt::Files + AllocGlobal, F: Files>(
+    rt: &R,
+    word: &str,
+    files: &F,
+    help: &mut String,
+) -> Result<Script, Ending>
+    ensures script { IfOk result (NamesScript (F.may_give files.now) word.now) }
+    ensures fault { IfErr result (λ e. MemoryOrTold e (TellsNoScript (F.may_give files.now) word.now)) }
+    ensures other { IfErr result (λ e. is_output e ≡ false) }
+    ensures help { AddsHelps word.now (string_bytes help.old) (string_bytes help.new) }
+    ensures lines { AddsLines (string_bytes help.old) (string_bytes help.new) }
+{
+    let alloc = rt.alloc();
+    let bytes = match read_file(rt, word, files, SCRIPT_BYTES) {
+        Ok(bytes) => bytes,
+        Err(fault) => return Err(no_file(alloc, word, fault, help)),
+    };
+    match read_script(alloc, bytes.as_slice()) {
+        Ok(script) => {
+            add(help, repeated_help(alloc, word, bytes.as_slice()));
+            Ok(script)
+        }
+        Err(fault) => {
+            add(help, script_help(alloc, word, bytes.as_slice(), &fault));
+            Err(at_fault(alloc, word, fault))
+        }
+    }
+}

@@ -1,0 +1,36 @@
+//! Faults of tables and scripts in words: where a fault stands, the line there with a caret, what was expected, and the
+//! nearest name.
+#![tactic(auto)]
+
+mod bundled;
+mod document;
+mod encoding;
+mod finding;
+mod help;
+mod json_faults;
+mod json_places;
+mod kinds;
+mod lines;
+mod nearest;
+mod place;
+mod repeated;
+mod script_members;
+mod script_steps;
+mod scripts;
+mod source;
+mod table_matrices;
+mod table_members;
+mod table_rules;
+mod tables;
+mod toml_faults;
+mod toml_paths;
+mod toml_places;
+mod toml_tokens;
+mod unreadable;
+
+pub use bundled::bundled_help;
+pub use finding::{script_at, table_at};
+pub use repeated::repeated_help;
+pub use scripts::script_help;
+pub use tables::table_help;
+pub use unreadable::file_help;

@@ -1,0 +1,175 @@
+//! What is said of a step that has the form of none.
+
+use crate::help::Help;
+use crate::json_places::{element, token};
+use crate::kinds::json_kind;
+use serde_json::Value;
+use std::alloc::{AllocError, Global};
+
+const OPERATIONS: [&str; 9] = [
+    "fetch", "scan", "go", "insert", "delete", "update", "commit", "abort", "back",
+];
+
+/// What an operation's step looks like, and how many elements it has.
+fn form_of(word: &str) -> Option<(&'static str, usize)> {
+    Some(match word {
+        "fetch" => ("[t,\"fetch\",key]", 3),
+        "scan" => ("[t,\"scan\",low,high]", 4),
+        "go" => ("[t,\"go\"]", 2),
+        "insert" => ("[t,\"insert\",key,value]", 4),
+        "delete" => ("[t,\"delete\",key]", 3),
+        "update" => ("[t,\"update\",key,value]", 4),
+        "commit" => ("[t,\"commit\"]", 2),
+        "abort" => ("[t,\"abort\"]", 2),
+        "back" => ("[t,\"back\"]", 2),
+        _ => return None,
+    })
+}
+
+/// Why a number of a text is no whole number from 0 to 2 to the 64, less 1.
+fn number_reason(token: &[u8]) -> &'static str {
+    if token.contains(&b'.') || token.contains(&b'e') || token.contains(&b'E') {
+        "written without a point or an exponent"
+    } else if token.first() == Some(&b'-') {
+        "without a minus sign"
+    } else {
+        "at most 18446744073709551615"
+    }
+}
+
+/// What is said of a value that is to be a whole number and is none.
+pub fn number_fault(
+    alloc: Global,
+    text: &[u8],
+    place: Option<usize>,
+    name: &str,
+    value: &Value,
+) -> Result<Help, AllocError> {
+    let what = match (value, place) {
+        (Value::Number(_), Some(place)) => {
+            let reason = number_reason(token(text, place));
+            format!(in alloc; "{name} is a whole number, {reason}")?
+        }
+        _ => {
+            let is = json_kind(value);
+            format!(in alloc; "{name} is a whole number, and this is {is}")?
+        }
+    };
+    Ok(Help::new(alloc, place, what))
+}
+
+/// Adds what steps look like.
+fn hint_form(alloc: Global, help: &mut Help, form: &str) -> Result<(), AllocError> {
+    help.hint(format!(in alloc; "expected {form}")?)
+}
+
+/// What is said of the transaction's number.
+fn transaction_fault(
+    alloc: Global,
+    text: &[u8],
+    place: Option<usize>,
+    value: &Value,
+) -> Result<Help, AllocError> {
+    if value.as_u64().is_none() {
+        return number_fault(alloc, text, place, "a transaction's number", value);
+    }
+    Help::of(alloc, place, "a transaction's number is at most 4294967295")
+}
+
+/// What is said of a word that is no operation.
+fn operation_fault(alloc: Global, place: Option<usize>, word: &str) -> Result<Help, AllocError> {
+    let what = format!(in alloc; "there is no operation \"{word}\"")?;
+    let mut help = Help::new(alloc, place, what);
+    help.name(alloc, word, &OPERATIONS)?;
+    Ok(help)
+}
+
+/// What is said of a step of format 2 in a script of format 1.
+fn later_fault(alloc: Global, place: Option<usize>, word: &str) -> Result<Help, AllocError> {
+    let what = format!(in alloc; "\"{word}\" is in format 2 alone")?;
+    let mut help = Help::new(alloc, place, what);
+    help.hint(String::from_str(alloc, "write \"format\":2")?)?;
+    Ok(help)
+}
+
+/// What is said of a step's keys and values.
+fn parts_fault(
+    alloc: Global,
+    text: &[u8],
+    place: Option<usize>,
+    word: &str,
+    form: &str,
+    list: &[Value],
+) -> Result<Help, AllocError> {
+    for (i, part) in list.iter().enumerate() {
+        if i >= 2 && part.as_u64().is_none() {
+            let at = place.and_then(|place| element(text, place, i));
+            let name = if i == 2 || word == "scan" {
+                "a key"
+            } else {
+                "a value"
+            };
+            let mut help = number_fault(alloc, text, at, name, part)?;
+            hint_form(alloc, &mut help, form)?;
+            return Ok(help);
+        }
+    }
+    Help::of(alloc, place, "this step is at fault")
+}
+
+/// What is said of a step with a number and a word in front.
+fn form_fault(
+    alloc: Global,
+    text: &[u8],
+    place: Option<usize>,
+    is_later: bool,
+    word: &str,
+    list: &[Value],
+) -> Result<Help, AllocError> {
+    let at = place.and_then(|place| element(text, place, 1));
+    let Some((form, count)) = form_of(word) else {
+        return operation_fault(alloc, at, word);
+    };
+    if !is_later && (word == "update" || word == "back") {
+        return later_fault(alloc, at, word);
+    }
+    if list.len() != count {
+        let has = list.len();
+        let what = format!(in alloc; "a step \"{word}\" has {count} elements, and this has {has}")?;
+        let mut help = Help::new(alloc, place, what);
+        hint_form(alloc, &mut help, form)?;
+        return Ok(help);
+    }
+    parts_fault(alloc, text, place, word, form, list)
+}
+
+/// What is said of a step, which stands at the place, in a script of format 2 or else of format 1.
+pub fn step_fault(
+    alloc: Global,
+    text: &[u8],
+    place: Option<usize>,
+    is_later: bool,
+    step: Option<&Value>,
+) -> Result<Help, AllocError> {
+    let list = match step.and_then(Value::as_array) {
+        Some(list) => list.as_slice(),
+        None => &[],
+    };
+    let Some(first) = list.first() else {
+        let mut help = Help::of(alloc, place, "a step is an array")?;
+        hint_form(alloc, &mut help, "a step, as [1,\"fetch\",10]")?;
+        return Ok(help);
+    };
+    if !first.as_u64().is_some_and(|number| number < 1 << 32) {
+        let at = place.and_then(|place| element(text, place, 0));
+        return transaction_fault(alloc, text, at, first);
+    }
+    let Some(word) = list.get(1).and_then(Value::as_str) else {
+        let at = place.and_then(|place| element(text, place, 1));
+        let what = "behind the transaction's number stands an operation";
+        let mut help = Help::of(alloc, at.or(place), what)?;
+        help.name(alloc, "", &OPERATIONS)?;
+        return Ok(help);
+    };
+    form_fault(alloc, text, place, is_later, word, list)
+}

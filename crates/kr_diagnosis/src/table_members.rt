@@ -1,0 +1,94 @@
+//! What is said of the members of a table, and of the names of its modes.
+
+use crate::document::Document;
+use crate::help::Help;
+use crate::kinds::toml_kind;
+use crate::toml_paths::path_of;
+use std::alloc::{AllocError, Global};
+use toml::Value;
+
+/// The members of a table.
+const MEMBERS: [&str; 5] = ["format", "modes", "compatible", "convert", "rules"];
+
+/// What is said of a table that is too long.
+pub fn too_long(alloc: Global, bytes: &[u8]) -> Result<Help, AllocError> {
+    let count = bytes.len();
+    let what = format!(in alloc; "a table has at most 65536 bytes, and this has {count}")?;
+    Ok(Help::new(alloc, None, what))
+}
+
+pub fn format_fault(alloc: Global, document: &Document) -> Result<Help, AllocError> {
+    Help::of(
+        alloc,
+        document.member(alloc, "format")?,
+        "expected 1, or 2 for a table that offers updates",
+    )
+}
+
+/// What a member of a table is to be.
+fn member_kind(name: &str) -> &'static str {
+    match name {
+        "format" => "the whole number 1 or 2",
+        "modes" => "an array of names",
+        _ => "a table",
+    }
+}
+
+pub fn field_fault(alloc: Global, document: &Document, name: &str) -> Result<Help, AllocError> {
+    let place = document.member(alloc, name)?;
+    let kind = member_kind(name);
+    if !MEMBERS.contains(&name) {
+        let key = document.key(alloc, path_of(alloc, &[name])?.as_slice())?;
+        let what = format!(in alloc; "a table has no member \"{name}\"")?;
+        let mut help = Help::new(alloc, key, what);
+        help.name(alloc, name, &MEMBERS)?;
+        return Ok(help);
+    }
+    let what = match document.value.get(name) {
+        Some(value) => {
+            let is = toml_kind(value);
+            format!(in alloc; "\"{name}\" is to be {kind}, and is {is}")?
+        }
+        None => format!(in alloc; "the member \"{name}\" is missing: {kind}")?,
+    };
+    Ok(Help::new(alloc, place, what))
+}
+
+pub fn count_fault(alloc: Global, document: &Document) -> Result<Help, AllocError> {
+    let count = match document.value.get("modes").and_then(Value::as_array) {
+        Some(list) => list.len(),
+        None => 0,
+    };
+    let what = format!(in alloc; "a table has 1 to 15 modes, and this has {count}")?;
+    Ok(Help::new(alloc, document.member(alloc, "modes")?, what))
+}
+
+fn is_printable(name: &str) -> bool {
+    name.as_bytes().iter().all(|byte| (32..127).contains(byte))
+}
+
+/// Why an element of `modes` is no name of a mode.
+fn mode_reason(value: Option<&Value>) -> &'static str {
+    let Some(name) = value.and_then(Value::as_str) else {
+        return "the name of a mode is a text";
+    };
+    if name.is_empty() {
+        "the name of a mode has 1 to 24 bytes, and this has none"
+    } else if name == "none" {
+        "no mode is named \"none\", which stands for no lock"
+    } else if name.len() > 24 {
+        "the name of a mode has 1 to 24 bytes, and this has more"
+    } else if !is_printable(name) {
+        "the name of a mode has bytes from 32 to 126 alone"
+    } else {
+        "a mode before has this name"
+    }
+}
+
+pub fn mode_fault(alloc: Global, document: &Document, index: usize) -> Result<Help, AllocError> {
+    let step = format!(in alloc; "{index}")?;
+    let place = document.place(alloc, path_of(alloc, &["modes", step.as_str()])?.as_slice())?;
+    let modes = document.value.get("modes").and_then(Value::as_array);
+    let what = mode_reason(modes.and_then(|list| list.get(index)));
+    Help::of(alloc, place, what)
+}

@@ -1,0 +1,80 @@
+//! The steps of a fault's path.
+
+use std::alloc::{AllocError, Global};
+use toml::{Table, Value};
+
+/// The members of which the path begins with one, and the path behind it.
+fn split_member<'a>(table: &'a Table, path: &'a str) -> (&'a str, &'a str) {
+    for (name, _) in table.iter() {
+        if name.as_str() == path {
+            return (name.as_str(), "");
+        }
+        if let Some(rest) = path.strip_prefix(name.as_str()) {
+            if let Some(rest) = rest.strip_prefix('.') {
+                return (name.as_str(), rest);
+            }
+        }
+    }
+    (path, "")
+}
+
+/// The first step of a path into a value, and the rest of the path.
+fn split_step<'a>(value: &'a Value, path: &'a str) -> (&'a str, &'a str) {
+    match value {
+        Value::Table(table) => split_member(table, path),
+        _ => path.split_once('.').unwrap_or((path, "")),
+    }
+}
+
+/// The number that a step is.
+pub fn index_of(step: &str) -> Option<usize> {
+    step.parse::<usize>().ok()
+}
+
+/// What stands at a step of a path.
+pub fn at_step<'a>(value: &'a Value, step: &str) -> Option<&'a Value> {
+    match value {
+        Value::Array(list) => list.get(index_of(step)?),
+        _ => value.get(step),
+    }
+}
+
+/// The path of these steps.
+pub fn path_of(alloc: Global, steps: &[&str]) -> Result<Vec<String>, AllocError> {
+    let mut path = Vec::new(alloc);
+    for step in steps {
+        path.push(String::from_str(alloc, step)?)?;
+    }
+    Ok(path)
+}
+
+/// A path with a step more.
+pub fn with_step(alloc: Global, path: &[String], step: &str) -> Result<Vec<String>, AllocError> {
+    let mut whole = Vec::new(alloc);
+    for earlier in path {
+        whole.push(String::from_str(alloc, earlier.as_str())?)?;
+    }
+    whole.push(String::from_str(alloc, step)?)?;
+    Ok(whole)
+}
+
+/// The steps of a path into a document, four at most. A name may have points of its own: a step is the name of a member
+/// where one leads on, and else all that is left.
+pub fn steps_of(alloc: Global, document: &Value, path: &str) -> Result<Vec<String>, AllocError> {
+    let mut steps = Vec::new(alloc);
+    let mut value = document;
+    let mut rest = path;
+    for _ in 0..4 {
+        if rest.is_empty() {
+            break;
+        }
+        let (step, others) = split_step(value, rest);
+        steps.push(String::from_str(alloc, step)?)?;
+        rest = others;
+        match at_step(value, step) {
+            Some(next) => value = next,
+            None => break,
+        }
+    }
+    Ok(steps)
+}
