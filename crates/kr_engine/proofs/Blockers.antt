@@ -27,6 +27,12 @@ zip_push R (u ∷ xs) [] x y h r = absurd h
 zip_push R (u ∷ xs) (v ∷ ys) x y h r = (h.0, zip_push R xs ys x y h.1 r)
 
 -- one more entry
+pub all_push : (f : Event → List ℕ) (noted : List Event) (i : ℕ) (d : Event) (ws ws' : List Waiting) (w : Waiting) → AllZip (IsEntry f) (take i noted) ws → i < length noted → IsEntry f (get_or noted i d) w → ws' ≡ ws ++ w ∷ [] → AllZip (IsEntry f) (take (i + 1) noted) ws'
+all_push f noted i d ws ws' w before l entry is =
+    subst (λ (vs : List Waiting). AllZip (IsEntry f) (take (i + 1) noted) vs) (sym is)
+    (subst (λ (es : List Event). AllZip (IsEntry f) es (ws ++ w ∷ [])) (sym (take_more noted i d l)) (zip_push (IsEntry f) (take i noted) ws (get_or noted i d) w before entry))
+
+-- one more entry, after that of e
 pub entries_push : (f : Event → List ℕ) (e : Event) (noted : List Event) (i : ℕ) (d : Event) (ws ws' : List Waiting) (w : Waiting) → AllZip (IsEntry f) (e ∷ take i noted) ws → i < length noted → IsEntry f (get_or noted i d) w → ws' ≡ ws ++ w ∷ [] → AllZip (IsEntry f) (e ∷ take (i + 1) noted) ws'
 entries_push f e noted i d ws ws' w before l entry is =
     subst (λ (vs : List Waiting). AllZip (IsEntry f) (e ∷ take (i + 1) noted) vs) (sym is)

@@ -11,3 +11,8 @@ pub mod Spoken
 pub mod ClosedEngines
 pub mod Copies
 pub mod Waiters
+pub mod Keys
+pub mod Ways
+pub mod Waking
+pub mod Entangled
+pub mod Waiting

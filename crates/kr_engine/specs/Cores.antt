@@ -1,5 +1,5 @@
 -- What contracts see of what lies under the lock.
-use Rattle.std.specs.Prelude.{◌≡◌, ◌==◌, ℕ, ◌+◌, ◌≤◌, Bool, true, false, not, List, Option, Some, None, All, length, filter, is_some, slice_index_or, if◌then◌else◌, suc, [], ◌∷◌}
+use Rattle.std.specs.Prelude.{◌≡◌, ◌==◌, ℕ, ◌+◌, ◌<◌, ◌≤◌, Bool, true, false, not, List, Option, Some, None, All, length, filter, is_some, slice_index_or, if◌then◌else◌, suc, [], ◌∷◌}
 use Rattle.kr_model.specs.declared.Event.{Event}
 use Rattle.kr_model.specs.declared.Op.{Op}
 use Rattle.kr_model.specs.Protocol.{Protocol}
@@ -33,6 +33,31 @@ seat_at seats k = slice_index_or seats k no_seat
 -- Each seat's count is the number of its entries.
 abbrev pub CountsAre : List SeatNote → List Entry → Type 0
 CountsAre seats es = (k : ℕ) → (seat_at seats k).count ≡ entries_of k es
+
+-- The number of these that the seat k began last, or `was` where it began none; the numbers stand in the order in which they were begun.
+abbrev pub last_from : Option ℕ → ℕ → List (ℕ × ℕ) → Option ℕ
+last_from was k [] = was
+last_from was k (n ∷ ns) = last_from (if n.1 == k then Some n.0 else was) k ns
+
+-- The number of these that the seat k began last, if it began one.
+abbrev pub last_begun : ℕ → List (ℕ × ℕ) → Option ℕ
+last_begun k numbers = last_from None k numbers
+
+-- What is noted of each seat as its last number is the number that it began last, and none where it began none.
+abbrev pub LastAre : List (ℕ × ℕ) → List SeatNote → Type 0
+LastAre numbers seats = (k : ℕ) → (seat_at seats k).last ≡ last_begun k numbers
+
+-- Each of these numbers was begun by one of the seats.
+abbrev pub AreOfSeats : List (ℕ × ℕ) → List SeatNote → Type 0
+AreOfSeats numbers seats = All (λ n. n.1 < length seats) numbers
+
+-- No number was begun by two seats.
+abbrev pub AreBegunByOne : List (ℕ × ℕ) → Type 0
+AreBegunByOne numbers = (t j k : ℕ) → is_begun numbers t j ≡ true → is_begun numbers t k ≡ true → j ≡ k
+
+-- Each entry's transaction was begun by the entry's seat.
+abbrev pub AreBegun : List (ℕ × ℕ) → List Entry → Type 0
+AreBegun numbers es = All (λ e. is_begun numbers e.event.txn e.seat ≡ true) es
 
 -- The number that a seat began last was begun by it.
 abbrev pub LastAreOwn : List (ℕ × ℕ) → List SeatNote → Type 0
@@ -70,10 +95,12 @@ pub record IsCore (p : Protocol) (opening : Map) (places : List ℕ) (own : Prot
   pub log_is : log ≡ log_after no_log (events_with_replies es)
   -- each seat's count is the number of its entries
   pub counts : CountsAre seats es
-  -- the number that a seat began last was begun by it
-  pub last_own : LastAreOwn (begun_by numbers) seats
+  -- the last number that is noted of a seat is the number that it began last
+  pub lasts : LastAre (begun_by numbers) seats
+  -- each number was begun by a seat that was given
+  pub given : AreOfSeats (begun_by numbers) seats
   -- each entry's transaction was begun by the entry's seat
-  pub begun : All (λ e. is_begun (begun_by numbers) e.event.txn e.seat ≡ true) es
+  pub begun : AreBegun (begun_by numbers) es
   -- a transaction that has ended was begun
   pub ended : (t : ℕ) → has_ended s t ≡ true → was_begun (begun_by numbers) t ≡ true
   -- each number has the memory of its end's entry exactly where its transaction hasn't ended

@@ -5,3 +5,4 @@ pub mod Cores
 pub mod Waits
 pub mod Seats
 pub mod Closed
+pub mod Wakes

@@ -1,12 +1,12 @@
 -- Who is in whose way.
-use Rattle.std.specs.Prelude.{◌≡◌, ◌==◌, ℕ, List, [], ◌∷◌, ◌++◌, Option, Some, None, if◌then◌else◌}
-use Rattle.std.specs.List.{list_any}
+use Rattle.std.specs.Prelude.{◌≡◌, ◌==◌, ℕ, false, List, [], ◌∷◌, ◌++◌, Option, Some, None, slice_get, nat_eq, if◌then◌else◌}
+use Rattle.std.specs.List.{Contains, IsDistinct, list_any}
 use Rattle.std.specs.List.Sorted.{IsStrictlyIncreasing}
 use Rattle.kr_model.specs.declared.Event.{Event}
 use Rattle.kr_model.specs.declared.Op.{Op}
 use Rattle.kr_model.specs.Protocol.{Protocol}
 use Rattle.kr_model.specs.State.{State}
-use Rattle.kr_model.specs.Step.{step, blockers_in}
+use Rattle.kr_model.specs.Step.{step, blockers_in, WaitsFor}
 use Rattle.kr_waits.specs.declared.Waiting.{Waiting}
 use Rattle.kr_engine.specs.Histories.{event}
 use Rattle.kr_engine.specs.declared.faults.EngineFault.{EngineFault}
@@ -20,6 +20,39 @@ in_the_way p s e = blockers_in (step p s e.txn e.op).0
 abbrev pub blockers_now : (Event → List ℕ) → List Event → ℕ → List ℕ
 blockers_now blockers [] t = []
 blockers_now blockers (e ∷ es) t = if e.txn == t then blockers e else blockers_now blockers es t
+
+-- The operation of t in this list, the first of t there, waits for u.
+pub record Waits (p : Protocol) (s : State) (es : List Event) (t u : ℕ) : Type 0 where
+  pub before : List Event
+  pub op : Op
+  pub after : List Event
+  pub list : es ≡ before ++ event t op ∷ after
+  pub first : list_any (λ e. e.txn == t) before ≡ false
+  pub waits : WaitsFor p s t op u
+
+-- t waits for the first of us, each of us for the next, and the last for `end`.
+abbrev pub WaitOn : (ℕ → ℕ → Type 0) → ℕ → List ℕ → ℕ → Type 0
+WaitOn Waiting t [] end = Waiting t end
+WaitOn Waiting t (u ∷ us) end = Waiting t u × WaitOn Waiting u us end
+
+-- Each waits for the next, the last for `end`.
+abbrev pub WaitInTurn : (ℕ → ℕ → Type 0) → List ℕ → ℕ → Type 0
+WaitInTurn Waiting [] end = ⊥
+WaitInTurn Waiting (t ∷ ts) end = WaitOn Waiting t ts end
+
+-- A deadlock of t: distinct transactions, t first, each of which waits for the next by its operation in this list, and the last for t.
+pub record IsWaitCycle (p : Protocol) (s : State) (es : List Event) (t : ℕ) (cycle : List ℕ) : Type 0 where
+  pub first : slice_get cycle 0 ≡ Some t
+  pub distinct : IsDistinct nat_eq cycle
+  pub waits : WaitInTurn (Waits p s es) cycle t
+
+-- Each of these transactions is blocked by one of them.
+abbrev pub AreEntangled : (ℕ → List ℕ) → List ℕ → Type 0
+AreEntangled blockers txns = (t : ℕ) → Contains txns t → (u : ℕ) × Contains txns u × Contains (blockers t) u
+
+-- Each of these transactions has an entry, with those that block it.
+abbrev pub HaveEntries : (ℕ → List ℕ) → List ℕ → List Waiting → Type 0
+HaveEntries blockers txns ws = (t : ℕ) → Contains txns t → (w : Waiting) × Contains ws w × (w.txn ≡ t) × (w.blockers.items ≡ blockers t)
 
 -- A deadlock names a cycle of which this holds.
 abbrev pub TellsCycle : EngineFault → (List ℕ → Type 0) → Type 0

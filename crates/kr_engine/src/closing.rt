@@ -99,8 +99,8 @@ pub struct History {
 pub enum CloseFault {
     /// A growth was refused.
     Memory,
-    /// A share doesn't fit the engine: its seat wasn't given, the entries of its seat are more or fewer than its receipts,
-    /// or it has seen more than there is.
+    /// A share doesn't fit the engine: its seat wasn't given or hasn't left, the entries of its seat are more or fewer than
+    /// its receipts, or it has seen more than there is.
     Place,
 }
 
@@ -240,7 +240,8 @@ impl<P: Covered, K: EngineName> Core<P, K> {
         if share.seat >= self.seats.len() {
             return false;
         }
-        if self.seats[share.seat].count != share.count {
+        let note = self.seats[share.seat];
+        if !note.left || note.count != share.count {
             return false;
         }
         if share.view.len() > self.history.len() {

@@ -1,5 +1,5 @@
 //! One lock over the core.
-ghost use Rattle.std.specs.Prelude.{◌≡◌, ◌≢◌, true, false, IfOk, IfErr, OnOk, OnErr, Some, None, Err, []};
+ghost use Rattle.std.specs.Prelude.{◌≡◌, ◌≢◌, true, false, All, IfOk, IfErr, OnOk, OnErr, Some, None, Err, []};
 ghost use mathlib.Core.List.{IsPrefix};
 ghost use Rattle.kr_model.specs.Map.{IsMap};
 ghost use Rattle.kr_model.specs.Step.{is_end as ends};
@@ -9,13 +9,15 @@ ghost use Rattle.kr_engine.specs.Faults.{is_unbegun, is_blocked, is_of_begin, is
 ghost use Rattle.std.specs.List.Sorted.{IsStrictlyIncreasing};
 ghost use Rattle.kr_engine.specs.declared.closing.CloseFault.TheVariants as close_fault;
 ghost use Rattle.kr_engine.specs.Closed.{lent, IsClosed};
+ghost use Rattle.kr_engine.specs.declared.wakes.Change.TheVariants as change_is;
+ghost use Rattle.kr_engine.specs.Waits.{in_the_way};
 ghost use Rattle.kr_engine.specs.Seats.{Shows, SeesFault, ToldFault, IsOpen, IsIdle};
 
 use crate::closing::{CloseFault, History, Share};
 use crate::faults::{Attempted, EngineFault};
 use crate::hand::Hand;
 use crate::kernel::Core;
-use crate::queues::Queues;
+use crate::queues::{Queues, Woken};
 use crate::seat::Seat;
 use crate::wakes::{Change, change_of};
 use kr_model::{Op, Txn, Txns};
@@ -215,25 +217,43 @@ impl<P: Covered, K: EngineName> Engine<P, K> {
     }
 
     /// Wakes the first call that a change may have let go on, which wakes the next; and where the index is another, each
-    /// that may be in a deadlock now. The core stays.
-    fn pass_on(&self, core: &mut Core<P, K>, change: Change)
-        ensures { core.new ≡ core.old }
+    /// that may be in a deadlock now. The answer is that first call, and none where each is blocked. The core stays.
+    fn pass_on(&self, core: &mut Core<P, K>, change: Change) -> Option<Woken>
+        ensures same { core.new ≡ core.old }
+        ensures none { result ≡ None → change ≢ change_is.Nothing → All (λ e. in_the_way (P.table core.old.protocol) core.old.state e ≢ []) core.old.waiting }
     {
         if change == Change::Nothing || core.has_no_waiter() {
-            return;
+            return None;
         }
-        if let Some(txn) = core.first_free() {
-            self.queues.wake(txn);
-        }
+        let woken = self.wake_first(core);
         if change == Change::Index {
-            match core.entangled() {
-                Ok(waits) => {
-                    for wait in &waits {
-                        self.queues.wake(wait.txn);
-                    }
+            self.wake_entangled(core);
+        }
+        woken
+    }
+
+    /// Wakes the first call that isn't blocked now. The answer is that call, and none where each is blocked. The core stays.
+    fn wake_first(&self, core: &mut Core<P, K>) -> Option<Woken>
+        ensures same { core.new ≡ core.old }
+        ensures none { result ≡ None → All (λ e. in_the_way (P.table core.old.protocol) core.old.state e ≢ []) core.old.waiting }
+    {
+        match core.first_free() {
+            Some(txn) => Some(self.queues.wake(txn)),
+            None => None,
+        }
+    }
+
+    /// Wakes each call that may be in a deadlock now. The core stays.
+    fn wake_entangled(&self, core: &mut Core<P, K>)
+        ensures { core.new ≡ core.old }
+    {
+        match core.entangled() {
+            Ok(waits) => {
+                for wait in &waits {
+                    self.queues.wake(wait.txn);
                 }
-                Err(_) => self.queues.wake_all(),
             }
+            Err(_) => self.queues.wake_all(),
         }
     }
 }

@@ -8,7 +8,7 @@ ghost use Rattle.kr_engine.specs.declared.faults.EngineFault.TheVariants as faul
 ghost use Rattle.kr_engine.specs.Faults.{TellsReply, is_of_attempt, is_of_begin};
 ghost use Rattle.kr_engine.specs.Histories.{IsHistory, AreOfOneSeat, IsSerialHistory, entry, event};
 ghost use Rattle.kr_engine.specs.Numbers.{is_begun as begun_by_seat, was_begun as begun_by_some};
-ghost use Rattle.kr_engine.specs.Cores.{CountsAre, LastAreOwn, seat_at, no_seat, is_active as active_in, freed, unended, without};
+ghost use Rattle.kr_engine.specs.Cores.{CountsAre, LastAreOwn, LastAre, AreOfSeats, AreBegun, AreBegunByOne, seat_at, no_seat, is_active as active_in, freed, unended, without};
 
 use crate::faults::{EngineFault, Receipt};
 use crate::numbers::Numbers;
@@ -94,8 +94,9 @@ impl<P: Covered, K: EngineName> Core<P, K> {
 
     /// What holds of every core. Its protocol's table is the engine's; the used places are a run of granted steps under it
     /// from the opening map, and the machine is where it ends; all entries of one transaction are of one seat, and each
-    /// seat's count is the number of its entries; the number that a seat began last was begun by it; the main theorem holds
-    /// of the run, so the transactions that committed are serializable in commit order; and one place is kept for each number
+    /// seat's count is the number of its entries; the last number that is noted of a seat is the number that it began last,
+    /// and each number was begun by one seat that was given, and each entry's transaction by the entry's seat; the main
+    /// theorem holds of the run, so the transactions that committed are serializable in commit order; and one place is kept for each number
     /// whose transaction hasn't ended, with room for all of them in the row.
     pub fn law(&self)
         ensures table { P.table self.now.protocol ≡ K.table }
@@ -103,6 +104,10 @@ impl<P: Covered, K: EngineName> Core<P, K> {
         ensures one_seat { AreOfOneSeat self.now.entries }
         ensures counts { CountsAre self.now.seats self.now.entries }
         ensures last_own { LastAreOwn self.now.numbers self.now.seats }
+        ensures lasts { LastAre self.now.numbers self.now.seats }
+        ensures given { AreOfSeats self.now.numbers self.now.seats }
+        ensures begun { AreBegun self.now.numbers self.now.entries }
+        ensures by_one { AreBegunByOne self.now.numbers }
         ensures serial { IsSerialHistory K.opening self.now.entries self.now.state }
         ensures kept { self.now.kept ≡ unended self.now.state self.now.numbers }
         ensures room { length self.now.entries + self.now.kept ≤ length K.places }

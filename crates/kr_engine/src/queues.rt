@@ -3,6 +3,7 @@ ghost use Rattle.std.specs.Prelude.{◌≡◌, length};
 
 use kr_model::Txn;
 use std::alloc::{AllocError, Global};
+use std::marker::Model;
 use std::sync::{Condvar, MutexGuard, Wait};
 
 /// How many queues there are.
@@ -13,6 +14,20 @@ const QUEUES: usize = 64;
 pub(crate) struct Queues {
     queues: Vec<Condvar>,
     ghost count_is: { length queues.items ≡ 64 },
+}
+
+/// A transaction whose queue was woken. Only a wake makes one.
+#[derive(Drop)]
+pub(crate) struct Woken {
+    txn: Txn,
+}
+
+impl Model for Woken {
+    ghost use Rattle.std.specs.Prelude.{ℕ};
+
+    ghost Value = { ℕ };
+
+    ghost view = { λ w. w.txn };
 }
 
 impl Queues {
@@ -36,8 +51,11 @@ impl Queues {
     }
 
     /// Wakes all that sleep in the transaction's queue.
-    pub fn wake(&self, txn: Txn) {
+    pub fn wake(&self, txn: Txn) -> Woken
+        ensures { result ≡ txn }
+    {
         self.queues[txn as usize % QUEUES].notify_all();
+        Woken { txn }
     }
 
     /// Wakes all that sleep.

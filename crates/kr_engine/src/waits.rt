@@ -10,7 +10,7 @@ ghost use Rattle.kr_waits.specs.Waits.{blockers_of, IsCycle};
 ghost use Rattle.kr_engine.specs.Faults.{is_of_wait};
 ghost use Rattle.kr_engine.specs.Histories.{event};
 ghost use Rattle.kr_engine.specs.Cores.{without};
-ghost use Rattle.kr_engine.specs.Waits.{in_the_way, blockers_now, TellsCycle, AreTxnsOf};
+ghost use Rattle.kr_engine.specs.Waits.{in_the_way, blockers_now, IsWaitCycle, TellsCycle, AreTxnsOf};
 
 use crate::faults::EngineFault;
 use crate::kernel::Core;
@@ -31,6 +31,8 @@ impl<P: Covered, K: EngineName> Core<P, K> {
     pub fn wait(&mut self, txn: Txn, op: Op) -> Result<(), EngineFault>
         ensures cycle { IfErr result (λ f. TellsCycle f (IsCycle (blockers_now (in_the_way (P.table self.old.protocol) self.old.state) (event txn op ∷ self.old.waiting)) txn)) }
         ensures no_cycle { OnOk result ((cycle : List ℕ) → IsCycle (blockers_now (in_the_way (P.table self.old.protocol) self.old.state) (event txn op ∷ self.old.waiting)) txn cycle → ⊥) }
+        ensures deadlock { IfErr result (λ f. TellsCycle f (IsWaitCycle (P.table self.old.protocol) self.old.state (event txn op ∷ self.old.waiting) txn)) }
+        ensures no_deadlock { OnOk result ((cycle : List ℕ) → IsWaitCycle (P.table self.old.protocol) self.old.state (event txn op ∷ self.old.waiting) txn cycle → ⊥) }
         ensures noted { OnOk result (self.new ≡ record self.old { waiting = without txn self.old.waiting ++ event txn op ∷ [] }) }
         ensures err { OnErr result (self.new ≡ self.old) }
         ensures faults { IfErr result (λ f. is_of_wait f ≡ true) }

@@ -1,6 +1,10 @@
 //! Whom a step may let go on, and who may be in a deadlock after it.
-ghost use Rattle.std.specs.Prelude.{◌≡◌, ◌≢◌, [], true, All, None};
-ghost use Rattle.kr_engine.specs.Waits.{in_the_way};
+ghost use Rattle.std.specs.Prelude.{◌≡◌, ◌≢◌, ◌==◌, ℕ, List, [], true, All, None, IfOk};
+ghost use Rattle.std.specs.List.{AllZip, Contains, list_any};
+ghost use Rattle.kr_waits.specs.Waits.{IsCycle};
+ghost use Rattle.kr_engine.specs.declared.wakes.Change.TheVariants as change;
+ghost use Rattle.kr_engine.specs.Waits.{in_the_way, blockers_now, IsEntry, AreEntangled, HaveEntries};
+ghost use Rattle.kr_engine.specs.Wakes.{FreesNobody, LeavesKeys, BlocksNobody};
 
 use crate::kernel::Core;
 use crate::waits::blockers;
@@ -35,7 +39,11 @@ impl Change {
 }
 
 /// What a granted step with this reply changed.
-pub(crate) fn change_of(reply: &Reply) -> Change {
+pub(crate) fn change_of(reply: &Reply) -> Change
+    ensures nothing { result ≡ change.Nothing → FreesNobody reply.now }
+    ensures locks { result ≡ change.Locks → BlocksNobody reply.now }
+    ensures keys { result ≢ change.Index → LeavesKeys reply.now }
+{
     match reply {
         Reply::Committed => Change::Locks,
         Reply::Aborted | Reply::Done | Reply::Deleted(_) | Reply::Undone(_) => Change::Index,
@@ -69,17 +77,13 @@ impl<P: Covered, K: EngineName> Core<P, K> {
     }
 
     /// The noted operations that wait for one another, or for such: of each set of them in which each is blocked by another,
-    /// all. An error where a growth is refused. The core stays.
+    /// all, so each member of a cycle of waiting transactions. An error where a growth is refused. The core stays.
     pub(crate) fn entangled(&mut self) -> Result<Vec<Waiting>, AllocError>
         ensures same { self.new ≡ self.old }
+        ensures all { IfOk result (λ waits. (txns : List ℕ) → AreEntangled (blockers_now (in_the_way (P.table self.old.protocol) self.old.state) self.old.waiting) txns → (t : ℕ) → Contains txns t → list_any (λ w. w.txn == t) waits.items ≡ true) }
+        ensures cycles { IfOk result (λ waits. (txn : ℕ) (cycle : List ℕ) → IsCycle (blockers_now (in_the_way (P.table self.old.protocol) self.old.state) self.old.waiting) txn cycle → (t : ℕ) → Contains cycle t → list_any (λ w. w.txn == t) waits.items ≡ true) }
     {
-        let mut waits = all_blockers(self.alloc, &mut self.machine, &self.waiting)?;
-        for _ in 0..waits.len() {
-            if !shed(&mut waits) {
-                break;
-            }
-        }
-        Ok(waits)
+        entangled(self.alloc, &mut self.machine, &self.waiting)
     }
 }
 
@@ -114,6 +118,7 @@ fn all_blockers<P: Covered>(
 ) -> Result<Vec<Waiting>, AllocError>
     requires { machine.old.pending ≡ None }
     ensures same { machine.new ≡ machine.old }
+    ensures entries { IfOk result (λ waits. AllZip (IsEntry (in_the_way (P.table machine.old.protocol) machine.old.state)) noted.now waits.items) }
 {
     let mut waits = Vec::new(alloc);
     for &event in noted {
@@ -125,8 +130,37 @@ fn all_blockers<P: Covered>(
     Ok(waits)
 }
 
-/// Takes out those whom none of the rest blocks. Whether there were any.
-fn shed(waits: &mut Vec<Waiting>) -> bool {
+/// Those of these operations that wait for one another, or for such.
+fn entangled<P: Covered>(
+    alloc: Global,
+    machine: &mut Machine<P, Tree, Buckets>,
+    noted: &[Event],
+) -> Result<Vec<Waiting>, AllocError>
+    requires { machine.old.pending ≡ None }
+    ensures same { machine.new ≡ machine.old }
+    ensures all { IfOk result (λ waits. (txns : List ℕ) → AreEntangled (blockers_now (in_the_way (P.table machine.old.protocol) machine.old.state) noted.now) txns → (t : ℕ) → Contains txns t → list_any (λ w. w.txn == t) waits.items ≡ true) }
+    ensures cycles { IfOk result (λ waits. (txn : ℕ) (cycle : List ℕ) → IsCycle (blockers_now (in_the_way (P.table machine.old.protocol) machine.old.state) noted.now) txn cycle → (t : ℕ) → Contains cycle t → list_any (λ w. w.txn == t) waits.items ≡ true) }
+{
+    let waits = all_blockers(alloc, machine, noted)?;
+    Ok(shed_all(waits))
+}
+
+/// Takes out those whom none of the rest blocks, again and again. Those of which each is blocked by another stay.
+fn shed_all(mut waits: Vec<Waiting>) -> Vec<Waiting>
+    ensures { (blockers : ℕ → List ℕ) (txns : List ℕ) → AreEntangled blockers txns → HaveEntries blockers txns waits.items → HaveEntries blockers txns result.items }
+{
+    for _ in 0..waits.len() {
+        if !shed(&mut waits) {
+            break;
+        }
+    }
+    waits
+}
+
+/// Takes out those whom none of the rest blocks. Whether there were any. Those of which each is blocked by another stay.
+fn shed(waits: &mut Vec<Waiting>) -> bool
+    ensures { (blockers : ℕ → List ℕ) (txns : List ℕ) → AreEntangled blockers txns → HaveEntries blockers txns waits.old.items → HaveEntries blockers txns waits.new.items }
+{
     let count = waits.len();
     for place in (0..count).rev() {
         if !is_held(waits, &waits[place].blockers) {
@@ -137,12 +171,24 @@ fn shed(waits: &mut Vec<Waiting>) -> bool {
 }
 
 /// Whether one of these waits.
-fn is_held(waits: &[Waiting], blockers: &[Txn]) -> bool {
+fn is_held(waits: &[Waiting], blockers: &[Txn]) -> bool
+    ensures { result ≡ list_any (λ u. list_any (λ w. w.txn == u) waits.now) blockers.now }
+{
     for &blocker in blockers {
-        for other in waits {
-            if other.txn == blocker {
-                return true;
-            }
+        if has_entry(waits, blocker) {
+            return true;
+        }
+    }
+    false
+}
+
+/// Whether one of these entries is of the transaction.
+fn has_entry(waits: &[Waiting], txn: Txn) -> bool
+    ensures { result ≡ list_any (λ w. w.txn == txn) waits.now }
+{
+    for wait in waits {
+        if wait.txn == txn {
+            return true;
         }
     }
     false

@@ -2,10 +2,10 @@ use Rattle.std.proofs.Common.{◌≡◌, ◌<◌, ◌+◌, ◌++◌, ◌∷◌, 
 use Rattle.kr_engine.specs.declared.numbers.Number.{Number}
 use Rattle.kr_engine.specs.Numbers.{begun_by, was_begun, is_begun, ends_kept, HaveEnds}
 use Rattle.std.specs.Prelude.{slice_set}
-use Rattle.kr_engine.specs.Cores.{LastAreOwn}
+use Rattle.kr_engine.specs.Cores.{LastAre, AreOfSeats}
 use Rattle.kr_engine.proofs.Counts.{counts_stay}
 use Rattle.kr_engine.proofs.Ends.{ends_more}
-use Rattle.kr_engine.proofs.Spoken.{own_begun}
+use Rattle.kr_engine.proofs.Spoken.{last_more, given_more}
 use Rattle.kr_engine.proofs.Ended.{begun_with, ended_with_one, ends_with, live}
 use Rattle.kr_engine.proofs.kernel.Core.begin.Goals as goal
 
@@ -25,7 +25,8 @@ invariant_of-self g c =
       history = i.history;
       log_is = i.log_is;
       counts = counts_stay c.self.inside.seats.items c.self.inside.history c.args.seat c.index_mut.result.now _ i.counts seat c.index_mut.ensures.value refl;
-      last_own = subst (λ (l : List Number). LastAreOwn (begun_by l) (slice_set c.self.inside.seats.items c.args.seat (record c.index_mut.result.now { last = Some c.args.txn }))) (sym more) (own_begun ns n c.self.inside.seats.items (record c.index_mut.result.now { last = Some c.args.txn }) i.last_own seat refl);
+      lasts = subst (λ (l : List Number). LastAre (begun_by l) (slice_set c.self.inside.seats.items c.args.seat (record c.index_mut.result.now { last = Some c.args.txn }))) (sym more) (last_more ns n c.self.inside.seats.items (record c.index_mut.result.now { last = Some c.args.txn }) i.lasts seat refl);
+      given = subst (λ (l : List Number). AreOfSeats (begun_by l) (slice_set c.self.inside.seats.items c.args.seat (record c.index_mut.result.now { last = Some c.args.txn }))) (sym more) (given_more ns n c.self.inside.seats.items (record c.index_mut.result.now { last = Some c.args.txn }) i.given seat);
       begun = subst (λ (l : List Number). All (λ e. is_begun (begun_by l) e.event.txn e.seat ≡ true) c.self.inside.history) (sym more) (begun_with ns n c.self.inside.history i.begun);
       ended = λ t h. ap (λ (l : List Number). was_begun (begun_by l) t) more ∙ ended_with_one s ns n i.ended t h;
       ends = subst (HaveEnds s) (sym more) (ends_with s ns n refl (live s ns c.args.txn i.ended never) i.ends);

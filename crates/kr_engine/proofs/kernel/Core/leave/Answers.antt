@@ -1,7 +1,7 @@
 use Rattle.std.proofs.Common.{◌<◌, length, ap, refl}
 use Rattle.kr_engine.specs.Numbers.{begun_by}
 use Rattle.kr_engine.proofs.Counts.{counts_stay}
-use Rattle.kr_engine.proofs.Spoken.{own_stay}
+use Rattle.kr_engine.proofs.Spoken.{last_stay, given_stay}
 use Rattle.kr_engine.proofs.kernel.Core.leave.Goals as goal
 
 pub invariant_of-self : goal.invariant_of-self
@@ -15,7 +15,8 @@ invariant_of-self g c =
       history = i.history;
       log_is = i.log_is;
       counts = counts_stay c.self.inside.seats.items c.self.inside.history c.args.seat c.index_mut.result.now _ i.counts seat c.index_mut.ensures.value refl;
-      last_own = own_stay (begun_by c.self.inside.numbers) c.self.inside.seats.items c.args.seat c.index_mut.result.now _ i.last_own seat c.index_mut.ensures.value refl;
+      lasts = last_stay (begun_by c.self.inside.numbers) c.self.inside.seats.items c.args.seat c.index_mut.result.now _ i.lasts seat c.index_mut.ensures.value refl;
+      given = given_stay (begun_by c.self.inside.numbers) c.self.inside.seats.items c.args.seat _ i.given;
       begun = i.begun;
       ended = i.ended;
       ends = i.ends;

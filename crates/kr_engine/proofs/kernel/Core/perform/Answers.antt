@@ -10,13 +10,13 @@ use Rattle.kr_model.specs.Run.{is_granted}
 use Rattle.kr_model.specs.Log.{no_log, log_after}
 use Rattle.kr_engine.specs.Histories.{IsHistory, entry, event, events_with_replies}
 use Rattle.kr_engine.specs.Numbers.{begun_by, was_begun, is_begun}
-use Rattle.kr_engine.specs.Cores.{CountsAre, LastAreOwn}
+use Rattle.kr_engine.specs.Cores.{CountsAre, LastAre, AreOfSeats}
 use Rattle.kr_engine.proofs.Counts.{counts_more, counts_within}
 use Rattle.kr_engine.proofs.Begun.{begun_by_one}
 use Rattle.kr_engine.proofs.Ended.{ended_after}
 use Rattle.kr_engine.proofs.Histories.{history_more, log_more}
 use Rattle.kr_engine.proofs.Lists.{some_has}
-use Rattle.kr_engine.proofs.Spoken.{own_stay}
+use Rattle.kr_engine.proofs.Spoken.{last_stay, given_stay}
 use Rattle.kr_engine.proofs.kernel.Core.perform.Goals as goal
 
 pub overflow_add-index_mut : goal.overflow_add-index_mut
@@ -63,7 +63,8 @@ invariant_of-self-2 g c =
           (history_more g.K.EngineName.table g.K.EngineName.opening es old.state e i.history (s.reply.0 ∙ ap (λ (q : Protocol). (step q old.state c.args.txn c.args.op).0) i.table) s.reply.1));
       log_is = subst (λ (l : List Entry). new.log ≡ log_after no_log (events_with_replies l)) (sym more) (log_more es e old.log new.log i.log_is s.log);
       counts = subst (λ (l : List Entry). CountsAre (slice_set c.self.inside.seats.items c.args.seat up) l) (sym more) (counts_more c.self.inside.seats.items es e c.args.seat c.index_mut.result.now up i.counts refl seat c.index_mut.ensures.value refl);
-      last_own = subst (λ (ns : List (ℕ × ℕ)). LastAreOwn ns (slice_set c.self.inside.seats.items c.args.seat up)) (sym s.begun) (own_stay (begun_by c.self.inside.numbers) c.self.inside.seats.items c.args.seat c.index_mut.result.now up i.last_own seat c.index_mut.ensures.value refl);
+      lasts = subst (λ (ns : List (ℕ × ℕ)). LastAre ns (slice_set c.self.inside.seats.items c.args.seat up)) (sym s.begun) (last_stay (begun_by c.self.inside.numbers) c.self.inside.seats.items c.args.seat c.index_mut.result.now up i.lasts seat c.index_mut.ensures.value refl);
+      given = subst (λ (ns : List (ℕ × ℕ)). AreOfSeats ns (slice_set c.self.inside.seats.items c.args.seat up)) (sym s.begun) (given_stay (begun_by c.self.inside.numbers) c.self.inside.seats.items c.args.seat up i.given);
       kept_is = omega (arith, c.kept_after-self-inside.ensures, s.freed.0, i.kept_is);
       room = omega (arith, c.kept_after-self-inside.ensures, s.freed.0, s.freed.1, i.kept_is, longer, c.len-place.ensures.length, ap (λ (l : List ℕ). length l) c.requires.row);
     }
