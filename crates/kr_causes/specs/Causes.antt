@@ -1,6 +1,7 @@
 -- Failed cases that are shared out to causes.
-use Rattle.std.specs.Prelude.{ℕ, ◌<◌, List, All, length, map}
+use Rattle.std.specs.Prelude.{◌≡◌, ◌⊎◌, ℕ, ◌<◌, List, [], ◌∷◌, All, length, map}
 use Rattle.std.specs.List.{flat_map}
+use Rattle.std.specs.List.Sorted.{IsPermutation}
 use Rattle.std.specs.List.Sorted.{IsPermutation}
 use Rattle.kr_model.specs.declared.FailedCase.{FailedCase}
 use Rattle.kr_model.specs.declared.Origin.{Origin}
@@ -19,6 +20,12 @@ own_next_in r x = 0
 -- The same of a failed case.
 abbrev pub own_next : FailedCase → ℕ
 own_next f = own_next_in f.case f.from
+
+-- The elements of the first list are some of the second's, in the same order.
+abbrev pub IsSublist : {A : Type 0} → List A → List A → Type 0
+IsSublist [] ys = Unit {0}
+IsSublist (x ∷ xs) [] = ⊥
+IsSublist (x ∷ xs) (y ∷ ys) = ((x ≡ y) × IsSublist xs ys) ⊎ IsSublist (x ∷ xs) ys
 
 -- The cases of all causes, one cause after another.
 abbrev pub all_cases : List Cause → List FailedCase

@@ -16,6 +16,12 @@ mode_of (Ask row side own_next mode span) = Some mode
 mode_of (Convert held requested mode) = Some mode
 mode_of (Apart requested held) = None
 
+-- The same change to another mode. One that sets two modes apart has none.
+abbrev pub with_mode : ℕ → Change → Change
+with_mode m (Ask row side own_next mode span) = Ask row side own_next m span
+with_mode m (Convert held requested mode) = Convert held requested m
+with_mode m (Apart requested held) = Apart requested held
+
 -- The place of a row in its order.
 abbrev pub row_number : Row → ℕ
 row_number FetchHit = 1

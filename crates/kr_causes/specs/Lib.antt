@@ -1,3 +1,5 @@
+pub mod Blames
 pub mod Causes
 pub mod Changes
 pub mod Mends
+pub mod Shares

@@ -1,7 +1,11 @@
 //! Failed cases, put together by what is to blame.
-ghost use Rattle.std.specs.Prelude.{◌≡◌, ℕ, ◌<◌, ◌++◌, IfOk, IsTrue, All, length};
+ghost use Rattle.std.specs.Prelude.{◌≡◌, ◌<◌, ◌++◌, List, Some, IfOk, All, length};
+ghost use Rattle.std.specs.List.{Any};
 ghost use Rattle.std.specs.List.Sorted.{IsPermutation};
-ghost use Rattle.kr_causes.specs.Causes.{ShareOut, cases_of};
+ghost use Rattle.kr_causes.specs.Causes.{IsSublist, ShareOut, cases_of};
+ghost use Rattle.kr_causes.specs.Shares.{IsCause, IsNamedBy, IsNamedFor, IsSuspect};
+ghost use Rattle.kr_causes.specs.declared.blame.Blame.{Blame};
+ghost use Rattle.kr_causes.specs.declared.cause.Suspect.{Suspect};
 
 use crate::blame::Blame;
 use crate::reasons::{Reasons, reasons_for};
@@ -13,6 +17,7 @@ use std::alloc::Global;
 /// Failed cases with what is to blame for them.
 #[derive(Debug, Drop)]
 pub struct Cause {
+    /// A reason of each of the cases.
     pub blame: Blame,
     /// The cases, in the order in which they were given.
     pub cases: Vec<FailedCase>,
@@ -55,7 +60,8 @@ fn suspects<P: Protocol>(
     protocol: &P,
     failed: &[FailedCase],
 ) -> Result<Vec<Suspect>, Memory>
-    ensures { IfOk result (λ suspects. cases_of suspects.items ≡ failed.now) }
+    ensures cases { IfOk result (λ suspects. cases_of suspects.items ≡ failed.now) }
+    ensures reasons { IfOk result (λ suspects. All (IsSuspect (P.table protocol.now)) suspects.items) }
 {
     let mut suspects = Vec::new(alloc);
     for case in failed {
@@ -69,7 +75,7 @@ fn suspects<P: Protocol>(
 
 /// Counts a reason of the suspect with a number.
 fn count(tallies: &mut Vec<Tally>, blame: Blame, number: usize) -> Result<(), Memory>
-    ensures { (n : ℕ) → number < n → All (λ t. t.first < n) tallies.old.items → All (λ t. t.first < n) tallies.new.items }
+    ensures { (suspects : List Suspect) → IsNamedBy suspects blame number → All (λ t. IsNamedBy suspects t.blame t.first) tallies.old.items → All (λ t. IsNamedBy suspects t.blame t.first) tallies.new.items }
 {
     for i in 0..tallies.len() {
         if tallies[i].blame == blame {
@@ -85,19 +91,31 @@ fn count(tallies: &mut Vec<Tally>, blame: Blame, number: usize) -> Result<(), Me
     Ok(())
 }
 
+/// Counts the reasons that are there, of the suspect with a number.
+fn count_each(
+    tallies: &mut Vec<Tally>,
+    reasons: &[Option<Blame>],
+    number: usize,
+) -> Result<(), Memory>
+    ensures { (suspects : List Suspect) → ((b : Blame) → Any (λ reason. reason ≡ Some b) reasons.now → IsNamedBy suspects b number) → All (λ t. IsNamedBy suspects t.blame t.first) tallies.old.items → All (λ t. IsNamedBy suspects t.blame t.first) tallies.new.items }
+{
+    for reason in reasons {
+        if let Some(blame) = *reason {
+            count(tallies, blame, number)?;
+        }
+    }
+    Ok(())
+}
+
 /// Counts the reasons of all suspects.
 fn tallies(alloc: Global, suspects: &[Suspect]) -> Result<Vec<Tally>, Memory>
-    ensures { IfOk result (λ tallies. All (λ t. t.first < length suspects.now) tallies.items) }
+    ensures { IfOk result (λ tallies. All (λ t. IsNamedBy suspects.now t.blame t.first) tallies.items) }
 {
     let mut tallies = Vec::new(alloc);
     for number in 0..suspects.len() {
         let reasons = suspects[number].reasons;
         count(&mut tallies, reasons.first, number)?;
-        for other in reasons.others {
-            if let Some(blame) = other {
-                count(&mut tallies, blame, number)?;
-            }
-        }
+        count_each(&mut tallies, &reasons.others, number)?;
     }
     Ok(tallies)
 }
@@ -105,7 +123,7 @@ fn tallies(alloc: Global, suspects: &[Suspect]) -> Result<Vec<Tally>, Memory>
 /// What is blamed next.
 fn leader(alloc: Global, suspects: &[Suspect]) -> Result<Tally, Memory>
     requires { 0 < length suspects.now }
-    ensures { IfOk result (λ leader. leader.first < length suspects.now) }
+    ensures { IfOk result (λ leader. IsNamedBy suspects.now leader.blame leader.first) }
 {
     let mut best = Tally {
         blame: suspects[0].reasons.first,
@@ -127,24 +145,20 @@ struct Parted {
     left: Vec<Suspect>,
 }
 
-/// Whether a suspect is explained by what is blamed: it is the one that spoke for it first, or names it.
-fn is_explained(suspect: Suspect, number: usize, leader: Tally) -> bool
-    ensures { number ≡ leader.first → IsTrue result }
-{
-    number == leader.first || suspect.reasons.name(leader.blame)
-}
-
-/// Parts the suspects by what is blamed: the first of them that names it, and all others that do.
+/// Parts the suspects by what is blamed: those that name it, and the others.
 fn part(alloc: Global, suspects: &[Suspect], leader: Tally) -> Result<Parted, Memory>
-    requires { leader.first < length suspects.now }
+    requires { IsNamedBy suspects.now leader.blame leader.first }
     ensures same { IfOk result (λ p. IsPermutation (cases_of suspects.now) (p.explained.items ++ cases_of p.left.items)) }
     ensures some { IfOk result (λ p. 0 < length p.explained.items) }
+    ensures named { IfOk result (λ p. All (IsNamedFor suspects.now leader.blame) p.explained.items) }
+    ensures explained_in_order { IfOk result (λ p. IsSublist p.explained.items (cases_of suspects.now)) }
+    ensures left_in_order { IfOk result (λ p. IsSublist p.left.items suspects.now) }
 {
     let mut explained = Vec::new(alloc);
     let mut left = Vec::new(alloc);
     for number in 0..suspects.len() {
         let suspect = suspects[number];
-        if is_explained(suspect, number, leader) {
+        if suspect.reasons.name(leader.blame) {
             explained.push(suspect.case)?;
         } else {
             left.push(suspect)?;
@@ -160,7 +174,8 @@ pub fn causes<P: Protocol>(
     protocol: &P,
     failed: &[FailedCase],
 ) -> Result<Vec<Cause>, Memory>
-    ensures { IfOk result (λ causes. ShareOut causes.items failed.now) }
+    ensures shared { IfOk result (λ causes. ShareOut causes.items failed.now) }
+    ensures each { IfOk result (λ causes. All (IsCause (P.table protocol.now) failed.now) causes.items) }
 {
     let mut left = suspects(alloc, protocol, failed)?;
     let mut causes = Vec::new(alloc);

@@ -1,6 +1,6 @@
 //! Changes of a single entry of a table.
 ghost use Rattle.std.specs.Prelude.{◌≡◌};
-ghost use Rattle.kr_causes.specs.Changes.{mode_of};
+ghost use Rattle.kr_causes.specs.Changes.{mode_of, with_mode};
 
 use kr_model::{Mode, Row, Side, Span};
 
@@ -38,6 +38,37 @@ impl Change {
             Change::Ask { mode, .. } => Some(mode),
             Change::Convert { mode, .. } => Some(mode),
             Change::Apart { .. } => None,
+        }
+    }
+
+    /// The same change to another mode. One that sets two modes apart has none, and stays.
+    pub(crate) fn with_mode(self, mode: Mode) -> Change
+        ensures { result ≡ with_mode mode self }
+    {
+        match self {
+            Change::Ask {
+                row,
+                side,
+                own_next,
+                mode: _,
+                span,
+            } => Change::Ask {
+                row,
+                side,
+                own_next,
+                mode,
+                span,
+            },
+            Change::Convert {
+                held,
+                requested,
+                mode: _,
+            } => Change::Convert {
+                held,
+                requested,
+                mode,
+            },
+            Change::Apart { requested, held } => Change::Apart { requested, held },
         }
     }
 }

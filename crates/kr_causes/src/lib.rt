@@ -7,6 +7,7 @@ mod change;
 mod changed;
 mod mend;
 mod reasons;
+mod trials;
 
 pub use blame::Blame;
 pub use cause::{Cause, causes};

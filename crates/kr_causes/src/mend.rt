@@ -1,19 +1,18 @@
 //! Changes that mend the cases of a cause.
-ghost use Rattle.std.specs.Prelude.{◌≡◌, ◌≤◌, ◌↔◌, IsTrue, IfOk, IfSome, All, false, true, map};
+ghost use Rattle.std.specs.Prelude.{◌≡◌, ◌≤◌, ◌⊎◌, ◌↔◌, [], IsTrue, IfOk, IfSome, All, false, true, map};
 ghost use Rattle.std.specs.List.{Any};
 ghost use Rattle.kr_model.specs.Covers.{failed_cases, IsCovered};
 ghost use Rattle.kr_model.specs.Safe.{IsSafe};
 ghost use Rattle.kr_causes.specs.Changes.{changed};
-ghost use Rattle.kr_causes.specs.Mends.{IsSameCase, IsAmong, AreMended, AreMends, Tells};
+ghost use Rattle.kr_causes.specs.Mends.{IsSameCase, IsAmong, AreMended, AreMends, AreOfOneEntry, Tells};
 
-use crate::blame::Blame;
 use crate::cause::Cause;
 use crate::change::Change;
 use crate::changed::Changed;
-use crate::reasons::{asked, own_next};
+use crate::trials::{change_of, trials};
 use kr_cases::{Memory, Rejected, WhyRejected, check};
 use kr_decide::{Decision, decide};
-use kr_model::{FailedCase, Mode, Row, Side, Span};
+use kr_model::FailedCase;
 use kr_protocol::Protocol;
 use std::alloc::{AllocError, Global};
 
@@ -136,99 +135,25 @@ fn judged<P: Protocol>(
     }
 }
 
-/// The own modes on the next name with which the locks of the cases were taken, each as a bit; or `None` where these are
-/// all, or where the row doesn't go by them.
-fn own_modes<P: Protocol>(protocol: &P, row: Row, cases: &[FailedCase]) -> Option<u16> {
-    if !matches!(row, Row::Insert | Row::Delete) {
-        return None;
-    }
-    let mut modes: u16 = 0;
-    for case in cases {
-        let own = own_next(case);
-        if own <= protocol.count() {
-            modes |= 1 << own;
+/// The changes that are named: those that only mend where there are no others.
+fn best(alloc: Global, accepted: Vec<Change>, safe: Vec<Change>, mended: Vec<Change>) -> Mend
+    ensures accepted { result.accepted.items ≡ accepted.items }
+    ensures safe { result.safe.items ≡ safe.items }
+    ensures mended { (result.mended.items ≡ []) ⊎ ((result.mended.items ≡ mended.items) × ((accepted.items ≡ []) × (safe.items ≡ []))) }
+{
+    if accepted.is_empty() && safe.is_empty() {
+        Mend {
+            accepted,
+            safe,
+            mended,
+        }
+    } else {
+        Mend {
+            accepted,
+            safe,
+            mended: Vec::new(alloc),
         }
     }
-    for own in 0..protocol.count() + 1 {
-        if modes >> own & 1 == 0 {
-            return Some(modes);
-        }
-    }
-    None
-}
-
-/// How long a lock is to be held where none was requested so far.
-fn usual_span(row: Row, side: Side) -> Span {
-    match (row, side) {
-        (Row::Insert, Side::Next) | (Row::Delete, Side::Current) => Span::Instant,
-        _ => Span::Commit,
-    }
-}
-
-/// The change of what is to blame by which its entry has a mode.
-fn change_to<P: Protocol>(protocol: &P, cause: &Cause, mode: Mode) -> Change {
-    match cause.blame {
-        Blame::Place { row, side } => {
-            let span = match asked(protocol, row, side, 0) {
-                Some((_, span)) => span,
-                None => usual_span(row, side),
-            };
-            Change::Ask {
-                row,
-                side,
-                own_next: None,
-                mode,
-                span,
-            }
-        }
-        Blame::Request { row, side, .. } => Change::Ask {
-            row,
-            side,
-            own_next: own_modes(protocol, row, &cause.cases),
-            mode,
-            span: Span::Commit,
-        },
-        Blame::Conversion { held, requested } => Change::Convert {
-            held,
-            requested,
-            mode,
-        },
-        Blame::Pair { requested, held } => Change::Apart { requested, held },
-    }
-}
-
-/// The modes that the entry of what is to blame could have instead, in the order of trial: first a mode that is requested
-/// and not kept. For a pair one stands for all, since its change has no mode.
-fn trials<P: Protocol>(alloc: Global, protocol: &P, blame: Blame) -> Result<Vec<Mode>, Memory> {
-    let mut modes = Vec::new(alloc);
-    let (first, left_out) = match blame {
-        Blame::Request {
-            asked: Some((mode, Span::Instant)),
-            ..
-        } => (Some(mode), Some(mode)),
-        Blame::Request {
-            asked: Some((mode, Span::Commit)),
-            ..
-        } => (None, Some(mode)),
-        Blame::Pair { requested, .. } => {
-            modes.push(requested)?;
-            return Ok(modes);
-        }
-        Blame::Conversion { held, requested }
-            if held <= protocol.count() && requested <= protocol.count() => {
-            (None, Some(protocol.convert(held, requested)))
-        }
-        _ => (None, None),
-    };
-    if let Some(mode) = first {
-        modes.push(mode)?;
-    }
-    for mode in 1..protocol.count() + 1 {
-        if left_out != Some(mode) {
-            modes.push(mode)?;
-        }
-    }
-    Ok(modes)
 }
 
 /// The changes of what is to blame that mend the cause's cases: those with which the checker accepts the table, and those
@@ -242,13 +167,15 @@ pub fn mends<P: Protocol>(
     cause: &Cause,
     is_safe: bool,
 ) -> Result<Mend, Memory>
-    ensures { IfOk result (AreMends (P.table protocol.now) cause.now.cases.items failed.now) }
+    ensures mends { IfOk result (AreMends (P.table protocol.now) cause.now.cases.items failed.now) }
+    ensures of_one_entry { IfOk result (AreOfOneEntry cause.now.blame) }
 {
     let mut accepted = Vec::new(alloc);
     let mut safe = Vec::new(alloc);
     let mut mended = Vec::new(alloc);
+    let to_any = change_of(protocol, cause);
     for mode in &trials(alloc, protocol, cause.blame)? {
-        let change = change_to(protocol, cause, *mode);
+        let change = to_any.with_mode(*mode);
         match judged(alloc, protocol, failed, &cause.cases, change, is_safe)? {
             Verdict::Accepted => accepted.push(change)?,
             Verdict::Safe => safe.push(change)?,
@@ -256,12 +183,5 @@ pub fn mends<P: Protocol>(
             Verdict::Neither => {}
         }
     }
-    if !accepted.is_empty() || !safe.is_empty() {
-        mended = Vec::new(alloc);
-    }
-    Ok(Mend {
-        accepted,
-        safe,
-        mended,
-    })
+    Ok(best(alloc, accepted, safe, mended))
 }

@@ -1,6 +1,11 @@
 //! What may be to blame for one failed case.
-ghost use Rattle.std.specs.Prelude.{◌≡◌, ◌≤◌};
+ghost use Rattle.std.specs.Prelude.{◌≡◌, ◌≤◌, ◌↔◌, ℕ, None, Some, IfSome, IsTrue, All};
+ghost use Rattle.std.specs.List.{Any};
+ghost use Rattle.kr_model.specs.declared.FailedCase.{FailedCase};
+ghost use Rattle.kr_causes.specs.Blames.{IsBlamed, IsVoid, asked_at, conversion_by, converted, hole_request, taken_at};
 ghost use Rattle.kr_causes.specs.Causes.{own_next};
+ghost use Rattle.kr_causes.specs.Shares.{AreReasons, Names};
+ghost use Rattle.kr_causes.specs.declared.blame.Blame.TheVariants.{Conversion, Pair};
 
 use crate::blame::Blame;
 use kr_cases::must_conflict;
@@ -16,16 +21,38 @@ pub(crate) struct Reasons {
 
 impl Reasons {
     /// Whether something is one of the reasons.
-    pub(crate) fn name(&self, blame: Blame) -> bool {
-        self.first == blame || self.others.contains(&Some(blame))
+    pub(crate) fn name(&self, blame: Blame) -> bool
+        ensures { IsTrue result ↔ Names self.now blame }
+    {
+        self.first == blame || has(&self.others, blame)
     }
 
     /// A reason with no other.
-    fn only(first: Blame) -> Reasons {
+    fn only(first: Blame) -> Reasons
+        ensures first { result.first ≡ first }
+        ensures others { All (λ o. o ≡ None) result.others }
+    {
         Reasons {
             first,
             others: [None; 3],
         }
+    }
+}
+
+/// Whether something is one of the reasons, of which some may be absent.
+fn has(reasons: &[Option<Blame>], blame: Blame) -> bool
+    ensures { IsTrue result ↔ Any (λ reason. reason ≡ Some blame) reasons.now }
+{
+    reasons.iter().any(|reason| is_blame(reason, blame))
+}
+
+/// Whether a reason is there, and is this one.
+fn is_blame(reason: &Option<Blame>, blame: Blame) -> bool
+    ensures { IsTrue result ↔ (reason.now ≡ Some blame) }
+{
+    match reason {
+        Some(reason) => *reason == blame,
+        None => false,
     }
 }
 
@@ -35,7 +62,9 @@ pub(crate) fn asked<P: Protocol>(
     row: Row,
     side: Side,
     own_next: Mode,
-) -> Option<(Mode, Span)> {
+) -> Option<(Mode, Span)>
+    ensures { result ≡ asked_at (P.table protocol.now) (row, side) own_next }
+{
     if own_next > protocol.count() {
         return None;
     }
@@ -51,7 +80,9 @@ fn stands_beside<P: Protocol>(protocol: &P, requested: Mode, held: Mode) -> bool
 }
 
 /// The mode of one who holds a mode and requests another, both of them modes or 0.
-fn converted<P: Protocol>(protocol: &P, held: Mode, requested: Mode) -> Mode {
+fn converted<P: Protocol>(protocol: &P, held: Mode, requested: Mode) -> Mode
+    ensures { requested ≤ (P.table protocol.now).count → result ≡ converted (P.table protocol.now) held requested }
+{
     if held > protocol.count() || requested > protocol.count() {
         return requested;
     }
@@ -59,7 +90,9 @@ fn converted<P: Protocol>(protocol: &P, held: Mode, requested: Mode) -> Mode {
 }
 
 /// Whether no lock conflicts with what the row requests at the side, where the requester holds nothing.
-fn is_void<P: Protocol>(protocol: &P, row: Row, side: Side) -> bool {
+fn is_void<P: Protocol>(protocol: &P, row: Row, side: Side) -> bool
+    ensures { IsTrue result → IsVoid (P.table protocol.now) row side }
+{
     match protocol.ask(row, side, 0) {
         None => true,
         Some((requested, _)) => {
@@ -74,7 +107,9 @@ fn is_void<P: Protocol>(protocol: &P, row: Row, side: Side) -> bool {
 }
 
 /// The first requester that no lock conflicts with, of those that the cover has to conflict with.
-fn void_place<P: Protocol>(protocol: &P, cover: Cover) -> Option<Blame> {
+fn void_place<P: Protocol>(protocol: &P, cover: Cover) -> Option<Blame>
+    ensures { IfSome result (λ b. (f : FailedCase) → f.cover ≡ cover → IsBlamed (P.table protocol.now) b f) }
+{
     for (row, side) in must_conflict(protocol, cover) {
         if is_void(protocol, *row, *side) {
             return Some(Blame::Place {
@@ -114,7 +149,9 @@ fn serves<P: Protocol>(protocol: &P, cover: Cover, held: Mode) -> bool {
 
 /// Where the lock was taken on which a case relies. One that is converted may have been taken by any row: it is told as
 /// a fetch's.
-fn taken_at(rule: Rule) -> (Row, Side) {
+fn taken_at(rule: Rule) -> (Row, Side)
+    ensures { result ≡ taken_at rule }
+{
     match rule {
         Rule::Conversion | Rule::FetchHit => (Row::FetchHit, Side::Current),
         Rule::FetchMiss => (Row::FetchMiss, Side::Next),
@@ -143,7 +180,9 @@ fn weakened<P: Protocol>(
     cover: Cover,
     held: Mode,
     asked: Option<(Mode, Span)>,
-) -> Option<Blame> {
+) -> Option<Blame>
+    ensures { IfSome result (λ b. (q : ℕ) × (b ≡ Conversion held q × conversion_by held asked ≡ Some (held, q))) }
+{
     match asked {
         Some((requested, Span::Commit)) if held != 0 && serves(protocol, cover, requested) => {
             Some(Blame::Conversion { held, requested })
@@ -153,12 +192,15 @@ fn weakened<P: Protocol>(
 }
 
 /// The conversion by which the requester gets through, and the pair of modes that is then compatible.
-fn let_in<P: Protocol>(protocol: &P, mode: Mode, hole: Requester) -> [Option<Blame>; 2] {
+fn let_in<P: Protocol>(protocol: &P, mode: Mode, hole: Requester) -> (Option<Blame>, Option<Blame>)
+    ensures conversion { IfSome result.0 (λ b. (f : FailedCase) → f.hole ≡ hole → IsBlamed (P.table protocol.now) b f) }
+    ensures pair { IfSome result.1 (λ b. (f : FailedCase) → f.hole ≡ hole → f.mode ≡ mode → IsBlamed (P.table protocol.now) b f) }
+{
     let Some((requested, _)) = asked(protocol, hole.row, hole.side, hole.own_next) else {
-        return [None, None];
+        return (None, None);
     };
     if mode == 0 {
-        return [None, None];
+        return (None, None);
     }
     let conversion = if hole.own != 0 && !stands_beside(protocol, requested, mode) {
         Some(Blame::Conversion {
@@ -172,15 +214,17 @@ fn let_in<P: Protocol>(protocol: &P, mode: Mode, hole: Requester) -> [Option<Bla
         requested: converted(protocol, hole.own, requested),
         held: mode,
     };
-    [conversion, Some(pair)]
+    (conversion, Some(pair))
 }
 
 /// What may be to blame for a failed case, in the order in which it is blamed.
-pub(crate) fn reasons_for<P: Protocol>(protocol: &P, case: &FailedCase) -> Reasons {
+pub(crate) fn reasons_for<P: Protocol>(protocol: &P, case: &FailedCase) -> Reasons
+    ensures { AreReasons (P.table protocol.now) case.now result }
+{
     if let Some(place) = void_place(protocol, case.cover) {
         return Reasons::only(place);
     }
-    let [conversion, pair] = let_in(protocol, case.mode, case.hole);
+    let (conversion, pair) = let_in(protocol, case.mode, case.hole);
     match case.from {
         Origin::Conversion { held, asked } => Reasons {
             first: Blame::Conversion {

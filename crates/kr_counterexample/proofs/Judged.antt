@@ -1,11 +1,10 @@
 -- What was run and judged goes wrong.
-use Rattle.std.specs.Prelude.{◌≡◌, List, IsTrue, All}
+use Rattle.std.specs.Prelude.{List, IsTrue, All}
 use Rattle.std.proofs.Common.{sym, subst}
 use Rattle.kr_model.specs.declared.Event.{Event}
-use Rattle.kr_model.specs.declared.Reply.{Reply}
 use Rattle.kr_model.specs.Protocol.{Protocol}
 use Rattle.kr_model.specs.Map.{Map, IsMap}
-use Rattle.kr_model.specs.Run.{Program, is_granted}
+use Rattle.kr_model.specs.Run.{is_granted}
 use Rattle.kr_model.specs.Serial.{AreSerial}
 use Rattle.kr_serial.specs.Ran.{IsRanUnder}
 use Rattle.kr_serial.specs.declared.ran.Ran.{Ran}

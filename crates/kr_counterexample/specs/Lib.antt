@@ -1,4 +1,6 @@
 pub mod About
+pub mod Comes
 pub mod GoesWrong
+pub mod Marks
 pub mod Reached
 pub mod Rising

@@ -34,10 +34,12 @@ pub struct Closure {
 }
 
 impl Closure {
+    ghost use Rattle.kr_counterexample.specs.Comes.{CanComeTo, IsClosureOf};
+
     /// The closure over the modes of a table: a script leads to each of its states under the table. The only fault is
     /// that a growth was refused.
     pub fn of<P: Protocol>(alloc: Global, protocol: &P) -> Result<Closure, Memory>
-        ensures { IfOk result (λ c. All (λ r. IsReached (P.table protocol.now) r.state) c.reached.items) }
+        ensures { IfOk result (IsClosureOf (P.table protocol.now)) }
     {
         let mut growing = Growing::new(alloc, protocol)?;
         growing.begin(alloc, 0, None)?;
@@ -51,15 +53,24 @@ impl Closure {
     }
 
     /// Whether the case is about some state of the closure: there a transaction has the modes of the case, and can take the
-    /// step that it is about. Where it is about none, a script may still come to the case. Takes no memory.
+    /// step that it is about. Where it is about none, a script may still come to the case. Takes no memory. In the closure
+    /// of the table a script leads to those modes.
     pub fn is_reached<P: Protocol>(&self, protocol: &P, case: &FailedCase) -> bool
-        ensures { IsTrue result ↔ Any (λ r. IsTrue (is_about (P.table protocol.now) case.now r.state)) self.now.reached.items }
+        ensures exactly { IsTrue result ↔ Any (λ r. IsTrue (is_about (P.table protocol.now) case.now r.state)) self.now.reached.items }
+        ensures comes { IsClosureOf (P.table protocol.now) self.now → IsTrue result → CanComeTo (P.table protocol.now) case.now }
     {
         let table = Table { protocol };
-        self.reached
-            .iter()
-            .any(|reached| is_about(&table, reached.state, case))
+        has_about(&table, &self.reached, case)
     }
+}
+
+/// Whether the case is about some of the states.
+fn has_about<P: Protocol>(table: &Table<'_, P>, states: &[Reached], case: &FailedCase) -> bool
+    ensures { IsTrue result ↔ Any (λ r. IsTrue (is_about (P.table table.now.protocol.now) case.now r.state)) states.now }
+{
+    states
+        .iter()
+        .any(|reached| is_about(table, reached.state, case))
 }
 
 /// A closure that is being made.

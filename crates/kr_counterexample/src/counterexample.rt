@@ -1,5 +1,6 @@
 //! Scripts that go wrong.
 ghost use Rattle.std.specs.Prelude.{◌≡◌, Some};
+ghost use Rattle.kr_model.specs.Map.{IsMap};
 ghost use Rattle.kr_counterexample.specs.GoesWrong.{txn_at};
 
 use crate::ending::Ending;
@@ -12,7 +13,8 @@ pub struct Counterexample {
     pub opening: Vec<(u64, u64)>,
     /// The steps, in order.
     pub events: Vec<Event>,
-    /// The row and the side of the table at which the intruder comes through.
+    /// The row and the side of the table at which the intruder comes through: its lock there is on a name that the step
+    /// `weak` is about too.
     pub row: Row,
     pub side: Side,
     /// How it ends, and so what is seen.
@@ -27,6 +29,7 @@ pub struct Counterexample {
     pub intruder: Txn,
     /// Who else takes part in the ending.
     pub third: Option<Txn>,
+    ghost rising: { IsMap opening.items },
     ghost weak_is_holders: { txn_at events.items weak ≡ Some holder },
     ghost let_in_is_intruders: { txn_at events.items let_in ≡ Some intruder },
 }

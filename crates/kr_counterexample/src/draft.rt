@@ -1,12 +1,13 @@
 //! Scripts up to where the intruder comes through.
 ghost use Rattle.std.specs.Prelude.{IfOk, IfSome};
-ghost use Rattle.kr_counterexample.specs.GoesWrong.{GoesWrong};
+ghost use Rattle.kr_counterexample.specs.Marks.{IsShown};
 
 use crate::counterexample::Counterexample;
 use crate::ending::Ending;
 use crate::entrances::Entrance;
 use crate::judging::goes_wrong;
 use crate::last_steps::last_steps;
+use crate::marks::are_marked;
 use crate::numbers::Numbers;
 use crate::step::{Actor, Step};
 use kr_cases::Memory;
@@ -79,14 +80,15 @@ impl Draft {
         Ok(events)
     }
 
-    /// The script with an ending by this entrance, if it goes wrong. The only fault is that a growth was refused.
+    /// The script with an ending by this entrance, if it goes wrong, and its marks are those of its run. The only fault is
+    /// that a growth was refused.
     pub(crate) fn ended<P: Protocol>(
         &self,
         alloc: Global,
         protocol: &P,
         entrance: Entrance,
     ) -> Result<Option<Counterexample>, Memory>
-        ensures { IfOk result (λ found. IfSome found (λ c. GoesWrong (P.table protocol.now) c.opening.items c.events.items)) }
+        ensures { IfOk result (λ found. IfSome found (IsShown (P.table protocol.now))) }
     {
         let (row, side, ending) = entrance;
         let mut numbers = Numbers::new(alloc);
@@ -101,7 +103,7 @@ impl Draft {
         };
         let (holder, intruder) = (own.txn, through.txn);
         let third = numbers.given(Actor::Third);
-        Ok(Some(Counterexample {
+        let script = Counterexample {
             opening,
             events,
             row,
@@ -112,6 +114,11 @@ impl Draft {
             holder,
             intruder,
             third,
-        }))
+        };
+        if are_marked(alloc, protocol, &script)? {
+            Ok(Some(script))
+        } else {
+            Ok(None)
+        }
     }
 }

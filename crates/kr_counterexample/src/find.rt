@@ -1,6 +1,7 @@
 //! The order in which scripts are tried.
 ghost use Rattle.std.specs.Prelude.{IfOk, IfSome};
 ghost use Rattle.kr_counterexample.specs.GoesWrong.{GoesWrong};
+ghost use Rattle.kr_counterexample.specs.Marks.{AreMarked, IsShown};
 
 use crate::closure::Closure;
 use crate::counterexample::Counterexample;
@@ -30,7 +31,8 @@ impl Closure {
         case: &FailedCase,
         prefer: Option<(Row, Side)>,
     ) -> Result<Option<Counterexample>, Memory>
-        ensures { IfOk result (λ found. IfSome found (λ c. GoesWrong (P.table protocol.now) c.opening.items c.events.items)) }
+        ensures wrong { IfOk result (λ found. IfSome found (λ c. GoesWrong (P.table protocol.now) c.opening.items c.events.items)) }
+        ensures marked { IfOk result (λ found. IfSome found (AreMarked (P.table protocol.now))) }
     {
         let sought = self.find_within(alloc, protocol, case, prefer, MOST_RUNS)?;
         Ok(sought.script)
@@ -45,7 +47,7 @@ impl<P: Protocol> Finder<'_, P> {
         prefer: Option<(Row, Side)>,
         runs_left: &mut usize,
     ) -> Result<Option<Counterexample>, Memory>
-        ensures { IfOk result (λ found. IfSome found (λ c. GoesWrong (P.table self.now.table.protocol.now) c.opening.items c.events.items)) }
+        ensures { IfOk result (λ found. IfSome found (IsShown (P.table self.now.table.protocol.now))) }
     {
         let mut open = self.open_entrances(self.case.mode)?;
         open.sort_by_key(|(row, side, _)| prefer != Some((*row, *side)))?;
@@ -64,7 +66,7 @@ impl<P: Protocol> Finder<'_, P> {
         ways: &[Way],
         runs_left: &mut usize,
     ) -> Result<Option<Counterexample>, Memory>
-        ensures { IfOk result (λ found. IfSome found (λ c. GoesWrong (P.table self.now.table.protocol.now) c.opening.items c.events.items)) }
+        ensures { IfOk result (λ found. IfSome found (IsShown (P.table self.now.table.protocol.now))) }
     {
         let mut found = Vec::new(self.alloc);
         for way in ways {
@@ -87,7 +89,7 @@ impl<P: Protocol> Finder<'_, P> {
         moves: &[Moved],
         runs_left: &mut usize,
     ) -> Result<Option<Counterexample>, Memory>
-        ensures { IfOk result (λ found. IfSome found (λ c. GoesWrong (P.table self.now.table.protocol.now) c.opening.items c.events.items)) }
+        ensures { IfOk result (λ found. IfSome found (IsShown (P.table self.now.table.protocol.now))) }
     {
         for moved in moves {
             if let Some(op) = self.weakens(state, *moved) {

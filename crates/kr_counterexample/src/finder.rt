@@ -1,6 +1,6 @@
 //! What is tried for a failed case.
 ghost use Rattle.std.specs.Prelude.{IfOk, IfSome};
-ghost use Rattle.kr_counterexample.specs.GoesWrong.{GoesWrong};
+ghost use Rattle.kr_counterexample.specs.Marks.{IsShown};
 
 use crate::closure::Closure;
 use crate::counterexample::Counterexample;
@@ -81,7 +81,7 @@ impl<P: Protocol> Finder<'_, P> {
         entrance: Entrance,
         runs_left: &mut usize,
     ) -> Result<Option<Counterexample>, Memory>
-        ensures { IfOk result (λ found. IfSome found (λ c. GoesWrong (P.table self.now.table.protocol.now) c.opening.items c.events.items)) }
+        ensures { IfOk result (λ found. IfSome found (IsShown (P.table self.now.table.protocol.now))) }
     {
         if *runs_left == 0 {
             return Ok(None);
@@ -97,7 +97,7 @@ impl<P: Protocol> Finder<'_, P> {
         open: &[Entrance],
         runs_left: &mut usize,
     ) -> Result<Option<Counterexample>, Memory>
-        ensures { IfOk result (λ found. IfSome found (λ c. GoesWrong (P.table self.now.table.protocol.now) c.opening.items c.events.items)) }
+        ensures { IfOk result (λ found. IfSome found (IsShown (P.table self.now.table.protocol.now))) }
     {
         for entrance in open {
             let found = self.ended(draft, *entrance, runs_left)?;

@@ -18,6 +18,7 @@ mod judging;
 mod keys;
 mod last_steps;
 mod leading;
+mod marks;
 mod moves;
 mod numbers;
 mod own_steps;

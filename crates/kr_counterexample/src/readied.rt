@@ -1,6 +1,6 @@
 //! Intruders that have modes of their own.
 ghost use Rattle.std.specs.Prelude.{IfOk, IfSome};
-ghost use Rattle.kr_counterexample.specs.GoesWrong.{GoesWrong};
+ghost use Rattle.kr_counterexample.specs.Marks.{IsShown};
 
 use crate::counterexample::Counterexample;
 use crate::draft::Draft;
@@ -29,7 +29,7 @@ impl<P: Protocol> Finder<'_, P> {
         ways: &[Way],
         runs_left: &mut usize,
     ) -> Result<Option<Counterexample>, Memory>
-        ensures { IfOk result (λ found. IfSome found (λ c. GoesWrong (P.table self.now.table.protocol.now) c.opening.items c.events.items)) }
+        ensures { IfOk result (λ found. IfSome found (IsShown (P.table self.now.table.protocol.now))) }
     {
         for way in ways {
             let draft = self.draft(*way)?;
@@ -51,7 +51,7 @@ impl<P: Protocol> Finder<'_, P> {
         entrance: Entrance,
         runs_left: &mut usize,
     ) -> Result<Option<Counterexample>, Memory>
-        ensures { IfOk result (λ found. IfSome found (λ c. GoesWrong (P.table self.now.table.protocol.now) c.opening.items c.events.items)) }
+        ensures { IfOk result (λ found. IfSome found (IsShown (P.table self.now.table.protocol.now))) }
     {
         for ready in self.closure.ready.iter() {
             if *runs_left > 0 && self.opens(entrance, *ready) {
@@ -98,7 +98,7 @@ impl<P: Protocol> Finder<'_, P> {
         beside: &Beside,
         runs_left: &mut usize,
     ) -> Result<Option<Counterexample>, Memory>
-        ensures { IfOk result (λ found. IfSome found (λ c. GoesWrong (P.table self.now.table.protocol.now) c.opening.items c.events.items)) }
+        ensures { IfOk result (λ found. IfSome found (IsShown (P.table self.now.table.protocol.now))) }
     {
         for place in [0, draft.weak, draft.steps.len()] {
             let woven = draft.woven(self.alloc, &beside.opening, &beside.steps, place)?;

@@ -1,6 +1,7 @@
 //! Looking for a script among scenes.
 ghost use Rattle.std.specs.Prelude.{◌≡◌, ◌≤◌, IfOk, IfSome};
 ghost use Rattle.kr_counterexample.specs.GoesWrong.{GoesWrong};
+ghost use Rattle.kr_counterexample.specs.Marks.{AreMarked, IsShown};
 
 use crate::counterexample::Counterexample;
 use crate::draft::Draft;
@@ -54,6 +55,7 @@ impl Scenes {
         most_runs: usize,
     ) -> Result<Sought, Memory>
         ensures wrong { IfOk result (λ sought. IfSome sought.script (λ c. GoesWrong (P.table protocol.now) c.opening.items c.events.items)) }
+        ensures marked { IfOk result (λ sought. IfSome sought.script (AreMarked (P.table protocol.now))) }
         ensures few { IfOk result (λ sought. sought.runs ≤ most_runs) }
     {
         let stage = Stage {
@@ -75,7 +77,7 @@ impl Scenes {
 impl<P: Protocol> Stage<'_, P> {
     /// The first script that goes wrong.
     fn first(&self, runs_left: &mut usize) -> Result<Option<Counterexample>, Memory>
-        ensures { IfOk result (λ found. IfSome found (λ c. GoesWrong (P.table self.now.table.protocol.now) c.opening.items c.events.items)) }
+        ensures { IfOk result (λ found. IfSome found (IsShown (P.table self.now.table.protocol.now))) }
     {
         for (at, reach) in self.scenes.reached.iter().enumerate() {
             for is_second in [false, true] {
@@ -118,7 +120,7 @@ impl<P: Protocol> Stage<'_, P> {
 
     /// The scene with the first ending that goes wrong.
     fn let_in(&self, held: Held, runs_left: &mut usize) -> Result<Option<Counterexample>, Memory>
-        ensures { IfOk result (λ found. IfSome found (λ c. GoesWrong (P.table self.now.table.protocol.now) c.opening.items c.events.items)) }
+        ensures { IfOk result (λ found. IfSome found (IsShown (P.table self.now.table.protocol.now))) }
     {
         for entrance in entrances(self.case.cover) {
             let (row, side, _) = *entrance;
@@ -144,7 +146,7 @@ impl<P: Protocol> Stage<'_, P> {
         entrance: Entrance,
         runs_left: &mut usize,
     ) -> Result<Option<Counterexample>, Memory>
-        ensures { IfOk result (λ found. IfSome found (λ c. GoesWrong (P.table self.now.table.protocol.now) c.opening.items c.events.items)) }
+        ensures { IfOk result (λ found. IfSome found (IsShown (P.table self.now.table.protocol.now))) }
     {
         let (row, side, _) = entrance;
         if (row, side) == DELETES_A {
@@ -165,7 +167,7 @@ impl<P: Protocol> Stage<'_, P> {
         entrance: Entrance,
         runs_left: &mut usize,
     ) -> Result<Option<Counterexample>, Memory>
-        ensures { IfOk result (λ found. IfSome found (λ c. GoesWrong (P.table self.now.table.protocol.now) c.opening.items c.events.items)) }
+        ensures { IfOk result (λ found. IfSome found (IsShown (P.table self.now.table.protocol.now))) }
     {
         let above = held.scene.above;
         let footings = Footings::beside(self.alloc, &self.table, above)?;
@@ -201,7 +203,7 @@ impl<P: Protocol> Stage<'_, P> {
         more: &[Step],
         runs_left: &mut usize,
     ) -> Result<Option<Counterexample>, Memory>
-        ensures { IfOk result (λ found. IfSome found (λ c. GoesWrong (P.table self.now.table.protocol.now) c.opening.items c.events.items)) }
+        ensures { IfOk result (λ found. IfSome found (IsShown (P.table self.now.table.protocol.now))) }
     {
         let way = self.scenes.way(self.alloc, held.at)?;
         let is_of_deleted = self.case.cover == Cover::DeletedGap;

@@ -1,6 +1,6 @@
-use Rattle.std.specs.Prelude.{◌<◌, length}
+use Rattle.kr_causes.specs.Shares.{IsNamedBy}
 use Rattle.kr_causes.proofs.cause.leader.Given as goal
 
--- it is of a suspect
+-- the suspect that it counts first names it
 abbrev pub invariant-loop-tally : goal.invariant-loop-tally
-invariant-loop-tally l = l.best.first < length l.suspects
+invariant-loop-tally l = IsNamedBy l.suspects l.best.blame l.best.first

@@ -1,9 +1,7 @@
-use Rattle.std.specs.Prelude.{◌<◌, All, length}
+use Rattle.std.specs.Prelude.{All}
+use Rattle.kr_causes.specs.Shares.{IsNamedBy}
 use Rattle.kr_causes.proofs.cause.tallies.Given as goal
 
--- each is of a suspect
+-- each is of a suspect that names it
 abbrev pub invariant-loop-number : goal.invariant-loop-number
-invariant-loop-number l = All (λ t. t.first < length l.suspects) l.tallies.items
-
-abbrev pub invariant-loop-other : goal.invariant-loop-other
-invariant-loop-other l = All (λ t. t.first < length l.suspects) l.tallies.items
+invariant-loop-number l = All (λ t. IsNamedBy l.suspects t.blame t.first) l.tallies.items
