@@ -1,2 +1,1 @@
-pub mod Escape
 pub mod Page

@@ -1,7 +1,7 @@
 //! The band of a step: what was asked and answered in words, and its drawing.
 
 use crate::drawing::write_drawing;
-use crate::escape;
+use kr_html::{Html, Mark, Part};
 use kr_locks::Memory;
 use kr_model::Span;
 use kr_protocol::Protocol;
@@ -19,62 +19,63 @@ pub fn write_band<P: Protocol>(
     layout: &Layout,
     difference: Option<Difference<'_>>,
     scene: &Scene,
-    out: &mut String,
+    out: &mut Html,
 ) -> Result<(), Memory> {
     let number = scene.number;
-    let txn = scene.event.txn;
-    let kind = kind_of(&scene.reply);
-    write!(
-        out,
-        "<section id=\"s{number}\" class=\"{kind}\">\n<h3><span>Step {number}: transaction {txn}, "
-    )?;
+    out.put(&[
+        Part::Mark(Mark::Section),
+        Part::Number(number),
+        Part::Mark(Mark::Class),
+        Part::Text(kind_of(&scene.reply)),
+        Part::Mark(Mark::StepHead),
+        Part::Text("Step "),
+        Part::Number(number),
+        Part::Text(": transaction "),
+        Part::Number(u64::from(scene.event.txn)),
+        Part::Text(", "),
+    ])?;
     write_op(out, scene.event.op)?;
-    out.push_str("</span> <span class=\"reply\">")?;
+    out.mark(Mark::ReplyHead)?;
     write_reply(out, &scene.reply)?;
-    out.push_str("</span></h3>\n")?;
+    out.mark(Mark::EndStepHead)?;
     if let Some(difference) = difference {
         write_difference(number, difference, out)?;
     }
     for request in &scene.asked {
-        write_request(alloc, protocol, request, out)?;
+        write_request(protocol, request, out)?;
     }
     write_drawing(alloc, columns, layout, scene, out)?;
-    out.push_str("</section>\n")
+    out.mark(Mark::EndSection)
 }
 
 /// Writes the serial answer, where this step gave another.
-fn write_difference(
-    number: u64,
-    difference: Difference<'_>,
-    out: &mut String,
-) -> Result<(), Memory> {
+fn write_difference(number: u64, difference: Difference<'_>, out: &mut Html) -> Result<(), Memory> {
     if difference.answered != number {
         return Ok(());
     }
-    out.push_str("<p class=\"differs\">✗ In a serial run: ")?;
+    out.put(&[Part::Mark(Mark::Differs), Part::Text("✗ In a serial run: ")])?;
     write_reply(out, difference.serial)?;
-    out.push_str("</p>\n")
+    out.mark(Mark::EndParagraph)
 }
 
 /// Writes in words what a blocked step requested, and whose locks conflicted with it.
-fn write_request<P: Protocol>(
-    alloc: Global,
-    protocol: &P,
-    request: &Asked,
-    out: &mut String,
-) -> Result<(), Memory> {
-    let mode = escape(alloc, mode_name(protocol, request.mode))?;
-    write!(out, "<p>Asked for {mode} on ")?;
+fn write_request<P: Protocol>(protocol: &P, request: &Asked, out: &mut Html) -> Result<(), Memory> {
+    out.put(&[
+        Part::Mark(Mark::Paragraph),
+        Part::Text("Asked for "),
+        Part::Text(mode_name(protocol, request.mode)),
+        Part::Text(" on "),
+    ])?;
     write_name(out, request.name)?;
-    match request.span {
-        Span::Instant => out.push_str(" for an instant: ")?,
-        Span::Commit => out.push_str(" to commit: ")?,
-    }
-    match request.blockers.len() {
-        0 => out.push_str("nobody refuses it")?,
-        1 => out.push_str("refused by transaction ")?,
-        _ => out.push_str("refused by transactions ")?,
-    }
+    out.text(match request.span {
+        Span::Instant => " for an instant: ",
+        Span::Commit => " to commit: ",
+    })?;
+    out.text(match request.blockers.len() {
+        0 => "nobody refuses it",
+        1 => "refused by transaction ",
+        _ => "refused by transactions ",
+    })?;
     write_numbers(out, request.blockers.as_slice())?;
-    out.push_str(".</p>\n")
+    out.put(&[Part::Text("."), Part::Mark(Mark::EndParagraph)])
 }

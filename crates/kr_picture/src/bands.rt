@@ -3,6 +3,7 @@ ghost use Rattle.std.specs.Prelude.{◌≡◌, None};
 
 use crate::band::write_band;
 use crate::lanes::write_lanes;
+use kr_html::{Html, Mark, Part};
 use kr_index::Ordered;
 use kr_locks::{Holdings, Memory};
 use kr_machine::Machine;
@@ -21,7 +22,7 @@ pub fn write_body<P: Protocol, I: Ordered, L: Holdings>(
     protocol: &P,
     machine: &mut Machine<&P, I, L>,
     run: &Run<'_>,
-    out: &mut String,
+    out: &mut Html,
 ) -> Result<(), Memory>
     requires { machine.old.pending ≡ None }
 {
@@ -59,10 +60,9 @@ pub fn write_body<P: Protocol, I: Ordered, L: Holdings>(
 }
 
 /// What the drawings of steps show by their forms.
-const KEY: &str =
-    "<p class=\"note\">A bar is a lock, with its holder and mode, on its key and the gap below it. \
+const KEY: &str = "A bar is a lock, with its holder and mode, on its key and the gap below it. \
 A dashed bar (?) was asked for and refused, by the locks with a thick edge (!). \
-A triangle is at the key that the step names. A ring is a key that came, a cross one that went.</p>\n";
+A triangle is at the key that the step names. A ring is a key that came, a cross one that went.";
 
 /// Writes a band for each step that is drawn.
 fn write_bands<P: Protocol>(
@@ -72,13 +72,25 @@ fn write_bands<P: Protocol>(
     columns: &Columns,
     layout: &Layout,
     scenes: &[Scene],
-    out: &mut String,
+    out: &mut Html,
 ) -> Result<(), Memory> {
-    out.push_str("<h2>Steps</h2>\n")?;
+    out.put(&[
+        Part::Mark(Mark::Heading),
+        Part::Text("Steps"),
+        Part::Mark(Mark::EndHeading),
+    ])?;
     if scenes.is_empty() {
-        return out.push_str("<p>There are none.</p>\n");
+        return out.put(&[
+            Part::Mark(Mark::Paragraph),
+            Part::Text("There are none."),
+            Part::Mark(Mark::EndParagraph),
+        ]);
     }
-    out.push_str(KEY)?;
+    out.put(&[
+        Part::Mark(Mark::Note),
+        Part::Text(KEY),
+        Part::Mark(Mark::EndParagraph),
+    ])?;
     let difference = run.difference();
     for scene in scenes {
         write_band(alloc, protocol, columns, layout, difference, scene, out)?;

@@ -2,6 +2,7 @@
 
 use crate::svg;
 use crate::svg::at;
+use kr_html::{Html, Mark, Part};
 use kr_locks::Memory;
 use kr_scenes::{Bar, BarKind, BarLine, Columns, KeyState, Layout, Scene, bar_width, colour_of};
 use std::alloc::{AllocError, Global};
@@ -34,7 +35,7 @@ pub fn write_drawing(
     columns: &Columns,
     layout: &Layout,
     scene: &Scene,
-    out: &mut String,
+    out: &mut Html,
 ) -> Result<(), Memory> {
     let lines = lines_of(alloc, scene.bars.as_slice())?;
     let top = if scene.has_notes() {
@@ -48,10 +49,16 @@ pub fn write_drawing(
     let number = scene.number;
     let label = format!(in alloc; "keys and locks after step {number}")?;
     svg::open(out, layout.across(), high, label.as_str())?;
-    write_line(columns, layout, scene, out)?;
-    write_labels(layout, lines.as_slice(), top, out)?;
+    write_line(alloc, columns, layout, scene, out)?;
+    write_labels(alloc, layout, lines.as_slice(), top, out)?;
     for bar in &scene.bars {
-        write_bar(layout, bar, top_of(lines.as_slice(), top, bar.line), out)?;
+        write_bar(
+            alloc,
+            layout,
+            bar,
+            top_of(lines.as_slice(), top, bar.line),
+            out,
+        )?;
     }
     svg::close(out)
 }
@@ -79,17 +86,18 @@ fn top_of(lines: &[BarLine], top: u64, line: BarLine) -> u64 {
 
 /// Writes the numbers of the transactions at the left of their first lines.
 fn write_labels(
+    alloc: Global,
     layout: &Layout,
     lines: &[BarLine],
     top: u64,
-    out: &mut String,
+    out: &mut Html,
 ) -> Result<(), AllocError> {
     let mut labelled = None;
     for line in lines {
         let txn = line.txn;
         if labelled != Some(txn) {
             let y = top_of(lines, top, *line).saturating_add(BASELINE);
-            let label = format!(in *out.allocator(); "T{txn}")?;
+            let label = format!(in alloc; "T{txn}")?;
             svg::text(out, "label", at(0, y), label.as_str())?;
         }
         labelled = Some(txn);
@@ -98,31 +106,38 @@ fn write_labels(
 }
 
 /// Writes a bar whose line begins here.
-fn write_bar(layout: &Layout, bar: &Bar, y: u64, out: &mut String) -> Result<(), AllocError> {
+fn write_bar(
+    alloc: Global,
+    layout: &Layout,
+    bar: &Bar,
+    y: u64,
+    out: &mut Html,
+) -> Result<(), AllocError> {
     let colour = colour_of(bar.line.txn);
     let kind = match bar.kind {
         BarKind::Held => "held",
         BarKind::Conflicting => "held refuses",
         BarKind::Asked => "asked",
     };
-    let class = format!(in *out.allocator(); "{kind} c{colour}")?;
+    let class = format!(in alloc; "{kind} c{colour}")?;
     let (from, to) = layout.ends(bar);
     let wide = to.saturating_sub(from);
     svg::rect(out, class.as_str(), at(from, y), wide, ROW_HIGH - 4)?;
     let place = at(from.saturating_add(INDENT), y.saturating_add(BASELINE));
-    let mut words = bar.words(*out.allocator(), false)?;
+    let mut words = bar.words(alloc, false)?;
     if bar_width(words.len() as u64) > wide {
-        words = bar.words(*out.allocator(), true)?;
+        words = bar.words(alloc, true)?;
     }
     svg::text(out, "bar", place, words.as_str())
 }
 
 /// Writes the line of names, with a tick for each present key, and marks where a key came, went or changed.
 fn write_line(
+    alloc: Global,
     columns: &Columns,
     layout: &Layout,
     scene: &Scene,
-    out: &mut String,
+    out: &mut Html,
 ) -> Result<(), Memory> {
     let end = layout.end();
     svg::line(out, "axis", at(layout.left, AXIS), at(end, AXIS))?;
@@ -131,22 +146,29 @@ fn write_line(
         if scene.touched == Some(*key) {
             write_pointer(out, x)?;
         }
-        write_key(x, *key, *state, out)?;
+        write_key(alloc, x, *key, *state, out)?;
     }
     write_tick(out, "tick end", end)?;
     svg::text(out, "key", at(end, NAMES), "end")
 }
 
 /// Writes the triangle above the key that a step names.
-fn write_pointer(out: &mut String, x: u64) -> Result<(), AllocError> {
-    write!(
-        out,
-        "<path class=\"pointer\" transform=\"translate({x},1)\" d=\"M-6,0h12l-6,8z\"/>\n"
-    )
+fn write_pointer(out: &mut Html, x: u64) -> Result<(), AllocError> {
+    out.put(&[
+        Part::Mark(Mark::Pointer),
+        Part::Number(x),
+        Part::Mark(Mark::EndPointer),
+    ])
 }
 
 /// Writes a key with its value and what is told of it.
-fn write_key(x: u64, key: u64, state: KeyState, out: &mut String) -> Result<(), AllocError> {
+fn write_key(
+    alloc: Global,
+    x: u64,
+    key: u64,
+    state: KeyState,
+    out: &mut Html,
+) -> Result<(), AllocError> {
     if state == KeyState::Untold {
         return Ok(());
     }
@@ -155,12 +177,12 @@ fn write_key(x: u64, key: u64, state: KeyState, out: &mut String) -> Result<(), 
     } else {
         "key absent"
     };
-    let name = format!(in *out.allocator(); "{key}")?;
+    let name = format!(in alloc; "{key}")?;
     svg::text(out, class, at(x, NAMES), name.as_str())?;
     write_sign(x, state, out)?;
     let mut y = VALUES;
     if let Some(value) = state.value() {
-        let words = format!(in *out.allocator(); "={value}")?;
+        let words = format!(in alloc; "={value}")?;
         svg::text(out, "value", at(x, y), words.as_str())?;
         y = NOTES;
     }
@@ -177,7 +199,7 @@ fn write_key(x: u64, key: u64, state: KeyState, out: &mut String) -> Result<(), 
 
 /// Writes the sign of a key on the line of names: a tick where it is present, a cross where it went, and a circle where it
 /// is absent; a key that came has a ring around its tick.
-fn write_sign(x: u64, state: KeyState, out: &mut String) -> Result<(), AllocError> {
+fn write_sign(x: u64, state: KeyState, out: &mut Html) -> Result<(), AllocError> {
     let place = at(x, AXIS);
     match state {
         KeyState::Kept(_) | KeyState::Changed(_) => write_tick(out, "tick", x),
@@ -185,17 +207,20 @@ fn write_sign(x: u64, state: KeyState, out: &mut String) -> Result<(), AllocErro
             write_tick(out, "tick", x)?;
             svg::circle(out, "came", place, 9)
         }
-        KeyState::Gone => write!(
-            out,
-            "<path class=\"gone\" transform=\"translate({x},{AXIS})\" d=\"M-8,-8L8,8M-8,8L8,-8\"/>\n"
-        ),
+        KeyState::Gone => out.put(&[
+            Part::Mark(Mark::Gone),
+            Part::Number(x),
+            Part::Text(","),
+            Part::Number(AXIS),
+            Part::Mark(Mark::EndGone),
+        ]),
         KeyState::Absent => svg::circle(out, "none", place, 4),
         KeyState::Untold => Ok(()),
     }
 }
 
 /// Writes a tick of a class.
-fn write_tick(out: &mut String, class: &str, x: u64) -> Result<(), AllocError> {
+fn write_tick(out: &mut Html, class: &str, x: u64) -> Result<(), AllocError> {
     let top = at(x, AXIS - 10);
     svg::line(out, class, top, at(x, AXIS + 10))
 }

@@ -2,6 +2,7 @@
 
 use crate::svg;
 use crate::svg::{Point, at};
+use kr_html::{Html, Mark, Part};
 use kr_locks::Memory;
 use kr_model::{Event, Reply, Txn};
 use kr_scenes::{Run, colour_of, digits, kind_of, letter_of, text_width};
@@ -63,12 +64,7 @@ fn down(lane: usize) -> u64 {
 }
 
 /// Writes the lanes of the steps that are drawn, with so much room at the left for the numbers of transactions.
-pub fn write_lanes(
-    alloc: Global,
-    run: &Run<'_>,
-    left: u64,
-    out: &mut String,
-) -> Result<(), Memory> {
+pub fn write_lanes(alloc: Global, run: &Run<'_>, left: u64, out: &mut Html) -> Result<(), Memory> {
     let steps = run.steps.get(run.skipped..).unwrap_or(&[]);
     let replies = run.replies.get(run.skipped..).unwrap_or(&[]);
     if steps.is_empty() {
@@ -76,33 +72,42 @@ pub fn write_lanes(
     }
     let txns = txns_of(alloc, steps)?;
     let lanes = Lanes::new(left, run.steps.len() as u64);
-    out.push_str("<h2>Transactions over time</h2>\n")?;
+    out.put(&[
+        Part::Mark(Mark::Heading),
+        Part::Text("Transactions over time"),
+        Part::Mark(Mark::EndHeading),
+    ])?;
     let high = down(txns.len()).saturating_sub(LANE_HIGH / 2);
     let wide = lanes.across(steps.len());
     svg::open(out, wide, high, "the steps of each transaction")?;
     for (lane, txn) in txns.iter().enumerate() {
-        write_lane(out, lanes, steps, lane, *txn)?;
+        write_lane(alloc, out, lanes, steps, lane, *txn)?;
     }
     let mut number = run.skipped as u64;
     for (column, (step, reply)) in steps.iter().zip(replies.iter()).enumerate() {
         number = number.saturating_add(1);
         let x = lanes.across(column);
         if let Ok(lane) = txns.as_slice().binary_search(&step.txn) {
-            write_mark(out, number, at(x, down(lane)), *step, reply)?;
+            write_mark(alloc, out, number, at(x, down(lane)), *step, reply)?;
         }
     }
     svg::close(out)?;
-    out.push_str(KEY)
+    out.put(&[
+        Part::Mark(Mark::Note),
+        Part::Text(KEY),
+        Part::Mark(Mark::EndParagraph),
+    ])
 }
 
 /// What the letters and forms say.
 const KEY: &str =
-    "<p class=\"note\">F fetch, S scan, G go on, I insert, D delete, U update, B change taken back, C commit, A abort. \
-A box is a step that was done, a dashed box one that was blocked, a dotted one that was refused. A circle ends its transaction.</p>\n";
+    "F fetch, S scan, G go on, I insert, D delete, U update, B change taken back, C commit, A abort. \
+A box is a step that was done, a dashed box one that was blocked, a dotted one that was refused. A circle ends its transaction.";
 
 /// Writes the line of a lane, from its first step to its last.
 fn write_lane(
-    out: &mut String,
+    alloc: Global,
+    out: &mut Html,
     lanes: Lanes,
     steps: &[Event],
     lane: usize,
@@ -122,13 +127,14 @@ fn write_lane(
     let from = lanes.across(first.unwrap_or(last));
     svg::line(out, "lane", at(from, y), at(lanes.across(last), y))?;
     let label = at(0, y.saturating_add(5));
-    let words = format!(in *out.allocator(); "T{txn}")?;
+    let words = format!(in alloc; "T{txn}")?;
     svg::text(out, "label", label, words.as_str())
 }
 
 /// Writes the mark of a step, with a link to its band.
 fn write_mark(
-    out: &mut String,
+    alloc: Global,
+    out: &mut Html,
     number: u64,
     place: Point,
     step: Event,
@@ -137,10 +143,14 @@ fn write_mark(
     let Point { x, y } = place;
     let kind = kind_of(reply);
     let colour = colour_of(step.txn);
-    write!(out, "<a href=\"#s{number}\">")?;
-    let words = format!(in *out.allocator(); "{number}")?;
+    out.put(&[
+        Part::Mark(Mark::Link),
+        Part::Number(number),
+        Part::Mark(Mark::EndTag),
+    ])?;
+    let words = format!(in alloc; "{number}")?;
     svg::text(out, "when", at(x, 15), words.as_str())?;
-    let class = format!(in *out.allocator(); "mark {kind} c{colour}")?;
+    let class = format!(in alloc; "mark {kind} c{colour}")?;
     match reply {
         Reply::Committed | Reply::Aborted => svg::circle(out, class.as_str(), place, HALF + 1)?,
         _ => {
@@ -150,5 +160,5 @@ fn write_mark(
     }
     let middle = at(x, y.saturating_add(5));
     svg::text(out, "letter", middle, letter_of(step.op))?;
-    out.push_str("</a>\n")
+    out.put(&[Part::Mark(Mark::EndLink), Part::Text("\n")])
 }

@@ -8,8 +8,7 @@ mod frame;
 mod lanes;
 mod page;
 mod svg;
-mod text;
 
+pub use kr_html::escape;
 pub use kr_locks::Memory;
 pub use page::picture;
-pub use text::escape;

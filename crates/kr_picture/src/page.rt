@@ -8,8 +8,8 @@ ghost use Rattle.kr_model.specs.Serial.{AreSerial};
 ghost use Rattle.kr_picture.specs.Page.{IsPage};
 
 use crate::bands::write_body;
-use crate::escape;
 use crate::frame::framed;
+use kr_html::{Html, escape};
 use kr_index::Tree;
 use kr_locks::{Buckets, Memory};
 use kr_machine::Machine;
@@ -23,7 +23,7 @@ use std::alloc::Global;
 /// the transactions that commit are serializable in commit order. Under a safe protocol they are, and so under a covered one.
 ///
 /// The page is HTML that stands alone. It has the name as its title and heading, and then tells whether the run is
-/// serializable. At most 200 steps and 60 names are drawn, the last ones, and the page says so. The only error is that a
+/// serializable. Behind that it is made of the parts of `kr_html`: no text of the table or the script is markup. At most 200 steps and 60 names are drawn, the last ones, and the page says so. The only error is that a
 /// growth was refused.
 pub fn picture<P: Protocol>(
     alloc: Global,
@@ -53,7 +53,7 @@ fn telling_of<P: Protocol>(
     script: &Script,
     ran: &Ran,
     verdict: &Verdict,
-) -> Result<String, Memory> {
+) -> Result<Html, Memory> {
     let steps = script.steps();
     let run = Run {
         opening: script.opening(),
@@ -64,7 +64,7 @@ fn telling_of<P: Protocol>(
         verdict,
         skipped: steps.len().saturating_sub(STEPS_DRAWN),
     };
-    let mut out = String::new(alloc);
+    let mut out = Html::new(alloc);
     let index = Tree::from_pairs(alloc, script.opening())?;
     let mut machine = Machine::new(alloc, protocol, index, Buckets::new(alloc));
     write_body(alloc, protocol, &mut machine, &run, &mut out)?;

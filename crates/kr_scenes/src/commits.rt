@@ -2,6 +2,7 @@
 
 use crate::run::{Difference, Run};
 use crate::words::{write_op, write_reply};
+use kr_html::{Html, Mark, Part};
 use kr_model::{Op, Program, Reply, Txn};
 use std::alloc::AllocError;
 
@@ -11,21 +12,21 @@ const PROGRAMS_SHOWN: usize = 200;
 const OPERATIONS_SHOWN: usize = 20;
 
 /// Writes the programs in commit order.
-pub fn write_commits(run: &Run<'_>, out: &mut String) -> Result<(), AllocError> {
-    out.push_str("<h2>Commit order</h2>\n")?;
+pub fn write_commits(run: &Run<'_>, out: &mut Html) -> Result<(), AllocError> {
+    out.put(&[
+        Part::Mark(Mark::Heading),
+        Part::Text("Commit order"),
+        Part::Mark(Mark::EndHeading),
+    ])?;
     if run.programs.is_empty() {
-        return out.push_str("<p>No transaction committed.</p>\n");
+        return out.put(&[
+            Part::Mark(Mark::Paragraph),
+            Part::Text("No transaction committed."),
+            Part::Mark(Mark::EndParagraph),
+        ]);
     }
     let hidden = run.programs.len().saturating_sub(PROGRAMS_SHOWN);
-    if hidden > 0 {
-        write!(
-            out,
-            "<p class=\"limit\">{hidden} transactions that committed before these aren't shown.</p>\n"
-        )?;
-    }
-    out.push_str(
-        "<div class=\"wide\"><table>\n<tr><th>Transaction</th><th>Operation</th><th>Answer given</th><th>Answer of a serial run</th></tr>\n",
-    )?;
+    write_headings(hidden, out)?;
     let difference = run.difference();
     let mut differed = false;
     for (at, program) in run.programs.iter().enumerate() {
@@ -34,11 +35,40 @@ pub fn write_commits(run: &Run<'_>, out: &mut String) -> Result<(), AllocError> 
         }
         differed = differed || difference.is_some_and(|d| d.txn == program.txn);
     }
-    out.push_str("</table></div>\n")?;
+    out.mark(Mark::EndTable)?;
     if differed {
-        out.push_str("<p class=\"note\">Behind the first difference nothing is compared.</p>\n")?;
+        out.put(&[
+            Part::Mark(Mark::Note),
+            Part::Text("Behind the first difference nothing is compared."),
+            Part::Mark(Mark::EndParagraph),
+        ])?;
     }
     Ok(())
+}
+
+/// Writes the headings of the table of programs, and above it that so many aren't shown.
+fn write_headings(hidden: usize, out: &mut Html) -> Result<(), AllocError> {
+    if hidden > 0 {
+        out.put(&[
+            Part::Mark(Mark::Limit),
+            Part::Number(hidden as u64),
+            Part::Text(" transactions that committed before these aren"),
+            Part::Mark(Mark::Apostrophe),
+            Part::Text("t shown."),
+            Part::Mark(Mark::EndParagraph),
+        ])?;
+    }
+    out.put(&[
+        Part::Mark(Mark::Table),
+        Part::Text("Transaction"),
+        Part::Mark(Mark::NextHeading),
+        Part::Text("Operation"),
+        Part::Mark(Mark::NextHeading),
+        Part::Text("Answer given"),
+        Part::Mark(Mark::NextHeading),
+        Part::Text("Answer of a serial run"),
+        Part::Mark(Mark::EndHeadings),
+    ])
 }
 
 /// Writes the rows of a program, which stands behind the first difference or not.
@@ -46,7 +76,7 @@ fn write_program(
     program: &Program,
     difference: Option<Difference<'_>>,
     differed: bool,
-    out: &mut String,
+    out: &mut Html,
 ) -> Result<(), AllocError> {
     let operations = program.operations.as_slice();
     let hidden = operations.len().saturating_sub(OPERATIONS_SHOWN);
@@ -68,16 +98,28 @@ fn write_program(
 }
 
 /// Writes that so many operations of a transaction aren't shown.
-fn write_hidden(txn: Txn, hidden: usize, out: &mut String) -> Result<(), AllocError> {
-    write!(
-        out,
-        "<tr><td>T{txn}</td><td colspan=\"3\">{hidden} operations, not shown</td></tr>\n"
-    )
+fn write_hidden(txn: Txn, hidden: usize, out: &mut Html) -> Result<(), AllocError> {
+    out.put(&[
+        Part::Mark(Mark::Row),
+        Part::Text("T"),
+        Part::Number(u64::from(txn)),
+        Part::Mark(Mark::WideCell),
+        Part::Number(hidden as u64),
+        Part::Text(" operations, not shown"),
+        Part::Mark(Mark::EndRow),
+    ])
 }
 
 /// Writes the operation of this number of a transaction, from 1.
-fn write_asked(txn: Txn, number: u64, op: Op, out: &mut String) -> Result<(), AllocError> {
-    write!(out, "<tr><td>T{txn}</td><td>{number}. ")?;
+fn write_asked(txn: Txn, number: u64, op: Op, out: &mut Html) -> Result<(), AllocError> {
+    out.put(&[
+        Part::Mark(Mark::Row),
+        Part::Text("T"),
+        Part::Number(u64::from(txn)),
+        Part::Mark(Mark::NextCell),
+        Part::Number(number),
+        Part::Text(". "),
+    ])?;
     write_op(out, op)
 }
 
@@ -86,9 +128,9 @@ fn write_answers(
     given: &Reply,
     serial: Option<&Reply>,
     differed: bool,
-    out: &mut String,
+    out: &mut Html,
 ) -> Result<(), AllocError> {
-    out.push_str("</td><td>")?;
+    out.mark(Mark::NextCell)?;
     write_reply(out, given)?;
     write_comparison(serial, differed, out)
 }
@@ -97,15 +139,18 @@ fn write_answers(
 fn write_comparison(
     serial: Option<&Reply>,
     differed: bool,
-    out: &mut String,
+    out: &mut Html,
 ) -> Result<(), AllocError> {
     match serial {
         Some(reply) => {
-            out.push_str("</td><td class=\"differs\">✗ ")?;
+            out.put(&[Part::Mark(Mark::DiffersCell), Part::Text("✗ ")])?;
             write_reply(out, reply)?;
-            out.push_str("</td></tr>\n")
+            out.mark(Mark::EndRow)
         }
-        None if differed => out.push_str("</td><td>not compared</td></tr>\n"),
-        None => out.push_str("</td><td>the same</td></tr>\n"),
+        None => out.put(&[
+            Part::Mark(Mark::NextCell),
+            Part::Text(if differed { "not compared" } else { "the same" }),
+            Part::Mark(Mark::EndRow),
+        ]),
     }
 }

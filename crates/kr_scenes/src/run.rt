@@ -1,5 +1,6 @@
 //! A run as a page tells it, and where its steps are found.
 
+use kr_html::{Html, Mark, Part};
 use kr_model::{Event, Op, Program, Reply, Txn};
 use kr_serial::Verdict;
 use std::alloc::AllocError;
@@ -99,12 +100,24 @@ impl Run<'_> {
     }
 
     /// Writes the name of a step, with a link to its band if it is drawn.
-    pub fn write_step(&self, out: &mut String, number: u64) -> Result<(), AllocError> {
+    pub fn write_step(&self, out: &mut Html, number: u64) -> Result<(), AllocError> {
         if number > self.skipped as u64 {
-            write!(out, "<a href=\"#s{number}\">step ")?;
-            write!(out, "{number}</a>")
+            out.put(&[
+                Part::Mark(Mark::Link),
+                Part::Number(number),
+                Part::Mark(Mark::EndTag),
+                Part::Text("step "),
+                Part::Number(number),
+                Part::Mark(Mark::EndLink),
+            ])
         } else {
-            write!(out, "step {number}, which isn't drawn")
+            out.put(&[
+                Part::Text("step "),
+                Part::Number(number),
+                Part::Text(", which isn"),
+                Part::Mark(Mark::Apostrophe),
+                Part::Text("t drawn"),
+            ])
         }
     }
 }

@@ -3,31 +3,47 @@
 use crate::columns::NAMES_DRAWN;
 use crate::run::{Difference, Run, STEPS_DRAWN};
 use crate::words::{write_op, write_pairs, write_reply};
-use kr_model::{Op, Txn};
+use kr_html::{Html, Mark, Part};
+use kr_model::{Op, Reply, Txn};
 use std::alloc::AllocError;
 
 /// Writes the top of a page behind the first words of its verdict.
-pub fn write_summary(run: &Run<'_>, hidden: usize, out: &mut String) -> Result<(), AllocError> {
+pub fn write_summary(run: &Run<'_>, hidden: usize, out: &mut Html) -> Result<(), AllocError> {
     write_verdict(run, out)?;
-    out.push_str("<p>Opening map: ")?;
+    out.put(&[Part::Mark(Mark::Paragraph), Part::Text("Opening map: ")])?;
     write_pairs(out, run.opening)?;
-    out.push_str(".</p>\n")?;
+    write_end(out)?;
     write_unfinished(run.unfinished, out)?;
     write_limits(run, hidden, out)
 }
 
+/// Writes the end of a sentence that ends its paragraph.
+fn write_end(out: &mut Html) -> Result<(), AllocError> {
+    out.put(&[Part::Text("."), Part::Mark(Mark::EndParagraph)])
+}
+
+/// Writes the last sentence of a paragraph, but its full stop.
+fn write_last(out: &mut Html, sentence: &str) -> Result<(), AllocError> {
+    out.text(sentence)?;
+    write_end(out)
+}
+
 /// Writes what the verdict says behind its first words.
-fn write_verdict(run: &Run<'_>, out: &mut String) -> Result<(), AllocError> {
+fn write_verdict(run: &Run<'_>, out: &mut Html) -> Result<(), AllocError> {
     match (run.difference(), run.programs.len()) {
         (Some(difference), _) => write_difference(run, difference, out),
-        (None, 0) => out.push_str("No transaction committed.</p>\n"),
-        (None, 1) => out.push_str(
-            "The transaction that committed was answered as it is when it runs alone.</p>\n",
-        ),
-        (None, count) => write!(
+        (None, 0) => write_last(out, "No transaction committed"),
+        (None, 1) => write_last(
             out,
-            "The {count} transactions that committed were answered as they are one after another, in commit order.</p>\n"
+            "The transaction that committed was answered as it is when it runs alone",
         ),
+        (None, count) => {
+            out.put(&[Part::Text("The "), Part::Number(count as u64)])?;
+            write_last(
+                out,
+                " transactions that committed were answered as they are one after another, in commit order",
+            )
+        }
     }
 }
 
@@ -41,58 +57,89 @@ fn operation_of(run: &Run<'_>, number: u64) -> Option<Op> {
 fn write_difference(
     run: &Run<'_>,
     difference: Difference<'_>,
-    out: &mut String,
+    out: &mut Html,
 ) -> Result<(), AllocError> {
     let Difference { txn, operation, .. } = difference;
-    write!(out, "Operation {operation} of transaction {txn}, ")?;
+    out.put(&[
+        Part::Text("Operation "),
+        Part::Number(operation),
+        Part::Text(" of transaction "),
+        Part::Number(u64::from(txn)),
+        Part::Text(", "),
+    ])?;
     if let Some(op) = operation_of(run, difference.asked) {
         write_op(out, op)?;
     }
-    out.push_str(" (")?;
+    out.text(" (")?;
     run.write_step(out, difference.asked)?;
-    out.push_str("), was answered <b>")?;
-    write_reply(out, difference.given)?;
-    out.push_str("</b>")?;
+    out.text("), was answered ")?;
+    write_strong(out, difference.given)?;
     if difference.answered != difference.asked {
-        out.push_str(" (")?;
+        out.text(" (")?;
         run.write_step(out, difference.answered)?;
-        out.push_str(")")?;
+        out.text(")")?;
     }
-    out.push_str(". After the transactions that committed before it, the answer is <b>")?;
-    write_reply(out, difference.serial)?;
-    write!(out, "</b>. Transaction {txn} committed at ")?;
+    out.text(". After the transactions that committed before it, the answer is ")?;
+    write_strong(out, difference.serial)?;
+    out.put(&[
+        Part::Text(". Transaction "),
+        Part::Number(u64::from(txn)),
+        Part::Text(" committed at "),
+    ])?;
     run.write_step(out, difference.committed)?;
-    out.push_str(".</p>\n")
+    write_end(out)
+}
+
+/// Writes an answer that stands out.
+fn write_strong(out: &mut Html, reply: &Reply) -> Result<(), AllocError> {
+    out.mark(Mark::Strong)?;
+    write_reply(out, reply)?;
+    out.mark(Mark::EndStrong)
 }
 
 /// Writes which transactions are unfinished.
-fn write_unfinished(unfinished: &[Txn], out: &mut String) -> Result<(), AllocError> {
+fn write_unfinished(unfinished: &[Txn], out: &mut Html) -> Result<(), AllocError> {
     if unfinished.is_empty() {
         return Ok(());
     }
-    out.push_str("<p>Unfinished at the end: ")?;
+    out.put(&[
+        Part::Mark(Mark::Paragraph),
+        Part::Text("Unfinished at the end: "),
+    ])?;
     let mut separator = "";
     for txn in unfinished {
-        write!(out, "{separator}T{txn}")?;
+        out.put(&[
+            Part::Text(separator),
+            Part::Text("T"),
+            Part::Number(u64::from(*txn)),
+        ])?;
         separator = ", ";
     }
-    out.push_str(".</p>\n")
+    write_end(out)
 }
 
 /// Writes what isn't drawn.
-fn write_limits(run: &Run<'_>, hidden: usize, out: &mut String) -> Result<(), AllocError> {
+fn write_limits(run: &Run<'_>, hidden: usize, out: &mut Html) -> Result<(), AllocError> {
     let skipped = run.skipped;
     if skipped > 0 {
-        write!(
-            out,
-            "<p class=\"limit\">Only the last {STEPS_DRAWN} steps are drawn: {skipped} come before them.</p>\n"
-        )?;
+        write_limit(out, STEPS_DRAWN, " steps are drawn: ", skipped)?;
+        write_last(out, " come before them")?;
     }
     if hidden > 0 {
-        write!(
-            out,
-            "<p class=\"limit\">Only the last {NAMES_DRAWN} names are drawn, the end among them: {hidden} keys are below them.</p>\n"
-        )?;
+        let words = " names are drawn, the end among them: ";
+        write_limit(out, NAMES_DRAWN, words, hidden)?;
+        write_last(out, " keys are below them")?;
     }
     Ok(())
+}
+
+/// Writes the beginning of a paragraph that says how many are drawn and how many aren't.
+fn write_limit(out: &mut Html, drawn: usize, words: &str, hidden: usize) -> Result<(), AllocError> {
+    out.put(&[
+        Part::Mark(Mark::Limit),
+        Part::Text("Only the last "),
+        Part::Number(drawn as u64),
+        Part::Text(words),
+        Part::Number(hidden as u64),
+    ])
 }

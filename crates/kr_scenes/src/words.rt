@@ -1,23 +1,41 @@
 //! Operations, replies and refusals in words.
 
+use kr_html::{Html, Part};
 use kr_model::{Name, Op, Refusal, Reply};
 use std::alloc::AllocError;
 
 /// How many pairs of a list are shown, the last ones.
 pub const PAIRS_SHOWN: usize = 60;
 
+/// Writes a number behind words.
+fn write_numbered(out: &mut Html, words: &str, number: u64) -> Result<(), AllocError> {
+    out.put(&[Part::Text(words), Part::Number(number)])
+}
+
+/// Writes two numbers, each behind words.
+fn write_both(
+    out: &mut Html,
+    words: &str,
+    first: u64,
+    between: &str,
+    second: u64,
+) -> Result<(), AllocError> {
+    write_numbered(out, words, first)?;
+    write_numbered(out, between, second)
+}
+
 /// Writes what an operation does.
-pub fn write_op(out: &mut String, op: Op) -> Result<(), AllocError> {
+pub fn write_op(out: &mut Html, op: Op) -> Result<(), AllocError> {
     match op {
-        Op::Fetch(key) => write!(out, "fetch {key}"),
-        Op::Scan(lo, hi) => write!(out, "scan {lo} to {hi}"),
-        Op::Go => write!(out, "go on with the scan"),
-        Op::Insert(key, value) => write!(out, "insert {key} with {value}"),
-        Op::Delete(key) => write!(out, "delete {key}"),
-        Op::Update(key, value) => write!(out, "update {key} to {value}"),
-        Op::Commit => write!(out, "commit"),
-        Op::Abort => write!(out, "abort"),
-        Op::Back => write!(out, "take the newest change back"),
+        Op::Fetch(key) => write_numbered(out, "fetch ", key),
+        Op::Scan(lo, hi) => write_both(out, "scan ", lo, " to ", hi),
+        Op::Go => out.text("go on with the scan"),
+        Op::Insert(key, value) => write_both(out, "insert ", key, " with ", value),
+        Op::Delete(key) => write_numbered(out, "delete ", key),
+        Op::Update(key, value) => write_both(out, "update ", key, " to ", value),
+        Op::Commit => out.text("commit"),
+        Op::Abort => out.text("abort"),
+        Op::Back => out.text("take the newest change back"),
     }
 }
 
@@ -37,35 +55,35 @@ pub fn letter_of(op: Op) -> &'static str {
 }
 
 /// Writes a lock name.
-pub fn write_name(out: &mut String, name: Name) -> Result<(), AllocError> {
+pub fn write_name(out: &mut Html, name: Name) -> Result<(), AllocError> {
     match name {
-        Name::Key(key) => write!(out, "{key}"),
-        Name::End => write!(out, "the end"),
+        Name::Key(key) => out.number(key),
+        Name::End => out.text("the end"),
     }
 }
 
 /// Writes pairs of a key and its value, of many the last ones.
-pub fn write_pairs(out: &mut String, pairs: &[(u64, u64)]) -> Result<(), AllocError> {
+pub fn write_pairs(out: &mut Html, pairs: &[(u64, u64)]) -> Result<(), AllocError> {
     if pairs.is_empty() {
-        return out.push_str("nothing");
+        return out.text("nothing");
     }
     let hidden = pairs.len().saturating_sub(PAIRS_SHOWN);
     if hidden > 0 {
-        write!(out, "{hidden} more, and then ")?;
+        out.put(&[Part::Number(hidden as u64), Part::Text(" more, and then ")])?;
     }
     let mut separator = "";
     for (key, value) in &pairs[hidden..] {
-        write!(out, "{separator}{key}={value}")?;
+        write_both(out, separator, *key, "=", *value)?;
         separator = ", ";
     }
     Ok(())
 }
 
 /// Writes the numbers of transactions, as `1, 2`.
-pub fn write_numbers(out: &mut String, numbers: &[u32]) -> Result<(), AllocError> {
+pub fn write_numbers(out: &mut Html, numbers: &[u32]) -> Result<(), AllocError> {
     let mut separator = "";
     for number in numbers {
-        write!(out, "{separator}{number}")?;
+        write_numbered(out, separator, u64::from(*number))?;
         separator = ", ";
     }
     Ok(())
@@ -87,30 +105,35 @@ fn reason_of(refusal: Refusal) -> &'static str {
 }
 
 /// Writes what a reply says.
-pub fn write_reply(out: &mut String, reply: &Reply) -> Result<(), AllocError> {
+pub fn write_reply(out: &mut Html, reply: &Reply) -> Result<(), AllocError> {
     match reply {
-        Reply::Found(value) => write!(out, "found {value}"),
-        Reply::None => out.push_str("none there"),
-        Reply::Going(key) => write!(out, "read {key}, goes on"),
+        Reply::Found(value) => write_numbered(out, "found ", *value),
+        Reply::None => out.text("none there"),
+        Reply::Going(key) => {
+            write_numbered(out, "read ", *key)?;
+            out.text(", goes on")
+        }
         Reply::Rows(rows) => {
-            out.push_str("rows: ")?;
+            out.text("rows: ")?;
             write_pairs(out, rows.as_slice())
         }
-        Reply::Done => out.push_str("done"),
-        Reply::Duplicate => out.push_str("there already"),
-        Reply::Deleted(value) => write!(out, "deleted, was {value}"),
-        Reply::Absent => out.push_str("not there"),
-        Reply::Updated(value) => write!(out, "updated, was {value}"),
-        Reply::Committed => out.push_str("committed"),
-        Reply::Aborted => out.push_str("aborted"),
-        Reply::Undone(left) => write!(out, "taken back, {left} left"),
+        Reply::Done => out.text("done"),
+        Reply::Duplicate => out.text("there already"),
+        Reply::Deleted(value) => write_numbered(out, "deleted, was ", *value),
+        Reply::Absent => out.text("not there"),
+        Reply::Updated(value) => write_numbered(out, "updated, was ", *value),
+        Reply::Committed => out.text("committed"),
+        Reply::Aborted => out.text("aborted"),
+        Reply::Undone(left) => {
+            write_numbered(out, "taken back, ", *left)?;
+            out.text(" left")
+        }
         Reply::Blocked(txns) => {
-            out.push_str("blocked by ")?;
+            out.text("blocked by ")?;
             write_numbers(out, txns.as_slice())
         }
         Reply::Refused(refusal) => {
-            let reason = reason_of(*refusal);
-            write!(out, "refused: {reason}")
+            out.put(&[Part::Text("refused: "), Part::Text(reason_of(*refusal))])
         }
     }
 }

@@ -3,9 +3,9 @@ use Rattle.std.specs.Str.{chars}
 use Rattle.std.proofs.Common.{◌≡◌, Some, ◌∷◌, [], arith}
 use Rattle.std.proofs.Math.Utf8.{encode}
 use Rattle.std.proofs.lemmas.Str.{IsUtf8-string_bytes}
-use Rattle.kr_picture.specs.Escape.{unescaped}
-use Rattle.kr_picture.proofs.Escapes.{pushed, plain}
-use Rattle.kr_picture.proofs.text.push_escaped.Goals as goal
+use Rattle.kr_html.specs.Escape.{unescaped}
+use Rattle.kr_html.proofs.Escapes.{pushed, plain}
+use Rattle.kr_html.proofs.text.push_escaped.Goals as goal
 
 -- an entity that reads as one character reads as another that is the same
 same : (piece : List ℕ) (c d : ℕ) → c ≡ d → unescaped (chars piece) ≡ Some (d ∷ []) → unescaped (chars piece) ≡ Some (c ∷ [])

@@ -4,8 +4,8 @@ use Rattle.std.proofs.Common.{◌≡◌, sym, ap, subst, ◌∙◌, map-id, Some
 use Rattle.std.proofs.lemmas.Str.{chars-nil}
 use Rattle.std.proofs.lemmas.Iterator.{YieldsList-from_chars}
 use Rattle.std.proofs.lemmas.Iterator.Consumers.{YieldsList-end}
-use Rattle.kr_picture.specs.Escape.{unescaped}
-use Rattle.kr_picture.proofs.text.escape.Goals as goal
+use Rattle.kr_html.specs.Escape.{unescaped}
+use Rattle.kr_html.proofs.text.escape.Goals as goal
 
 empty : (page : List ℕ) → page ≡ [] → unescaped (chars page) ≡ Some []
 empty page e =

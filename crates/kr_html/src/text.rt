@@ -1,7 +1,7 @@
 //! Text of a page.
 ghost use Rattle.std.specs.Prelude.{◌≡◌, ◌++◌, ◌∷◌, [], IfOk, OnOk, List, ℕ, Some, string_bytes};
 ghost use Rattle.std.specs.Str.{chars};
-ghost use Rattle.kr_picture.specs.Escape.{unescaped};
+ghost use Rattle.kr_html.specs.Escape.{unescaped};
 
 use std::alloc::{AllocError, Global};
 

@@ -7,7 +7,7 @@ use Rattle.std.proofs.lemmas.Str.{chars-append, chars_past_char, chars-nil, IsUt
 use Rattle.std.proofs.lemmas.Bool.Decides.{nat_tests}
 use Rattle.std.specs.Char.{IsScalar}
 use Rattle.std.specs.Str.{IsUtf8, chars}
-use Rattle.kr_picture.specs.Escape.{is_mark, character_of, before_text, read, unescaped}
+use Rattle.kr_html.specs.Escape.{is_mark, character_of, before_text, read, unescaped}
 
 step_outside : (begins mark : Bool) (c : ℕ) (inside outside inside_more outside_more : Option (List ℕ)) (t u : List ℕ) → ((s : List ℕ) → inside ≡ Some s → inside_more ≡ Some (s ++ u)) → ((s : List ℕ) → outside ≡ Some s → outside_more ≡ Some (s ++ u)) → (if begins then inside else if mark then None else option_map (λ s. c ∷ s) outside) ≡ Some t → (if begins then inside_more else if mark then None else option_map (λ s. c ∷ s) outside_more) ≡ Some (t ++ u)
 step_outside true mark c inside outside inside_more outside_more t u more_in more_out e = more_in t e

@@ -1,0 +1,3 @@
+pub mod Escape
+pub mod Marks
+pub mod Parts
