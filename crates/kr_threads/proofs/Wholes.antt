@@ -16,7 +16,7 @@ use Rattle.kr_serial.specs.declared.ran.Ran.{Ran}
 use Rattle.kr_follows.specs.Follows.{Follows}
 use Rattle.kr_script.specs.declared.threaded.Answered.{Answered}
 use Rattle.kr_script.specs.declared.threaded.Threaded.{Threaded}
-use Rattle.kr_threads.specs.Told.{IsTold, IsWorked}
+use Rattle.kr_threads.specs.Told.{IsTold}
 use Rattle.kr_threads.specs.Threaded.{answered, steps_of, with_replies, IsRanOf, IsThreaded}
 use Rattle.kr_threads.proofs.Gathered.{none_mapped}
 
@@ -62,23 +62,23 @@ ran_of_closed p opening h shares ran closed ended opening_is replies index locks
 }
 
 -- What a run in several threads shows that was compared with its script.
-pub threaded : (p : Protocol) (opening : Map) (steps : List Event) (h : History) (d : Threaded)
-    → (worked : IsWorked p opening h d.faults.items)
+pub threaded : (p : Protocol) (opening : Map) (steps : List Event) (h : History) (shares : List Lent) (d : Threaded)
+    → (closed : IsClosed p opening h shares) → h.unfinished ≡ []
+    → All (IsTold p opening d.faults.items (events_with_replies h.entries.items)) d.faults.items
     → d.history.items ≡ map answered h.entries.items
     → Follows steps d.faults.items (map (λ e. e.event) h.entries.items)
-    → IsRanOf opening (events_with_replies h.entries.items) worked.closed.state d.ran
+    → IsRanOf opening (events_with_replies h.entries.items) closed.state d.ran
     → IsThreaded p opening steps d
-threaded p opening steps h d worked history follows ran =
+threaded p opening steps h shares d closed ended told history follows ran =
     let es = h.entries.items in
-    let closed = worked.closed in
     let same : with_replies d.history.items ≡ events_with_replies es = ap with_replies history ∙ replies_of_answered es in
     let steps_are : steps_of d.history.items ≡ map (λ e. e.event) es = ap steps_of history ∙ steps_of_answered es in
     record {
       state = closed.state;
       run = subst (λ (h : List model.Entry). model.IsRun p opening h closed.state) (sym same) closed.run.run;
       granted = subst (λ (l : List Answered). All (λ a. model.is_granted a.reply ≡ true) l) (sym history) (All-map (λ a. model.is_granted a.reply ≡ true) answered es closed.run.granted);
-      ended = none_mapped (λ a. a.0) closed.state.active (sym closed.unfinished ∙ worked.ended);
+      ended = none_mapped (λ a. a.0) closed.state.active (sym closed.unfinished ∙ ended);
       follows = subst (λ (l : List Event). Follows steps d.faults.items l) (sym steps_are) follows;
-      told = subst (λ (h : List model.Entry). All (IsTold p opening h) d.faults.items) (sym same) worked.told;
+      told = subst (λ (h : List model.Entry). All (IsTold p opening d.faults.items h) d.faults.items) (sym same) told;
       ran = subst (λ (h : List model.Entry). IsRanOf opening h closed.state d.ran) (sym same) ran;
     }

@@ -35,12 +35,12 @@ pub record IsRanOf (opening : Map) (history : List model.Entry) (state : State) 
   pub unfinished : ran.unfinished ≡ []
   pub serial : AreSerial ran.opening ran.programs
 
--- What a run of a script in several threads shows: its history is a run of granted steps under the table from the opening map, and ends in a state with no active transaction. It follows the script's steps, but for the faults. Each fault is told at the end of a prefix of the history. The run that is shown beside it has this history.
+-- What a run of a script in several threads shows: its history is a run of granted steps under the table from the opening map, and ends in a state with no active transaction. It follows the script's steps, but for the faults. Each fault is told at the end of a prefix of the history, where its transaction has come to just this step. The run that is shown beside it has this history.
 pub record IsThreaded (p : Protocol) (opening : Map) (steps : List Event) (d : Threaded) : Type 0 where
   pub state : State
   pub run : model.IsRun p opening (with_replies d.history.items) state
   pub granted : All (λ a. model.is_granted a.reply ≡ true) d.history.items
   pub ended : state.active ≡ []
   pub follows : Follows steps d.faults.items (steps_of d.history.items)
-  pub told : All (IsTold p opening (with_replies d.history.items)) d.faults.items
+  pub told : All (IsTold p opening d.faults.items (with_replies d.history.items)) d.faults.items
   pub ran : IsRanOf opening (with_replies d.history.items) state d.ran

@@ -1,8 +1,11 @@
 //! A script's transactions run by several threads over one engine.
 #![tactic(auto)]
 
+mod calls;
 mod gate;
 mod history;
+mod left_out;
+mod placing;
 mod run;
 mod turn;
 mod work;

@@ -10,9 +10,11 @@ ghost use Rattle.kr_threads.specs.Threaded.{IsThreaded};
 
 use crate::gate::Gate;
 use crate::history::{answers, ran_of, steps_and_replies};
+use crate::left_out::{LeftOut, faults_of};
+use crate::placing::are_placed;
 use crate::work::{Report, Worker, work};
 use kr_engine::{CloseFault, Engine, EngineName, History, NewFault, PlaceRow, Share};
-use kr_follows::{Dealt, StepFault, follows};
+use kr_follows::{Dealt, follows};
 use kr_protocol::Covered;
 use kr_script::{Script, Threaded};
 use std::alloc::{AllocError, Global};
@@ -27,8 +29,8 @@ pub enum RunFault {
     /// A growth was refused.
     Memory,
     /// A place refused a write or there were too few, a number was taken, open or not begun, an abort was refused, a share
-    /// doesn't fit the history, a transaction is active at its end, or it doesn't follow the script: only by a fault of the
-    /// engine or of the run.
+    /// doesn't fit the history, a transaction is active at its end, it doesn't follow the script, or a step was left out where
+    /// its transaction hadn't come to it: only by a fault of the engine or of the run.
     Place,
 }
 
@@ -60,7 +62,7 @@ impl From<CloseFault> for RunFault {
 #[derive(Drop)]
 struct Worked {
     history: History,
-    faults: Vec<StepFault>,
+    left_out: Vec<LeftOut>,
 }
 
 /// Runs a script under a covered protocol in as many threads as there are workers, 1 to 64.
@@ -68,7 +70,7 @@ struct Worked {
 /// The transactions are dealt to the workers in turn, in the order in which they first appear. A worker does its
 /// transactions one after another, the steps of each in script order. A step that is refused is noted as a fault and left
 /// out. At a deadlock the step is noted as a fault, and the rest of its transaction's steps is dropped. A transaction that
-/// is active after that is aborted. The gate stands before and after each call.
+/// is active after that is aborted. The gate stands before and after each call. A step that is blocked waits.
 ///
 /// It returns where all workers do: a worker waits for the locks of others' transactions, and for the gate.
 ///
@@ -118,7 +120,7 @@ fn run_named<
     requires table { P.table protocol ≡ K.table }
     requires is_map { IsMap opening.now }
     requires workers { 0 < workers }
-    ensures worked { IfOk result (λ w. IsWorked K.table K.opening w.history w.faults.items) }
+    ensures worked { IfOk result (λ w. IsWorked K.table K.opening w.history w.left_out.items) }
     ensures is_map { IfOk result (λ w. IsMap w.history.index) }
 {
     let engine = Engine::<P, K>::new(alloc, protocol, opening, row)?;
@@ -131,9 +133,9 @@ fn run_named<
             requires { 0 < workers }
         { work(rt, dealt, workers, gate, &turns, job) },
     )?;
-    let (shares, faults) = gather(alloc, reports)?;
+    let (shares, left_out) = gather(alloc, reports)?;
     let history = engine.into_history(&shares)?;
-    finished(history, &shares, faults)
+    finished(history, &shares, left_out)
 }
 
 /// As many workers, each with a seat of its own.
@@ -150,40 +152,43 @@ fn hired<'a, P: Covered, K: EngineName, R: Wait>(
             number,
             seat,
             calls: 0,
-            faults: Vec::new(alloc),
+            last: None,
+            recent: Vec::new(alloc),
+            passed: None,
+            left_out: Vec::new(alloc),
         })?;
     }
     Ok(all)
 }
 
-/// The shares of all workers and their faults, or why the first worker gave up that did.
+/// The shares of all workers and the steps that they left out, or why the first worker gave up that did.
 fn gather<K: EngineName>(
     alloc: Global,
     reports: Vec<Report<K>>,
-) -> Result<(Vec<Share<K>>, Vec<StepFault>), RunFault>
+) -> Result<(Vec<Share<K>>, Vec<LeftOut>), RunFault>
     ensures { IfOk result (λ r. All (IsToldToOne K.table K.opening r.0.items) r.1.items) }
 {
     let mut shares = Vec::new(alloc);
-    let mut faults = Vec::new(alloc);
+    let mut left_out = Vec::new(alloc);
     for report in reports {
-        add(&mut shares, &mut faults, report)?;
+        add(&mut shares, &mut left_out, report)?;
     }
-    Ok((shares, faults))
+    Ok((shares, left_out))
 }
 
 /// Adds what one worker hands back.
 #[tactic(auto, using(crate::proofs::Gathered::all_told_both))]
 fn add<K: EngineName>(
     shares: &mut Vec<Share<K>>,
-    faults: &mut Vec<StepFault>,
+    left_out: &mut Vec<LeftOut>,
     report: Report<K>,
 ) -> Result<(), RunFault>
-    requires { All (IsToldToOne K.table K.opening shares.old.items) faults.old.items }
-    ensures { OnOk result (All (IsToldToOne K.table K.opening shares.new.items) faults.new.items) }
+    requires { All (IsToldToOne K.table K.opening shares.old.items) left_out.old.items }
+    ensures { OnOk result (All (IsToldToOne K.table K.opening shares.new.items) left_out.new.items) }
 {
     let Report {
         share,
-        faults: mut more,
+        left_out: mut more,
         failed,
     } = report;
     if let Some(fault) = failed {
@@ -192,32 +197,34 @@ fn add<K: EngineName>(
     if shares.push(share).is_err() {
         return Err(RunFault::Memory);
     }
-    faults.append(&mut more)?;
+    left_out.append(&mut more)?;
     Ok(())
 }
 
-/// The closed history with the faults by transaction, then by number; or `Place` where a transaction is active.
+/// The closed history with the steps that were left out by transaction, then by number; or `Place` where a transaction is
+/// active.
 fn finished<K: EngineName>(
     history: History,
     shares: &[Share<K>],
-    faults: Vec<StepFault>,
+    left_out: Vec<LeftOut>,
 ) -> Result<Worked, RunFault>
     requires lawful { IsLawful K.table }
     requires is_map { IsMap K.opening }
     requires closed { IsClosed K.table K.opening history shares.now }
-    requires told { All (IsToldToOne K.table K.opening shares.now) faults.items }
-    ensures worked { IfOk result (λ w. IsWorked K.table K.opening w.history w.faults.items) }
+    requires told { All (IsToldToOne K.table K.opening shares.now) left_out.items }
+    ensures worked { IfOk result (λ w. IsWorked K.table K.opening w.history w.left_out.items) }
     ensures is_map { IfOk result (λ w. IsMap w.history.index) }
 {
     if !history.unfinished.as_slice().is_empty() {
         return Err(RunFault::Place);
     }
-    let mut faults = faults;
-    faults.sort_unstable_by_key(|f| (f.txn, f.step));
-    Ok(Worked { history, faults })
+    let mut left_out = left_out;
+    left_out.sort_unstable_by_key(|l| (l.fault.txn, l.fault.step));
+    Ok(Worked { history, left_out })
 }
 
-/// The history with what it leaves, compared with the script: `Place` where it doesn't follow it.
+/// The history with what it leaves, compared with the script: `Place` where it doesn't follow it, or a step was left out
+/// where its transaction hadn't come to it.
 fn compared(
     alloc: Global,
     opening: &[(u64, u64)],
@@ -226,10 +233,14 @@ fn compared(
 ) -> Result<Threaded, RunFault>
     requires opening { IsMap opening.now }
     requires index { IsMap worked.history.index }
-    ensures { IfOk result (λ d. (p : Protocol) (steps : List Event) → IsWorked p opening.now worked.history worked.faults.items → AreDealt steps script → IsThreaded p opening.now steps d) }
+    ensures { IfOk result (λ d. (p : Protocol) (steps : List Event) → IsWorked p opening.now worked.history worked.left_out.items → AreDealt steps script → IsThreaded p opening.now steps d) }
 {
-    let Worked { history, faults } = worked;
+    let Worked { history, left_out } = worked;
     let (steps, replies) = steps_and_replies(alloc, &history.entries)?;
+    if !are_placed(alloc, &left_out, &steps)? {
+        return Err(RunFault::Place);
+    }
+    let faults = faults_of(alloc, left_out)?;
     if !follows(alloc, script, &faults, &steps)? {
         return Err(RunFault::Place);
     }

@@ -1,39 +1,58 @@
 //! Turns of workers at the engine.
+ghost use Rattle.std.specs.Prelude.{◌≡◌, ◌↔◌, ◌-◌, ◌<◌, ◌≤◌, IsTrue};
 
+use std::marker::Model;
 use std::sync::{Mutex, MutexGuard, Wait};
 
 /// How many calls a worker makes in one turn at most.
-const MOST_CALLS: usize = 256;
+pub(crate) const MOST_CALLS: usize = 256;
 
 /// The turn of one worker, which it has or hasn't. One worker has it at a time, and makes some calls in it before another
 /// gets in: so the engine's lock is found free, and no worker sleeps at each call. It never waits for others' transactions
 /// in its turn.
 ///
 /// A worker's first turn is of one call, and each further one of twice as many, up to the most: the transactions of a short
-/// script meet step by step, and the workers of a long one seldom sleep.
+/// script meet step by step, and the workers of a long one seldom sleep. Contracts see how many calls are left of the turn,
+/// none where the worker hasn't it.
 #[derive(Drop)]
 pub(crate) struct Turn<'a> {
     turns: &'a Mutex<()>,
     own: Option<MutexGuard<'a, ()>>,
-    /// How many calls are left of the turn.
+    /// How many calls are left of the turn, where the worker has it.
     left: usize,
     /// How many calls the next turn is of.
     next: usize,
 }
 
+impl<'a> Model for Turn<'a> {
+    ghost use Rattle.std.specs.Prelude.{ℕ, ◌<◌, ◌≤◌, is_some, if◌then◌else◌};
+
+    ghost Value = { ℕ };
+
+    ghost view = { λ t. if is_some t.own then t.left else 0 };
+
+    ghost invariant = { λ t. (0 < t.left) × ((t.left ≤ 256) × ((0 < t.next) × (t.next ≤ 256))) };
+}
+
 impl<'a> Turn<'a> {
     /// The turn of a worker that hasn't it yet.
-    pub fn new(turns: &'a Mutex<()>) -> Turn<'a> {
+    pub fn new(turns: &'a Mutex<()>) -> Turn<'a>
+        ensures { result ≡ 0 }
+    {
         Turn {
             turns,
             own: None,
-            left: 0,
+            left: 1,
             next: 1,
         }
     }
 
     /// Waits for the turn, where the worker hasn't it.
-    pub fn take<R: Wait>(&mut self, rt: &R) {
+    pub fn take<R: Wait>(&mut self, rt: &R)
+        ensures own { 0 < self.new }
+        ensures most { self.new ≤ MOST_CALLS }
+        ensures kept { 0 < self.old → self.new ≡ self.old }
+    {
         if self.own.is_none() {
             self.own = Some(self.turns.lock(rt));
             self.left = self.next;
@@ -42,12 +61,16 @@ impl<'a> Turn<'a> {
     }
 
     /// Gives the turn up.
-    pub fn give(&mut self) {
+    pub fn give(&mut self)
+        ensures { self.new ≡ 0 }
+    {
         self.own = None;
     }
 
-    /// Counts a call that was made in the turn, and after the last one gives it up.
-    pub fn count(&mut self) {
+    /// Counts a call that is made in the turn, and at the last one gives it up.
+    pub fn count(&mut self)
+        ensures { self.new ≡ self.old - 1 }
+    {
         if self.left <= 1 {
             self.give();
         } else {
@@ -56,7 +79,9 @@ impl<'a> Turn<'a> {
     }
 
     /// Whether the worker has the turn.
-    pub fn is_own(&self) -> bool {
+    pub fn is_own(&self) -> bool
+        ensures { IsTrue result ↔ (0 < self.now) }
+    {
         self.own.is_some()
     }
 }

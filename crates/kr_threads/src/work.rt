@@ -1,40 +1,49 @@
 //! What one worker does.
-ghost use Rattle.std.specs.Prelude.{◌≡◌, ◌<◌, false, Some, IfErr, OnOk};
+ghost use Rattle.std.specs.Prelude.{◌≡◌, ◌<◌, false, Some, None, IfErr, OnErr};
 ghost use Rattle.kr_engine.specs.Faults.{is_blocked as blocked};
-ghost use mathlib.Core.List.{IsPrefix};
 ghost use Rattle.kr_model.specs.Step.{is_end as ends};
 ghost use Rattle.kr_engine.specs.Histories.{events_with_replies};
 ghost use Rattle.kr_engine.specs.Seats.{ToldFault};
-ghost use Rattle.kr_threads.specs.Told.{IsTold};
+ghost use Rattle.kr_threads.specs.Told.{IsCaused};
 
+use crate::calls::call_in_turn;
 use crate::gate::Gate;
+use crate::left_out::{LeftOut, settle};
 use crate::run::RunFault;
-use crate::turn::Turn;
+use crate::turn::{MOST_CALLS, Turn};
 use kr_engine::{EngineFault, EngineName, Receipt, Seat, Share};
 use kr_follows::{Dealt, StepFault, WhyNotDone};
-use kr_model::{Op, Reply, Txn};
+use kr_model::{Op, Txn};
 use kr_protocol::Covered;
+use std::alloc::AllocError;
 use std::marker::Model;
 use std::sync::{Mutex, Wait};
 
-/// A worker: its number, from 0, its seat, how many calls it has made, and the steps that it left out, each told at the
+/// A worker: its number, from 0, its seat, and how many calls it has made; and the steps that it left out, each told at the
 /// end of a prefix of what its seat has seen.
 #[derive(Drop)]
 pub(crate) struct Worker<'a, P: Covered, K: EngineName> {
     pub number: usize,
     pub seat: Seat<'a, P, K>,
     pub calls: u64,
-    pub faults: Vec<StepFault>,
+    /// The place of a step that its transaction did, after which come the recent ones that were left out.
+    pub last: Option<usize>,
+    /// The steps that it left out since then.
+    pub recent: Vec<StepFault>,
+    /// The place of the step that its transaction did next.
+    pub passed: Option<usize>,
+    /// The steps that it left out before.
+    pub left_out: Vec<LeftOut>,
 }
 
 impl<'a, P: Covered, K: EngineName> Model for Worker<'a, P, K> {
-    ghost use Rattle.kr_threads.specs.Told.{Working, AreTold};
+    ghost use Rattle.kr_threads.specs.Told.{Working, IsWorker};
 
     ghost Value = { Working };
 
-    ghost view = { λ w. record { seat = w.seat; faults = w.faults.items } };
+    ghost view = { λ w. record { seat = w.seat; last = w.last; recent = w.recent.items; passed = w.passed; left_out = w.left_out.items } };
 
-    ghost invariant = { λ w. AreTold K.table K.opening w.seat.view w.faults.items };
+    ghost invariant = { λ w. IsWorker K.table K.opening (record { seat = w.seat; last = w.last; recent = w.recent.items; passed = w.passed; left_out = w.left_out.items }) };
 }
 
 /// What a worker hands back: its seat's share, the steps that it left out, each told at the end of a prefix of what
@@ -42,7 +51,7 @@ impl<'a, P: Covered, K: EngineName> Model for Worker<'a, P, K> {
 #[derive(Drop)]
 pub(crate) struct Report<K: EngineName> {
     pub share: Share<K>,
-    pub faults: Vec<StepFault>,
+    pub left_out: Vec<LeftOut>,
     pub failed: Option<RunFault>,
 }
 
@@ -51,9 +60,9 @@ impl<K: EngineName> Model for Report<K> {
 
     ghost Value = { Reported };
 
-    ghost view = { λ r. record { share = r.share; faults = r.faults.items } };
+    ghost view = { λ r. record { share = r.share; left_out = r.left_out.items } };
 
-    ghost invariant = { λ r. AreTold K.table K.opening r.share.view r.faults.items };
+    ghost invariant = { λ r. AreTold K.table K.opening r.share.view r.left_out.items };
 }
 
 /// What became of a step.
@@ -94,11 +103,14 @@ pub(crate) fn work<P: Covered, K: EngineName, G: Gate, R: Wait>(
         number: _,
         seat,
         calls: _,
-        faults,
+        last: _,
+        recent: _,
+        passed: _,
+        left_out,
     } = worker;
     Report {
         share: seat.leave(rt),
-        faults,
+        left_out,
         failed,
     }
 }
@@ -121,13 +133,26 @@ impl<P: Covered, K: EngineName> Worker<'_, P, K> {
             return Err(failure(&fault));
         }
         let (active, done) = self.do_steps(rt, gate, turn, txn, ops);
-        if !active {
-            return done;
-        }
-        let closed = self.call(rt, gate, turn, Op::Abort);
+        let closed = if active {
+            self.abort(rt, gate, turn)
+        } else {
+            Ok(())
+        };
         done?;
-        match closed {
-            Ok(_) => Ok(()),
+        closed?;
+        self.end()
+    }
+
+    /// Aborts the transaction that the seat speaks for.
+    fn abort<G: Gate, R: Wait>(
+        &mut self,
+        rt: &R,
+        gate: &G,
+        turn: &mut Turn<'_>,
+    ) -> Result<(), RunFault> {
+        let settled = self.settle();
+        match self.call(rt, gate, turn, Op::Abort) {
+            Ok(_) => settled,
             Err(fault) => Err(failure(&fault)),
         }
     }
@@ -171,6 +196,7 @@ impl<P: Covered, K: EngineName> Worker<'_, P, K> {
         requires { self.old.seat.speaks ≡ Some txn }
         ensures { self.new.seat.speaks ≡ Some txn }
     {
+        self.settle()?;
         match self.call(rt, gate, turn, op) {
             Ok(_) => Ok(Outcome::Done),
             Err(EngineFault::Deadlock(cycle)) => {
@@ -198,18 +224,42 @@ impl<P: Covered, K: EngineName> Worker<'_, P, K> {
     }
 
     /// Notes a step that is left out.
-    #[tactic(auto, using(crate::proofs::Told::all_told_push))]
-    fn note(&mut self, fault: StepFault) -> Result<(), RunFault>
-        requires { IsTold K.table K.opening (events_with_replies self.old.seat.view) fault }
+    fn note(&mut self, fault: StepFault) -> Result<(), AllocError>
+        requires passed { self.old.passed ≡ None }
+        requires caused { IsCaused K.table K.opening (events_with_replies self.old.seat.view) fault }
         ensures { self.new.seat ≡ self.old.seat }
     {
-        match self.faults.push(fault) {
-            Ok(()) => Ok(()),
-            Err(_) => Err(RunFault::Memory),
-        }
+        self.recent.push(fault)?;
+        Ok(())
     }
 
-    /// One call of the seat between its gates. Where the gates may wait, it isn't in the worker's turn.
+    /// Where the transaction did a step after the recent ones that were left out, these stand before it, and the next ones
+    /// come after it.
+    fn settle(&mut self) -> Result<(), RunFault>
+        ensures seat { self.new.seat ≡ self.old.seat }
+        ensures passed { self.new.passed ≡ None }
+    {
+        if self.passed.is_none() {
+            return Ok(());
+        }
+        let settled = settle(&mut self.recent, &mut self.left_out, self.last, self.passed);
+        self.last = self.passed;
+        self.passed = None;
+        settled?;
+        Ok(())
+    }
+
+    /// The transaction does no further step.
+    fn end(&mut self) -> Result<(), RunFault> {
+        self.settle()?;
+        let settled = settle(&mut self.recent, &mut self.left_out, self.last, None);
+        self.last = None;
+        settled?;
+        Ok(())
+    }
+
+    /// One call of the seat between its gates. Where the gates may wait, it isn't in the worker's turn; else it is the next of
+    /// its turn, which ends after some calls.
     fn call<G: Gate, R: Wait>(
         &mut self,
         rt: &R,
@@ -217,10 +267,13 @@ impl<P: Covered, K: EngineName> Worker<'_, P, K> {
         turn: &mut Turn<'_>,
         op: Op,
     ) -> Result<Receipt, EngineFault>
+        requires { self.old.passed ≡ None }
         ensures speaks { self.new.seat.speaks ≡ self.old.seat.speaks }
-        ensures begins { IsPrefix self.old.seat.view self.new.seat.view }
-        ensures faults { self.new.faults ≡ self.old.faults }
+        ensures passed { OnErr result (self.new.passed ≡ None) }
+        ensures turn { turn.new < MOST_CALLS }
+        ensures lowers { 0 < turn.old → turn.new < turn.old }
         ensures fault { IfErr result (λ f. ToldFault K.table K.opening self.old.seat self.new.seat op f) }
+        ensures free { IfErr result (λ f. blocked f ≡ false) }
     {
         if gate.may_wait() {
             turn.give();
@@ -231,40 +284,11 @@ impl<P: Covered, K: EngineName> Worker<'_, P, K> {
         let result = call_in_turn(rt, &mut self.seat, turn, op);
         gate.after(rt, self.number, self.calls);
         self.calls = self.calls.saturating_add(1);
+        if let Ok(receipt) = &result {
+            self.passed = Some(receipt.place);
+        }
         result
     }
-}
-
-/// A call of a seat. In the worker's turn it is attempted, and where the step is blocked the turn is given up for the wait.
-#[tactic(auto, using(crate::proofs::Told::told_at_once))]
-fn call_in_turn<P: Covered, K: EngineName, R: Wait>(
-    rt: &R,
-    seat: &mut Seat<'_, P, K>,
-    turn: &mut Turn<'_>,
-    op: Op,
-) -> Result<Receipt, EngineFault>
-    ensures speaks { seat.new.speaks ≡ seat.old.speaks }
-    ensures begins { IsPrefix seat.old.view seat.new.view }
-    ensures fault { IfErr result (λ f. ToldFault K.table K.opening seat.old seat.new op f) }
-{
-    if !turn.is_own() {
-        return seat.call(rt, op);
-    }
-    turn.count();
-    let result = seat.try_call(rt, op);
-    if !is_blocked(&result) {
-        return result;
-    }
-    turn.give();
-    seat.call(rt, op)
-}
-
-/// Whether the answer is that the step is blocked.
-fn is_blocked(answer: &Result<Receipt, EngineFault>) -> bool
-    ensures ok { OnOk answer.now (result ≡ false) }
-    ensures err { IfErr answer.now (λ f. result ≡ blocked f) }
-{
-    matches!(answer, Err(EngineFault::Refused(Reply::Blocked(_))))
 }
 
 /// Whether the operation ends its transaction.

@@ -5,6 +5,7 @@ mod gates;
 mod many;
 mod reports;
 mod soak;
+mod turns;
 
 use kr_protocol::{Covered, Kvl, KvlUpdate};
 use kr_script::{Script, Threaded, read_script};

@@ -22,6 +22,13 @@ const LEFT_OUT: &str =
 const LEFT_OUT_REPORT: &str =
     r#"{"faults":[[1,1,["refused",3,"NoScan"]],[1,4,["refused",1,"Ended"]]],"history":[[[1,"delete",10],["deleted",1]],[[1,"commit"],["committed"]],[[2,"fetch",10],["none"]],[[2,"abort"],["aborted"]]],"index":[],"unfinished":[],"verdict":["serial"]}"#;
 
+/// A scan with its gos and its commit; a fetch in the midst of it is refused, and so is a go after its end.
+const SCANNED: &str =
+    r#"{"format":1,"opening":[[10,1],[20,2],[30,3]],"steps":[[1,"scan",10,25],[1,"fetch",10],[1,"go"],[1,"go"],[1,"go"],[1,"commit"]]}"#;
+
+const SCANNED_REPORT: &str =
+    r#"{"faults":[[1,2,["refused",2,"Busy"]],[1,5,["refused",3,"NoScan"]]],"history":[[[1,"scan",10,25],["going",10]],[[1,"go"],["going",20]],[[1,"go"],["rows",[[10,1],[20,2]]]],[[1,"commit"],["committed"]]],"index":[[10,1],[20,2],[30,3]],"unfinished":[],"verdict":["serial"]}"#;
+
 /// Changes that are undone one at a time, and a commit after that; an update that commits; a transaction that has nothing
 /// to undo, and one that nothing ends after its update.
 const BACK: &str =
@@ -47,6 +54,8 @@ const HISTORIES: &[Row] = &[
     Row { name: "one transaction by 64 workers",                     words: &["threads", "@kvl", "s", "--workers", "64"],       script: ONE,                       out: ONE_REPORT,       ..RUN },
     Row { name: "one transaction by as many as are told by no word", words: &["threads", "@kvl", "s"],                          script: ONE,                       out: ONE_REPORT,       ..RUN },
     Row { name: "steps left out",                                    words: &["threads", "@kvl", "s", "--workers", "1"],        script: LEFT_OUT,                  out: LEFT_OUT_REPORT,  ..RUN },
+    Row { name: "a scan, 1 worker",                                  words: &["threads", "@kvl", "s", "--workers", "1"],        script: SCANNED,                   out: SCANNED_REPORT,   ..RUN },
+    Row { name: "a scan, 4 workers",                                 words: &["threads", "@kvl", "s", "--workers", "4"],        script: SCANNED,                   out: SCANNED_REPORT,   ..RUN },
     Row { name: "updates and backs",                                 words: &["threads", "@kvl-update", "s", "--workers", "1"], script: BACK,                      out: BACK_REPORT,      ..RUN },
     Row { name: "no update is offered by kvl, 1 worker",             words: &["threads", "@kvl", "s", "--workers", "1"],        script: NO_UPDATE,                 out: NO_UPDATE_REPORT, ..RUN },
     Row { name: "no update is offered by kvl, 4 workers",            words: &["threads", "@kvl", "s", "--workers", "4"],        script: NO_UPDATE,                 out: NO_UPDATE_REPORT, ..RUN },

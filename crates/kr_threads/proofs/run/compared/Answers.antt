@@ -1,9 +1,15 @@
 use Rattle.std.proofs.Common.{◌≡◌, ◌∙◌, map, ap, subst, List, Vec}
+use Rattle.std.specs.Prelude.{All}
 use Rattle.kr_model.specs.declared.Event.{Event}
 use Rattle.kr_places.specs.declared.name.Entry.{Entry}
-use Rattle.kr_follows.specs.Follows.{Follows}
+use Rattle.kr_engine.specs.Histories.{events_with_replies}
+use Rattle.kr_follows.specs.Follows.{Follows, AreRising}
 use Rattle.kr_follows.specs.declared.faults.StepFault.{StepFault}
+use Rattle.kr_threads.specs.declared.left_out.LeftOut.{LeftOut}
+use Rattle.kr_threads.specs.Placed.{IsBetween, missed_before}
 use Rattle.kr_threads.specs.Threaded.{answered}
+use Rattle.kr_threads.specs.Told.{IsTold}
+use Rattle.kr_threads.proofs.Placings.{all_placed}
 use Rattle.kr_threads.proofs.Wholes.{threaded, ran_of_closed}
 use Rattle.kr_threads.proofs.run.compared.Goals as goal
 
@@ -11,14 +17,24 @@ pub returns : goal.returns
 returns c = λ p steps worked dealt.
     let opening = c.args.opening.now in
     let h = c.args.worked.history in
+    let ls = c.args.worked.left_out.items in
     let es = h.entries.items in
     let made = c.in_ok-steps.ensures in
     let ran = c.in_ok-entries.ensures in
+    let faults = c.in_ok-faults.faults.items in
+    let faults_are : faults ≡ map (λ l. l.fault) ls = c.in_ok-faults.ensures in
     let events : c.in_ok-steps.steps.items ≡ map (λ e. e.event) es = made.steps ∙ ap (map (λ e. e.event)) c.deref.ensures.value in
     let replies : c.in_ok-steps.replies ≡ map (λ e. e.reply) es = made.replies ∙ ap (map (λ e. e.reply)) c.deref.ensures.value in
-    let compared : c.deref-3.result.now ≡ map (λ e. e.event) es = c.deref-3.ensures.value ∙ events in
-    let follows : Follows steps c.deref-2.result.now c.deref-3.result.now = (c.in_ok-follows.ensures steps dealt).0 c.if-not-branch.false in
+    let tested : c.deref-3.result.now ≡ map (λ e. e.event) es = c.deref-3.ensures.value ∙ events in
+    let compared : c.deref-5.result.now ≡ map (λ e. e.event) es = c.deref-5.ensures.value ∙ events in
+    let follows : Follows steps c.deref-4.result.now c.deref-5.result.now = (c.in_ok-follows.ensures steps dealt).0 c.if-not-branch-2.false in
+    let follows : Follows steps faults (map (λ e. e.event) es) =
+    subst (λ (fs : List StepFault). Follows steps fs (map (λ e. e.event) es)) c.deref-4.ensures.value (subst (λ (l : List Event). Follows steps c.deref-4.result.now l) compared follows) in
+    let rising : AreRising (map (λ l. l.fault) ls) = subst AreRising faults_are follows.rising in
+    let placed : All (λ l. IsBetween (map (λ e. e.event) es) (missed_before (map (λ l. l.fault) ls) l.fault.txn l.fault.step) l) ls =
+    subst (λ (events : List Event). All (λ l. IsBetween events (missed_before (map (λ l. l.fault) ls) l.fault.txn l.fault.step) l) ls) tested
+    (subst (λ (ms : List LeftOut). AreRising (map (λ l. l.fault) ms) → All (λ l. IsBetween c.deref-3.result.now (missed_before (map (λ l. l.fault) ms) l.fault.txn l.fault.step) l) ms) c.deref-2.ensures.value (c.in_ok-are_placed.ensures c.if-not-branch.false) rising) in
+    let told : All (IsTold p opening faults (events_with_replies es)) faults = all_placed p opening faults es ls faults_are worked.told placed in
     let history : c.in_ok-history.history.items ≡ map answered es = c.in_ok-history.ensures ∙ ap (λ (v : Vec Entry _). map answered v.items) ran.entries in
-    threaded p opening steps h _ worked history
-    (subst (λ (fs : List StepFault). Follows steps fs (map (λ e. e.event) es)) c.deref-2.ensures.value (subst (λ (l : List Event). Follows steps c.deref-2.result.now l) compared follows))
+    threaded p opening steps h worked.shares _ worked.closed worked.ended told history follows
     (ran_of_closed p opening h worked.shares c.in_ok-entries.ran worked.closed worked.ended ran.opening (ran.replies ∙ replies) ran.index ran.locks ran.programs ran.unfinished)

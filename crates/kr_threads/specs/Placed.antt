@@ -1,0 +1,72 @@
+-- Where in a history a step was left out.
+use Rattle.std.specs.Prelude.{◌≡◌, ◌≢◌, ◌==◌, ◌-◌, ◌&&◌, ◌<◌, ◌≤◌, ◌+◌, ℕ, nat_lt, List, Option, Some, None, length, take, slice_index_or, unwrap_or}
+use Rattle.std.specs.List.{count_by}
+use Rattle.std.specs.BTreeMap.{BTreeMap, get}
+use Rattle.std.specs.Ordering.{nat_cmp}
+use Rattle.kr_model.specs.declared.Event.{Event}
+use Rattle.kr_model.specs.Run as model
+use Rattle.kr_follows.specs.declared.faults.StepFault.{StepFault}
+use Rattle.kr_follows.specs.Dealt.{txn_at}
+use Rattle.kr_threads.specs.declared.left_out.LeftOut.{LeftOut}
+
+-- How many of the events are of this transaction.
+abbrev pub done_by : ℕ → List Event → ℕ
+done_by t es = count_by (λ e. e.txn == t) es
+
+-- How many of the faults are of steps of this transaction that come before this one.
+abbrev pub missed_before : List StepFault → ℕ → ℕ → ℕ
+missed_before faults t n = count_by (λ f. (f.txn == t) && nat_lt f.step n) faults
+
+-- Places --
+
+-- The entries reach past this place, if there is one.
+abbrev pub IsPast : List model.Entry → Option ℕ → Type 0
+IsPast es None = Unit {0}
+IsPast es (Some k) = k < length es
+
+-- The entries end at this place at the latest, if there is one.
+abbrev pub IsUpTo : List model.Entry → Option ℕ → Type 0
+IsUpTo es None = Unit {0}
+IsUpTo es (Some k) = length es ≤ k
+
+-- Tests --
+
+-- From the first of these places on up to the other, all numbers of the list are the same, and the one before them is another.
+pub record IsStart (txns : List ℕ) (i first : ℕ) : Type 0 where
+  pub within : first ≤ i
+  pub same : (k : ℕ) → first ≤ k → k ≤ i → slice_index_or txns k 0 ≡ slice_index_or txns i 0
+  pub other : 0 < first → slice_index_or txns (first - 1) 0 ≢ slice_index_or txns i 0
+
+-- Each event's number is how many of the events up to it are of its transaction.
+pub record AreNumbers (numbers : List ℕ) (es : List Event) : Type 0 where
+  pub each : (k : ℕ) → k < length numbers → slice_index_or numbers k 0 ≡ done_by (txn_at es k) (take (k + 1) es)
+
+-- How many events a map has of a transaction.
+abbrev pub count_in : BTreeMap ℕ ℕ → ℕ → ℕ
+count_in counts t = unwrap_or (get nat_cmp counts t) 0
+
+-- The map has how many of the events are of each transaction.
+abbrev pub AreCounts : BTreeMap ℕ ℕ → List Event → Type 0
+AreCounts counts es = (t : ℕ) → count_in counts t ≡ done_by t es
+
+-- The event at this place is the transaction's, and of this number among its own, from 1.
+pub record IsNumber (es : List Event) (k t number : ℕ) : Type 0 where
+  pub with : done_by t (take (k + 1) es) ≡ number
+  pub without : done_by t (take k es) + 1 ≡ number
+
+-- Up to this place just so many events are of the transaction; none where there is no place.
+abbrev pub AreDoneUpTo : List Event → Option ℕ → ℕ → ℕ → Type 0
+AreDoneUpTo es None t number = number ≡ 0
+AreDoneUpTo es (Some k) t number = done_by t (take (k + 1) es) ≡ number
+
+-- Before this place just so many events are of the transaction; of all events where there is no place.
+abbrev pub AreDoneBefore : List Event → Option ℕ → ℕ → ℕ → Type 0
+AreDoneBefore es None t number = done_by t es ≡ number
+AreDoneBefore es (Some k) t number = done_by t (take k es) ≡ number
+
+-- Between the places of a step that was left out, its transaction had done all earlier steps but so many.
+pub record IsBetween (es : List Event) (earlier : ℕ) (l : LeftOut) : Type 0 where
+  pub number : ℕ
+  pub is : number + earlier + 1 ≡ l.fault.step
+  pub up_to : AreDoneUpTo es l.last l.fault.txn number
+  pub before : AreDoneBefore es l.next l.fault.txn number
