@@ -1,19 +1,33 @@
 -- What helps is whole lines.
-use Rattle.std.proofs.Common.{◌≡◌, ◌⊎◌, ◌∷◌, ◌++◌, ℕ, List, [], refl, sym, ap, ◌∙◌, inl, inr, append-nil, append_assoc}
-use Rattle.std.specs.Prelude.{Result, Ok, Err, is_ok, if◌then◌else◌}
+use Rattle.std.proofs.Common.{◌≡◌, ◌⊎◌, ◌∷◌, ◌++◌, ℕ, List, [], refl, sym, ap, ◌∙◌, inl, inr, append-nil, append_assoc, Global}
+use Rattle.std.specs.Prelude.{String, Result, Ok, Err, IfOk, OnErr, is_ok, if◌then◌else◌, string_bytes}
 use Rattle.std.proofs.lemmas.List.Concat.{flat_map-append}
 use Rattle.kr_diagnosis.specs.Lines.{line, lines}
 use Rattle.kr_diagnosis.specs.Help.{IsHelp, IsOfFile, IsOfPlace, AreThreeHelps, of_file}
-use Rattle.kr_diagnosis.specs.Finding.{AddsHelp, AddsHelps, AreLines, AddsLines}
+use Rattle.kr_diagnosis.specs.Finding.{MayBePut, AddsHelp, AddsHelps, AreLines, AddsLines}
 
 -- a text that was put behind another, or wasn't
-pub put_behind : {A E : Type 0} (r : Result A E) (old new text : List ℕ) (Q : List ℕ → Type 0) → Q [] → Q text → new ≡ (if is_ok r then old ++ text else old) → (t : List ℕ) × (Q t × (new ≡ old ++ t))
-put_behind (Ok x) old new text Q none some put = (text, (some, put))
-put_behind (Err e) old new text Q none some put = ([], (none, put ∙ sym (append-nil old)))
+pub put : {A E : Type 0} (r : Result A E) (old new text : List ℕ) → new ≡ (if is_ok r then old ++ text else old) → MayBePut old new text
+put (Ok x) old new text is = inl is
+put (Err e) old new text is = inr is
 
--- what helps, put behind what was there
-pub put_help : (word bytes old new : List ℕ) → (t : List ℕ) × (IsHelp word bytes t × (new ≡ old ++ t)) → AddsHelp word old new
-put_help word bytes old new (text, (help, is)) = (bytes, (text, (help, is)))
+put_help : (word bytes old new text : List ℕ) → IsHelp word bytes text → MayBePut old new text → AddsHelp word old new
+put_help word bytes old new text help (inl is) = (bytes, (text, (help, is)))
+put_help word bytes old new text help (inr is) = (bytes, ([], (inl refl, is ∙ sym (append-nil old))))
+
+-- what helps was put behind what was there, if it was made
+pub adds_help : {E : Type 0} (word bytes old new : List ℕ) (more : Result (String Global) E) → IfOk more (λ t. IsHelp word bytes (string_bytes t)) → IfOk more (λ t. MayBePut old new (string_bytes t)) → OnErr more (new ≡ old) → AddsHelp word old new
+adds_help word bytes old new (Ok t) help is same = put_help word bytes old new (string_bytes t) help is
+adds_help word bytes old new (Err e) help is same = (bytes, ([], (inl refl, same ∙ sym (append-nil old))))
+
+put_three : (word bytes old new text : List ℕ) → AreThreeHelps word bytes text → MayBePut old new text → AddsHelps word old new
+put_three word bytes old new text three (inl is) = (bytes, (text, (inr three, is)))
+put_three word bytes old new text three (inr is) = (bytes, ([], (inl (inl refl), is ∙ sym (append-nil old))))
+
+-- warnings were put behind what was there, if they were made
+pub adds_warnings : {E : Type 0} (word bytes old new : List ℕ) (more : Result (String Global) E) → IfOk more (λ t. AreThreeHelps word bytes (string_bytes t)) → IfOk more (λ t. MayBePut old new (string_bytes t)) → OnErr more (new ≡ old) → AddsHelps word old new
+adds_warnings word bytes old new (Ok t) three is same = put_three word bytes old new (string_bytes t) three is
+adds_warnings word bytes old new (Err e) three is same = (bytes, ([], (inl (inl refl), same ∙ sym (append-nil old))))
 
 -- lines behind lines are lines
 both : (a b : List ℕ) → AreLines a → AreLines b → AreLines (a ++ b)

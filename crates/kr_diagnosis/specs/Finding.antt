@@ -3,6 +3,10 @@ use Rattle.std.specs.Prelude.{◌≡◌, ◌⊎◌, ◌++◌, ℕ, List}
 use Rattle.kr_diagnosis.specs.Help.{IsHelp, AreThreeHelps}
 use Rattle.kr_diagnosis.specs.Lines.{lines}
 
+-- A text was put behind what was there, or it stayed as it was.
+abbrev pub MayBePut : (old new text : List ℕ) → Type 0
+MayBePut old new text = (new ≡ old ++ text) ⊎ (new ≡ old)
+
 -- What helps at a fault of bytes that are had for the word was put behind what was there, or nothing was.
 abbrev pub AddsHelp : List ℕ → List ℕ → List ℕ → Type 0
 AddsHelp word old new = (bytes text : List ℕ) × (IsHelp word bytes text × (new ≡ old ++ text))

@@ -1,10 +1,12 @@
 //! Tables and scripts that words name, and what helps where they name none.
-ghost use Rattle.std.specs.Prelude.{◌≡◌, ◌++◌, ℕ, List, [], false, IfOk, IfErr, IsOk, IsTrue, OnOk, string_bytes};
+ghost use Rattle.std.specs.Prelude.{◌≡◌, false, IfOk, IfErr, IsOk, IsTrue, OnErr, OnOk, string_bytes};
+ghost use Rattle.kr_shell.specs.declared.endings.Ending.TheVariants as ending;
+ghost use Rattle.kr_shell.specs.declared.files.FileFault.TheVariants as file_fault;
 ghost use Rattle.kr_shell.specs.Endings.{MemoryOrTold, is_output};
 ghost use Rattle.kr_shell.specs.Lines.{unreadable_line};
 ghost use Rattle.kr_shell.specs.Named.{NamesScript, NamesTable, TellsNoScript, TellsNoTable};
 ghost use Rattle.kr_shell.specs.Words.{is_bundled};
-ghost use Rattle.kr_diagnosis.specs.Finding.{AddsHelp, AddsHelps, AddsLines};
+ghost use Rattle.kr_diagnosis.specs.Finding.{MayBePut, AddsHelp, AddsHelps, AddsLines};
 
 use crate::bundled::bundled_help;
 use crate::repeated::repeated_help;
@@ -18,10 +20,10 @@ use kr_shell::{
 };
 use std::alloc::{AllocError, Global};
 
-/// Puts a text behind what helps, where memory allows: what holds of the text and of none holds of what was put there.
+/// Puts a text behind what helps, where memory allows.
 fn add(help: &mut String, more: Result<String, AllocError>)
-    ensures { (Q : List ℕ → Type 0) → Q [] → IfOk more (λ text. Q (string_bytes text))
-        → (text : List ℕ) × (Q text × (string_bytes help.new ≡ string_bytes help.old ++ text)) }
+    ensures ok { IfOk more (λ text. MayBePut (string_bytes help.old) (string_bytes help.new) (string_bytes text)) }
+    ensures err { OnErr more (string_bytes help.new ≡ string_bytes help.old) }
 {
     if let Ok(text) = more {
         let _ = help.push_str(text.as_str());
@@ -85,6 +87,7 @@ fn table_in_file<R: std::rt::Files + AllocGlobal, F: Files>(
 /// How a program ends at a word whose file can't be read. What helps is put behind `help`.
 fn no_file(alloc: Global, word: &str, fault: FileFault, help: &mut String) -> Ending
     ensures line { MemoryOrTold result (λ line. line ≡ unreadable_line word.now) }
+    ensures memory { fault ≡ file_fault.Memory → result ≡ ending.Memory }
     ensures other { is_output result ≡ false }
     ensures help { AddsHelp word.now (string_bytes help.old) (string_bytes help.new) }
 {

@@ -39,9 +39,10 @@ use std::thread::Threads;
 /// The program's name.
 pub const NAME: &str = "kr";
 
-/// A script's fault is told with the word that names the script, so none comes here.
+/// Output and a place that was refused are told as that, and all else as want of memory. A script's fault is told with the
+/// word that names the script, so none comes here.
 impl From<OverFault> for Ending {
-    ghost from_gives = { λ f e. ((e ≡ ending.Output) ↔ (f ≡ fault.Print)) × Unreported (λ _. ⊥) e };
+    ghost from_gives = { λ f e. ((e ≡ ending.Output) ↔ (f ≡ fault.Print)) × (((e ≡ ending.Place) ↔ (f ≡ fault.Place)) × Unreported (λ _. ⊥) e) };
 
     fn from(fault: OverFault) -> Ending {
         match fault {

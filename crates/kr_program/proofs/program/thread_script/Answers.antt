@@ -23,4 +23,4 @@ returns-in-Err-Script-clause-err g c =
     script_ends (g.F.Files.may_give c.args.files.now) c.args.script.now c.in_ok-bytes.bytes.items c.as_slice.result.now c.in-Err-Script.fault c.at_fault.result c.as_slice.ensures.value c.in_ok-bytes.ensures.bytes (rw c.in-Err-Script.field-0-is at c.in-Err-Script.ensures.err) c.at_fault.ensures.line
 
 pub returns-clause-err : goal.returns-clause-err
-returns-clause-err g c = untold_ends (TellsNoScript (g.F.Files.may_give c.args.files.now) c.args.script.now) c.from.result c.from.ensures.1
+returns-clause-err g c = untold_ends (TellsNoScript (g.F.Files.may_give c.args.files.now) c.args.script.now) c.from.result c.from.ensures.1.1
