@@ -12,22 +12,22 @@ put (Ok x) old new text is = inl is
 put (Err e) old new text is = inr is
 
 put_help : (word bytes old new text : List ℕ) → IsHelp word bytes text → MayBePut old new text → AddsHelp word old new
-put_help word bytes old new text help (inl is) = (bytes, (text, (help, is)))
-put_help word bytes old new text help (inr is) = (bytes, ([], (inl refl, is ∙ sym (append-nil old))))
+put_help word bytes old new text help (inl is) = (bytes, text, (help, is))
+put_help word bytes old new text help (inr is) = (bytes, [], (inl refl, is ∙ sym (append-nil old)))
 
 -- what helps was put behind what was there, if it was made
 pub adds_help : {E : Type 0} (word bytes old new : List ℕ) (more : Result (String Global) E) → IfOk more (λ t. IsHelp word bytes (string_bytes t)) → IfOk more (λ t. MayBePut old new (string_bytes t)) → OnErr more (new ≡ old) → AddsHelp word old new
 adds_help word bytes old new (Ok t) help is same = put_help word bytes old new (string_bytes t) help is
-adds_help word bytes old new (Err e) help is same = (bytes, ([], (inl refl, same ∙ sym (append-nil old))))
+adds_help word bytes old new (Err e) help is same = (bytes, [], (inl refl, same ∙ sym (append-nil old)))
 
 put_three : (word bytes old new text : List ℕ) → AreThreeHelps word bytes text → MayBePut old new text → AddsHelps word old new
-put_three word bytes old new text three (inl is) = (bytes, (text, (inr three, is)))
-put_three word bytes old new text three (inr is) = (bytes, ([], (inl (inl refl), is ∙ sym (append-nil old))))
+put_three word bytes old new text three (inl is) = (bytes, text, (inr three, is))
+put_three word bytes old new text three (inr is) = (bytes, [], (inl (inl refl), is ∙ sym (append-nil old)))
 
 -- warnings were put behind what was there, if they were made
 pub adds_warnings : {E : Type 0} (word bytes old new : List ℕ) (more : Result (String Global) E) → IfOk more (λ t. AreThreeHelps word bytes (string_bytes t)) → IfOk more (λ t. MayBePut old new (string_bytes t)) → OnErr more (new ≡ old) → AddsHelps word old new
 adds_warnings word bytes old new (Ok t) three is same = put_three word bytes old new (string_bytes t) three is
-adds_warnings word bytes old new (Err e) three is same = (bytes, ([], (inl (inl refl), same ∙ sym (append-nil old))))
+adds_warnings word bytes old new (Err e) three is same = (bytes, [], (inl (inl refl), same ∙ sym (append-nil old)))
 
 -- lines behind lines are lines
 both : (a b : List ℕ) → AreLines a → AreLines b → AreLines (a ++ b)
@@ -44,19 +44,19 @@ three_lines word bytes text (a, (is_a, (b, (is_b, (c, (is_c, is)))))) =
     (all.0, is ∙ all.1)
 
 pub adds_lines : (word old new : List ℕ) → AddsHelp word old new → AddsLines old new
-adds_lines word old new (bytes, (text, (help, is))) = (text, (help_lines word bytes text help, is))
+adds_lines word old new (bytes, text, (help, is)) = (text, (help_lines word bytes text help, is))
 
 pub helps_lines : (word old new : List ℕ) → AddsHelps word old new → AddsLines old new
-helps_lines word old new (bytes, (text, (inl help, is))) = (text, (help_lines word bytes text help, is))
-helps_lines word old new (bytes, (text, (inr three, is))) = (text, (three_lines word bytes text three, is))
+helps_lines word old new (bytes, text, (inl help, is)) = (text, (help_lines word bytes text help, is))
+helps_lines word old new (bytes, text, (inr three, is)) = (text, (three_lines word bytes text three, is))
 
 -- where nothing was put behind
 pub no_help : (word old new : List ℕ) → new ≡ old → AddsHelp word old new
-no_help word old new same = ([], ([], (inl refl, same ∙ sym (append-nil old))))
+no_help word old new same = ([], [], (inl refl, same ∙ sym (append-nil old)))
 
 -- helps that are also one of the others
 pub one_help : (word old new : List ℕ) → AddsHelp word old new → AddsHelps word old new
-one_help word old new (bytes, (text, (help, is))) = (bytes, (text, (inl help, is)))
+one_help word old new (bytes, text, (help, is)) = (bytes, text, (inl help, is))
 
 -- lines that were put behind lines
 pub more_lines : (a b c : List ℕ) → AddsLines a b → AddsLines b c → AddsLines a c

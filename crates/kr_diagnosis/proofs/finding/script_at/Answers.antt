@@ -14,16 +14,16 @@ pub returns-in-Err-clause-lines : goal.returns-in-Err-clause-lines
 returns-in-Err-clause-lines g c = adds_lines _ _ _ c.no_file.ensures.help
 
 pub returns-in-Ok-read_script-clause-help : goal.returns-in-Ok-read_script-clause-help
-returns-in-Ok-read_script-clause-help g c = adds_warnings c.args.word.now _ (string_bytes c.args.help.now) (string_bytes c.add-in-Ok-read_script.new.help) c.repeated_help.result c.repeated_help.ensures c.add-in-Ok-read_script.ensures.ok c.add-in-Ok-read_script.ensures.err
+returns-in-Ok-read_script-clause-help g c = adds_warnings c.args.word.now _ (string_bytes c.args.help.now) (string_bytes c.add.new.help) c.repeated_help.result c.repeated_help.ensures c.add.ensures.ok c.add.ensures.err
 
 pub returns-in-Ok-read_script-clause-lines : goal.returns-in-Ok-read_script-clause-lines
-returns-in-Ok-read_script-clause-lines g c = helps_lines c.args.word.now _ _ (adds_warnings c.args.word.now _ (string_bytes c.args.help.now) (string_bytes c.add-in-Ok-read_script.new.help) c.repeated_help.result c.repeated_help.ensures c.add-in-Ok-read_script.ensures.ok c.add-in-Ok-read_script.ensures.err)
+returns-in-Ok-read_script-clause-lines g c = helps_lines c.args.word.now _ _ (adds_warnings c.args.word.now _ (string_bytes c.args.help.now) (string_bytes c.add.new.help) c.repeated_help.result c.repeated_help.ensures c.add.ensures.ok c.add.ensures.err)
 
 pub returns-clause-fault : goal.returns-clause-fault
 returns-clause-fault g c = no_script (g.F.Files.may_give c.args.files.now) c.args.word.now _ _ c.at_fault.result c.in-Ok.ensures.bytes (rw (← c.as_slice.ensures.value) c.in-Err-read_script.ensures.reads) c.at_fault.ensures.memory c.at_fault.ensures.line
 
 pub returns-clause-help : goal.returns-clause-help
-returns-clause-help g c = one_help _ _ _ (adds_help c.args.word.now _ (string_bytes c.args.help.now) (string_bytes c.add.new.help) c.script_help.result c.script_help.ensures c.add.ensures.ok c.add.ensures.err)
+returns-clause-help g c = one_help _ _ _ (adds_help c.args.word.now _ (string_bytes c.args.help.now) (string_bytes c.add-in-Err-read_script.new.help) c.script_help.result c.script_help.ensures c.add-in-Err-read_script.ensures.ok c.add-in-Err-read_script.ensures.err)
 
 pub returns-clause-lines : goal.returns-clause-lines
-returns-clause-lines g c = adds_lines c.args.word.now _ _ (adds_help c.args.word.now _ (string_bytes c.args.help.now) (string_bytes c.add.new.help) c.script_help.result c.script_help.ensures c.add.ensures.ok c.add.ensures.err)
+returns-clause-lines g c = adds_lines c.args.word.now _ _ (adds_help c.args.word.now _ (string_bytes c.args.help.now) (string_bytes c.add-in-Err-read_script.new.help) c.script_help.result c.script_help.ensures c.add-in-Err-read_script.ensures.ok c.add-in-Err-read_script.ensures.err)
