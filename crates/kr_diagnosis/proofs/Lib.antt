@@ -1,3 +1,4 @@
+pub mod Finished
 pub mod Heads
 pub mod Helped
 pub mod Unread

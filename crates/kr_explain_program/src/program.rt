@@ -16,9 +16,9 @@ ghost use Rattle.kr_explain_program.specs.Words.{AskNothingOfTables};
 use crate::explaining::{write_explanation, write_script};
 use crate::manual::{MANUAL, NAME, USAGE, WORDS};
 use crate::words::{Wanted, read_words};
+use kr_diagnosis::table_at;
 use kr_protocol::Protocol;
 use kr_script::Sink;
-use kr_diagnosis::table_at;
 use kr_shell::{Ending, Files, VERSION, question_in};
 use std::alloc::Global;
 
@@ -64,7 +64,7 @@ fn explained<R: std::rt::Files + AllocGlobal, F: Files, W: Sink>(
     ensures err { IfErr result (λ e. IsNoQuestion (map string_bytes words.now)
         → Ends (F.may_give files.now) (map string_bytes words.now) e) }
     ensures unknown { AskNothingOfTables (map string_bytes words.now)
-        → (result ≡ Err ending.NotUnderstood) × (out.new ≡ out.old) }
+        → (result ≡ Err ending.NotUnderstood) × ((out.new ≡ out.old) × (help.new ≡ help.old)) }
     ensures nothing { IfErr result (λ e. IsTrue (is_output e) ⊎ (out.new ≡ out.old)) }
     ensures cause { IfErr result (λ e. IsTrue (is_output e) → HasCause (W.failures out.old) (W.failures out.new)) }
     ensures unhelped { OnOk result (help.new ≡ help.old) }
@@ -91,7 +91,8 @@ fn answered<R: std::rt::Files + AllocGlobal, F: Files, W: Sink>(
     ensures answers { IsNoQuestion (map string_bytes words.now)
         → IfOk result (Answers (F.may_give files.now) (map string_bytes words.now) (W.taken out.old) (W.taken out.new)) }
     ensures err { IfErr result (Ends (F.may_give files.now) (map string_bytes words.now)) }
-    ensures unknown { AskNothing (map string_bytes words.now) → (result ≡ Err ending.NotUnderstood) × (out.new ≡ out.old) }
+    ensures unknown { AskNothing (map string_bytes words.now)
+        → (result ≡ Err ending.NotUnderstood) × ((out.new ≡ out.old) × (help.new ≡ help.old)) }
     ensures nothing { IfErr result (λ e. IsTrue (is_output e) ⊎ (out.new ≡ out.old)) }
     ensures cause { IfErr result (λ e. IsTrue (is_output e) → HasCause (W.failures out.old) (W.failures out.new)) }
     ensures unhelped { OnOk result (help.new ≡ help.old) }

@@ -17,10 +17,10 @@ ghost use Rattle.kr_view_program.specs.Program.{AskNothing, AskNoPage, IsSerialS
 
 use crate::manual::{MANUAL, NAME, USAGE, WORDS};
 use crate::words::read_words;
+use kr_diagnosis::{script_at, table_at};
 use kr_picture::picture;
 use kr_protocol::Protocol;
 use kr_script::{Script, Sink, put_all};
-use kr_diagnosis::{script_at, table_at};
 use kr_shell::{Ending, Files, VERSION, question_in};
 use std::alloc::Global;
 
@@ -66,7 +66,8 @@ fn view<R: std::rt::Files + AllocGlobal, F: Files, W: Sink>(
     ensures shows { IfOk result (ShowsAsked (F.may_give files.now) (map string_bytes words.now) (W.taken out.old) (W.taken out.new)) }
     ensures err { IfErr result (λ e. IsNoQuestion (map string_bytes words.now)
         → Explains (F.may_give files.now) (map string_bytes words.now) e) }
-    ensures unknown { AskNoPage (map string_bytes words.now) → (result ≡ Err ending.NotUnderstood) × (out.new ≡ out.old) }
+    ensures unknown { AskNoPage (map string_bytes words.now)
+        → (result ≡ Err ending.NotUnderstood) × ((out.new ≡ out.old) × (help.new ≡ help.old)) }
     ensures cause { IfErr result (λ e. IsTrue (is_output e) → HasCause (W.failures out.old) (W.failures out.new)) }
     ensures nothing { IfErr result (λ e. IsTrue (is_output e) ⊎ (out.new ≡ out.old)) }
     ensures help { AddsLines (string_bytes help.old) (string_bytes help.new) }
@@ -93,7 +94,8 @@ fn answered<R: std::rt::Files + AllocGlobal, F: Files, W: Sink>(
     ensures shows { IsNoQuestion (map string_bytes words.now)
         → IfOk result (ShowsAsked (F.may_give files.now) (map string_bytes words.now) (W.taken out.old) (W.taken out.new)) }
     ensures err { IfErr result (Explains (F.may_give files.now) (map string_bytes words.now)) }
-    ensures unknown { AskNothing (map string_bytes words.now) → (result ≡ Err ending.NotUnderstood) × (out.new ≡ out.old) }
+    ensures unknown { AskNothing (map string_bytes words.now)
+        → (result ≡ Err ending.NotUnderstood) × ((out.new ≡ out.old) × (help.new ≡ help.old)) }
     ensures cause { IfErr result (λ e. IsTrue (is_output e) → HasCause (W.failures out.old) (W.failures out.new)) }
     ensures nothing { IfErr result (λ e. IsTrue (is_output e) ⊎ (out.new ≡ out.old)) }
     ensures help { AddsLines (string_bytes help.old) (string_bytes help.new) }

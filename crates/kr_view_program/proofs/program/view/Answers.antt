@@ -1,5 +1,6 @@
 use Rattle.std.specs.Prelude.{map, string_bytes}
 use Rattle.std.proofs.Common.{rules}
+use Rattle.kr_diagnosis.proofs.Helped.{more_lines}
 use Rattle.kr_view_program.proofs.Shown.{shown, page_fault, no_form, no_table, no_script}
 use Rattle.kr_view_program.proofs.program.view.Goals as goal
 
@@ -29,3 +30,9 @@ returns-clause-err g c =
 
 pub returns-clause-unknown : goal.returns-clause-unknown
 returns-clause-unknown g c unknown = absurd (unknown c.in_ok-asked.asked.table.now c.in_ok-asked.asked.script.now c.in_ok-asked.ensures.words)
+
+pub returns-in_err-script-clause-help : goal.returns-in_err-script-clause-help
+returns-in_err-script-clause-help g c = more_lines (string_bytes c.args.help.now) (string_bytes c.table_at.new.help) (string_bytes c.script_at.new.help) c.table_at.ensures.lines c.script_at.ensures.lines
+
+pub returns-clause-help : goal.returns-clause-help
+returns-clause-help g c = more_lines (string_bytes c.args.help.now) (string_bytes c.table_at.new.help) (string_bytes c.script_at.new.help) c.table_at.ensures.lines c.script_at.ensures.lines
