@@ -1,3 +1,4 @@
+mod diagnosis;
 mod explain_program;
 mod explanation;
 mod picture;
