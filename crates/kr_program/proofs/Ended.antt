@@ -1,5 +1,6 @@
 -- Why the program ends without a report.
-use Rattle.std.proofs.Common.{◌≡◌, ◌⊎◌, ℕ, zero, suc, Bool, List, [], ◌∷◌, ◌++◌, Option, Some, None, Result, Ok, Err, IfErr, length, map, get_or, string_bytes, subst, sym, inl, inr, arith}
+use Rattle.std.proofs.Common.{◌≡◌, ◌⊎◌, ◌<◌, ℕ, zero, suc, Bool, List, [], ◌∷◌, ◌++◌, Option, Some, None, Result, Ok, Err, IfErr, length, map, get_or, string_bytes, subst, sym, ap, inl, inr, arith, length-append}
+use Rattle.std.proofs.lemmas.List.{length-map}
 use Rattle.kr_script.specs.declared.faults.ScriptFault.{ScriptFault}
 use Rattle.kr_script.specs.Faults.{Fault, fault_of}
 use Rattle.kr_script.specs.Reading.{reading}
@@ -74,6 +75,11 @@ first_faulty may_give bytes_of words place other f (Told line) (x, (is_x, (befor
     let P : List ℕ → Type 0 = λ w. string_bytes line ≡ told_line w (script_fault_text f) in
     let same : bytes_of (get_or words place other) ≡ word = word_at bytes_of words before rest word place other split long in
     (place, (before, word, rest, ss, split, long, are, inr (bytes, (had, (f, ((x, (is_x, reads)), subst P same told))))))
+
+-- that name is one of the words
+pub faulty_within : {N : Type 0} (may_give : List ℕ → Option (List ℕ) → Type 0) (bytes_of : N → List ℕ) (words : List N) (place : ℕ) (f : ScriptFault) → (x : Fault) × ((fault_of f ≡ Some x) × IsFirst (MayBeScript may_give) (map bytes_of words) place (HasFault (MayBeScript may_give) x)) → place < length words
+faulty_within may_give bytes_of words place f (x, (is_x, (before, word, rest, ss, split, long, are, has))) =
+    omega (arith, ap length split, length-append before (word ∷ rest), length-map words bytes_of, long)
 
 -- Of the program --
 
