@@ -1,6 +1,6 @@
 -- Why the program ends without what is wanted.
 use Rattle.std.specs.Prelude.{◌≡◌, ◌++◌, ℕ, List, Bool, Option, Some, None, Result, Ok, Err, IfErr, String, codes, option_map, string_bytes, refl}
-use Rattle.std.proofs.Common.{Global, subst, inr}
+use Rattle.std.proofs.Common.{Global, subst, inl, inr}
 use Rattle.std.specs.Fmt.{decimal}
 use Rattle.kr_model.specs.Protocol.{Protocol}
 use Rattle.kr_shell.specs.declared.endings.Ending.{Ending}
@@ -8,7 +8,7 @@ use Rattle.kr_shell.specs.declared.endings.Ending.TheVariants.{NotUnderstood, Me
 use Rattle.kr_shell.specs.declared.tables.AnyTable.{AnyTable}
 use Rattle.kr_shell.specs.Endings.{MemoryOrTold}
 use Rattle.kr_shell.specs.Lines.{told_line}
-use Rattle.kr_shell.specs.Named.{NamesTable}
+use Rattle.kr_shell.specs.Named.{NamesTable, TellsNoTable}
 use Rattle.kr_shell.specs.Questions.{IsNoQuestion}
 use Rattle.kr_shell.specs.Tables.{table_of}
 use Rattle.kr_explanation.specs.Explained.{IsExplained, run_at}
@@ -53,3 +53,11 @@ ends_at may_give words table w t (Told line) are asked names ends = (table, (w, 
 pub report_ends : (may_give : List ℕ → Option (List ℕ) → Type 0) (words : List (List ℕ)) (r : Result Bool Ending) (table : List ℕ) (w : Wanted) (t : AnyTable) → words ≡ words_of table w → IsAsked table w → NamesTable may_give table t → IfErr r (EndsReport (table_of t) table w) → IfErr r (λ e. IsNoQuestion words → Ends may_give words e)
 report_ends may_give words (Ok accepted) table w t are asked names ends = tt
 report_ends may_give words (Err e) table w t are asked names ends = λ own. ends_at may_give words table w t e are asked names ends
+
+-- the word of a table that names none
+pub no_table : (may_give : List ℕ → Option (List ℕ) → Type 0) (words : List (List ℕ)) (table : List ℕ) (w : Wanted) (e : Ending) → words ≡ words_of table w → IsAsked table w → MemoryOrTold e (TellsNoTable may_give table) → Ends may_give words e
+no_table may_give words table w NotUnderstood are asked told = absurd told
+no_table may_give words table w Memory are asked told = tt
+no_table may_give words table w Place are asked told = absurd told
+no_table may_give words table w Output are asked told = absurd told
+no_table may_give words table w (Told line) are asked told = (table, (w, (are, (asked, inl told))))

@@ -1,5 +1,6 @@
 use Rattle.std.specs.Prelude.{map, string_bytes}
-use Rattle.kr_explain_program.proofs.Ended.{report_ends}
+use Rattle.std.proofs.Common.{rules}
+use Rattle.kr_explain_program.proofs.Ended.{report_ends, no_table}
 use Rattle.kr_explain_program.proofs.program.explained.Goals as goal
 
 pub returns-clause-err : goal.returns-clause-err
@@ -8,3 +9,8 @@ returns-clause-err g c =
 
 pub returns-clause-unknown : goal.returns-clause-unknown
 returns-clause-unknown g c unknown = absurd (unknown c.in_ok-asked.asked.table.now c.in_ok-asked.asked.wanted c.in_ok-asked.ensures.asked c.in_ok-asked.ensures.words)
+
+pub returns-in_err-table-clause-err : goal.returns-in_err-table-clause-err
+returns-in_err-table-clause-err g c =
+    let explained = no_table (g.F.Files.may_give c.args.files.now) (map string_bytes c.args.words.now) c.in_ok-asked.asked.table.now c.in_ok-asked.asked.wanted _ c.in_ok-asked.ensures.words c.in_ok-asked.ensures.asked c.in_err-table.ensures.fault in
+    search rules
