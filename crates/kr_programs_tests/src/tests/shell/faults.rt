@@ -31,7 +31,7 @@ const EMPTY: Shelf = Shelf(&[("file", "")]);
 fn nothing_is_had(rt: HostRuntime) -> Result<(), Fail> {
     let alloc = rt.alloc();
     for (word, told) in WORDS {
-        let bytes = whole(&rt, *word, &EMPTY).err().ok_or("bytes")?;
+        let bytes = whole(&rt, *word, &EMPTY, 1).err().ok_or("bytes")?;
         tells(&rt, alloc, bytes, *told)?;
         let table = table_at(&rt, *word, &EMPTY).err().ok_or("a table")?;
         tells(&rt, alloc, table, *told)?;
