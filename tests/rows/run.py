@@ -7,7 +7,7 @@ A row is what one call of a program prints for some files. Each of its lines is 
     file    NAME = TEXT: a file in the folder where the program runs, with the escapes of JSON strings; \\xHH is a byte
     edit    NAME of FILE: OLD => NEW: a file as FILE of the repository is, with OLD, which stands there once, changed to NEW;
             more edits of the same NAME follow one another
-    long    NAME COUNT TEXT: a file of TEXT, COUNT times
+    long    NAME COUNT TEXT: TEXT, COUNT times, at the end of a file, or as one
     call    the program, kr, kr_explain or kr_view, and its words; WORDS < NAME reads standard input from a file
     status  the status that is expected
     out     a line that is expected on standard output, or `out: ..` for any text
@@ -70,7 +70,7 @@ def put(folder, word, text):
         if content.count(unescaped(old)) != 1:
             sys.exit(f"{text}: the old text stands there {content.count(unescaped(old))} times")
         content = content.replace(unescaped(old), unescaped(new))
-    with open(os.path.join(folder, name), "wb") as file:
+    with open(os.path.join(folder, name), "ab" if word == "long" else "wb") as file:
         file.write(content)
 
 
