@@ -8,10 +8,10 @@ use crate::source::{MEMBERS, Source};
 use serde_json::Value;
 use std::alloc::{AllocError, Global};
 
-pub fn too_long(alloc: Global, bytes: &[u8]) -> Result<Help, AllocError> {
-    let count = bytes.len();
-    let what = format!(in alloc; "a script has at most 16777216 bytes, and this has {count}")?;
-    Ok(Help::new(alloc, None, what))
+/// What is said of a script that is too long.
+pub fn too_long(alloc: Global) -> Result<Help, AllocError> {
+    let what = "a script has at most 16777216 bytes, and this has more";
+    Help::of(alloc, None, what)
 }
 
 pub fn format_fault(alloc: Global, source: &Source) -> Result<Help, AllocError> {

@@ -44,7 +44,7 @@ fn of_source(alloc: Global, text: &[u8], fault: &ScriptFault) -> Result<Option<H
 fn help_of(alloc: Global, bytes: &[u8], fault: &ScriptFault) -> Result<Option<Help>, AllocError> {
     match fault {
         ScriptFault::Memory => Ok(None),
-        ScriptFault::TooLong => Ok(Some(too_long(alloc, bytes)?)),
+        ScriptFault::TooLong => Ok(Some(too_long(alloc)?)),
         ScriptFault::NotJson => not_json(alloc, bytes),
         _ => of_source(alloc, bytes, fault),
     }

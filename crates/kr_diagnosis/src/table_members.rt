@@ -11,10 +11,12 @@ use toml::Value;
 const MEMBERS: [&str; 5] = ["format", "modes", "compatible", "convert", "rules"];
 
 /// What is said of a table that is too long.
-pub fn too_long(alloc: Global, bytes: &[u8]) -> Result<Help, AllocError> {
-    let count = bytes.len();
-    let what = format!(in alloc; "a table has at most 65536 bytes, and this has {count}")?;
-    Ok(Help::new(alloc, None, what))
+pub fn too_long(alloc: Global) -> Result<Help, AllocError> {
+    Help::of(
+        alloc,
+        None,
+        "a table has at most 65536 bytes, and this has more",
+    )
 }
 
 pub fn format_fault(alloc: Global, document: &Document) -> Result<Help, AllocError> {

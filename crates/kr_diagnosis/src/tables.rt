@@ -52,7 +52,7 @@ fn of_document(
 fn help_of(alloc: Global, bytes: &[u8], fault: &TableFault) -> Result<Option<Help>, AllocError> {
     match fault {
         TableFault::Memory => Ok(None),
-        TableFault::TooLong => Ok(Some(too_long(alloc, bytes)?)),
+        TableFault::TooLong => Ok(Some(too_long(alloc)?)),
         TableFault::NotToml => not_toml(alloc, bytes),
         _ => of_document(alloc, bytes, fault),
     }
