@@ -1,5 +1,5 @@
 -- What is told at words that aren't understood, where nothing helps.
-use Rattle.std.specs.Prelude.{◌≡◌, ◌≤◌, ◌≢◌, ◌↔◌, ◌++◌, ℕ, List, [], Bool, true, false, Option, Result, Ok, Err, IfErr, String, string_bytes, refl}
+use Rattle.std.specs.Prelude.{◌≡◌, ◌≤◌, ◌≢◌, ◌↔◌, ◌++◌, ℕ, List, [], Bool, true, false, Option, Result, Ok, Err, IfErr, String, string_bytes}
 use Rattle.std.proofs.Common.{Global, subst, ap, ◌∙◌, arith, append-nil}
 use Rattle.kr_shell.specs.declared.endings.Ending.{Ending}
 use Rattle.kr_shell.specs.declared.endings.Ending.TheVariants.{NotUnderstood}

@@ -1,16 +1,12 @@
 -- What helps is whole lines.
-use Rattle.std.proofs.Common.{◌≡◌, ◌⊎◌, ◌∷◌, ◌++◌, ℕ, List, [], refl, sym, ap, ◌∙◌, inl, inr, append-nil, append_assoc, Global}
-use Rattle.std.specs.Prelude.{String, Result, Ok, Err, IfOk, OnErr, is_ok, if◌then◌else◌, string_bytes}
+use Rattle.std.proofs.Common.{◌≡◌, ◌∷◌, ◌++◌, ℕ, List, [], refl, sym, ap, ◌∙◌, inl, inr, append-nil, append_assoc, Global}
+use Rattle.std.specs.Prelude.{String, Result, Ok, Err, IfOk, OnErr, string_bytes}
 use Rattle.std.proofs.lemmas.List.Concat.{flat_map-append}
 use Rattle.kr_diagnosis.specs.Lines.{line, lines}
-use Rattle.kr_diagnosis.specs.Help.{IsHelp, IsOfFile, IsOfPlace, AreThreeHelps, of_file}
+use Rattle.kr_diagnosis.specs.Help.{IsHelp, AreThreeHelps, of_file}
 use Rattle.kr_diagnosis.specs.Finding.{MayBePut, AddsHelp, AddsHelps, AreLines, AddsLines}
 
--- a text that was put behind another, or wasn't
-pub put : {A E : Type 0} (r : Result A E) (old new text : List ℕ) → new ≡ (if is_ok r then old ++ text else old) → MayBePut old new text
-put (Ok x) old new text is = inl is
-put (Err e) old new text is = inr is
-
+-- what helps, put behind what was there or not
 put_help : (word bytes old new text : List ℕ) → IsHelp word bytes text → MayBePut old new text → AddsHelp word old new
 put_help word bytes old new text help (inl is) = (bytes, text, (help, is))
 put_help word bytes old new text help (inr is) = (bytes, [], (inl refl, is ∙ sym (append-nil old)))
