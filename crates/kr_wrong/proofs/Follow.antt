@@ -21,7 +21,7 @@ use Rattle.kr_model.specs.Difference.{Difference, first_difference}
 use Rattle.kr_model.specs.WellFormed.{IsState}
 use Rattle.kr_model.proofs.SerialLaws.{none_if_serial}
 use Rattle.kr_model.proofs.WellFormedLaws.{start_is_state, step_keeps_state}
-use Rattle.kr_wrong.specs.Wrong.{GoesWrongUnder}
+use Rattle.kr_wrong.specs.Wrong.{GoesWrong}
 use Rattle.kr_wrong.proofs.Recorded.{Tells, marked, tells_attempt, tells_release}
 use Rattle.kr_wrong.proofs.Unblocked.{Meeting, Passes, met_by, passes_first, passes_rest, unblocked}
 
@@ -170,17 +170,13 @@ not_serial m ps differs serial = none_some (sym (ap is_some (none_if_serial m ps
     none_some e = cc
 
 -- A schedule goes wrong under each protocol of which no request conflicts with a lock that it meets, if it does where nothing is requested.
-pub goes_wrong : (p : Protocol) → IsLawful p → (opening : Map) (es : List Event) → IsMap opening → Passes p (meetings p p.updates (start opening) [] es)
-    → list_all is_granted (replies_of (bare_history p.updates (start opening) es)) ≡ true → is_some (first_difference opening (programs (bare_history p.updates (start opening) es))) ≡ true → GoesWrongUnder p
-goes_wrong p laws opening es is_map pass granted differs =
-    let same = follow p laws (start opening) [] [] es (start_is_state p opening is_map) (λ u n. refl) pass in (
-      opening,
-      (
-        es,
-        record {
-          is_map = is_map;
-          granted = AllPass-from_list_all is_granted _ (subst (λ l. list_all is_granted (replies_of l) ≡ true) (sym same) granted);
-          not_serial = not_serial opening (programs (run p (start opening) es).history) (subst (λ l. is_some (first_difference opening (programs l)) ≡ true) (sym same) differs);
-        },
-      ),
-    )
+pub goes_wrong : (p : Protocol) → IsLawful p → (u : Bool) → p.updates ≡ u → (opening : Map) (es : List Event) → IsMap opening → Passes p (meetings p u (start opening) [] es)
+    → list_all is_granted (replies_of (bare_history u (start opening) es)) ≡ true → is_some (first_difference opening (programs (bare_history u (start opening) es))) ≡ true → GoesWrong p opening es
+goes_wrong p laws u updating opening es is_map pass granted differs =
+    let same : (run p (start opening) es).history ≡ bare_history u (start opening) es
+             = follow p laws (start opening) [] [] es (start_is_state p opening is_map) (λ v n. refl) (subst (λ v. Passes p (meetings p v (start opening) [] es)) (sym updating) pass) ∙ ap (λ v. bare_history v (start opening) es) updating in
+    record {
+      is_map = is_map;
+      granted = AllPass-from_list_all is_granted _ (subst (λ l. list_all is_granted (replies_of l) ≡ true) (sym same) granted);
+      not_serial = not_serial opening (programs (run p (start opening) es).history) (subst (λ l. is_some (first_difference opening (programs l)) ≡ true) (sym same) differs);
+    }
