@@ -1,12 +1,15 @@
 -- Each fixed schedule goes wrong under every lawful protocol whose locks let it.
-use Rattle.std.specs.Prelude.{◌≡◌, ◌≤◌, ℕ, zero, suc, Bool, true, refl}
-use Rattle.std.specs.List.{list_all}
+use Rattle.std.specs.Prelude.{◌≤◌, ℕ, true, refl}
 use Rattle.std.proofs.Common.{arith}
 use Rattle.kr_model.specs.Protocol.{Protocol, IsLawful}
 use Rattle.kr_wrong.specs.Wrong.{GoesWrong}
 use Rattle.kr_wrong.specs.Fixed.{FixedHole, fetch_lets_delete, fetch_lets_update, scan_lets_delete, scan_lets_update, miss_lets_delete, stop_lets_delete, update_lets_fetch, update_lets_scan, update_lets_delete, update_lets_update, insert_lets_fetch, insert_lets_scan, insert_lets_delete, insert_lets_update, insert_lets_miss, insert_lets_stop, insert_lets_delete_below, delete_lets_miss, delete_lets_scan, delete_lets_stop, delete_lets_delete, delete_lets_delete_below, miss_lets_insert, scan_lets_insert, stop_lets_insert, delete_lets_insert}
 use Rattle.kr_wrong.specs.Schedules.{schedule, opening}
 use Rattle.kr_wrong.proofs.Follow.{goes_wrong}
+use Rattle.kr_wrong.proofs.Chains.{miss_chain, scan_chain, stop_chain, delete_chain}
+
+few : (p : Protocol) → IsLawful p → (n : ℕ) → n ≤ p.count → n ≤ 15
+few p laws n le = let most = laws.few in omega arith
 
 pub fixed_goes_wrong : (p : Protocol) → IsLawful p → (h : FixedHole p) → GoesWrong p (opening h) (schedule h)
 fixed_goes_wrong p laws (fetch_lets_delete l) = goes_wrong p laws p.updates refl _ _ refl (l, tt) refl refl
@@ -31,7 +34,7 @@ fixed_goes_wrong p laws (delete_lets_scan l) = goes_wrong p laws p.updates refl 
 fixed_goes_wrong p laws (delete_lets_stop l) = goes_wrong p laws p.updates refl _ _ refl (l, tt) refl refl
 fixed_goes_wrong p laws (delete_lets_delete l) = goes_wrong p laws p.updates refl _ _ refl (l, tt) refl refl
 fixed_goes_wrong p laws (delete_lets_delete_below l) = goes_wrong p laws p.updates refl _ _ refl (l, tt) refl refl
-fixed_goes_wrong p laws (miss_lets_insert n le l) = ?
-fixed_goes_wrong p laws (scan_lets_insert n le l) = ?
-fixed_goes_wrong p laws (stop_lets_insert n le l) = ?
-fixed_goes_wrong p laws (delete_lets_insert n le l) = ?
+fixed_goes_wrong p laws (miss_lets_insert n le l) = miss_chain p laws n (few p laws n le) l
+fixed_goes_wrong p laws (scan_lets_insert n le l) = scan_chain p laws n (few p laws n le) l
+fixed_goes_wrong p laws (stop_lets_insert n le l) = stop_chain p laws n (few p laws n le) l
+fixed_goes_wrong p laws (delete_lets_insert n le l) = delete_chain p laws n (few p laws n le) l

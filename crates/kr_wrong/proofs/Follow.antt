@@ -17,7 +17,7 @@ use Rattle.kr_model.specs.State.{Scan, State, start, standing}
 use Rattle.kr_model.specs.Step.{Effect, Outcome, refusal_of, name_to_look, granted_or_blocked, attempted, attempted_scan, one_taken_back, performed, unless_refused, step}
 use Rattle.kr_model.specs.Run.{Entry, Program, run, replies_of, programs, is_granted}
 use Rattle.kr_model.specs.Serial.{AreSerial}
-use Rattle.kr_model.specs.Difference.{Difference, first_difference}
+use Rattle.kr_model.specs.Difference.{first_difference}
 use Rattle.kr_model.specs.WellFormed.{IsState}
 use Rattle.kr_model.proofs.SerialLaws.{none_if_serial}
 use Rattle.kr_model.proofs.WellFormedLaws.{start_is_state, step_keeps_state}
@@ -174,7 +174,7 @@ pub goes_wrong : (p : Protocol) → IsLawful p → (u : Bool) → p.updates ≡ 
     → list_all is_granted (replies_of (bare_history u (start opening) es)) ≡ true → is_some (first_difference opening (programs (bare_history u (start opening) es))) ≡ true → GoesWrong p opening es
 goes_wrong p laws u updating opening es is_map pass granted differs =
     let same : (run p (start opening) es).history ≡ bare_history u (start opening) es
-             = follow p laws (start opening) [] [] es (start_is_state p opening is_map) (λ v n. refl) (subst (λ v. Passes p (meetings p v (start opening) [] es)) (sym updating) pass) ∙ ap (λ v. bare_history v (start opening) es) updating in
+    = follow p laws (start opening) [] [] es (start_is_state p opening is_map) (λ v n. refl) (subst (λ v. Passes p (meetings p v (start opening) [] es)) (sym updating) pass) ∙ ap (λ v. bare_history v (start opening) es) updating in
     record {
       is_map = is_map;
       granted = AllPass-from_list_all is_granted _ (subst (λ l. list_all is_granted (replies_of l) ≡ true) (sym same) granted);
