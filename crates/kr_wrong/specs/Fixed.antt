@@ -1,4 +1,4 @@
--- Fixed schedules, each with the one thing that it needs of a table to go wrong: a transaction T takes its locks, and lets in a request of U, which has none. Of a request that looks at the next name too, nobody else has a lock there.
+-- What each fixed schedule needs of a table to go wrong: the lock of a transaction lets in a request of another, which has none.
 use Rattle.std.specs.Prelude.{◌≡◌, ℕ, zero, suc, ◌≤◌, true, false}
 use Rattle.kr_model.specs.declared.Row.{Row}
 use Rattle.kr_model.specs.declared.Row.TheVariants.{FetchHit, FetchMiss, ScanKey, ScanStop, Insert, Delete, Update}
@@ -20,22 +20,22 @@ lowest p m (suc n) = mode_after p 0 (p.ask Insert Current (lowest p m n))
 abbrev pub LetsIn : Protocol → ℕ → Row → Side → Type 0
 LetsIn p m r s = conflicts_with p m 0 (p.ask r s 0) ≡ false
 
--- Some fixed schedule goes wrong. T reads or changes something, and its lock lets in what U does then; `Schedules` has the schedule of each.
+-- A hole that some fixed schedule shows: a transaction has a lock from its first request on a name, and that lock lets in what another transaction does then.
 pub data FixedHole (p : Protocol) : Type 0 where
-  -- T has read a key
+  -- it has read a key
   fetch_lets_delete : LetsIn p (first p FetchHit Current) Delete Current → FixedHole p
   fetch_lets_update : p.updates ≡ true → LetsIn p (first p FetchHit Current) Update Current → FixedHole p
   scan_lets_delete : LetsIn p (first p ScanKey Current) Delete Current → FixedHole p
   scan_lets_update : p.updates ≡ true → LetsIn p (first p ScanKey Current) Update Current → FixedHole p
-  -- T has read the gap below a key
+  -- it has read the gap below a key
   miss_lets_delete : LetsIn p (first p FetchMiss Next) Delete Current → FixedHole p
   stop_lets_delete : LetsIn p (first p ScanStop Next) Delete Current → FixedHole p
-  -- T has updated a key
+  -- it has updated a key
   update_lets_fetch : p.updates ≡ true → LetsIn p (first p Update Current) FetchHit Current → FixedHole p
   update_lets_scan : p.updates ≡ true → LetsIn p (first p Update Current) ScanKey Current → FixedHole p
   update_lets_delete : p.updates ≡ true → LetsIn p (first p Update Current) Delete Current → FixedHole p
   update_lets_update : p.updates ≡ true → LetsIn p (first p Update Current) Update Current → FixedHole p
-  -- T has inserted a key; a delete of it looks at the next name too, where an insert may have kept a lock
+  -- it has inserted a key; a delete of that key requests a lock on the next name too, where the insert may have kept one
   insert_lets_fetch : LetsIn p (first p Insert Current) FetchHit Current → FixedHole p
   insert_lets_scan : LetsIn p (first p Insert Current) ScanKey Current → FixedHole p
   insert_lets_delete : LetsIn p (first p Insert Current) Delete Current → LetsIn p (first p Insert Next) Delete Next → FixedHole p
@@ -43,13 +43,13 @@ pub data FixedHole (p : Protocol) : Type 0 where
   insert_lets_miss : LetsIn p (first p Insert Current) FetchMiss Next → FixedHole p
   insert_lets_stop : LetsIn p (first p Insert Current) ScanStop Next → FixedHole p
   insert_lets_delete_below : LetsIn p (first p Insert Current) Delete Next → FixedHole p
-  -- T has deleted a key in the gap below another
+  -- it has deleted a key in the gap below another
   delete_lets_miss : LetsIn p (first p Delete Next) FetchMiss Next → FixedHole p
   delete_lets_scan : LetsIn p (first p Delete Next) ScanKey Current → FixedHole p
   delete_lets_stop : LetsIn p (first p Delete Next) ScanStop Next → FixedHole p
   delete_lets_delete : LetsIn p (first p Delete Next) Delete Current → FixedHole p
   delete_lets_delete_below : LetsIn p (first p Delete Next) Delete Next → FixedHole p
-  -- T has read the gap below a key or deleted a key in it, and then inserted n keys into it, each below the one before, and no more than there are modes
+  -- it has read the gap below a key or deleted a key in it, and then inserted n keys into it, each below the one before, and no more than there are modes
   miss_lets_insert : (n : ℕ) → n ≤ p.count → LetsIn p (lowest p (first p FetchMiss Next) n) Insert Next → FixedHole p
   scan_lets_insert : (n : ℕ) → n ≤ p.count → LetsIn p (lowest p (first p ScanKey Current) n) Insert Next → FixedHole p
   stop_lets_insert : (n : ℕ) → n ≤ p.count → LetsIn p (lowest p (first p ScanStop Next) n) Insert Next → FixedHole p
