@@ -1,0 +1,4 @@
+pub mod Order
+pub mod Held
+pub mod Repeats
+pub mod Holes

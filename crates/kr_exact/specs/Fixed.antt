@@ -1,4 +1,4 @@
--- Fixed schedules, each with the one thing that it needs of a table to go wrong: a transaction T takes its locks, and lets in a request of U, which has none. Of a request that looks at the next name too, nobody else has a lock there.
+-- Fixed schedules that tell whether an ordered protocol is safe. In each of them a transaction T takes its locks, and then U, which has none, is granted what T's lock has to keep out; so the run isn't serializable in commit order. One thing is asked of the protocol: that T's lock lets this request in. All others are on names where no other transaction has a lock.
 use Rattle.std.specs.Prelude.{◌≡◌, ℕ, zero, suc, ◌≤◌, true, false}
 use Rattle.kr_model.specs.declared.Row.{Row}
 use Rattle.kr_model.specs.declared.Row.TheVariants.{FetchHit, FetchMiss, ScanKey, ScanStop, Insert, Delete, Update}
@@ -20,7 +20,7 @@ lowest p m (suc n) = mode_after p 0 (p.ask Insert Current (lowest p m n))
 abbrev pub LetsIn : Protocol → ℕ → Row → Side → Type 0
 LetsIn p m r s = conflicts_with p m 0 (p.ask r s 0) ≡ false
 
--- Some fixed schedule goes wrong. In the opening are the keys 2, 3, 5 and 9, unless the schedule inserts 5; V is a third transaction.
+-- Some fixed schedule goes wrong: one of thirty, if at most one key is inserted in the last four, or one of the longer of these. In the opening are the keys 2, 3, 5 and 9, but for 5 where T inserts it; V is a third transaction.
 pub data FixedHole (p : Protocol) : Type 0 where
   -- T reads 5 --
   -- T fetch 5; U delete 5; U commit; T commit
