@@ -2,3 +2,4 @@ pub mod Order
 pub mod Held
 pub mod Repeats
 pub mod Holes
+pub mod Tested
