@@ -1,9 +1,13 @@
 -- Under an ordered protocol a lock gets no weaker by a request, and is at least the lock of one who had nothing and requested less.
 use Rattle.std.proofs.Common.{◌≡◌, ℕ, Bool, ◌≤◌, refl, sym, ◌∙◌, ap, subst, true, false}
 use Rattle.std.specs.Prelude.{not, Option, Some, None}
+use Rattle.kr_model.specs.declared.Row.{Row}
+use Rattle.kr_model.specs.declared.Row.TheVariants.{FetchHit, FetchMiss, ScanKey, ScanStop, Insert, Delete, Update}
+use Rattle.kr_model.specs.declared.Side.{Side}
+use Rattle.kr_model.specs.declared.Side.TheVariants.{Next}
 use Rattle.kr_model.specs.declared.Span.{Span}
 use Rattle.kr_model.specs.declared.Span.TheVariants.{Instant, Commit}
-use Rattle.kr_model.specs.Protocol.{Protocol, IsLawful, IsMode}
+use Rattle.kr_model.specs.Protocol.{Protocol, IsLawful, IsMode, MovesNoKey}
 use Rattle.kr_model.specs.Covers.{mode_after, conflicts_with}
 use Rattle.kr_model.proofs.Keep.{kept_mode}
 use Rattle.kr_exact.specs.Ordered.{IsAtLeast, AsksAtLeast, IsOrdered}
@@ -61,3 +65,33 @@ less_let_in p laws ordered o h m (Some (q, of_q)) (Some (c, of_c)) io ih im in_a
     not_false : (b : Bool) → not b ≡ false → b ≡ true
     not_false true e = refl
     not_false false e = absurd (cc)
+
+-- What is requested rises with the own mode on the next name.
+abbrev pub Rises : Protocol → Row → Side → Type 0
+Rises p row side = (m n : ℕ) → m ≤ p.count → n ≤ p.count → IsAtLeast p n m → AsksAtLeast p (p.ask row side n) (p.ask row side m)
+
+asks_itself : (p : Protocol) (a : Option (ℕ × Span)) → AsksAtLeast p a a
+asks_itself p None = tt
+asks_itself p (Some (m, of_m)) = (at_least_itself p m, λ e. e)
+
+-- Only of inserts and deletes has it to be shown: by a law the other rows request the same at each own mode.
+pub ordered_by_moves : (p : Protocol) → IsLawful p
+    → ((h q : ℕ) → h ≤ p.count → q ≤ p.count → IsAtLeast p (p.convert h q) h × IsAtLeast p (p.convert h q) q)
+    → ((own q : ℕ) (span : Span) → own ≤ p.count → p.ask Insert Next own ≡ Some (q, span) → span ≡ Instant)
+    → ((side : Side) → Rises p Insert side) → ((side : Side) → Rises p Delete side) → IsOrdered p
+ordered_by_moves p laws up instant inserts deletes = record { convert = up; ask = at_row; insert_next = instant }
+  where
+    unmoved : (row : Row) (side : Side) → MovesNoKey row → Rises p row side
+    unmoved row side still m n mm nn least =
+        let of_m = laws.ask-no_move row side m still mm in
+        let of_n = laws.ask-no_move row side n still nn in
+        rw (of_m, of_n) (asks_itself p (p.ask row side 0))
+
+    at_row : (row : Row) (side : Side) → Rises p row side
+    at_row Insert side = inserts side
+    at_row Delete side = deletes side
+    at_row FetchHit side = unmoved FetchHit side tt
+    at_row FetchMiss side = unmoved FetchMiss side tt
+    at_row ScanKey side = unmoved ScanKey side tt
+    at_row ScanStop side = unmoved ScanStop side tt
+    at_row Update side = unmoved Update side tt

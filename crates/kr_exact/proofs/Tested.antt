@@ -3,16 +3,16 @@ use Rattle.std.proofs.Common.{◌≡◌, ℕ, zero, suc, ◌+◌, ◌≤◌, ◌
 use Rattle.std.specs.Prelude.{not, ◌||◌, ◌&&◌, Option, Some, None}
 use Rattle.std.specs.List.{list_all}
 use Rattle.kr_model.specs.declared.Row.{Row}
-use Rattle.kr_model.specs.declared.Row.TheVariants.{FetchHit, FetchMiss, ScanKey, ScanStop, Insert, Delete, Update}
+use Rattle.kr_model.specs.declared.Row.TheVariants.{Insert, Delete}
 use Rattle.kr_model.specs.declared.Side.{Side}
 use Rattle.kr_model.specs.declared.Side.TheVariants.{Current, Next}
 use Rattle.kr_model.specs.declared.Span.{Span}
 use Rattle.kr_model.specs.declared.Span.TheVariants.{Instant, Commit}
 use Rattle.kr_model.specs.Covers.{count_up, modes_or_none}
-use Rattle.kr_model.specs.Protocol.{Protocol, IsLawful, MovesNoKey}
+use Rattle.kr_model.specs.Protocol.{Protocol, IsLawful}
 use Rattle.kr_model.proofs.Tested.{and_first, and_second, each_mode_or_none}
 use Rattle.kr_exact.specs.Ordered.{IsAtLeast, AsksAtLeast, IsOrdered}
-use Rattle.kr_exact.proofs.Order.{at_least_itself}
+use Rattle.kr_exact.proofs.Order.{Rises, ordered_by_moves}
 
 -- Whether the second of two tests holds where the first does.
 abbrev entails : Bool → Bool → Bool
@@ -74,10 +74,6 @@ asks_of_test p a None e = tt
 asks_of_test p None (Some (m, of_m)) e = absurd (cc)
 asks_of_test p (Some (n, of_n)) (Some (m, of_m)) e = (at_least_of_test p n m (and_first (at_least p n m) (kept_where of_n of_m) e), kept_of_test of_n of_m (and_second (at_least p n m) (kept_where of_n of_m) e))
 
-asks_itself : (p : Protocol) (a : Option (ℕ × Span)) → AsksAtLeast p a a
-asks_itself p None = tt
-asks_itself p (Some (m, of_m)) = (at_least_itself p m, λ e. e)
-
 -- Whether what is requested rises with the own mode.
 abbrev rises : Protocol → Row → Side → Bool
 rises p r s = list_all (λ m. list_all (λ n. entails (at_least p n m) (asks_at_least p (p.ask r s n) (p.ask r s m))) (modes_or_none p)) (modes_or_none p)
@@ -120,40 +116,19 @@ is_ordered p = all_go_up p && (keeps_none_next p && (row_rises p Insert && row_r
 
 -- A lawful protocol that passes is ordered.
 pub ordered_by_test : (p : Protocol) → IsLawful p → is_ordered p ≡ true → IsOrdered p
-ordered_by_test p laws e = record {
-  convert = λ h q hh qq.
-      let of_h = each_mode_or_none p (λ x. list_all (λ y. goes_up p x y) (modes_or_none p)) (and_first _ _ e) h hh in
-      let of_q = each_mode_or_none p (λ y. goes_up p h y) of_h q qq in
-      (at_least_of_test p (p.convert h q) h (and_first _ _ of_q), at_least_of_test p (p.convert h q) q (and_second _ _ of_q));
-  ask = at_row;
-  insert_next = λ own q span le. instant_of_test (p.ask Insert Next own) q span (each_mode_or_none p (λ o. keeps_nothing (p.ask Insert Next o)) (and_first _ _ (and_second _ _ e)) own le);
-}
+ordered_by_test p laws e = ordered_by_moves p laws up (λ own q span le. instant_of_test (p.ask Insert Next own) q span (each_mode_or_none p (λ o. keeps_nothing (p.ask Insert Next o)) (and_first _ _ (and_second _ _ e)) own le))
+    (at_row Insert (and_first (row_rises p Insert) (row_rises p Delete) moving))
+    (at_row Delete (and_second (row_rises p Insert) (row_rises p Delete) moving))
   where
+    up : (h q : ℕ) → h ≤ p.count → q ≤ p.count → IsAtLeast p (p.convert h q) h × IsAtLeast p (p.convert h q) q
+    up h q hh qq =
+        let of_h = each_mode_or_none p (λ x. list_all (λ y. goes_up p x y) (modes_or_none p)) (and_first (all_go_up p) (keeps_none_next p && (row_rises p Insert && row_rises p Delete)) e) h hh in
+        let of_q = each_mode_or_none p (λ y. goes_up p h y) of_h q qq in
+        (at_least_of_test p (p.convert h q) h (and_first (at_least p (p.convert h q) h) (at_least p (p.convert h q) q) of_q), at_least_of_test p (p.convert h q) q (and_second (at_least p (p.convert h q) h) (at_least p (p.convert h q) q) of_q))
+
     moving : (row_rises p Insert && row_rises p Delete) ≡ true
     moving = and_second (keeps_none_next p) (row_rises p Insert && row_rises p Delete) (and_second (all_go_up p) (keeps_none_next p && (row_rises p Insert && row_rises p Delete)) e)
 
-    inserts : row_rises p Insert ≡ true
-    inserts = and_first (row_rises p Insert) (row_rises p Delete) moving
-
-    deletes : row_rises p Delete ≡ true
-    deletes = and_second (row_rises p Insert) (row_rises p Delete) moving
-
-    Rises : Row → Side → Type 0
-    Rises row side = (m n : ℕ) → m ≤ p.count → n ≤ p.count → IsAtLeast p n m → AsksAtLeast p (p.ask row side n) (p.ask row side m)
-
-    unmoved : (row : Row) (side : Side) → MovesNoKey row → Rises row side
-    unmoved row side still m n mm nn least =
-        let of_m = laws.ask-no_move row side m still mm in
-        let of_n = laws.ask-no_move row side n still nn in
-        rw (of_m, of_n) (asks_itself p (p.ask row side 0))
-
-    at_row : (row : Row) (side : Side) → Rises row side
-    at_row Insert Current = rises_of_test p Insert Current (and_first (rises p Insert Current) (rises p Insert Next) inserts)
-    at_row Insert Next = rises_of_test p Insert Next (and_second (rises p Insert Current) (rises p Insert Next) inserts)
-    at_row Delete Current = rises_of_test p Delete Current (and_first (rises p Delete Current) (rises p Delete Next) deletes)
-    at_row Delete Next = rises_of_test p Delete Next (and_second (rises p Delete Current) (rises p Delete Next) deletes)
-    at_row FetchHit side = unmoved FetchHit side tt
-    at_row FetchMiss side = unmoved FetchMiss side tt
-    at_row ScanKey side = unmoved ScanKey side tt
-    at_row ScanStop side = unmoved ScanStop side tt
-    at_row Update side = unmoved Update side tt
+    at_row : (row : Row) → row_rises p row ≡ true → (side : Side) → Rises p row side
+    at_row row is Current = rises_of_test p row Current (and_first (rises p row Current) (rises p row Next) is)
+    at_row row is Next = rises_of_test p row Next (and_second (rises p row Current) (rises p row Next) is)
