@@ -67,7 +67,7 @@ any_append f (x ∷ xs) ys h i = split (f x) (list_any f xs) h (λ g. any_append
     split false c e rest = rest e
 
 -- what is asked for conflicts with no lock that isn't there
-beside_none : (p : Protocol) → IsLawful p → (n : Name) (o : ℕ) → o ≤ p.count → (a : Option (ℕ × Span)) → AskModes p (request_at (Some n) a) → conflicts_with p 0 o a ≡ false
+pub beside_none : (p : Protocol) → IsLawful p → (n : Name) (o : ℕ) → o ≤ p.count → (a : Option (ℕ × Span)) → AskModes p (request_at (Some n) a) → conflicts_with p 0 o a ≡ false
 beside_none p laws n o within None modes = refl
 beside_none p laws n o within (Some (q, s)) modes =
     let i : IsMode p q = modes.0 in

@@ -1,0 +1,5 @@
+pub mod Order
+pub mod Held
+pub mod Repeats
+pub mod Holes
+pub mod Tested
