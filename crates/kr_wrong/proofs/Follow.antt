@@ -29,20 +29,24 @@ use Rattle.kr_wrong.proofs.Unblocked.{Meeting, Passes, met_by, passes_first, pas
 abbrev pub asks_nothing : Bool → Protocol
 asks_nothing u = record { count = 0; ok = λ q h. true; convert = λ h q. h; ask = λ r s o. None; updates = u }
 
+-- The state with these locks.
 abbrev pub with_locks : State → Locks → State
 with_locks b h = record { map = b.map; locks = h; ended = b.ended; active = b.active }
 
 -- What an operation does with locks --
 
+-- It attempts something, ends its transaction, or leaves the locks as they are; that doesn't depend on the protocol.
 pub data Deed : Type 0 where
   attempts : Access → Deed
   ends : Deed
   leaves : Deed
 
+-- A scan's step.
 abbrev pub scan_deed : Map → Option Scan → Deed
 scan_deed m None = leaves
 scan_deed m (Some c) = attempts (access_of m (attempt.Look (name_to_look m c) c.hi))
 
+-- What an operation does that isn't refused.
 abbrev pub deed_of : State → ℕ → Op → Deed
 deed_of b t (op.Fetch k) = attempts (access_of b.map (attempt.Fetch k))
 deed_of b t (op.Scan lo hi) = scan_deed b.map (Some (record { lo = lo; hi = hi; rows = [] }))
@@ -54,13 +58,16 @@ deed_of b t op.Commit = ends
 deed_of b t op.Abort = ends
 deed_of b t op.Back = leaves
 
+-- A refusal leaves the locks as they are.
 abbrev pub deed_if : State → ℕ → Op → Option Refusal → Deed
 deed_if b t o (Some r) = leaves
 deed_if b t o None = deed_of b t o
 
+-- What an operation does.
 abbrev pub deed_at : Bool → State → ℕ → Op → Deed
 deed_at u b t o = deed_if b t o (refusal_of (asks_nothing u) b t o)
 
+-- The locks after it.
 abbrev pub locks_after : Protocol → Locks → ℕ → Deed → Locks
 locks_after p h t (attempts a) = kept p h t (requests (plan_by p h t a))
 locks_after p h t ends = release h t
@@ -78,16 +85,19 @@ met_in p xs t (attempts a) = met_by p xs t a
 met_in p xs t ends = []
 met_in p xs t leaves = []
 
+-- Nobody blocks it.
 abbrev pub Granted : Protocol → Locks → ℕ → Deed → Type 0
 Granted p h t (attempts a) = blockers p h t (requests (plan_by p h t a)) ≡ []
 Granted p h t ends = Unit {0}
 Granted p h t leaves = Unit {0}
 
+-- The record still tells each mode after it.
 tells_deed : (p : Protocol) (xs h : Locks) (t : ℕ) (d : Deed) → Tells xs h → Tells (record_after p xs t d) (locks_after p h t d)
 tells_deed p xs h t (attempts a) tells = tells_attempt p xs h t a tells
 tells_deed p xs h t ends tells = tells_release xs h t tells
 tells_deed p xs h t leaves tells = tells
 
+-- Nobody blocks it where it passes the locks that it meets.
 granted_deed : (p : Protocol) → IsLawful p → (b : State) (xs h : Locks) (t : ℕ) (d : Deed) → Tells xs h → IsState p (with_locks b h) → Passes p (met_in p xs t d) → Granted p h t d
 granted_deed p laws b xs h t (attempts a) tells k pass = unblocked p laws xs h t a tells k.within pass
 granted_deed p laws b xs h t ends tells k pass = tt
@@ -103,6 +113,7 @@ bare u b t o = step (asks_nothing u) (with_locks b []) t o
 abbrev pub locked : Outcome → Locks → Outcome
 locked r h = (r.0, with_locks r.1 h)
 
+-- A step that nobody blocks does the same under p, but for the locks.
 module _ (p : Protocol) (b : State) (h : Locks) (t : ℕ) where
   attempt_alike : (a : Step) (e : Effect) → Granted p h t (attempts (access_of b.map a))
       → attempted p (with_locks b h) t a e ≡ locked (attempted (asks_nothing p.updates) (with_locks b []) t a e) (locks_after p h t (attempts (access_of b.map a)))
@@ -138,6 +149,7 @@ module _ (p : Protocol) (b : State) (h : Locks) (t : ℕ) where
 
 -- A schedule --
 
+-- Its history where nothing is requested.
 abbrev pub bare_history : Bool → State → List Event → List Entry
 bare_history u b [] = []
 bare_history u b (e ∷ es) = let r = bare u b e.txn e.op in (e, r.0) ∷ bare_history u r.1 es
@@ -150,6 +162,7 @@ meetings p u b xs (e ∷ es) =
     let r = bare u b e.txn e.op in
     met_in p xs e.txn d ++ meetings p u r.1 (record_after p xs e.txn d) es
 
+-- Where its requests pass those, the history is the same.
 follow : (p : Protocol) → IsLawful p → (b : State) (xs h : Locks) (es : List Event) → IsState p (with_locks b h) → Tells xs h → Passes p (meetings p p.updates b xs es) → (run p (with_locks b h) es).history ≡ bare_history p.updates b es
 follow p laws b xs h [] k tells pass = refl
 follow p laws b xs h (e ∷ es) k tells pass =
@@ -163,6 +176,7 @@ follow p laws b xs h (e ∷ es) k tells pass =
     (follow p laws r.1 (record_after p xs e.txn d) (locks_after p h e.txn d) es (subst (λ (x : Outcome). IsState p x.1) same (step_keeps_state p laws (with_locks b h) e.txn e.op k))
     (tells_deed p xs h e.txn d tells) (passes_rest p here later pass)))
 
+-- An answer differs from the serial one.
 not_serial : (m : Map) (ps : List Program) → is_some (first_difference m ps) ≡ true → AreSerial m ps → ⊥
 not_serial m ps differs serial = none_some (sym (ap is_some (none_if_serial m ps serial)) ∙ differs)
   where

@@ -32,6 +32,7 @@ abbrev pub met_on : Locks → ℕ → Name → ℕ → Option (ℕ × Span) → 
 met_on [] t n o a = []
 met_on (l ∷ ls) t n o a = cond (eq_by_cmp name_cmp n l.0.0 && not (l.0.1 == t)) ((l.1, o, a) ∷ met_on ls t n o a) (met_on ls t n o a)
 
+-- Those on a name, where there is one.
 abbrev pub met_at : Locks → ℕ → Option Name → Option (ℕ × Span) → List Meeting
 met_at xs t None a = []
 met_at xs t (Some n) a = met_on xs t n (own xs t n) a
