@@ -13,7 +13,7 @@ use Rattle.kr_model.specs.Protocol.{Protocol, IsLawful}
 use Rattle.kr_model.specs.Covers.{mode_after}
 use Rattle.kr_model.specs.Safe.{free, and_read, and_updated, and_gap, key_after, gap_after, given, asked, after, MayAsk, Beside, start, turn, leave, move}
 use Rattle.kr_exact.specs.Ordered.{IsAtLeast, AsksAtLeast, IsOrdered}
-use Rattle.kr_exact.specs.Fixed.{first, lowest}
+use Rattle.kr_wrong.specs.Fixed.{first, lowest}
 use Rattle.kr_exact.proofs.Order.{IsForMode, at_least_trans, at_least_none, after_within, after_rises, after_more}
 
 -- Mode m is at least that on the lowest of some keys that one has inserted who had made one request on the name above them.

@@ -1,6 +1,6 @@
 -- Where a lock lets in what it has to keep out, under an ordered protocol, some fixed schedule goes wrong.
 use Rattle.std.proofs.Common.{◌≡◌, ℕ, zero, suc, ◌≤◌, ◌⊎◌, inl, inr, refl, sym, arith, subst, Bool, true, false}
-use Rattle.std.specs.Prelude.{◌||◌}
+use Rattle.std.specs.Prelude.{◌||◌, Option, Some, None}
 use Rattle.kr_model.specs.declared.Row.{Row}
 use Rattle.kr_model.specs.declared.Row.TheVariants.{FetchHit, FetchMiss, ScanKey, ScanStop, Insert, Delete, Update}
 use Rattle.kr_model.specs.declared.Side.{Side}
@@ -10,10 +10,16 @@ use Rattle.kr_model.specs.declared.KeyUse.TheVariants.{Read as KeyRead, Updated 
 use Rattle.kr_model.specs.declared.GapUse.{GapUse}
 use Rattle.kr_model.specs.declared.GapUse.TheVariants.{Read as GapRead, Deleted as GapDeleted}
 use Rattle.kr_model.specs.declared.LockState.{LockState}
+use Rattle.kr_model.specs.declared.Name.TheVariants.{End}
+use Rattle.kr_model.specs.declared.Span.{Span}
+use Rattle.kr_model.specs.declared.Span.TheVariants.{Instant, Commit}
 use Rattle.kr_model.specs.Protocol.{Protocol, IsLawful}
+use Rattle.kr_model.specs.Covers.{mode_after, conflicts_with}
+use Rattle.kr_model.proofs.Requests.{asks_one}
+use Rattle.kr_wrong.proofs.Unblocked.{beside_none}
 use Rattle.kr_model.specs.Safe.{free, by_key, by_gap, keeps_out, given, asked, is_blocked, MayAsk, Beside, IsSafe}
 use Rattle.kr_exact.specs.Ordered.{IsAtLeast, IsOrdered}
-use Rattle.kr_exact.specs.Fixed.{first, lowest, LetsIn, FixedHole, fetch_lets_delete, fetch_lets_update, scan_lets_delete, scan_lets_update, miss_lets_delete, stop_lets_delete, update_lets_fetch, update_lets_scan, update_lets_delete, update_lets_update, insert_lets_fetch, insert_lets_scan, insert_lets_delete, insert_lets_update, insert_lets_miss, insert_lets_stop, insert_lets_delete_below, delete_lets_miss, delete_lets_scan, delete_lets_stop, delete_lets_delete, delete_lets_delete_below, miss_lets_insert, scan_lets_insert, stop_lets_insert, delete_lets_insert}
+use Rattle.kr_wrong.specs.Fixed.{first, lowest, LetsIn, FixedHole, fetch_lets_delete, fetch_lets_update, scan_lets_delete, scan_lets_update, miss_lets_delete, stop_lets_delete, update_lets_fetch, update_lets_scan, update_lets_delete, update_lets_update, insert_lets_fetch, insert_lets_scan, insert_lets_delete, insert_lets_update, insert_lets_miss, insert_lets_stop, insert_lets_delete_below, delete_lets_miss, delete_lets_scan, delete_lets_stop, delete_lets_delete, delete_lets_delete_below, miss_lets_insert, scan_lets_insert, stop_lets_insert, delete_lets_insert}
 use Rattle.kr_exact.proofs.Order.{at_least_trans, after_more, less_let_in}
 use Rattle.kr_exact.proofs.Held.{IsBelow, KeepsKey, KeepsGap, IsHeld, asks_mode, asks_more, first_within, lowest_within, given_within, offered, beside_held}
 use Rattle.kr_exact.proofs.Repeats.{enough}
@@ -22,24 +28,33 @@ use Rattle.kr_exact.proofs.Repeats.{enough}
 abbrev IsOpen : Protocol → ℕ → Row → Side → Type 0
 IsOpen p h r s = (m : ℕ) → m ≤ p.count → IsAtLeast p h m → LetsIn p m r s
 
+-- A delete of an inserted key: an insert keeps no lock on the next name, which could block it there.
+inserted_lets_delete : (p : Protocol) → IsLawful p → IsOrdered p → LetsIn p (first p Insert Current) Delete Current → FixedHole p
+inserted_lets_delete p laws ordered lets_in = insert_lets_delete lets_in (at_next (p.ask Insert Next 0) (λ q span e. ordered.insert_next 0 q span (omega arith) e))
+  where
+    at_next : (a : Option (ℕ × Span)) → ((q : ℕ) (span : Span) → a ≡ Some (q, span) → span ≡ Instant) → conflicts_with p (mode_after p 0 a) 0 (p.ask Delete Next 0) ≡ false
+    at_next None instant = beside_none p laws End 0 (omega arith) (p.ask Delete Next 0) (asks_one p laws (Some End) Delete Next 0 (omega arith))
+    at_next (Some (q, Instant)) instant = beside_none p laws End 0 (omega arith) (p.ask Delete Next 0) (asks_one p laws (Some End) Delete Next 0 (omega arith))
+    at_next (Some (q, Commit)) instant = let e = instant q Commit refl in absurd (cc)
+
 -- What is let in for the sake of the key.
-key_hole : (p : Protocol) → IsLawful p → (k : KeyUse) (r : Row) (s : Side) (h : ℕ) → KeepsKey p k h → (r ≡ Update → p.updates ≡ true) → IsOpen p h r s → by_key k r s ≡ true → FixedHole p
-key_hole p laws KeyRead Delete Current h (inl keeps) updates let_in e = fetch_lets_delete (let_in (first p FetchHit Current) (first_within p laws FetchHit Current) keeps)
-key_hole p laws KeyRead Delete Current h (inr keeps) updates let_in e = scan_lets_delete (let_in (first p ScanKey Current) (first_within p laws ScanKey Current) keeps)
-key_hole p laws KeyRead Update Current h (inl keeps) updates let_in e = fetch_lets_update (updates refl) (let_in (first p FetchHit Current) (first_within p laws FetchHit Current) keeps)
-key_hole p laws KeyRead Update Current h (inr keeps) updates let_in e = scan_lets_update (updates refl) (let_in (first p ScanKey Current) (first_within p laws ScanKey Current) keeps)
-key_hole p laws KeyUpdated FetchHit Current h keeps updates let_in e = update_lets_fetch keeps.0 (let_in (first p Update Current) (first_within p laws Update Current) keeps.1)
-key_hole p laws KeyUpdated ScanKey Current h keeps updates let_in e = update_lets_scan keeps.0 (let_in (first p Update Current) (first_within p laws Update Current) keeps.1)
-key_hole p laws KeyUpdated Delete Current h keeps updates let_in e = update_lets_delete keeps.0 (let_in (first p Update Current) (first_within p laws Update Current) keeps.1)
-key_hole p laws KeyUpdated Update Current h keeps updates let_in e = update_lets_update keeps.0 (let_in (first p Update Current) (first_within p laws Update Current) keeps.1)
-key_hole p laws KeyInserted FetchHit Current h keeps updates let_in e = insert_lets_fetch (let_in (first p Insert Current) (first_within p laws Insert Current) keeps)
-key_hole p laws KeyInserted FetchMiss Next h keeps updates let_in e = insert_lets_miss (let_in (first p Insert Current) (first_within p laws Insert Current) keeps)
-key_hole p laws KeyInserted ScanKey Current h keeps updates let_in e = insert_lets_scan (let_in (first p Insert Current) (first_within p laws Insert Current) keeps)
-key_hole p laws KeyInserted ScanStop Next h keeps updates let_in e = insert_lets_stop (let_in (first p Insert Current) (first_within p laws Insert Current) keeps)
-key_hole p laws KeyInserted Delete Current h keeps updates let_in e = insert_lets_delete (let_in (first p Insert Current) (first_within p laws Insert Current) keeps)
-key_hole p laws KeyInserted Delete Next h keeps updates let_in e = insert_lets_delete_below (let_in (first p Insert Current) (first_within p laws Insert Current) keeps)
-key_hole p laws KeyInserted Update Current h keeps updates let_in e = insert_lets_update (updates refl) (let_in (first p Insert Current) (first_within p laws Insert Current) keeps)
-key_hole p laws k r s h keeps updates let_in e = absurd (cc)
+key_hole : (p : Protocol) → IsLawful p → IsOrdered p → (k : KeyUse) (r : Row) (s : Side) (h : ℕ) → KeepsKey p k h → (r ≡ Update → p.updates ≡ true) → IsOpen p h r s → by_key k r s ≡ true → FixedHole p
+key_hole p laws ordered KeyRead Delete Current h (inl keeps) updates let_in e = fetch_lets_delete (let_in (first p FetchHit Current) (first_within p laws FetchHit Current) keeps)
+key_hole p laws ordered KeyRead Delete Current h (inr keeps) updates let_in e = scan_lets_delete (let_in (first p ScanKey Current) (first_within p laws ScanKey Current) keeps)
+key_hole p laws ordered KeyRead Update Current h (inl keeps) updates let_in e = fetch_lets_update (updates refl) (let_in (first p FetchHit Current) (first_within p laws FetchHit Current) keeps)
+key_hole p laws ordered KeyRead Update Current h (inr keeps) updates let_in e = scan_lets_update (updates refl) (let_in (first p ScanKey Current) (first_within p laws ScanKey Current) keeps)
+key_hole p laws ordered KeyUpdated FetchHit Current h keeps updates let_in e = update_lets_fetch keeps.0 (let_in (first p Update Current) (first_within p laws Update Current) keeps.1)
+key_hole p laws ordered KeyUpdated ScanKey Current h keeps updates let_in e = update_lets_scan keeps.0 (let_in (first p Update Current) (first_within p laws Update Current) keeps.1)
+key_hole p laws ordered KeyUpdated Delete Current h keeps updates let_in e = update_lets_delete keeps.0 (let_in (first p Update Current) (first_within p laws Update Current) keeps.1)
+key_hole p laws ordered KeyUpdated Update Current h keeps updates let_in e = update_lets_update keeps.0 (let_in (first p Update Current) (first_within p laws Update Current) keeps.1)
+key_hole p laws ordered KeyInserted FetchHit Current h keeps updates let_in e = insert_lets_fetch (let_in (first p Insert Current) (first_within p laws Insert Current) keeps)
+key_hole p laws ordered KeyInserted FetchMiss Next h keeps updates let_in e = insert_lets_miss (let_in (first p Insert Current) (first_within p laws Insert Current) keeps)
+key_hole p laws ordered KeyInserted ScanKey Current h keeps updates let_in e = insert_lets_scan (let_in (first p Insert Current) (first_within p laws Insert Current) keeps)
+key_hole p laws ordered KeyInserted ScanStop Next h keeps updates let_in e = insert_lets_stop (let_in (first p Insert Current) (first_within p laws Insert Current) keeps)
+key_hole p laws ordered KeyInserted Delete Current h keeps updates let_in e = inserted_lets_delete p laws ordered (let_in (first p Insert Current) (first_within p laws Insert Current) keeps)
+key_hole p laws ordered KeyInserted Delete Next h keeps updates let_in e = insert_lets_delete_below (let_in (first p Insert Current) (first_within p laws Insert Current) keeps)
+key_hole p laws ordered KeyInserted Update Current h keeps updates let_in e = insert_lets_update (updates refl) (let_in (first p Insert Current) (first_within p laws Insert Current) keeps)
+key_hole p laws ordered k r s h keeps updates let_in e = absurd (cc)
 
 -- A lock on a name with a gap to keep is at least that of a first request, or that of an insert.
 first_or_insert : (p : Protocol) → IsLawful p → IsOrdered p → (r : Row) (s : Side) (h : ℕ) → IsBelow p r s h → IsAtLeast p h (first p r s) ⊎ IsAtLeast p h (first p Insert Current)
@@ -83,14 +98,14 @@ of_either p laws r s row side h (inr keeps) let_in own inserted = inserted (let_
 -- What is let in for the sake of the gap.
 gap_hole : (p : Protocol) → IsLawful p → IsOrdered p → (g : GapUse) (r : Row) (s : Side) (h : ℕ) → KeepsGap p g h → IsOpen p h r s → by_gap g r s ≡ true → FixedHole p
 gap_hole p laws ordered GapRead Insert Next h keeps let_in e = read_hole p laws h keeps let_in
-gap_hole p laws ordered GapRead Delete Current h (inl keeps) let_in e = of_either p laws FetchMiss Next Delete Current h (first_or_insert p laws ordered FetchMiss Next h keeps) let_in miss_lets_delete insert_lets_delete
-gap_hole p laws ordered GapRead Delete Current h (inr (inl keeps)) let_in e = of_either p laws ScanKey Current Delete Current h (first_or_insert p laws ordered ScanKey Current h keeps) let_in scan_lets_delete insert_lets_delete
-gap_hole p laws ordered GapRead Delete Current h (inr (inr keeps)) let_in e = of_either p laws ScanStop Next Delete Current h (first_or_insert p laws ordered ScanStop Next h keeps) let_in stop_lets_delete insert_lets_delete
+gap_hole p laws ordered GapRead Delete Current h (inl keeps) let_in e = of_either p laws FetchMiss Next Delete Current h (first_or_insert p laws ordered FetchMiss Next h keeps) let_in miss_lets_delete (inserted_lets_delete p laws ordered)
+gap_hole p laws ordered GapRead Delete Current h (inr (inl keeps)) let_in e = of_either p laws ScanKey Current Delete Current h (first_or_insert p laws ordered ScanKey Current h keeps) let_in scan_lets_delete (inserted_lets_delete p laws ordered)
+gap_hole p laws ordered GapRead Delete Current h (inr (inr keeps)) let_in e = of_either p laws ScanStop Next Delete Current h (first_or_insert p laws ordered ScanStop Next h keeps) let_in stop_lets_delete (inserted_lets_delete p laws ordered)
 gap_hole p laws ordered GapDeleted Insert Next h keeps let_in e = let w = below_hole p laws Delete Next h keeps let_in in delete_lets_insert w.n w.within w.lets_in
 gap_hole p laws ordered GapDeleted FetchMiss Next h keeps let_in e = of_either p laws Delete Next FetchMiss Next h (first_or_insert p laws ordered Delete Next h keeps) let_in delete_lets_miss insert_lets_miss
 gap_hole p laws ordered GapDeleted ScanKey Current h keeps let_in e = of_either p laws Delete Next ScanKey Current h (first_or_insert p laws ordered Delete Next h keeps) let_in delete_lets_scan insert_lets_scan
 gap_hole p laws ordered GapDeleted ScanStop Next h keeps let_in e = of_either p laws Delete Next ScanStop Next h (first_or_insert p laws ordered Delete Next h keeps) let_in delete_lets_stop insert_lets_stop
-gap_hole p laws ordered GapDeleted Delete Current h keeps let_in e = of_either p laws Delete Next Delete Current h (first_or_insert p laws ordered Delete Next h keeps) let_in delete_lets_delete insert_lets_delete
+gap_hole p laws ordered GapDeleted Delete Current h keeps let_in e = of_either p laws Delete Next Delete Current h (first_or_insert p laws ordered Delete Next h keeps) let_in delete_lets_delete (inserted_lets_delete p laws ordered)
 gap_hole p laws ordered GapDeleted Delete Next h keeps let_in e = of_either p laws Delete Next Delete Next h (first_or_insert p laws ordered Delete Next h keeps) let_in delete_lets_delete_below insert_lets_delete_below
 gap_hole p laws ordered g r s h keeps let_in e = absurd (cc)
 
@@ -115,7 +130,7 @@ hole p laws ordered r s x y n b reached may out granted = by (either (by_key y.k
     let_in m mm less = less_let_in p laws ordered x.mode y.mode m (asked p r s x n) (p.ask r s 0) of_x.within of_y.within mm (asks_mode p laws r s (given r s x n) in_given) (asks_mode p laws r s 0 (omega arith)) (asks_more p laws ordered r s (given r s x n) in_given) less granted
 
     by : (by_key y.key r s ≡ true) ⊎ (by_gap y.gap r s ≡ true) → FixedHole p
-    by (inl e) = key_hole p laws y.key r s y.mode of_y.key (offered p r s x n may) let_in e
+    by (inl e) = key_hole p laws ordered y.key r s y.mode of_y.key (offered p r s x n may) let_in e
     by (inr e) = gap_hole p laws ordered y.gap r s y.mode of_y.gap let_in e
 
 pub fixed_or_safe : (p : Protocol) → IsLawful p → IsOrdered p → (FixedHole p → ⊥) → IsSafe p

@@ -4,7 +4,7 @@ use Rattle.kr_model.specs.Protocol.{Protocol, IsLawful}
 use Rattle.kr_model.specs.declared.Row.TheVariants.{Insert}
 use Rattle.kr_model.specs.declared.Side.TheVariants.{Current}
 use Rattle.kr_model.specs.Covers.{mode_after}
-use Rattle.kr_exact.specs.Fixed.{lowest}
+use Rattle.kr_wrong.specs.Fixed.{lowest}
 use Rattle.kr_exact.proofs.Held.{lowest_within}
 
 -- Two of the numbers g 0 to g n are equal.

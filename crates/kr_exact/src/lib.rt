@@ -4,16 +4,23 @@
 
 ghost use Rattle.kr_model.specs.Protocol.{Protocol, IsLawful};
 ghost use Rattle.kr_model.specs.Safe.{IsSafe};
+ghost use Rattle.kr_model.specs.Serial.{RunsAreSerial};
 ghost use Rattle.kr_model.specs.Kvl.{kvl};
 ghost use Rattle.kr_model.specs.KvlUpdate.{kvl_update};
 ghost use Rattle.kr_model.specs.Im.{im};
 ghost use Rattle.kr_model.specs.RangeKey.{range_key};
 ghost use Rattle.kr_exact.specs.Ordered.{IsOrdered};
-ghost use Rattle.kr_exact.specs.Fixed.{FixedHole};
+ghost use Rattle.kr_wrong.specs.Fixed.{FixedHole};
 
 /// A lawful and ordered protocol is safe where no fixed schedule goes wrong.
 pub fn fixed_or_safe()
     ensures { (p : Protocol) → IsLawful p → IsOrdered p → (FixedHole p → ⊥) → IsSafe p }
+{}
+
+/// So under a lawful and ordered protocol every run is serializable in commit order only where the protocol is safe: with
+/// the main theorem, exactly where it is.
+pub fn exact_on_ordered()
+    ensures { (p : Protocol) → IsLawful p → IsOrdered p → RunsAreSerial p → IsSafe p }
 {}
 
 /// The bundled tables are ordered.
