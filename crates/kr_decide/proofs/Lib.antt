@@ -5,3 +5,4 @@ pub mod Complete
 pub mod Openings
 pub mod Covered
 pub mod Surveyed
+pub mod OrderedParts

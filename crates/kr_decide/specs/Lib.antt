@@ -1,5 +1,6 @@
 pub mod Numbers
 pub mod Absent
+pub mod Rising
 pub mod Pairs
 pub mod Findings
 pub mod Protects
