@@ -5,4 +5,3 @@ pub mod Complete
 pub mod Openings
 pub mod Covered
 pub mod Surveyed
-pub mod OrderedParts

@@ -1,6 +1,5 @@
 pub mod Numbers
 pub mod Absent
-pub mod Rising
 pub mod Pairs
 pub mod Findings
 pub mod Protects

@@ -1,10 +1,10 @@
 use Rattle.std.proofs.Common.{◌≡◌, true}
 use Rattle.kr_model.specs.declared.Row.TheVariants.{Insert, Delete}
 use Rattle.kr_model.specs.declared.Side.TheVariants.{Current, Next}
-use Rattle.kr_decide.specs.Rising.{AllGoUp, Rises, AllKeepNone}
-use Rattle.kr_decide.proofs.OrderedParts.{ordered_by_parts, part_rises}
-use Rattle.kr_decide.proofs.ordered.is_ordered.Goals as goal
-use Rattle.kr_decide.proofs.ordered.is_ordered.Goals.{then-all_go_up, else-all_go_up, then-all_keep_none, else-all_keep_none, then-rises, else-rises, then-rises-2, else-rises-2}
+use Rattle.kr_ordered.specs.Rising.{AllGoUp, Rises, AllKeepNone}
+use Rattle.kr_ordered.proofs.Parts.{ordered_by_parts, part_rises}
+use Rattle.kr_ordered.proofs.is_ordered.Goals as goal
+use Rattle.kr_ordered.proofs.is_ordered.Goals.{then-all_go_up, else-all_go_up, then-all_keep_none, else-all_keep_none, then-rises, else-rises, then-rises-2, else-rises-2}
 
 pub returns-then-rises-3 : goal.returns-then-rises-3
 returns-then-rises-3 g c =

@@ -7,7 +7,7 @@ use Rattle.kr_model.specs.declared.Side.TheVariants.{Current, Next}
 use Rattle.kr_model.specs.Protocol.{Protocol, IsLawful}
 use Rattle.kr_exact.specs.Ordered.{IsOrdered}
 use Rattle.kr_exact.proofs.Order as order
-use Rattle.kr_decide.specs.Rising.{AllGoUp, Rises, AllKeepNone}
+use Rattle.kr_ordered.specs.Rising.{AllGoUp, Rises, AllKeepNone}
 
 pub ordered_by_parts : (p : Protocol) → IsLawful p → AllGoUp p → AllKeepNone p → Rises p Insert Current → Rises p Insert Next → Rises p Delete Current → Rises p Delete Next → IsOrdered p
 ordered_by_parts p laws up none insert insert_next delete delete_next = order.ordered_by_moves p laws (λ h q hh qq. up h hh q qq) (λ own q span le e. none own le q span e) inserts deletes

@@ -1,5 +1,5 @@
 use Rattle.std.proofs.Common.{◌≡◌, ℕ, ◌<◌, true}
-use Rattle.kr_decide.proofs.ordered.is_at_least.Given as goal
+use Rattle.kr_ordered.proofs.is_at_least.Given as goal
 
 abbrev pub invariant-loop-other : goal.invariant-loop-other
 invariant-loop-other g l =

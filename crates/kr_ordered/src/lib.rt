@@ -1,7 +1,9 @@
 //! Whether a protocol is ordered.
+#![tactic(auto)]
+
 ghost use Rattle.std.specs.Prelude.{◌≡◌, ℕ, ◌≤◌, ◌↔◌, IsTrue};
 ghost use Rattle.kr_exact.specs.Ordered.{IsAtLeast, AsksAtLeast, IsOrdered};
-ghost use Rattle.kr_decide.specs.Rising.{GoesUp, GoesUpFrom, RisesTo, RisesFrom, Rises, AllGoUp, KeepsNone, AllKeepNone};
+ghost use Rattle.kr_ordered.specs.Rising.{GoesUp, GoesUpFrom, RisesTo, RisesFrom, Rises, AllGoUp, KeepsNone, AllKeepNone};
 
 use kr_model::{Mode, Row, Side, Span};
 use kr_protocol::Protocol;

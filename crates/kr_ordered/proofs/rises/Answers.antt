@@ -1,6 +1,6 @@
 use Rattle.std.proofs.Common.{IsTrue, below_more, rules}
-use Rattle.kr_decide.specs.Rising.{RisesFrom}
-use Rattle.kr_decide.proofs.ordered.rises.Goals as goal
+use Rattle.kr_ordered.specs.Rising.{RisesFrom}
+use Rattle.kr_ordered.proofs.rises.Goals as goal
 
 pub loop-lesser-preserved : goal.loop-lesser-preserved
 loop-lesser-preserved g c =
