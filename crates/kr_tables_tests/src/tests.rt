@@ -20,6 +20,7 @@ mod causes;
 mod decide;
 mod model;
 mod modes;
+mod ordered;
 mod protocol;
 mod same;
 mod table;
