@@ -1,5 +1,4 @@
 -- A protocol is ordered exactly where each of the parts is so.
-use Rattle.std.proofs.Common.{ℕ}
 use Rattle.kr_model.specs.declared.Row.{Row}
 use Rattle.kr_model.specs.declared.Row.TheVariants.{Insert, Delete}
 use Rattle.kr_model.specs.declared.Side.{Side}
