@@ -3,3 +3,5 @@ pub mod Held
 pub mod Repeats
 pub mod Holes
 pub mod Tested
+pub mod unreached
+pub mod Argued

@@ -1,1 +1,3 @@
 pub mod Ordered
+pub mod Unreached
+pub mod Argued
