@@ -30,6 +30,7 @@ use Rattle.kr_exact.proofs.unreached.Granted.{held_alone, held_above, after_gran
 
 -- Requests --
 
+-- No requests, and one more.
 asked_none : (m : Map) → AreAsked m []
 asked_none m n q span i = absurd i
 
@@ -48,7 +49,7 @@ asks_I m n there = record { row = row.Insert; side = Next; asks = refl; some = o
 
 -- Maps --
 
--- A name of a map is one still where a key is set, or another is taken out.
+-- A name of a map is one still where a key is set, or another key is taken out.
 stands_set : (m : Map) (k v : ℕ) (n : Name) → Stands m n → Stands (set m k v) n
 stands_set m k v End there = tt
 stands_set m k v (Key q) there = ⊎_elim (λ e. ap (has (set m k v)) e ∙ has_here m k (Some v)) (λ other. has_apart m k (Some v) q other ∙ there) (cases_eq q k)
@@ -71,6 +72,13 @@ module _ (s : State) (was : Reached s) (t : ℕ) where
       by [] none = granted none
       by (u ∷ us) some = was
 
+  -- K or X requested first leaves a mode above I on its name.
+  above_first : (n : Name) (q : ℕ) (next : List Request) → I < q → AreAsked s.map next → I < own (kept twin s.locks t ((n, q, Commit) ∷ next)) t n
+  above_first n q next above asked =
+      let mode = twin_after (own s.locks t n) q in
+      kept_holds (λ o. I < o) (keep s.locks t n mode) t n next (λ r span i o h. after_above o r (asked n r span i).some h)
+      (subst (λ m. I < m) (sym (own-keep_same s.locks t n mode)) (above_after (own s.locks t n) q above))
+
   -- One that requests X on a name, and changes no key.
   reads : (n : Name) (e : Effect) → e.map ≡ s.map → e.standing.changes ≡ (standing s t).changes → Keeps ((n, X, Commit) ∷ []) e
   reads n e same unchanged =
@@ -81,6 +89,7 @@ module _ (s : State) (was : Reached s) (t : ℕ) where
       (λ k i. held_above s was t rs asked free (Key k) (was.inserted t k (subst (λ l. InsertedIn l k) unchanged i)))
       (λ u x is there. subst (λ m. Stands m x) (sym same) there))
 
+  -- A fetch.
   pub fetch_keeps : (k : ℕ) → Reached (let o = performed twin s t (op.Fetch k) in o.1)
   fetch_keeps k = by (get s.map k)
     where
@@ -96,14 +105,13 @@ module _ (s : State) (was : Reached s) (t : ℕ) where
       let e = inserted s.map (standing s t) k v None in
       let asked_next = asked_more s.map (at s.map k) I [] (asks_I s.map (at s.map k) (at_stands s.map k was.is_map)) (asked_none s.map) in
       let asked = asked_more s.map (Key k) K next (asks_K s.map (Key k)) asked_next in
-      let mode = twin_after (own s.locks t (Key k)) K in
-      let here : I < own (keep s.locks t (Key k) mode) t (Key k) = subst (λ m. I < m) (sym (own-keep_same s.locks t (Key k) mode)) (above_after (own s.locks t (Key k)) K (omega arith)) in
-      let new : I < own (kept twin s.locks t rs) t (Key k) = kept_holds (λ o. I < o) (keep s.locks t (Key k) mode) t (Key k) next (λ q span i o above. after_above o q (asked_next (Key k) q span i).some above) here in
+      let new = above_first (Key k) K next (omega arith) asked_next in
       unless_blocked rs e (λ free.
       after_granted s was t rs asked free e (IsMap-set s.map k v was.is_map)
       (λ q i. ⊎_elim (λ same. subst (λ z. I < own (kept twin s.locks t rs) t (Key z)) (sym same.0) new) (λ older. held_above s was t rs asked free (Key q) (was.inserted t q older)) i)
       (λ u n is there. stands_set s.map k v n there))
 
+  -- An insert: of a present key it goes by a fetch's row.
   pub insert_keeps : (k v : ℕ) → Reached (let o = performed twin s t (op.Insert k v) in o.1)
   insert_keeps k v = by (get s.map k)
     where
@@ -119,9 +127,7 @@ module _ (s : State) (was : Reached s) (t : ℕ) where
       let e = deleted s.map (standing s t) k (Some w) in
       let asked_next = asked_more s.map (after s.map k) X [] (asks_X s.map (after s.map k)) (asked_none s.map) in
       let asked = asked_more s.map (Key k) X next (asks_X s.map (Key k)) asked_next in
-      let mode = twin_after (own s.locks t (Key k)) X in
-      let here : I < own (keep s.locks t (Key k) mode) t (Key k) = subst (λ m. I < m) (sym (own-keep_same s.locks t (Key k) mode)) (above_after (own s.locks t (Key k)) X (omega arith)) in
-      let new : I < own (kept twin s.locks t rs) t (Key k) = kept_holds (λ o. I < o) (keep s.locks t (Key k) mode) t (Key k) next (λ q span i o above. after_above o q (asked_next (Key k) q span i).some above) here in
+      let new = above_first (Key k) X next (omega arith) asked_next in
       unless_blocked rs e (λ free.
       after_granted s was t rs asked free e (IsMap-without s.map k was.is_map)
       (λ q i. held_above s was t rs asked free (Key q) (was.inserted t q (inserted_older k w (standing s t).changes q i)))
@@ -129,6 +135,7 @@ module _ (s : State) (was : Reached s) (t : ℕ) where
       (λ same. none_beside (λ v. own (kept twin s.locks t rs) v (Key k)) t u (λ other some. held_alone s was t rs asked free t u (Key k) other some) new (subst (λ z. own (kept twin s.locks t rs) u z ≡ I) same is))
       there))
 
+  -- A delete: of an absent key it goes by a fetch's row.
   pub delete_keeps : (k : ℕ) → Reached (let o = performed twin s t (op.Delete k) in o.1)
   delete_keeps k = by (get s.map k)
     where

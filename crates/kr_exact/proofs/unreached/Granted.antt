@@ -26,6 +26,7 @@ none_or_some : (m : ℕ) → (m ≡ 0) ⊎ (0 < m)
 none_or_some m = grind arith
 
 module _ (s : State) (was : Reached s) (t : ℕ) (rs : List Request) (asked : AreAsked s.map rs) (free : blockers twin s.locks t rs ≡ []) where
+  -- What each transaction holds after the attempt.
   abbrev pub held : ℕ → Name → ℕ
   held u n = own (kept twin s.locks t rs) u n
 
@@ -46,9 +47,11 @@ module _ (s : State) (was : Reached s) (t : ℕ) (rs : List Request) (asked : Ar
           subst (λ a. Conflicts twin (own s.locks u n) (own s.locks t n) a → ⊥) e
           (granted_at twin twin_lawful s.locks t rs free in_range r side n 0 (omega arith) (λ x j. subst (λ a. In x (request_at (Some n) a) → In x rs) (sym e) (λ k. ⊎_elim (λ same. subst (λ z. In z rs) same i) (λ none. absurd none) k) j) u other)
 
+  -- Another holds what it held.
   others : (u : ℕ) (n : Name) → u ≢ t → held u n ≡ own s.locks u n
   others u n other = kept_other s.locks t u n rs other
 
+  -- What is held is I, K or X still.
   held_within : (u : ℕ) (n : Name) → held u n ≤ X
   held_within u n = ⊎_elim
       (λ e. subst (λ v. held v n ≤ X) (sym e) (kept_holds (λ o. o ≤ X) s.locks t n rs (λ q span i o le. after_within o q le (asked n q span i).within) (was.within t n)))
@@ -59,6 +62,7 @@ module _ (s : State) (was : Reached s) (t : ℕ) (rs : List Request) (asked : Ar
   mine_alone : (u : ℕ) (n : Name) → u ≢ t → 0 < held t n → own s.locks u n ≡ 0
   mine_alone u n other = kept_holds (λ o. 0 < o → own s.locks u n ≡ 0) s.locks t n rs (λ q span i o h some. alone_at n q span i u other) (λ some. was.alone t u n other some)
 
+  -- And no two transactions have locks on one name.
   pub held_alone : (v u : ℕ) (n : Name) → u ≢ v → 0 < held v n → held u n ≡ 0
   held_alone v u n apart some = ⊎_elim
       (λ e. let other : u ≢ t = λ same. apart (same ∙ sym e) in

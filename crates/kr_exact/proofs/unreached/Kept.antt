@@ -30,6 +30,7 @@ AreAsked m rs = (n : Name) (q : ℕ) (span : Span) → In (n, q, span) rs → Is
 abbrev StillHolds : (ℕ → Type 0) → Name → List Request → Type 0
 StillHolds P n rs = (q : ℕ) (span : Span) → In (n, q, span) rs → (o : ℕ) → P o → P (twin_after o q)
 
+-- After one request.
 one_holds : (P : ℕ → Type 0) (h : Locks) (t : ℕ) (n x : Name) (q : ℕ) (span : Span) → (x ≡ n → (o : ℕ) → P o → P (twin_after o q)) → P (own h t n) → P (own (kept_one twin h t x q span) t n)
 one_holds P h t n x q Instant still p = p
 one_holds P h t n x q Commit still p =
@@ -39,17 +40,19 @@ one_holds P h t n x q Commit still p =
       | inr d ↦ subst P (sym (own-keep_other h t x (twin_after (own h t x) q) t n (λ e same. d (sym e)))) p
     ]
 
+-- After all of them.
 pub kept_holds : (P : ℕ → Type 0) (h : Locks) (t : ℕ) (n : Name) (rs : List Request) → StillHolds P n rs → P (own h t n) → P (own (kept twin h t rs) t n)
 kept_holds P h t n [] still p = p
 kept_holds P h t n ((x, q, span) ∷ rs) still p =
     kept_holds P (kept_one twin h t x q span) t n rs (λ r s i. still r s (inr i))
     (one_holds P h t n x q span (λ e. still q span (inl (λ j. (e j, q, span)))) p)
 
+-- What another holds stays, after one request.
 one_other : (h : Locks) (t u : ℕ) (n x : Name) (q : ℕ) (span : Span) → u ≢ t → own (kept_one twin h t x q span) u n ≡ own h u n
 one_other h t u n x q Instant other = refl
 one_other h t u n x q Commit other = own-keep_other h t x (twin_after (own h t x) q) u n (λ same e. other e)
 
--- Another holds what it held.
+-- And after all of them.
 pub kept_other : (h : Locks) (t u : ℕ) (n : Name) (rs : List Request) → u ≢ t → own (kept twin h t rs) u n ≡ own h u n
 kept_other h t u n [] other = refl
 kept_other h t u n ((x, q, span) ∷ rs) other = kept_other (kept_one twin h t x q span) t u n rs other ∙ one_other h t u n x q span other

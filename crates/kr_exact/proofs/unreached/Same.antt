@@ -54,6 +54,7 @@ look_alike s t c (Key k) = by (nat_le k c.hi) (looked s.map (standing s t) c (Ke
     by true e = refl
     by false e = refl
 
+-- So does a step of a scan.
 scan_alike : (s : State) (t : ℕ) (c : Option Scan) → attempted_scan unreached s t c ≡ attempted_scan twin s t c
 scan_alike s t None = refl
 scan_alike s t (Some c) = look_alike s t c (name_to_look s.map c)
@@ -72,6 +73,7 @@ module _ (s : State) (was : Reached s) (t : ℕ) where
   abbrev ByRow : Protocol → Access → Effect → Outcome
   ByRow p a e = Tried p s t (requests (plan_by p s.locks t a)) e
 
+  -- An operation that isn't refused: but for an insert, both protocols convert alike in it.
   performed_alike : (o : Op) → performed unreached s t o ≡ performed twin s t o
   performed_alike (op.Fetch k) = by (get s.map k)
     where
@@ -99,6 +101,7 @@ module _ (s : State) (was : Reached s) (t : ℕ) where
   performed_alike op.Abort = refl
   performed_alike op.Back = refl
 
+  -- A step, refused or not: both refuse alike.
   step_alike : (o : Op) → step unreached s t o ≡ step twin s t o
   step_alike o = by (refusal_of twin s t o)
     where
@@ -108,6 +111,7 @@ module _ (s : State) (was : Reached s) (t : ℕ) where
 
 -- Runs --
 
+-- By induction on the events.
 run_alike : (es : List Event) (s : State) → Reached s → run unreached s es ≡ run twin s es
 run_alike [] s was = refl
 run_alike (e ∷ es) s was =

@@ -46,9 +46,11 @@ module _ (s : State) (was : Reached s) (t : ℕ) where
   forgotten : (m : Map) → standing (ended_with s t m) t ≡ idle
   forgotten m = ap (λ o. unwrap_or o idle) (find_filter s.active t t ∙ ap (λ b. cond (not b) (find nat_cmp t s.active) None) (tied t))
 
+  -- Every other stands as before.
   remembered : (m : Map) (u : ℕ) → u ≢ t → standing (ended_with s t m) u ≡ standing s u
   remembered m u other = ap (λ o. unwrap_or o idle) (find_filter_other s.active t u other)
 
+  -- So what is known is kept where it ends, if the names on which others hold I don't go.
   end_keeps : (m : Map) → IsMap m → ((u : ℕ) (n : Name) → own s.locks u n ≡ I → Stands m n) → Reached (ended_with s t m)
   end_keeps m sorted there = record {
     is_map = sorted;
@@ -75,6 +77,7 @@ module _ (s : State) (was : Reached s) (t : ℕ) where
 
   -- One change undone --
 
+  -- The newest change is undone, if one is left.
   back_keeps : (cs : Changes) → (standing s t).changes ≡ cs → Reached (let o = one_taken_back s t cs in o.1)
   back_keeps [] e = was
   back_keeps (c ∷ cs) e = record {
@@ -87,10 +90,12 @@ module _ (s : State) (was : Reached s) (t : ℕ) where
 
   -- Each step --
 
+  -- A step of a scan.
   scan_keeps : (c : Option Scan) → Reached (let o = attempted_scan twin s t c in o.1)
   scan_keeps None = was
   scan_keeps (Some c) = look_keeps s was t c (name_to_look s.map c)
 
+  -- An operation that isn't refused.
   performed_keeps : (o : Op) → Reached (let x = performed twin s t o in x.1)
   performed_keeps (op.Fetch k) = fetch_keeps s was t k
   performed_keeps (op.Scan lo hi) = scan_keeps (Some (record { lo = lo; hi = hi; rows = [] }))
@@ -103,6 +108,7 @@ module _ (s : State) (was : Reached s) (t : ℕ) where
       (λ u n is. stays (restore_all s.map (standing s t).changes) u n (λ k there gone. undone_inserted s.map (standing s t).changes k there gone) is)
   performed_keeps op.Back = back_keeps (standing s t).changes refl
 
+  -- A step, refused or not.
   pub step_keeps : (o : Op) → Reached (let x = step twin s t o in x.1)
   step_keeps o = by (refusal_of twin s t o)
     where
