@@ -28,7 +28,7 @@ sys.dont_write_bytecode = True
 
 import corpus
 from condition import is_safe
-from runner import Run
+from replay import granted
 from schedules import schedule
 from table import Table
 from walks import wrong_run
@@ -116,12 +116,8 @@ def decide_by_itself(entry):
 
 
 def expect_granted_and_wrong(table, opening, steps):
-    run = Run(table, opening)
-    for step in steps:
-        reply = run.step(*step)
-        while reply[0] == 'going':
-            reply = run.step(step[0], 'go')
-    expect(all(it[0] not in ('blocked', 'refused') for _, it in run.history), f'a step is blocked: {json.dumps(steps)}')
+    run = granted(table, opening, steps)
+    expect(run is not None, f'a step is blocked: {json.dumps(steps)}')
     expect(run.verdict() != ['serial'], f'the schedule goes well: {json.dumps(steps)}')
 
 

@@ -1,27 +1,32 @@
 #!/usr/bin/env python3
 """Holds that on ordered tables safe is exact: random ordered tables, decided by condition.py, beside the fixed schedules of
-crates/kr_wrong, which the runner of tests/second runs, and walks.
+crates/kr_wrong, which the runner of tests/second runs, walks, and what kr_explain says.
 
-    ordered.py [N]      N random ordered tables, 200 if nothing is said; always the same ones
+    ordered.py [N [KR_EXPLAIN]]   N random ordered tables, 200 if nothing is said; always the same ones
 
 A mode is a set of atoms, and the converted mode of two is their union. A request is compatible with a held lock where no
 atom of the one conflicts with one of the other. Half of the tables are then given stronger requests until no fixed schedule
-goes wrong. A contradiction is a safe table under which a schedule or a walk goes wrong, one that isn't safe under which no
-fixed schedule does, and a bundled table that isn't ordered; and, of examples/no-schedule, a table that is ordered or safe, or
-under which a walk goes wrong. Status 1 where there is one."""
+goes wrong. Prints how many tables are of each kind, and how many of those that aren't safe a walk goes wrong under too. A
+contradiction is a safe table under which a schedule or a walk goes wrong, one that isn't safe under which no fixed schedule
+does, one of which kr_explain says otherwise, and a bundled table that isn't ordered; and, of examples/no-schedule, a table
+that is ordered, safe or explained as rejected, or under which a schedule or a walk goes wrong. Status 1 where there is one."""
 
 import collections
 import concurrent.futures
 import copy
+import itertools
 import os
 import random
+import subprocess
 import sys
+import tempfile
 
 sys.dont_write_bytecode = True
 
 import corpus
+from compare import OPEN
 from condition import is_safe
-from runner import Run
+from replay import goes_wrong
 from samples import Draft
 from table import SIDES, Table
 from walks import wrong_run
@@ -82,18 +87,6 @@ def schedules(table):
         yield OPENING, [[1, 'delete', 30], *chain, [2, 'insert', 40, 4], *ends]
 
 
-def goes_wrong(table, opening, steps):
-    """Whether every step is granted, and the committed transactions aren't serializable in commit order."""
-    run = Run(table, opening)
-    for step in steps:
-        reply = run.step(*step)
-        while reply[0] == 'going':
-            reply = run.step(step[0], 'go')
-        if reply[0] in ('blocked', 'refused'):
-            return False
-    return run.verdict() != ['serial']
-
-
 def fixed(table):
     """The first fixed schedule that goes wrong, if one does."""
     return next((it for it in schedules(table) if goes_wrong(table, *it)), None)
@@ -151,8 +144,8 @@ def ordered_of(draws):
     return drawn
 
 
-def decided(n):
-    """What is found of the n-th table: its text, whether it is safe, and what contradicts."""
+def decided(explainer, n):
+    """What is found of the n-th table: its text and kind, whether a walk goes wrong under it, and what contradicts."""
     draws = random.Random(f'ordered {n}')
     drawn = ordered_of(draws)
     for _ in range(draws.choice([0, 40])):
@@ -164,15 +157,26 @@ def decided(n):
             drawn = stronger
     text = drawn.table()
     table = Table(text)
-    safe, wrong, faults = is_safe(table), fixed(table), []
+    safe, wrong, walked, faults = is_safe(table), fixed(table), wrong_run(draws, table, WALKS), []
     if safe == bool(wrong):
         faults.append(f'safe is {safe}, and the fixed schedule that goes wrong is {wrong}')
-    if safe and (found := wrong_run(draws, table, WALKS)):
-        faults.append(f'it is safe, and a walk goes wrong: {found}')
-    return text, 'safe' if safe else 'not safe', 'accepted' if corpus.failed(table) == 0 else 'rejected', faults
+    if safe and walked:
+        faults.append(f'it is safe, and a walk goes wrong: {walked}')
+    kind = 'accepted' if corpus.failed(table) == 0 else 'safe' if safe else 'rejected'
+    if explainer and (said := explained(explainer, text)) != kind and (kind, said) != ('rejected', OPEN):
+        faults.append(f'it is {kind}, and kr_explain says {said}')
+    return text, kind, bool(walked), faults
 
 
-def wrong_examples():
+def explained(explainer, text):
+    """The word that kr_explain begins with."""
+    with tempfile.NamedTemporaryFile('w', suffix='.toml') as file:
+        file.write(text)
+        file.flush()
+        return subprocess.run([explainer, file.name], capture_output=True, text=True).stdout.partition(':')[0]
+
+
+def wrong_examples(explainer):
     """The bundled tables that aren't ordered, and those of examples/no-schedule that aren't as their heads say."""
     for path in sorted((corpus.TOP / 'tables').glob('*.toml')):
         table = Table(path.read_text())
@@ -182,22 +186,24 @@ def wrong_examples():
         table = Table(path.read_text())
         if is_ordered(table) or is_safe(table) or fixed(table) or wrong_run(random.Random(path.name), table, 10 * WALKS):
             yield f'{path.name}: it is ordered or safe, or a schedule goes wrong'
+        if explainer and (said := explained(explainer, path.read_text())) != OPEN:
+            yield f'{path.name}: kr_explain says {said}'
 
 
-def main(count='200'):
+def main(count='200', explainer=None):
     wrong = 0
-    for it in wrong_examples():
+    for it in wrong_examples(explainer):
         print(f'ordered: {it}')
         wrong += 1
     counts = collections.Counter()
     with concurrent.futures.ProcessPoolExecutor(os.cpu_count() or 1) as pool:
-        for text, safe, accepted, faults in pool.map(decided, range(int(count)), chunksize=4):
-            counts[safe, accepted] += 1
+        for text, kind, walked, faults in pool.map(decided, itertools.repeat(explainer), range(int(count)), chunksize=4):
+            counts[kind] += 1
+            counts['rejected with a walk that goes wrong'] += kind == 'rejected' and walked
             wrong += bool(faults)
             for it in faults:
                 print(f'ordered: {it}\n{text}')
-    kinds = ', '.join(f'{n} {safe} and {accepted}' for (safe, accepted), n in sorted(counts.items()))
-    print(f'ordered: {count} tables: {kinds}; {wrong} contradictions')
+    print(f'ordered: {count} tables: {", ".join(f"{n} {it}" for it, n in sorted(counts.items()))}; {wrong} contradictions')
     return 1 if wrong else 0
 
 
