@@ -4,4 +4,5 @@ mod bundled;
 mod faults;
 mod likeness;
 mod lines;
+mod unreached;
 mod updates;
