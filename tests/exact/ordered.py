@@ -8,8 +8,9 @@ A mode is a set of atoms, and the converted mode of two is their union. A reques
 atom of the one conflicts with one of the other. Half of the tables are then given stronger requests until no fixed schedule
 goes wrong. Prints how many tables are of each kind, and how many of those that aren't safe a walk goes wrong under too. A
 contradiction is a safe table under which a schedule or a walk goes wrong, one that isn't safe under which no fixed schedule
-does, one of which kr_explain says otherwise, and a bundled table that isn't ordered; and, of examples/no-schedule, a table
-that is ordered, safe or explained as rejected, or under which a schedule or a walk goes wrong. Status 1 where there is one."""
+does, one of which kr_explain says otherwise or shows no schedule, and a bundled table that isn't ordered; and, of
+examples/no-schedule, a table that is ordered, safe or explained as rejected, or under which a schedule or a walk goes wrong.
+Status 1 where there is one."""
 
 import collections
 import concurrent.futures
@@ -163,7 +164,7 @@ def decided(explainer, n):
     if safe and walked:
         faults.append(f'it is safe, and a walk goes wrong: {walked}')
     kind = 'accepted' if corpus.failed(table) == 0 else 'safe' if safe else 'rejected'
-    if explainer and (said := explained(explainer, text)) != kind and (kind, said) != ('rejected', OPEN):
+    if explainer and (said := explained(explainer, text)) != kind:
         faults.append(f'it is {kind}, and kr_explain says {said}')
     return text, kind, bool(walked), faults
 
