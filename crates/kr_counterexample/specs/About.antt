@@ -48,9 +48,9 @@ abbrev pub is_for_commit : ℕ → Option (ℕ × Span) → Bool
 is_for_commit mode (Some (asked, Commit)) = asked == mode
 is_for_commit mode _ = false
 
--- Whether a row asks on A for this mode until commit.
-abbrev pub asks : Protocol → ℕ → State → Row → Side → Bool
-asks p mode s r side = is_for_commit mode (p.ask r side s.on_a)
+-- Whether a row asks on A for this mode until commit, where it goes by the own mode o.
+abbrev pub asks : Protocol → ℕ → ℕ → Row → Side → Bool
+asks p mode o r side = is_for_commit mode (p.ask r side o)
 
 -- Whether B can be put in right below A.
 abbrev pub can_put : State → Bool
@@ -63,13 +63,13 @@ can_take s = s.p || (not s.b && s.k)
 -- Whether some step that can be taken asks on A for this mode until commit.
 abbrev pub is_asked_for : Protocol → ℕ → State → Bool
 is_asked_for p mode s =
-    asks p mode s row.FetchHit Current
-    || (asks p mode s row.FetchMiss Next
-    || (asks p mode s row.ScanKey Current
-    || (asks p mode s row.ScanStop Next
-    || ((asks p mode s row.Insert Next && can_put s)
-    || ((asks p mode s row.Delete Next && can_take s)
-    || asks p mode s row.Update Current)))))
+    asks p mode 0 row.FetchHit Current
+    || (asks p mode 0 row.FetchMiss Next
+    || (asks p mode 0 row.ScanKey Current
+    || (asks p mode 0 row.ScanStop Next
+    || ((asks p mode s.on_a row.Insert Next && can_put s)
+    || ((asks p mode s.on_a row.Delete Next && can_take s)
+    || asks p mode 0 row.Update Current)))))
 
 -- Whether the step of a rule can be taken where A stands.
 abbrev pub can_step : Rule → State → Bool
@@ -91,8 +91,9 @@ is_converted p c held asked s = s.a && (s.on_a == held) && nat_le held p.count &
 
 -- Whether an insert of A is one that a case of the rule is about: a split only where the holder has the cover of the gap.
 abbrev pub may_insert : Rule → Cover → State → Bool
+may_insert rule.Insert c s = true
 may_insert rule.Split c s = has_cover c s
-may_insert _ c s = true
+may_insert _ c s = false
 
 -- Whether a case of this rule, cover and modes is about the state.
 abbrev pub is_at : Protocol → Rule → Cover → Origin → State → Bool

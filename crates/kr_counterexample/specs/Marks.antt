@@ -4,13 +4,20 @@ use Rattle.kr_model.specs.declared.Event.{Event}
 use Rattle.kr_model.specs.declared.Name.{Name}
 use Rattle.kr_model.specs.declared.Op.{Op}
 use Rattle.kr_model.specs.declared.Op.TheVariants as op
+use Rattle.kr_model.specs.declared.Origin.{Origin}
+use Rattle.kr_model.specs.declared.Origin.TheVariants as origin
+use Rattle.kr_model.specs.declared.Row.TheVariants as row
+use Rattle.kr_model.specs.declared.Rule.{Rule}
+use Rattle.kr_model.specs.declared.Rule.TheVariants as rule
 use Rattle.kr_model.specs.declared.Side.{Side}
 use Rattle.kr_model.specs.declared.Side.TheVariants.{Current, Next}
 use Rattle.kr_model.specs.declared.Step.{Step}
 use Rattle.kr_model.specs.declared.Step.TheVariants as attempt
 use Rattle.kr_model.specs.Protocol.{Protocol}
 use Rattle.kr_model.specs.Map.{Map, at}
-use Rattle.kr_model.specs.Plan.{Access, access_of}
+use Rattle.kr_model.specs.Covers.{Ask}
+use Rattle.kr_model.specs.Locks.{Locks, own}
+use Rattle.kr_model.specs.Plan.{Access, access_of, own_next}
 use Rattle.kr_model.specs.State.{start}
 use Rattle.kr_model.specs.Run.{run}
 use Rattle.kr_counterexample.specs.declared.counterexample.Counterexample.{Counterexample}
@@ -48,6 +55,35 @@ name_at Next a = a.next
 -- One of the names is this one.
 abbrev pub IsOn : Name → Access → Type 0
 IsOn n a = (a.current ≡ Some n) ⊎ (a.next ≡ Some n)
+
+-- The lock of a case --
+
+-- The row and the side at which a case of this rule takes its lock; what a conversion requests may be of any row.
+abbrev pub taken_at : Rule → Option Ask
+taken_at rule.Conversion = None
+taken_at rule.FetchHit = Some (row.FetchHit, Current)
+taken_at rule.FetchMiss = Some (row.FetchMiss, Next)
+taken_at rule.ScanKey = Some (row.ScanKey, Current)
+taken_at rule.ScanStop = Some (row.ScanStop, Next)
+taken_at rule.Insert = Some (row.Insert, Current)
+taken_at rule.Split = Some (row.Insert, Current)
+taken_at rule.Delete = Some (row.Delete, Next)
+taken_at rule.Update = Some (row.Update, Current)
+
+-- The request is made at the row and the side at which a case of this rule takes its lock.
+abbrev pub IsMadeAt : Rule → Side → Access → Type 0
+IsMadeAt r s a = taken_at r ≡ Some (a.row, s)
+
+-- What t asks for at a side: the mode.
+abbrev pub asked_mode : Protocol → Locks → ℕ → Side → Access → Option ℕ
+asked_mode p h t s a = option_map (λ q. q.0) (p.ask a.row s (own_next h t a.row a.next))
+
+-- Where t has the locks h, its request at this side, on the name n, is the one that a case is about: t has the modes that the case is taken at,
+-- and the request is made where the case takes its lock, or, of a conversion, it is for the mode that is asked.
+abbrev pub IsRequestOf : Protocol → Rule → Origin → Locks → ℕ → Name → Side → Access → Type 0
+IsRequestOf p r (origin.Own o) h t n s a = (own h t n ≡ o) × IsMadeAt r s a
+IsRequestOf p r (origin.Conversion held asked) h t n s a = (own h t n ≡ held) × (asked_mode p h t s a ≡ Some asked)
+IsRequestOf p r (origin.Insert next o) h t n s a = (own h t n ≡ o) × (own_next h t a.row a.next ≡ next) × IsMadeAt r s a
 
 -- The marks of a script are those of its run under p.
 pub record AreMarked (p : Protocol) (c : Counterexample) : Type 0 where

@@ -1,13 +1,14 @@
 //! Whether a script leads to a state.
-ghost use Rattle.std.specs.Prelude.{◌≡◌, IfOk, IsTrue};
+ghost use Rattle.std.specs.Prelude.{◌≡◌, All, IfOk, IsTrue};
 ghost use Rattle.std.specs.Ordering.{eq_by_cmp};
 ghost use Rattle.kr_model.specs.Locks.{holder_cmp, own};
 ghost use Rattle.kr_model.specs.declared.Name.TheVariants.{Key};
-ghost use Rattle.kr_counterexample.specs.declared.keys.TheConstants.{K, B, P, A, Y};
-ghost use Rattle.kr_counterexample.specs.Reached.{IsReached, Leads, stands};
+ghost use Rattle.kr_counterexample.specs.declared.keys.TheConstants.{A, Y};
+ghost use Rattle.kr_counterexample.specs.Reached.{AreAlikeAt, IsReached, Leads, index_of, points, standing};
 
+use crate::access::{at, has};
 use crate::judging::{is_granted, keys_rise};
-use crate::keys::{A, B, K, P, Y};
+use crate::keys::{A, B, C, K, P, Y};
 use crate::numbers::events_of;
 use crate::reached::Reached;
 use crate::scripts::{opening_of, script_to};
@@ -16,7 +17,10 @@ use kr_cases::Memory;
 use kr_model::{Event, Mode, Name, Txn};
 use kr_protocol::Protocol;
 use kr_serial::{Ran, run_any};
-use std::alloc::Global;
+use std::alloc::{AllocError, Global};
+
+/// The points at and below A that the steps of a script name, and those above the ones that they delete.
+const POINTS: [u64; 7] = [K, K + 1, B, P, P + 1, C, A];
 
 /// The holder, which takes the first step of each script.
 const HOLDER: Txn = 1;
@@ -50,25 +54,60 @@ fn leads<T: Protocol>(
         return Ok(false);
     }
     let ran = run_any(alloc, protocol, opening, events)?;
+    let index = index_of(alloc, state)?;
     Ok(
         ran.replies.as_slice().iter().all(is_granted)
-            && has_keys(&ran, state)
+            && are_alike(ran.index.as_slice(), &index)
             && has_modes(&ran, state),
     )
 }
 
-/// Whether the keys stand as the state says.
-fn has_keys(ran: &Ran, state: State) -> bool
-    ensures k { IsTrue result → stands K ran.now.index ≡ state.k }
-    ensures b { IsTrue result → stands B ran.now.index ≡ state.b }
-    ensures p { IsTrue result → stands P ran.now.index ≡ state.p }
-    ensures a { IsTrue result → stands A ran.now.index ≡ state.a }
+/// The index of a state.
+fn index_of(alloc: Global, state: State) -> Result<Vec<(u64, u64)>, AllocError>
+    ensures { IfOk result (λ index. index.items ≡ index_of state) }
 {
-    let pairs = ran.index.as_slice();
-    stands(K, pairs) == state.k
-        && stands(B, pairs) == state.b
-        && stands(P, pairs) == state.p
-        && stands(A, pairs) == state.a
+    standing(
+        alloc,
+        &[
+            (K, state.k),
+            (B, state.b),
+            (P, state.p),
+            (A, state.a),
+            (Y, true),
+        ],
+    )
+}
+
+/// The index of the keys that are present.
+fn standing(alloc: Global, keys: &[(u64, bool)]) -> Result<Vec<(u64, u64)>, AllocError>
+    ensures { IfOk result (λ index. index.items ≡ standing keys.now) }
+{
+    let mut index = Vec::new(alloc);
+    for (key, is_present) in keys {
+        if *is_present {
+            index.push((*key, 0))?;
+        }
+    }
+    Ok(index)
+}
+
+/// Whether two indexes are alike at the points that steps name.
+fn are_alike(pairs: &[(u64, u64)], other: &[(u64, u64)]) -> bool
+    ensures { IsTrue result → All (AreAlikeAt pairs.now other.now) points }
+{
+    for point in &POINTS {
+        if !are_alike_at(pairs, other, *point) {
+            return false;
+        }
+    }
+    true
+}
+
+/// Whether two indexes are alike at a point.
+fn are_alike_at(pairs: &[(u64, u64)], other: &[(u64, u64)], point: u64) -> bool
+    ensures { IsTrue result → AreAlikeAt pairs.now other.now point }
+{
+    has(pairs, point) == has(other, point) && at(pairs, point) == at(other, point)
 }
 
 /// Whether the holder has the modes of the state.
@@ -78,13 +117,6 @@ fn has_modes(ran: &Ran, state: State) -> bool
 {
     let locks = ran.locks.as_slice();
     own(locks, HOLDER, Name::Key(A)) == state.on_a && own(locks, HOLDER, Name::Key(Y)) == state.on_y
-}
-
-/// Whether a key stands.
-fn stands(key: u64, pairs: &[(u64, u64)]) -> bool
-    ensures { result ≡ stands key pairs.now }
-{
-    pairs.iter().any(|pair| pair.0 == key)
 }
 
 /// The mode of a transaction on a name, or 0.

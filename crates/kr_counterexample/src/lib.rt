@@ -4,6 +4,7 @@
 //! found by the lock states alone. Each script is run and judged before it is shown.
 #![tactic(auto)]
 
+mod access;
 mod closure;
 mod counterexample;
 mod deed;

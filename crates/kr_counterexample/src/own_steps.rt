@@ -46,8 +46,9 @@ fn may_insert(rule: Rule, cover: Cover, state: State) -> bool
     ensures { result ≡ may_insert rule cover state }
 {
     match rule {
+        Rule::Insert => true,
         Rule::Split => has_cover(cover, state),
-        _ => true,
+        _ => false,
     }
 }
 
@@ -107,13 +108,14 @@ fn asking<T: Protocol>(table: &Table<'_, T>, state: State, asked: Mode) -> OwnSt
     requires { state.on_a ≤ (T.table table.now.protocol.now).count }
     ensures { list_any is_some result ≡ is_asked_for (T.table table.now.protocol.now) asked state }
 {
-    let hits = asks(table, asked, state, Row::FetchHit, Side::Current);
-    let misses = asks(table, asked, state, Row::FetchMiss, Side::Next);
-    let scans = asks(table, asked, state, Row::ScanKey, Side::Current);
-    let stops = asks(table, asked, state, Row::ScanStop, Side::Next);
-    let puts = asks(table, asked, state, Row::Insert, Side::Next);
-    let takes = asks(table, asked, state, Row::Delete, Side::Next);
-    let updates = asks(table, asked, state, Row::Update, Side::Current);
+    let own = state.on_a;
+    let hits = asks(table, asked, 0, Row::FetchHit, Side::Current);
+    let misses = asks(table, asked, 0, Row::FetchMiss, Side::Next);
+    let scans = asks(table, asked, 0, Row::ScanKey, Side::Current);
+    let stops = asks(table, asked, 0, Row::ScanStop, Side::Next);
+    let puts = asks(table, asked, own, Row::Insert, Side::Next);
+    let takes = asks(table, asked, own, Row::Delete, Side::Next);
+    let updates = asks(table, asked, 0, Row::Update, Side::Current);
     let (point, taken) = points_below(state);
     [
         step_if(hits, true, Op::Fetch(A)),
@@ -152,12 +154,12 @@ fn step_if(asks: bool, can: bool, op: Op) -> Option<Op>
     if asks && can { Some(op) } else { None }
 }
 
-/// Whether a row asks on A for the mode until commit.
-fn asks<T: Protocol>(table: &Table<'_, T>, mode: Mode, state: State, row: Row, side: Side) -> bool
-    requires { state.on_a ≤ (T.table table.now.protocol.now).count }
-    ensures { result ≡ asks (T.table table.now.protocol.now) mode state row side }
+/// Whether a row asks on A for the mode until commit, where it goes by this own mode.
+fn asks<T: Protocol>(table: &Table<'_, T>, mode: Mode, own: Mode, row: Row, side: Side) -> bool
+    requires { own ≤ (T.table table.now.protocol.now).count }
+    ensures { result ≡ asks (T.table table.now.protocol.now) mode own row side }
 {
-    match table.ask(row, side, state.on_a) {
+    match table.ask(row, side, own) {
         Some((asked, Span::Commit)) => asked == mode,
         _ => false,
     }

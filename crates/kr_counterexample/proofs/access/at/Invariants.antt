@@ -1,6 +1,6 @@
 use Rattle.std.proofs.Common.{◌≡◌, drop}
 use Rattle.kr_model.specs.Map.{at}
-use Rattle.kr_counterexample.proofs.marks.at.Given as goal
+use Rattle.kr_counterexample.proofs.access.at.Given as goal
 
 -- The least key is among the pairs that are left.
 abbrev pub invariant-loop-pair : goal.invariant-loop-pair

@@ -1,6 +1,6 @@
 use Rattle.std.proofs.Common.{◌≡◌, drop, is_some}
 use Rattle.kr_model.specs.Map.{get}
-use Rattle.kr_counterexample.proofs.marks.has.Given as goal
+use Rattle.kr_counterexample.proofs.access.has.Given as goal
 
 -- The pairs that are left tell whether the key is present.
 abbrev pub invariant-loop-pair : goal.invariant-loop-pair
