@@ -1,5 +1,5 @@
 -- A script that leads to a state which a case is about leads to the case.
-use Rattle.std.specs.Prelude.{◌≡◌, ◌<◌, ◌⊎◌, ℕ, ◌==◌, ◌&&◌, ◌||◌, nat_le, Bool, true, false, not, IsTrue, List, [], ◌∷◌, All, Option, Some, None, option_map, refl}
+use Rattle.std.specs.Prelude.{◌≡◌, ◌<◌, ◌⊎◌, ℕ, ◌==◌, ◌&&◌, ◌||◌, nat_le, Bool, true, false, not, IsTrue, List, [], ◌∷◌, All, Option, Some, None, refl}
 use Rattle.std.specs.List.{Any}
 use Rattle.std.proofs.Common.{◌∙◌, sym, ap, subst, inl, inr, arith}
 use Rattle.std.proofs.lemmas.Bool.{and_parts, or_cases}
@@ -30,7 +30,7 @@ use Rattle.kr_counterexample.specs.declared.reached.Reached.{Reached}
 use Rattle.kr_counterexample.specs.declared.state.State.{State}
 use Rattle.kr_counterexample.specs.About.{asks, can_put, can_step, can_take, has_cover, is_about, is_asked_for, is_at, is_below, is_for_commit, is_inserted, may_insert}
 use Rattle.kr_counterexample.specs.Comes.{CanComeTo, LeadsTo}
-use Rattle.kr_counterexample.specs.Marks.{IsRequestOf, access_in, name_at, taken_at}
+use Rattle.kr_counterexample.specs.Requests.{IsRequestOf, access_in, name_at}
 use Rattle.kr_counterexample.specs.Reached.{AreAlikeAt, EndsIn, IsReached, index_of, points}
 use Rattle.kr_counterexample.proofs.Steps as steps
 use Rattle.kr_counterexample.proofs.Steps.{keys}
@@ -49,10 +49,10 @@ is_or_isnt true = inl refl
 is_or_isnt false = inr refl
 
 -- what is requested until commit
-asked_of : (mode : ℕ) (q : Option (ℕ × Span)) → is_for_commit mode q ≡ true → option_map (λ q. q.0) q ≡ Some mode
+asked_of : (mode : ℕ) (q : Option (ℕ × Span)) → is_for_commit mode q ≡ true → q ≡ Some (mode, Commit)
 asked_of mode None e = absurd cc
 asked_of mode (Some (m, Instant)) e = absurd cc
-asked_of mode (Some (m, Commit)) e = ap Some (same_mode m mode e)
+asked_of mode (Some (m, Commit)) e = ap (λ (x : ℕ). Some (x, Commit)) (same_mode m mode e)
 
 -- Requests --
 
@@ -182,8 +182,8 @@ module _ (p : Protocol) (s : State) (m : Map) (h : Locks) (st : Stands s m h) wh
         split (inr isnt) = of_row (op.Scan 15 15) steps.stopped Next (stop_p isnt a) refl (on, asked_of asked (p.ask row.ScanStop Next 0) e)
 
     -- by the own mode on A
-    asked_by : (w : Row) → asks p asked s.on_a w Next ≡ true → option_map (λ q. q.0) (p.ask w Next (own h 1 (Key 20))) ≡ Some asked
-    asked_by w e = subst (λ o. option_map (λ q. q.0) (p.ask w Next o) ≡ Some asked) (sym st.on_a) (asked_of asked (p.ask w Next s.on_a) e)
+    asked_by : (w : Row) → asks p asked s.on_a w Next ≡ true → p.ask w Next (own h 1 (Key 20)) ≡ Some (asked, Commit)
+    asked_by w e = subst (λ o. p.ask w Next o ≡ Some (asked, Commit)) (sym st.on_a) (asked_of asked (p.ask w Next s.on_a) e)
 
     by_put : (asks p asked s.on_a row.Insert Next && can_put s) ≡ true → Asks p r (origin.Conversion held asked) m h
     by_put e =

@@ -7,7 +7,7 @@ use Rattle.kr_model.specs.declared.Op.TheVariants as op
 use Rattle.kr_model.specs.declared.Row.TheVariants as row
 use Rattle.kr_model.specs.Map.{Map}
 use Rattle.kr_model.specs.Plan.{Access, access}
-use Rattle.kr_counterexample.specs.Marks.{access_in}
+use Rattle.kr_counterexample.specs.Requests.{access_in}
 use Rattle.kr_counterexample.specs.Reached.{AreAlikeAt, standing}
 
 -- the index of a state, by which keys are present

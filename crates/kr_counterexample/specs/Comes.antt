@@ -11,7 +11,7 @@ use Rattle.kr_model.specs.Plan.{Access}
 use Rattle.kr_model.specs.State.{start}
 use Rattle.kr_model.specs.Run.{Trace, run, replies_of, is_granted}
 use Rattle.kr_counterexample.specs.declared.closure.Closure.{Closure}
-use Rattle.kr_counterexample.specs.Marks.{IsRequestOf, access_in, name_at}
+use Rattle.kr_counterexample.specs.Requests.{IsRequestOf, access_in, name_at}
 use Rattle.kr_counterexample.specs.Reached.{IsReached}
 
 -- The closure is one of p: a script leads to each of its states under p.

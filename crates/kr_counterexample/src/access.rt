@@ -2,7 +2,7 @@
 ghost use Rattle.std.specs.Prelude.{◌≡◌, is_some, option_map};
 ghost use Rattle.kr_model.specs.Map.{at, after, get};
 ghost use Rattle.kr_model.specs.Plan.{access, access_of, look_access};
-ghost use Rattle.kr_counterexample.specs.Marks.{access_in};
+ghost use Rattle.kr_counterexample.specs.Requests.{access_in};
 
 use kr_model::{Name, Op, Row};
 

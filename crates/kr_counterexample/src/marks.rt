@@ -3,7 +3,8 @@ ghost use Rattle.std.specs.Prelude.{◌≡◌, Some, IfOk, IsTrue, option_map};
 ghost use Rattle.kr_model.specs.declared.Name.{Name};
 ghost use Rattle.kr_model.specs.Map.{IsMap};
 ghost use Rattle.kr_model.specs.Plan.{access};
-ghost use Rattle.kr_counterexample.specs.Marks.{AreMarked, IsOn, access_at, name_at};
+ghost use Rattle.kr_counterexample.specs.Marks.{AreMarked, access_at};
+ghost use Rattle.kr_counterexample.specs.Requests.{IsOn, name_at};
 
 use crate::access::{Access, access_in};
 use crate::counterexample::Counterexample;
