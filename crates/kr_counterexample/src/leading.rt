@@ -2,6 +2,7 @@
 ghost use Rattle.std.specs.Prelude.{◌≡◌, All, IfOk, IsTrue};
 ghost use Rattle.std.specs.Ordering.{eq_by_cmp};
 ghost use Rattle.kr_model.specs.Locks.{holder_cmp, own};
+ghost use Rattle.kr_model.specs.Run.{is_granted};
 ghost use Rattle.kr_model.specs.declared.Name.TheVariants.{Key};
 ghost use Rattle.kr_counterexample.specs.declared.keys.TheConstants.{A, Y};
 ghost use Rattle.kr_counterexample.specs.Reached.{AreAlikeAt, IsReached, Leads, index_of, points, standing};
@@ -54,12 +55,24 @@ fn leads<T: Protocol>(
         return Ok(false);
     }
     let ran = run_any(alloc, protocol, opening, events)?;
+    ends_in(alloc, &ran, state)
+}
+
+/// Whether a run ends in the state. The only fault is that a growth was refused.
+fn ends_in(alloc: Global, ran: &Ran, state: State) -> Result<bool, Memory>
+    ensures granted { IfOk result (λ does. IsTrue does → All (λ r. IsTrue (is_granted r)) ran.now.replies) }
+    ensures alike { IfOk result (λ does. IsTrue does → All (AreAlikeAt ran.now.index (index_of state)) points) }
+    ensures on_a { IfOk result (λ does. IsTrue does → own ran.now.locks 1 (Key A) ≡ state.on_a) }
+    ensures on_y { IfOk result (λ does. IsTrue does → own ran.now.locks 1 (Key Y) ≡ state.on_y) }
+{
+    if !ran.replies.as_slice().iter().all(is_granted) {
+        return Ok(false);
+    }
     let index = index_of(alloc, state)?;
-    Ok(
-        ran.replies.as_slice().iter().all(is_granted)
-            && are_alike(ran.index.as_slice(), &index)
-            && has_modes(&ran, state),
-    )
+    if !are_alike(ran.index.as_slice(), &index) {
+        return Ok(false);
+    }
+    Ok(has_modes(ran, state))
 }
 
 /// The index of a state.
