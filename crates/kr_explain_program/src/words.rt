@@ -1,11 +1,10 @@
 //! What the words ask.
-ghost use Rattle.std.specs.Prelude.{◌≡◌, ◌<◌, ◌^◌, ℕ, List, IfOk, IfErr, OnErr, IfSome, IfNone, map, string_bytes};
-ghost use Rattle.std.specs.Fmt.{decimal};
+ghost use Rattle.std.specs.Prelude.{◌≡◌, List, IfOk, IfErr, OnErr, map, string_bytes};
 ghost use Rattle.kr_shell.specs.declared.endings.Ending.TheVariants as ending;
 ghost use Rattle.kr_explain_program.specs.Words.{words_of, AskNothingOfTables, IsAsked};
 ghost use Rattle.kr_explain_program.specs.declared.words.Wanted.{Wanted};
 
-use kr_shell::{Ending, is_plain};
+use kr_shell::{Ending, is_plain, number_of};
 
 /// What is asked.
 #[derive(Clone, Copy, Debug, PartialEq, Eq)]
@@ -49,16 +48,4 @@ pub fn read_words<'a>(words: &'a [String]) -> Result<Asked<'a>, Ending>
         }
         _ => Err(Ending::NotUnderstood),
     }
-}
-
-/// The number, from 1, that is written so in decimal digits.
-fn number_of(word: &str) -> Option<usize>
-    ensures some { IfSome result (λ n. (0 < n) × (word.now ≡ decimal n)) }
-    ensures none { IfNone result ((n : ℕ) → 0 < n → n < 2 ^ 64 → word.now ≡ decimal n → ⊥) }
-{
-    let bytes = word.as_bytes();
-    if bytes.is_empty() || bytes[0] < b'1' {
-        return None;
-    }
-    word.parse::<usize>().ok()
 }

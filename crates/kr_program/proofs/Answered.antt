@@ -17,7 +17,8 @@ use Rattle.kr_shell.specs.Tables.{table_of, names_of}
 use Rattle.kr_program.specs.Runs.{report_line, IsSerialScript}
 use Rattle.kr_program.specs.Threads.{threads_line}
 use Rattle.kr_program.specs.Program.{Reports, Answers}
-use Rattle.kr_program.specs.declared.words.Task.{Task}
+use Rattle.kr_program.specs.Words.{AreWords}
+use Rattle.kr_program.specs.declared.tasks.Task.{Task}
 
 -- a word names the script that bytes which may be had for it read as
 names_script : (may_give : List ℕ → Option (List ℕ) → Type 0) (word bytes read : List ℕ) (s : Script) → read ≡ bytes → MayBeScript may_give word (Some bytes) → reading read ≡ Ok s → NamesScript may_give word s
@@ -36,7 +37,7 @@ threads_reported may_give p word bytes read old new serial same had (s, (d, (rea
     (is_serial, (s, (names_script may_give word bytes read s same had reads, (d, (threaded, written)))))
 
 -- it is under the table that a word names, which is lawful
-pub answered : (may_give : List ℕ → Option (List ℕ) → Type 0) (r : Result Bool Ending) (table : List ℕ) (task : Task) (t : AnyTable) (old new : Option (List ℕ)) → NamesTable may_give table t → IfOk r (Reports may_give (table_of t) (names_of t) task old new) → IfOk r (Answers may_give old new)
-answered may_give (Ok well) table task t old new names reports =
-    record { table = table; task = task; named = t; names = names; lawful = lawful_of t; reports = reports }
-answered may_give (Err e) table task t old new names reports = tt
+pub answered : (may_give : List ℕ → Option (List ℕ) → Type 0) (words : List (List ℕ)) (r : Result Bool Ending) (table : List ℕ) (task : Task) (t : AnyTable) (old new : Option (List ℕ)) → AreWords words table task → NamesTable may_give table t → IfOk r (Reports may_give (table_of t) (names_of t) task old new) → IfOk r (Answers may_give words old new)
+answered may_give words (Ok well) table task t old new ask names reports =
+    record { table = table; task = task; named = t; ask = ask; names = names; lawful = lawful_of t; reports = reports }
+answered may_give words (Err e) table task t old new ask names reports = tt

@@ -1,5 +1,5 @@
 -- Why the program ends without a report.
-use Rattle.std.proofs.Common.{◌≡◌, ◌⊎◌, ◌<◌, ℕ, zero, suc, Bool, List, [], ◌∷◌, ◌++◌, Option, Some, None, Result, Ok, Err, IfErr, length, map, get_or, string_bytes, subst, sym, ap, inl, inr, arith, length-append}
+use Rattle.std.proofs.Common.{◌≡◌, ◌⊎◌, ◌<◌, ℕ, zero, suc, Bool, List, [], ◌∷◌, ◌++◌, Option, Some, None, Result, Ok, Err, IfErr, length, map, get_or, codes, string_bytes, subst, sym, ap, inl, inr, refl, arith, length-append}
 use Rattle.std.proofs.lemmas.List.{length-map}
 use Rattle.kr_script.specs.declared.faults.ScriptFault.{ScriptFault}
 use Rattle.kr_script.specs.Faults.{Fault, fault_of}
@@ -7,13 +7,16 @@ use Rattle.kr_script.specs.Reading.{reading}
 use Rattle.kr_shell.specs.declared.endings.Ending.{Ending}
 use Rattle.kr_shell.specs.declared.endings.Ending.TheVariants.{NotUnderstood, Memory, Place, Output, Told}
 use Rattle.kr_shell.specs.declared.tables.AnyTable.{AnyTable}
-use Rattle.kr_shell.specs.Endings.{MemoryOrTold}
+use Rattle.kr_shell.specs.Endings.{MemoryOrTold, line_of}
 use Rattle.kr_shell.specs.Files.{MayBeScript}
-use Rattle.kr_shell.specs.Lines.{told_line, unreadable_line, script_fault_text}
+use Rattle.kr_shell.specs.Lines.{HasNoLineFeed, told_line, unreadable_line, script_fault_text}
 use Rattle.kr_shell.specs.Named.{NamesTable, TellsNoTable, TellsUnreadable, TellsNoScript}
+use Rattle.kr_shell.proofs.OneLine.{none_above, none_in_no_table, none_in_no_script}
 use Rattle.kr_batch.specs.Names.{IsFirst, HasFault}
 use Rattle.kr_program.specs.Program.{Unreported, TellsFirst, TellsTask, Ends}
-use Rattle.kr_program.specs.declared.words.Task.{Task}
+use Rattle.kr_program.specs.Words.{AreWords}
+use Rattle.kr_program.specs.declared.tasks.Task.{Task}
+use Rattle.kr_program.specs.declared.tasks.Task.TheVariants.{Check, Run, Judge, Threads}
 
 -- nothing is told of a word
 pub untold_ends : (P : List ℕ → Type 0) (e : Ending) → Unreported (λ line. ⊥) e → Unreported P e
@@ -84,26 +87,42 @@ faulty_within may_give bytes_of words place f (x, (is_x, (before, word, rest, ss
 -- Of the program --
 
 -- no words are read
-pub unread : (may_give : List ℕ → Option (List ℕ) → Type 0) (e : Ending) → (e ≡ Memory) ⊎ (e ≡ NotUnderstood) → Ends may_give e
-unread may_give e (inl memory) = let P : Ending → Type 0 = λ x. Ends may_give x in subst P (sym memory) tt
-unread may_give e (inr not_understood) = let P : Ending → Type 0 = λ x. Ends may_give x in subst P (sym not_understood) tt
+pub unread : (may_give : List ℕ → Option (List ℕ) → Type 0) (words : List (List ℕ)) (e : Ending) → (e ≡ Memory) ⊎ (e ≡ NotUnderstood) → Ends may_give words e
+unread may_give words e (inl memory) = let P : Ending → Type 0 = λ x. Ends may_give words x in subst P (sym memory) tt
+unread may_give words e (inr not_understood) = let P : Ending → Type 0 = λ x. Ends may_give words x in subst P (sym not_understood) tt
 
 -- the word of a table names none
-pub no_table : (may_give : List ℕ → Option (List ℕ) → Type 0) (table : List ℕ) (task : Task) (e : Ending) → MemoryOrTold e (TellsNoTable may_give table) → Ends may_give e
-no_table may_give table task NotUnderstood told = tt
-no_table may_give table task Memory told = tt
-no_table may_give table task Place told = tt
-no_table may_give table task Output told = tt
-no_table may_give table task (Told line) told = (table, (task, inl told))
+pub no_table : (may_give : List ℕ → Option (List ℕ) → Type 0) (words : List (List ℕ)) (table : List ℕ) (task : Task) (e : Ending) → AreWords words table task → MemoryOrTold e (TellsNoTable may_give table) → Ends may_give words e
+no_table may_give words table task NotUnderstood ask told = tt
+no_table may_give words table task Memory ask told = tt
+no_table may_give words table task Place ask told = tt
+no_table may_give words table task Output ask told = tt
+no_table may_give words table task (Told line) ask told = (table, (task, (ask, inl told)))
 
 -- the task under the table that a word names isn't done
-ends_at : (may_give : List ℕ → Option (List ℕ) → Type 0) (table : List ℕ) (task : Task) (t : AnyTable) (e : Ending) → NamesTable may_give table t → Unreported (TellsTask may_give task) e → Ends may_give e
-ends_at may_give table task t NotUnderstood names ends = tt
-ends_at may_give table task t Memory names ends = tt
-ends_at may_give table task t Place names ends = tt
-ends_at may_give table task t Output names ends = tt
-ends_at may_give table task t (Told line) names ends = (table, (task, inr (t, (names, ends))))
+ends_at : (may_give : List ℕ → Option (List ℕ) → Type 0) (words : List (List ℕ)) (table : List ℕ) (task : Task) (t : AnyTable) (e : Ending) → AreWords words table task → NamesTable may_give table t → Unreported (TellsTask may_give task) e → Ends may_give words e
+ends_at may_give words table task t NotUnderstood ask names ends = tt
+ends_at may_give words table task t Memory ask names ends = tt
+ends_at may_give words table task t Place ask names ends = tt
+ends_at may_give words table task t Output ask names ends = tt
+ends_at may_give words table task t (Told line) ask names ends = (table, (task, (ask, inr (t, (names, ends)))))
 
-pub task_ends : (may_give : List ℕ → Option (List ℕ) → Type 0) (r : Result Bool Ending) (table : List ℕ) (task : Task) (t : AnyTable) → NamesTable may_give table t → IfErr r (Unreported (TellsTask may_give task)) → IfErr r (Ends may_give)
-task_ends may_give (Ok well) table task t names ends = tt
-task_ends may_give (Err e) table task t names ends = ends_at may_give table task t e names ends
+pub task_ends : (may_give : List ℕ → Option (List ℕ) → Type 0) (words : List (List ℕ)) (r : Result Bool Ending) (table : List ℕ) (task : Task) (t : AnyTable) → AreWords words table task → NamesTable may_give table t → IfErr r (Unreported (TellsTask may_give task)) → IfErr r (Ends may_give words)
+task_ends may_give words (Ok well) table task t ask names ends = tt
+task_ends may_give words (Err e) table task t ask names ends = ends_at may_give words table task t e ask names ends
+
+-- The line has no line feed --
+
+none_in_task : (may_give : List ℕ → Option (List ℕ) → Type 0) (task : Task) (line : List ℕ) → TellsTask may_give task line → HasNoLineFeed line
+none_in_task may_give Check line tells = absurd tells
+none_in_task may_give (Run word) line tells = none_in_no_script may_give word.now line tells
+none_in_task may_give (Judge words) line (place, (before, word, rest, ss, split, long, are, tells)) = none_in_no_script may_give word line tells
+none_in_task may_give (Threads word workers) line tells = none_in_no_script may_give word.now line tells
+
+pub none_in_line : (may_give : List ℕ → Option (List ℕ) → Type 0) (words : List (List ℕ)) (e : Ending) → Ends may_give words e → HasNoLineFeed (line_of e)
+none_in_line may_give words NotUnderstood ends = none_above (codes "words not understood") refl
+none_in_line may_give words Memory ends = none_above (codes "out of memory") refl
+none_in_line may_give words Place ends = none_above (codes "place refused") refl
+none_in_line may_give words Output ends = none_above (codes "output: cannot be written") refl
+none_in_line may_give words (Told line) (table, (task, (ask, inl tells))) = none_in_no_table may_give table (string_bytes line) tells
+none_in_line may_give words (Told line) (table, (task, (ask, inr (t, (names, tells))))) = none_in_task may_give task (string_bytes line) tells

@@ -1,4 +1,4 @@
--- What the program writes of a task, under the table and of the scripts that words name, and why it ends without that. What files may give is a relation of words to bytes, or to none.
+-- What the program writes of the task that words ask for, under the table and of the scripts that they name, and why it ends without that. What files may give is a relation of words to bytes, or to none.
 use Rattle.std.specs.Prelude.{◌≡◌, ℕ, Bool, true, false, List, Option, ◌↔◌, ◌⊎◌, IsTrue, All, map, string_bytes}
 use Rattle.std.specs.Io.KnownBytes.{Appends}
 use Rattle.kr_model.specs.Protocol.{Protocol, IsLawful}
@@ -15,10 +15,11 @@ use Rattle.kr_program.specs.Runs.{report_line, IsSerialScript}
 use Rattle.kr_program.specs.Checks.{check_line}
 use Rattle.kr_program.specs.Judges.{judge_lines}
 use Rattle.kr_program.specs.Threads.{threads_line}
+use Rattle.kr_program.specs.Words.{AreWords}
 use Rattle.kr_script.specs.declared.threaded.Threaded.{Threaded}
 use Rattle.kr_threads.specs.Threaded.{IsThreaded}
-use Rattle.kr_program.specs.declared.words.Task.{Task}
-use Rattle.kr_program.specs.declared.words.Task.TheVariants.{Check, Run, Judge, Threads}
+use Rattle.kr_program.specs.declared.tasks.Task.{Task}
+use Rattle.kr_program.specs.declared.tasks.Task.TheVariants.{Check, Run, Judge, Threads}
 
 -- Under a covered table the whole report was written of a run by several threads of the script that a word names, and the answer is that it is serializable; under another the report of the check, and the answer is that it is rejected.
 abbrev pub ThreadsReported : (List ℕ → Option (List ℕ) → Type 0) → Protocol → List (List ℕ) → List ℕ → Option (List ℕ) → Option (List ℕ) → Bool → Type 0
@@ -35,11 +36,12 @@ Reports may_give p names (Judge words) old new well = (ss : List Script) × (Are
     × (Appends old new (judge_lines p (map (λ w. w.now) words.items) ss) × (IsTrue well ↔ All (IsSerialScript p) ss)))
 Reports may_give p names (Threads word workers) old new well = ThreadsReported may_give p names word.now old new well
 
--- The whole report of a task was written, under the lawful table that a word names.
-pub record Answers (may_give : List ℕ → Option (List ℕ) → Type 0) (old new : Option (List ℕ)) (well : Bool) : Type 0 where
+-- The whole report of the task that these words ask for was written, under the lawful table that one of them names.
+pub record Answers (may_give : List ℕ → Option (List ℕ) → Type 0) (words : List (List ℕ)) (old new : Option (List ℕ)) (well : Bool) : Type 0 where
   pub table : List ℕ
   pub task : Task
   pub named : AnyTable
+  pub ask : AreWords words table task
   pub names : NamesTable may_give table named
   pub lawful : IsLawful (table_of named)
   pub reports : Reports may_give (table_of named) (names_of named) task old new well
@@ -68,10 +70,10 @@ abbrev pub TellsWord : (List ℕ → Option (List ℕ) → Type 0) → List ℕ 
 TellsWord may_give table task line =
     TellsNoTable may_give table line ⊎ ((t : AnyTable) × (NamesTable may_give table t × TellsTask may_give task line))
 
--- Why the program ends without a report, or with a prefix of it.
-abbrev pub Ends : (List ℕ → Option (List ℕ) → Type 0) → Ending → Type 0
-Ends may_give NotUnderstood = Unit {0}
-Ends may_give Memory = Unit {0}
-Ends may_give Place = Unit {0}
-Ends may_give Output = Unit {0}
-Ends may_give (Told line) = (table : List ℕ) × ((task : Task) × TellsWord may_give table task (string_bytes line))
+-- Why the program ends without the report that these words ask for, or with a prefix of it. A line is told of a word of a task that they ask for.
+abbrev pub Ends : (List ℕ → Option (List ℕ) → Type 0) → List (List ℕ) → Ending → Type 0
+Ends may_give words NotUnderstood = Unit {0}
+Ends may_give words Memory = Unit {0}
+Ends may_give words Place = Unit {0}
+Ends may_give words Output = Unit {0}
+Ends may_give words (Told line) = (table : List ℕ) × ((task : Task) × (AreWords words table task × TellsWord may_give table task (string_bytes line)))

@@ -3,9 +3,11 @@
 
 mod checks;
 mod faults;
+mod forms;
 mod judges;
 mod program;
 mod runs;
+mod tasks;
 mod threads;
 mod words;
 
@@ -14,5 +16,6 @@ pub use faults::OverFault;
 pub use judges::{LinesFault, judge_over};
 pub use program::{NAME, execute};
 pub use runs::run_over;
+pub use tasks::{Asked, Task, Workers};
 pub use threads::threads_over;
-pub use words::{Asked, Task, Workers, read_words};
+pub use words::read_words;

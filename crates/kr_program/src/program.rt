@@ -1,10 +1,10 @@
 //! The program over its words, files and streams.
-ghost use Rattle.std.specs.Prelude.{◌≡◌, ◌⊎◌, ◌↔◌, ◌≤◌, List, All, true, false, IfOk, IfErr, IsTrue, map};
+ghost use Rattle.std.specs.Prelude.{◌≡◌, ◌⊎◌, ◌↔◌, ◌≤◌, List, All, true, false, IfOk, IfErr, IsTrue, map, string_bytes};
 ghost use Rattle.std.specs.Io.KnownBytes.{Appends};
 ghost use Rattle.kr_model.specs.Covers.{IsCovered};
 ghost use Rattle.kr_script.specs.Puts.{AppendsFront, HasCause};
 ghost use Rattle.kr_script.specs.Script.{Script};
-ghost use Rattle.kr_shell.specs.Endings.{is_output, ending_line};
+ghost use Rattle.kr_shell.specs.Endings.{TellsOneLine, is_output, ending_line};
 ghost use Rattle.kr_shell.specs.Files.{MayBeScript};
 ghost use Rattle.kr_shell.specs.Named.{NamesScript, TellsNoScript};
 ghost use Rattle.kr_shell.specs.declared.endings.Ending.{Ending};
@@ -22,8 +22,9 @@ use crate::checks::{check_over, write_check};
 use crate::faults::OverFault;
 use crate::judges::{LinesFault, judge_over};
 use crate::runs::run_over;
+use crate::tasks::{Task, Workers};
 use crate::threads::threads_over;
-use crate::words::{Task, Workers, read_words};
+use crate::words::read_words;
 use kr_batch::{JudgeFault, TextFault, Texts};
 use kr_cases::{Rejected, WhyRejected, check};
 use kr_protocol::{Covered, Protocol};
@@ -244,8 +245,8 @@ fn ask<R: std::rt::Files + AllocGlobal + Threads + Wait + Sync, F: Files + Sync,
 where
     R::File: Send + Sync,
     R::Dir: Send + Sync,
-    ensures answers { IfOk result (Answers (F.may_give files.now) (W.taken out.old) (W.taken out.new)) }
-    ensures err { IfErr result (Ends (F.may_give files.now)) }
+    ensures answers { IfOk result (Answers (F.may_give files.now) (map string_bytes words.now) (W.taken out.old) (W.taken out.new)) }
+    ensures err { IfErr result (Ends (F.may_give files.now) (map string_bytes words.now)) }
     ensures nothing { IfErr result (λ e. IsTrue (is_output e) ⊎ (out.new ≡ out.old)) }
     ensures cause { IfErr result (λ e. IsTrue (is_output e) → HasCause (W.failures out.old) (W.failures out.new)) }
 {
@@ -256,9 +257,10 @@ where
 
 /// Runs the program on words without its own name, and answers its status: 0 where it accepted a table or each run was
 /// serializable, 1 where it rejected a table or a run wasn't, and 2 where it told a fault on `err`. At 0 and 1 the whole report
-/// of a task, under the table and of the scripts that words name, is written on `out`, and nothing on `err`; at a
-/// fault of words, files, tables, scripts or memory nothing is written on `out`. The line on `err` tells of a word why it
-/// names no table or no script, or that words aren't understood, or that memory, a place or output was refused.
+/// of the task that the words ask for is written on `out`, under the table and of the scripts that they name, and nothing on
+/// `err`; at a fault of words, files, tables, scripts or memory nothing is written on `out`. The line on `err` tells of a word
+/// of such a task why it names no table or no script, or that words aren't understood, or that memory, a place or output was
+/// refused. It has no line feed but its last byte.
 pub fn execute<
     R: std::rt::Files + AllocGlobal + Threads + Wait + Sync,
     F: Files + Sync,
@@ -269,11 +271,12 @@ where
     R::File: Send + Sync,
     R::Dir: Send + Sync,
     ensures within { result ≤ 2 }
-    ensures accepts { result ≡ 0 → Answers (F.may_give files.now) (W.taken out.old) (W.taken out.new) true }
-    ensures refuses { result ≡ 1 → Answers (F.may_give files.now) (W.taken out.old) (W.taken out.new) false }
+    ensures accepts { result ≡ 0 → Answers (F.may_give files.now) (map string_bytes words.now) (W.taken out.old) (W.taken out.new) true }
+    ensures refuses { result ≡ 1 → Answers (F.may_give files.now) (map string_bytes words.now) (W.taken out.old) (W.taken out.new) false }
     ensures fault { result ≡ 2 → HasCause (W.failures out.old) (W.failures out.new) ⊎ (out.new ≡ out.old) }
-    ensures told { result ≡ 2 → (e : Ending) × (Ends (F.may_give files.now) e
+    ensures told { result ≡ 2 → (e : Ending) × (Ends (F.may_give files.now) (map string_bytes words.now) e
         × AppendsFront (E.taken err.old) (E.taken err.new) (ending_line NAME.now e)) }
+    ensures one_line { result ≡ 2 → TellsOneLine (E.taken err.old) (E.taken err.new) }
     ensures silent { (err.new ≡ err.old) ⊎ (result ≡ 2) }
 {
     let done = ask(rt, words, files, out);

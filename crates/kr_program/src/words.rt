@@ -1,183 +1,137 @@
 //! What the words ask.
-ghost use Rattle.std.specs.Prelude.{◌≡◌, ◌⊎◌, ◌<◌, ◌≤◌, IfErr, IfSome};
+ghost use Rattle.std.specs.Prelude.{◌≡◌, ◌⊎◌, ◌∷◌, All, IfOk, IfErr, IfSome, IsTrue, map, string_bytes};
+ghost use Rattle.kr_shell.specs.Words.{IsPlain};
 ghost use Rattle.kr_shell.specs.declared.endings.Ending.TheVariants as ending;
+ghost use Rattle.kr_program.specs.Words.{AreLeft, AreWords, HasWorkers, LeavesWords, count_of};
 
+use crate::forms::command;
+use crate::tasks::{Asked, Task, Workers};
+use clap::ArgMatches;
 use clap::error::ErrorKind;
-use clap::{Arg, ArgAction, Command};
 use kr_shell::{Ending, is_plain};
-use std::alloc::{AllocError, Global};
+use std::alloc::Global;
 
-/// What is asked.
-#[derive(Drop)]
-pub struct Asked<'a> {
-    /// The word that names the table.
-    pub table: &'a str,
-    /// What is done under it.
-    pub task: Task<'a>,
-}
-
-/// What is done under a table.
-#[derive(Drop)]
-pub enum Task<'a> {
-    /// The table is checked: status 0 where it is accepted, and 1 where it is rejected.
-    Check,
-    /// The script that a word names is run: status 0 where the run is serializable, and 1 where it isn't.
-    Run(&'a str),
-    /// The scripts that words name are judged, and no verdict is shown before all are: status 0 where each run is serializable,
-    /// and 1 where one isn't.
-    Judge(Vec<&'a str>),
-    /// The table is checked, and then the script that a word names is run by so many workers, each a thread: status 0 where
-    /// the run is serializable, and 1 where it isn't or the table is rejected.
-    Threads(&'a str, Workers),
-}
-
-/// How many workers there are: 1 to 64.
-#[derive(Clone, Copy, Debug, PartialEq, Eq)]
-pub struct Workers {
-    count: usize,
-    ghost bounds: { (0 < count) × (count ≤ 64) },
-}
-
-impl Workers {
-    /// As many as there are where no word says how many.
-    const USUAL: usize = 4;
-
-    /// The number that a word is: 1 to 64 in decimal digits, without a leading zero.
-    fn of(word: &str) -> Option<Workers> {
-        let count = match word.as_bytes() {
-            [digit] => digit_of(*digit)?,
-            [tens, digit] => {
-                let tens = digit_of(*tens)?;
-                if tens == 0 {
-                    return None;
-                }
-                tens * 10 + digit_of(*digit)?
-            }
-            _ => return None,
-        };
-        if count == 0 || count > 64 {
-            return None;
-        }
-        Some(Workers { count })
-    }
-
-    /// How many there are.
-    pub fn count(self) -> usize
-        ensures { (0 < result) × (result ≤ 64) }
-    {
-        self.count
-    }
-}
-
-/// The number that a decimal digit is.
-fn digit_of(byte: u8) -> Option<usize>
-    ensures { IfSome result (λ d. d < 10) }
+/// Whether the words are these names, in their order.
+fn are_same(words: &[String], names: &[&str]) -> bool
+    ensures { IsTrue result → map string_bytes words.now ≡ map (λ name. name.now) names.now }
 {
-    match byte {
-        b'0'..=b'9' => Some((byte - b'0') as usize),
-        _ => None,
+    words.len() == names.len()
+        && words
+            .iter()
+            .zip(names.iter())
+            .all(|(word, name)| word.as_str() == *name)
+}
+
+/// Whether the words are the first word of a form, and behind it those of a table and of scripts.
+fn is_form(words: &[String], first: &str, table: &str, scripts: &[&str]) -> bool
+    ensures { IsTrue result → map string_bytes words.now ≡ first.now ∷ table.now ∷ map (λ script. script.now) scripts.now }
+{
+    match words {
+        [name, word, rest @ ..] if name.as_str() == first && word.as_str() == table => {
+            are_same(rest, scripts)
+        }
+        _ => false,
     }
 }
 
-fn positional<'a>(alloc: Global, id: &'a str) -> Arg<'a> {
-    Arg::new(alloc, id).required(true).action(ArgAction::Set)
-}
-
-/// The form `NAME TABLE`.
-fn of_table<'a>(alloc: Global, name: &'a str) -> Result<Command<'a>, AllocError> {
-    Command::new(alloc, name).arg(positional(alloc, "table"))
-}
-
-/// The form `NAME TABLE SCRIPT`.
-fn of_script<'a>(alloc: Global, name: &'a str) -> Result<Command<'a>, AllocError> {
-    of_table(alloc, name)?.arg(positional(alloc, "script"))
-}
-
-/// The form `NAME TABLE SCRIPT..`.
-fn of_scripts<'a>(alloc: Global, name: &'a str) -> Result<Command<'a>, AllocError> {
-    let scripts = Arg::new(alloc, "scripts")
-        .required(true)
-        .action(ArgAction::Append)
-        .num_args(1..);
-    of_table(alloc, name)?.arg(scripts)
-}
-
-/// The four forms.
-fn command<'a>(alloc: Global) -> Result<Command<'a>, AllocError> {
-    let forms = Command::new(alloc, "kr")
-        .no_binary_name(true)
-        .disable_help_flag(true)
-        .disable_help_subcommand(true)
-        .subcommand_required(true);
-    let forms = forms.subcommand(of_table(alloc, "check")?)?;
-    let forms = forms.subcommand(of_script(alloc, "run")?)?;
-    let forms = forms.subcommand(of_scripts(alloc, "judge")?)?;
-    forms.subcommand(of_script(alloc, "threads")?)
+impl Asked<'_> {
+    /// Whether these words ask for this, but for how many workers there are.
+    fn is_of(&self, words: &[String]) -> bool
+        ensures { IsTrue result → AreLeft (map string_bytes words.now) self.now.table.now self.now.task }
+    {
+        match &self.task {
+            Task::Check => is_form(words, "check", self.table, &[]),
+            Task::Run(script) => is_form(words, "run", self.table, &[*script]),
+            Task::Judge(scripts) => {
+                !scripts.is_empty() && is_form(words, "judge", self.table, scripts.as_slice())
+            }
+            Task::Threads(script, _) => is_form(words, "threads", self.table, &[*script]),
+        }
+    }
 }
 
 /// The words that are left where `--workers` and its number, which stand last in a form that has them, are taken away; and
 /// how many workers there are. Nothing where that word is no such number.
-fn without_workers(words: &[String]) -> Option<(&[String], Workers)> {
+fn without_workers(words: &[String]) -> Option<(&[String], Workers)>
+    ensures { IfSome result (λ r. LeavesWords (map string_bytes words.now) (map string_bytes r.0.now) (count_of r.1)) }
+{
     if words.len() == 5 && words[0].as_str() == "threads" && words[3].as_str() == "--workers" {
         let workers = Workers::of(words[4].as_str())?;
         return Some((&words[..3], workers));
     }
-    let usual = Workers {
-        count: Workers::USUAL,
-    };
-    Some((words, usual))
+    Some((words, Workers::USUAL))
 }
 
 /// Whether no word begins with a hyphen: but for `--workers`, none of the forms has such a word.
-fn has_form(words: &[String]) -> bool {
+fn are_plain(words: &[String]) -> bool
+    ensures { IsTrue result → All (λ word. IsPlain (string_bytes word)) words.now }
+{
     words.iter().all(|word| is_plain(word.as_str()))
+}
+
+/// What `clap` makes of words.
+fn matches_of<'a>(alloc: Global, words: &'a [String]) -> Result<ArgMatches<'a>, Ending>
+    ensures { IfErr result (λ e. (e ≡ ending.Memory) ⊎ (e ≡ ending.NotUnderstood)) }
+{
+    match command(alloc)?.try_get_matches_from(words) {
+        Ok(matches) => Ok(matches),
+        Err(e) if e.kind() == ErrorKind::OutOfMemory => Err(Ending::Memory),
+        Err(_) => Err(Ending::NotUnderstood),
+    }
+}
+
+/// What is asked by a form of this name; where it is one by several threads, it has these workers.
+fn asked_of<'a>(
+    alloc: Global,
+    name: &str,
+    given: &ArgMatches<'a>,
+    workers: Workers,
+) -> Result<Asked<'a>, Ending>
+    ensures workers { IfOk result (λ a. HasWorkers workers a.task) }
+    ensures err { IfErr result (λ e. (e ≡ ending.Memory) ⊎ (e ≡ ending.NotUnderstood)) }
+{
+    let Some(table) = given.get_str("table") else {
+        return Err(Ending::NotUnderstood);
+    };
+    let task = match (name, given.get_str("script"), given.get_strs("scripts")) {
+        ("check", _, _) => Task::Check,
+        ("run", Some(script), _) => Task::Run(script),
+        ("judge", _, Some(scripts)) => Task::Judge(scripts.to_vec(alloc)?),
+        ("threads", Some(script), _) => Task::Threads(script, workers),
+        _ => return Err(Ending::NotUnderstood),
+    };
+    Ok(Asked { table, task })
+}
+
+/// What `clap` takes words for, where `--workers` and its number have been taken away.
+fn parsed<'a>(alloc: Global, words: &'a [String], workers: Workers) -> Result<Asked<'a>, Ending>
+    ensures workers { IfOk result (λ a. HasWorkers workers a.task) }
+    ensures err { IfErr result (λ e. (e ≡ ending.Memory) ⊎ (e ≡ ending.NotUnderstood)) }
+{
+    let matches = matches_of(alloc, words)?;
+    match matches.subcommand() {
+        Some((name, given)) => asked_of(alloc, name, given, workers),
+        None => Err(Ending::NotUnderstood),
+    }
 }
 
 /// What the words ask, the program's name left out: `check TABLE`, `run TABLE SCRIPT`, `judge TABLE SCRIPT..` with one script
 /// or more, or `threads TABLE SCRIPT --workers N` with N from 1 to 64, where the last two words may be left out, and N is
 /// then 4. Other words aren't understood.
 pub fn read_words<'a>(alloc: Global, words: &'a [String]) -> Result<Asked<'a>, Ending>
-    ensures { IfErr result (λ e. (e ≡ ending.Memory) ⊎ (e ≡ ending.NotUnderstood)) }
+    ensures words { IfOk result (λ a. AreWords (map string_bytes words.now) a.table.now a.task) }
+    ensures err { IfErr result (λ e. (e ≡ ending.Memory) ⊎ (e ≡ ending.NotUnderstood)) }
 {
-    let Some((words, workers)) = without_workers(words) else {
+    let Some((left, workers)) = without_workers(words) else {
         return Err(Ending::NotUnderstood);
     };
-    if !has_form(words) {
+    if !are_plain(left) {
         return Err(Ending::NotUnderstood);
     }
-    let matches = match command(alloc)?.try_get_matches_from(words) {
-        Ok(matches) => matches,
-        Err(e) if e.kind() == ErrorKind::OutOfMemory => return Err(Ending::Memory),
-        Err(_) => return Err(Ending::NotUnderstood),
-    };
-    let Some((name, given)) = matches.subcommand() else {
+    let asked = parsed(alloc, left, workers)?;
+    // `clap` never takes words for others: that its answer is of these words is tested here, and so it can be proved.
+    if !asked.is_of(left) {
         return Err(Ending::NotUnderstood);
-    };
-    let Some(table) = given.get_str("table") else {
-        return Err(Ending::NotUnderstood);
-    };
-    if name == "check" {
-        return Ok(Asked {
-            table,
-            task: Task::Check,
-        });
     }
-    if name == "judge" {
-        let Some(scripts) = given.get_strs("scripts") else {
-            return Err(Ending::NotUnderstood);
-        };
-        let task = Task::Judge(scripts.to_vec(alloc)?);
-        return Ok(Asked { table, task });
-    }
-    match given.get_str("script") {
-        Some(script) if name == "threads" => Ok(Asked {
-            table,
-            task: Task::Threads(script, workers),
-        }),
-        Some(script) => Ok(Asked {
-            table,
-            task: Task::Run(script),
-        }),
-        None => Err(Ending::NotUnderstood),
-    }
+    Ok(asked)
 }

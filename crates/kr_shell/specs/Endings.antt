@@ -1,7 +1,9 @@
 -- How a program ends, and the line that tells it.
-use Rattle.std.specs.Prelude.{ℕ, Bool, true, false, List, [], ◌∷◌, ◌++◌, codes, string_bytes}
+use Rattle.std.specs.Prelude.{ℕ, Bool, true, false, List, [], ◌∷◌, ◌++◌, Option, codes, string_bytes}
+use Rattle.kr_script.specs.Puts.{AppendsFront}
 use Rattle.kr_shell.specs.declared.endings.Ending.{Ending}
 use Rattle.kr_shell.specs.declared.endings.Ending.TheVariants.{NotUnderstood, Memory, Place, Output, Told}
+use Rattle.kr_shell.specs.Lines.{HasNoLineFeed}
 
 -- Whether a program ends for output that can't be written.
 abbrev pub is_output : Ending → Bool
@@ -30,3 +32,7 @@ line_of (Told line) = string_bytes line
 -- The line of a program of this name that ends so, with its line feed.
 abbrev pub ending_line : List ℕ → Ending → List ℕ
 ending_line name e = name ++ (codes ": " ++ (line_of e ++ 10 ∷ []))
+
+-- One line was written, or a prefix of it: it has no line feed but its last byte.
+abbrev pub TellsOneLine : Option (List ℕ) → Option (List ℕ) → Type 0
+TellsOneLine old new = (line : List ℕ) × (HasNoLineFeed line × AppendsFront old new (line ++ 10 ∷ []))

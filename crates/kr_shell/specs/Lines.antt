@@ -1,5 +1,5 @@
 -- What is told of a word on one line.
-use Rattle.std.specs.Prelude.{ℕ, List, ◌++◌, false, Option, Some, None, codes, encode_utf8, if◌then◌else◌, string_bytes}
+use Rattle.std.specs.Prelude.{◌≢◌, ℕ, List, ◌++◌, All, false, Option, Some, None, codes, encode_utf8, if◌then◌else◌, string_bytes}
 use Rattle.std.specs.Char.{is_control}
 use Rattle.std.specs.Fmt.{decimal, digits}
 use Rattle.std.specs.List.{flat_map}
@@ -22,6 +22,10 @@ on_one_line text = flat_map shown (chars text)
 -- The line that tells this of a word.
 abbrev pub told_line : List ℕ → List ℕ → List ℕ
 told_line word what = on_one_line (word ++ (codes ": " ++ what))
+
+-- A text has no line feed.
+abbrev pub HasNoLineFeed : List ℕ → Type 0
+HasNoLineFeed text = All (λ byte. byte ≢ 10) text
 
 -- The line for a word whose file can't be read.
 abbrev pub unreadable_line : List ℕ → List ℕ

@@ -3,7 +3,7 @@ ghost use Rattle.std.specs.Prelude.{◌≡◌, ◌≤◌, ◌↔◌, true, false
 ghost use Rattle.std.specs.Io.KnownBytes.{Appends};
 ghost use Rattle.kr_script.specs.Puts.{AppendsFront, HasCause};
 ghost use Rattle.kr_shell.specs.Endings.{MemoryOrTold, is_output, line_of, ending_line};
-ghost use Rattle.kr_shell.specs.Lines.{told_line};
+ghost use Rattle.kr_shell.specs.Lines.{HasNoLineFeed, told_line};
 ghost use Rattle.kr_shell.specs.declared.endings.Ending.TheVariants as ending;
 
 use crate::lines::told_line;
@@ -43,6 +43,7 @@ impl Ending {
     /// that it neither breaks the line nor reaches the terminal. Where a growth is refused, that is how the program ends.
     pub fn told(alloc: Global, word: &str, what: &str) -> Ending
         ensures line { MemoryOrTold result (λ line. line ≡ told_line word.now what.now) }
+        ensures one_line { MemoryOrTold result HasNoLineFeed }
         ensures other { is_output result ≡ false }
     {
         match told_line(alloc, word, what) {

@@ -19,4 +19,4 @@ pub use manual::{Manual, VERSION};
 pub use questions::{Question, question_in};
 pub use reading::first_bytes;
 pub use tables::{AnyTable, TABLE_BYTES, at_table_fault, table_at};
-pub use words::{is_no_file, is_plain, words_given};
+pub use words::{is_no_file, is_plain, number_of, words_given};

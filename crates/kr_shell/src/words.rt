@@ -1,5 +1,6 @@
 //! The words that a program is called with.
-ghost use Rattle.std.specs.Prelude.{◌≡◌, ◌↔◌, ◌⊎◌, IfErr, IsTrue};
+ghost use Rattle.std.specs.Prelude.{◌≡◌, ◌↔◌, ◌⊎◌, ◌<◌, ◌^◌, ℕ, IfErr, IfSome, IfNone, IsTrue};
+ghost use Rattle.std.specs.Fmt.{decimal};
 ghost use Rattle.kr_shell.specs.declared.endings.Ending.TheVariants as ending;
 ghost use Rattle.kr_shell.specs.Words.{IsNoFile, IsPlain};
 
@@ -36,4 +37,16 @@ pub fn is_no_file(word: &str) -> bool
 {
     let bytes = word.as_bytes();
     !bytes.is_empty() && bytes[0] == b'@'
+}
+
+/// The number, from 1 to `2^64 - 1`, that a word is: decimal digits without a leading zero. Another word is none.
+pub fn number_of(word: &str) -> Option<usize>
+    ensures some { IfSome result (λ n. (0 < n) × (word.now ≡ decimal n)) }
+    ensures none { IfNone result ((n : ℕ) → 0 < n → n < 2 ^ 64 → word.now ≡ decimal n → ⊥) }
+{
+    let bytes = word.as_bytes();
+    if bytes.is_empty() || bytes[0] < b'1' {
+        return None;
+    }
+    word.parse::<usize>().ok()
 }

@@ -1,5 +1,7 @@
-use Rattle.std.specs.Prelude.{true, false}
+use Rattle.std.specs.Prelude.{true, false, codes, map, string_bytes, refl}
 use Rattle.kr_shell.proofs.Finished.{ok_at, ending_at, fault_at, silent_at}
+use Rattle.kr_shell.proofs.OneLine.{none_above, one_line}
+use Rattle.kr_program.proofs.Ended.{none_in_line}
 use Rattle.kr_program.proofs.program.execute.Goals as goal
 
 pub returns-clause-accepts : goal.returns-clause-accepts
@@ -13,6 +15,12 @@ returns-clause-fault g c two = fault_at c.ask-done.result c.finish.result _ _ c.
 
 pub returns-clause-told : goal.returns-clause-told
 returns-clause-told g c two = ending_at c.ask-done.result c.finish.result _ _ c.finish.ensures.well c.finish.ensures.not_well c.ask-done.ensures.err c.finish.ensures.told two
+
+pub returns-clause-one_line : goal.returns-clause-one_line
+returns-clause-one_line g c two =
+    let (e, (ends, front)) = ending_at c.ask-done.result c.finish.result _ _ c.finish.ensures.well c.finish.ensures.not_well c.ask-done.ensures.err c.finish.ensures.told two in
+    let none = none_in_line (g.F.Files.may_give c.args.files.now) (map string_bytes c.args.words.now) e ends in
+    one_line (codes "kr") e _ _ (none_above (codes "kr") refl) none front
 
 pub returns-clause-silent : goal.returns-clause-silent
 returns-clause-silent g c = silent_at c.ask-done.result c.finish.result _ c.finish.ensures.within c.finish.ensures.well c.finish.ensures.not_well c.finish.ensures.silent

@@ -1,8 +1,8 @@
 use Rattle.std.proofs.Common.{◌≡◌, ◌<◌, ◌≤◌, ℕ, true, List, [], ◌∷◌, length, get_or, subst, arith}
 use Rattle.std.specs.Prelude.{◌==◌}
-use Rattle.kr_explain_program.proofs.Numbers.{number_written, no_number, not_written}
-use Rattle.kr_explain_program.proofs.words.number_of.Goals as goal
-use Rattle.kr_explain_program.proofs.words.number_of.Goals.{then-is_empty-via-then-is_empty, then-is_empty-via-else-is_empty+then-bytes-lt49}
+use Rattle.kr_shell.proofs.Numbers.{number_written, no_number, not_written}
+use Rattle.kr_shell.proofs.words.number_of.Goals as goal
+use Rattle.kr_shell.proofs.words.number_of.Goals.{then-is_empty-via-then-is_empty, then-is_empty-via-else-is_empty+then-bytes-lt49}
 
 -- an empty text has no digit in front
 empty_below : (bs : List ℕ) → (length bs == 0) ≡ true → get_or bs 0 0 < 49

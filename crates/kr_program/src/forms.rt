@@ -1,0 +1,39 @@
+//! The forms of the words, as `clap` reads them.
+use clap::{Arg, ArgAction, Command};
+use std::alloc::{AllocError, Global};
+
+fn positional<'a>(alloc: Global, id: &'a str) -> Arg<'a> {
+    Arg::new(alloc, id).required(true).action(ArgAction::Set)
+}
+
+/// The form `NAME TABLE`.
+fn of_table<'a>(alloc: Global, name: &'a str) -> Result<Command<'a>, AllocError> {
+    Command::new(alloc, name).arg(positional(alloc, "table"))
+}
+
+/// The form `NAME TABLE SCRIPT`.
+fn of_script<'a>(alloc: Global, name: &'a str) -> Result<Command<'a>, AllocError> {
+    of_table(alloc, name)?.arg(positional(alloc, "script"))
+}
+
+/// The form `NAME TABLE SCRIPT..`.
+fn of_scripts<'a>(alloc: Global, name: &'a str) -> Result<Command<'a>, AllocError> {
+    let scripts = Arg::new(alloc, "scripts")
+        .required(true)
+        .action(ArgAction::Append)
+        .num_args(1..);
+    of_table(alloc, name)?.arg(scripts)
+}
+
+/// The four forms.
+pub(crate) fn command<'a>(alloc: Global) -> Result<Command<'a>, AllocError> {
+    let forms = Command::new(alloc, "kr")
+        .no_binary_name(true)
+        .disable_help_flag(true)
+        .disable_help_subcommand(true)
+        .subcommand_required(true);
+    let forms = forms.subcommand(of_table(alloc, "check")?)?;
+    let forms = forms.subcommand(of_script(alloc, "run")?)?;
+    let forms = forms.subcommand(of_scripts(alloc, "judge")?)?;
+    forms.subcommand(of_script(alloc, "threads")?)
+}
