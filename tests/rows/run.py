@@ -1,14 +1,15 @@
 #!/usr/bin/env python3
 """Runs rows of input and output over the built programs: run.py [--write] FILE.rows ..
 
-A row is what one call of a program prints for some files. Each of its lines is a word, a colon and a text:
+A row is what a call of a program prints for some files. Each of its lines is a word, a colon and a text:
 
     row     its name, which begins the row
     file    NAME = TEXT: a file in the folder where the program runs, with the escapes of JSON strings; \\xHH is a byte
     edit    NAME of FILE: OLD => NEW: a file as FILE of the repository is, with OLD, which stands there once, changed to NEW;
             more edits of the same NAME follow one another
     long    NAME COUNT TEXT: TEXT, COUNT times, at the end of a file, or as one
-    call    the program, kr, kr_explain or kr_view, and its words; WORDS < NAME reads standard input from a file
+    call    the program, kr, kr_explain or kr_view, and its words; WORDS < NAME reads standard input from a file. A blank
+            stands before each word, also before an empty one. A row may have several calls, and each prints the same
     status  the status that is expected
     out     a line that is expected on standard output, or `out: ..` for any text
     err     a line that is expected on standard error
@@ -111,12 +112,13 @@ def main():
                 for _, word, text in row:
                     if word in ("file", "edit", "long"):
                         put(folder, word, text)
-                printed = call(folder, next(text for _, word, text in row if word == "call"))
-            count += 1
-            if differs(row, printed):
-                wrong += 1
-                number, _, name = row[0]
-                print(f"{path}:{number}: {name}: status {printed[2]}\n{printed[0]}{printed[1]}", end="")
+                calls = [(number, text, call(folder, text)) for number, word, text in row if word == "call"]
+            count += len(calls)
+            for number, words, printed in calls:
+                if differs(row, printed):
+                    wrong += 1
+                    print(f"{path}:{number}: {row[0][2]}: {words}: status {printed[2]}\n{printed[0]}{printed[1]}", end="")
+            printed = calls[0][2]
             kept = [f"{word}: {text}" for _, word, text in row if word not in ("out", "err", "status")]
             any_out = any(word == "out" and text == ".." for _, word, text in row)
             kept += [f"status: {printed[2]}"]
@@ -127,7 +129,7 @@ def main():
             head = "".join(it for it in open(path, encoding="utf-8") if it.startswith("#"))
             with open(path, "w", encoding="utf-8") as file:
                 file.write(head + "\n" + "\n\n".join(texts) + "\n")
-    print(f"rows: {count - wrong} of {count} are as expected")
+    print(f"rows: {count - wrong} of {count} calls are as expected")
     sys.exit(1 if wrong else 0)
 
 
