@@ -1,6 +1,20 @@
--- How the text of a page reads, character by character.
-use Rattle.std.specs.Prelude.{ℕ, List, [], ◌∷◌, ◌++◌, Bool, ◌||◌, ◌==◌, Option, Some, None, option_map, if◌then◌else◌, codes}
+-- How a text stands in a page, and how it reads there, character by character.
+use Rattle.std.specs.Prelude.{ℕ, List, [], ◌∷◌, ◌++◌, Bool, ◌||◌, ◌==◌, Option, Some, None, option_map, if◌then◌else◌, codes, flat_map}
 use Rattle.std.specs.Str.{bytes_eq}
+
+-- A byte of a text as it stands in a page: `<`, `>`, `&` and both quotes are entities.
+abbrev pub escaped_byte : ℕ → List ℕ
+escaped_byte b =
+    if b == 60 then codes "&lt;"
+    else if b == 62 then codes "&gt;"
+    else if b == 38 then codes "&amp;"
+    else if b == 34 then codes "&quot;"
+    else if b == 39 then codes "&#39;"
+    else b ∷ []
+
+-- A text as it stands in a page.
+abbrev pub escaped : List ℕ → List ℕ
+escaped text = flat_map escaped_byte text
 
 -- Whether a character never stands in a text as it is: `<`, `>` and both quotes. `&` begins an entity.
 abbrev pub is_mark : ℕ → Bool
