@@ -41,7 +41,7 @@ impl Html {
     /// What was written.
     pub fn as_str(&self) -> &str
         ensures written { result.now ≡ self.now }
-        ensures parts { IsMadeOfParts self.now }
+        ensures parts { IsMadeOfParts result.now }
     {
         self.text.as_str()
     }

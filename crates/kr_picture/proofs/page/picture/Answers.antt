@@ -14,4 +14,4 @@ framed_page table name shown telling page serial reads same made is_framed =
 
 pub returns-clause-page : goal.returns-clause-page
 returns-clause-page g c =
-    framed_page c.args.table.now (string_bytes c.in_ok-name.name) c.as_str.result.now c.as_str-2.result.now (string_bytes c.in_ok-page.page) c.is_serial-is_serial.result c.in_ok-name.ensures c.as_str.ensures.value c.as_str-2.ensures c.in_ok-page.ensures
+    framed_page c.args.table.now (string_bytes c.in_ok-name.name) c.as_str.result.now c.as_str-2.result.now (string_bytes c.in_ok-page.page) c.is_serial-is_serial.result c.in_ok-name.ensures.reads_back c.as_str.ensures.value c.as_str-2.ensures.parts c.in_ok-page.ensures
