@@ -1,15 +1,9 @@
--- The marks of a page, as they stand in it.
+-- The marks of a page, as they stand in it. None of them has `<section`, with which the band of a step begins.
 use Rattle.std.specs.Prelude.{ℕ, List, codes}
 use Rattle.kr_html.specs.declared.mark.Mark.{Mark}
 use Rattle.kr_html.specs.declared.mark.Mark.TheVariants as mark
 
 abbrev pub mark_bytes : Mark → List ℕ
-mark_bytes mark.Section = codes "<section id=\"s"
-mark_bytes mark.Class = codes "\" class=\""
-mark_bytes mark.StepHead = codes "\">\n<h3><span>"
-mark_bytes mark.ReplyHead = codes "</span> <span class=\"reply\">"
-mark_bytes mark.EndStepHead = codes "</span></h3>\n"
-mark_bytes mark.EndSection = codes "</section>\n"
 mark_bytes mark.Paragraph = codes "<p>"
 mark_bytes mark.Differs = codes "<p class=\"differs\">"
 mark_bytes mark.Note = codes "<p class=\"note\">"

@@ -3,16 +3,9 @@ ghost use Rattle.std.specs.Prelude.{◌≡◌};
 ghost use Rattle.kr_html.specs.Marks.{mark_bytes};
 
 /// A mark: a fixed piece of a page. Some begin an element and some end one, and some stand between the values of its
-/// attributes.
+/// attributes. None begins a section, so no `Html` can look like the band of a step.
 #[derive(Clone, Copy, Debug, PartialEq, Eq)]
 pub enum Mark {
-    // Bands of steps.
-    Section,
-    Class,
-    StepHead,
-    ReplyHead,
-    EndStepHead,
-    EndSection,
     // Paragraphs, headings and links.
     Paragraph,
     Differs,
@@ -74,12 +67,6 @@ impl Mark {
         ensures { result.now ≡ mark_bytes self }
     {
         match self {
-            Mark::Section => "<section id=\"s",
-            Mark::Class => "\" class=\"",
-            Mark::StepHead => "\">\n<h3><span>",
-            Mark::ReplyHead => "</span> <span class=\"reply\">",
-            Mark::EndStepHead => "</span></h3>\n",
-            Mark::EndSection => "</section>\n",
             Mark::Paragraph => "<p>",
             Mark::Differs => "<p class=\"differs\">",
             Mark::Note => "<p class=\"note\">",

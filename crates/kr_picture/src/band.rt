@@ -1,51 +1,87 @@
 //! The band of a step: what was asked and answered in words, and its drawing.
+ghost use Rattle.std.specs.Prelude.{◌≡◌, ◌++◌, ◌∷◌, [], List, IfOk, OnOk, string_bytes};
+ghost use Rattle.kr_scenes.specs.Scenes.{NumberedStep, step_of};
+ghost use Rattle.kr_picture.specs.Page.{AreBands, band_head};
 
 use crate::drawing::write_drawing;
+use crate::frame::BAND_END;
 use kr_html::{Html, Mark, Part};
 use kr_locks::Memory;
 use kr_model::Span;
 use kr_protocol::Protocol;
 use kr_scenes::{
-    Asked, Columns, Difference, Layout, Scene, kind_of, mode_name, write_name, write_numbers,
+    Asked, Difference, Drawn, Layout, Scene, kind_of, mode_name, write_name, write_numbers,
     write_op, write_reply,
 };
 use std::alloc::Global;
 
-/// Writes the band of a step.
-pub fn write_band<P: Protocol>(
+/// Writes the band of a step behind those of other steps.
+pub fn push_band<P: Protocol>(
     alloc: Global,
     protocol: &P,
-    columns: &Columns,
+    drawn: &Drawn,
     layout: &Layout,
     difference: Option<Difference<'_>>,
     scene: &Scene,
-    out: &mut Html,
-) -> Result<(), Memory> {
-    let number = scene.number;
-    out.put(&[
-        Part::Mark(Mark::Section),
-        Part::Number(number),
-        Part::Mark(Mark::Class),
-        Part::Text(kind_of(&scene.reply)),
-        Part::Mark(Mark::StepHead),
-        Part::Text("Step "),
-        Part::Number(number),
-        Part::Text(": transaction "),
-        Part::Number(u64::from(scene.event.txn)),
-        Part::Text(", "),
-    ])?;
-    write_op(out, scene.event.op)?;
-    out.mark(Mark::ReplyHead)?;
-    write_reply(out, &scene.reply)?;
-    out.mark(Mark::EndStepHead)?;
+    bands: &mut String,
+) -> Result<(), Memory>
+    ensures { (steps : List NumberedStep) → AreBands steps (string_bytes bands.old)
+        → OnOk result (AreBands (steps ++ step_of scene.now ∷ []) (string_bytes bands.new)) }
+{
+    let head = head_of(alloc, scene)?;
+    let telling = telling_of(alloc, protocol, drawn, layout, difference, scene)?;
+    bands.push_str(head.as_str())?;
+    bands.push_str(telling.as_str())?;
+    bands.push_str(BAND_END)?;
+    Ok(())
+}
+
+/// The head of the band of a step.
+fn head_of(alloc: Global, scene: &Scene) -> Result<String, Memory>
+    ensures { IfOk result (λ head. string_bytes head ≡ band_head (step_of scene.now)) }
+{
+    let mut op = Html::new(alloc);
+    write_op(&mut op, scene.event.op)?;
+    let mut reply = Html::new(alloc);
+    write_reply(&mut reply, &scene.reply)?;
+    let (number, txn) = (scene.number, scene.event.txn);
+    let number = format!(in alloc; "{number}")?;
+    let txn = format!(in alloc; "{txn}")?;
+    let mut head = String::new(alloc);
+    head.push_str("<section id=\"s")?;
+    head.push_str(number.as_str())?;
+    head.push_str("\" class=\"")?;
+    head.push_str(kind_of(&scene.reply))?;
+    head.push_str("\">\n<h3><span>Step ")?;
+    head.push_str(number.as_str())?;
+    head.push_str(": transaction ")?;
+    head.push_str(txn.as_str())?;
+    head.push_str(", ")?;
+    head.push_str(op.as_str())?;
+    head.push_str("</span> <span class=\"reply\">")?;
+    head.push_str(reply.as_str())?;
+    head.push_str("</span></h3>\n")?;
+    Ok(head)
+}
+
+/// What a band tells behind its head: the serial answer where it differs, what a blocked step requested, and the drawing.
+fn telling_of<P: Protocol>(
+    alloc: Global,
+    protocol: &P,
+    drawn: &Drawn,
+    layout: &Layout,
+    difference: Option<Difference<'_>>,
+    scene: &Scene,
+) -> Result<Html, Memory> {
+    let mut telling = Html::new(alloc);
     if let Some(difference) = difference {
-        write_difference(number, difference, out)?;
+        write_difference(scene.number, difference, &mut telling)?;
     }
     for request in &scene.asked {
-        write_request(protocol, request, out)?;
+        write_request(protocol, request, &mut telling)?;
     }
-    write_drawing(alloc, columns, layout, scene, out)?;
-    out.mark(Mark::EndSection)
+    write_drawing(alloc, &drawn.columns, layout, scene, &mut telling)?;
+    Ok(telling)
 }
 
 /// Writes the serial answer, where this step gave another.

@@ -1,62 +1,39 @@
-//! The bands of a page: one for each step, with its drawing.
-ghost use Rattle.std.specs.Prelude.{◌≡◌, None};
+//! What a page has behind the first words of its verdict: what its run is, and a band for each step, with its drawing.
+ghost use Rattle.std.specs.Prelude.{IfOk, map, string_bytes};
+ghost use Rattle.kr_scenes.specs.Scenes.{step_of};
+ghost use Rattle.kr_picture.specs.Page.{AreBands};
 
-use crate::band::write_band;
+use crate::band::push_band;
+use crate::frame::Body;
 use crate::lanes::write_lanes;
 use kr_html::{Html, Mark, Part};
-use kr_index::Ordered;
-use kr_locks::{Holdings, Memory};
-use kr_machine::Machine;
+use kr_locks::Memory;
 use kr_protocol::Protocol;
-use kr_scenes::{
-    Columns, Layout, Run, Scans, Scene, keys_that_may_return, scenes_of, write_commits,
-    write_summary,
-};
-use kr_serial::replay;
-use std::alloc::Global;
+use kr_scenes::{Drawn, Layout, Run, write_commits, write_summary};
+use std::alloc::{AllocError, Global};
 
-/// Writes the body of a page behind the first words of its verdict: what its run is, and its steps, done once more on a
-/// machine that has done none.
-pub fn write_body<P: Protocol, I: Ordered, L: Holdings>(
+/// What the page of a run has behind the first words of its verdict.
+pub fn body_of<P: Protocol>(
     alloc: Global,
     protocol: &P,
-    machine: &mut Machine<&P, I, L>,
     run: &Run<'_>,
-    out: &mut Html,
-) -> Result<(), Memory>
-    requires { machine.old.pending ≡ None }
+    drawn: &Drawn,
+) -> Result<Body, Memory>
+    ensures { IfOk result (λ body. AreBands (map step_of drawn.now.scenes.items) (string_bytes body.bands)) }
 {
-    let earlier = run.steps.get(..run.skipped).unwrap_or(&[]);
-    let drawn = run.steps.get(run.skipped..).unwrap_or(&[]);
-    replay(alloc, machine, earlier)?;
-    let mut scans = Scans::new(alloc);
-    for (event, reply) in earlier.iter().zip(run.replies.iter()) {
-        scans.note(*event, reply)?;
-    }
-    let pairs = machine.index()?;
-    let locks = machine.locks()?;
-    let back = keys_that_may_return(alloc, earlier, run.replies)?;
-    let columns = Columns::new(
-        alloc,
-        pairs.as_slice(),
-        locks.as_slice(),
-        drawn,
-        back.as_slice(),
-    )?;
-    let scenes = scenes_of(alloc, protocol, machine, run, &columns, &mut scans)?;
-    let layout = Layout::of(&columns, scenes.as_slice());
-    write_summary(run, columns.hidden, out)?;
-    write_bands(
-        alloc,
-        protocol,
-        run,
-        &columns,
-        &layout,
-        scenes.as_slice(),
-        out,
-    )?;
-    write_lanes(alloc, run, layout.left, out)?;
-    write_commits(run, out)
+    let layout = Layout::of(&drawn.columns, drawn.scenes.as_slice());
+    let mut before = Html::new(alloc);
+    write_summary(run, drawn.columns.hidden, &mut before)?;
+    write_heading(drawn.scenes.is_empty(), &mut before)?;
+    let bands = bands_of(alloc, protocol, run, drawn, &layout)?;
+    let mut behind = Html::new(alloc);
+    write_lanes(alloc, run, layout.left, &mut behind)?;
+    write_commits(run, &mut behind)?;
+    Ok(Body {
+        before,
+        bands,
+        behind,
+    })
 }
 
 /// What the drawings of steps show by their forms.
@@ -64,22 +41,14 @@ const KEY: &str = "A bar is a lock, with its holder and mode, on its key and the
 A dashed bar (?) was asked for and refused, by the locks with a thick edge (!). \
 A triangle is at the key that the step names. A ring is a key that came, a cross one that went.";
 
-/// Writes a band for each step that is drawn.
-fn write_bands<P: Protocol>(
-    alloc: Global,
-    protocol: &P,
-    run: &Run<'_>,
-    columns: &Columns,
-    layout: &Layout,
-    scenes: &[Scene],
-    out: &mut Html,
-) -> Result<(), Memory> {
+/// Writes what stands above the bands, or in their place where there are none.
+fn write_heading(is_empty: bool, out: &mut Html) -> Result<(), AllocError> {
     out.put(&[
         Part::Mark(Mark::Heading),
         Part::Text("Steps"),
         Part::Mark(Mark::EndHeading),
     ])?;
-    if scenes.is_empty() {
+    if is_empty {
         return out.put(&[
             Part::Mark(Mark::Paragraph),
             Part::Text("There are none."),
@@ -90,10 +59,25 @@ fn write_bands<P: Protocol>(
         Part::Mark(Mark::Note),
         Part::Text(KEY),
         Part::Mark(Mark::EndParagraph),
-    ])?;
+    ])
+}
+
+/// A band for each step that is drawn.
+fn bands_of<P: Protocol>(
+    alloc: Global,
+    protocol: &P,
+    run: &Run<'_>,
+    drawn: &Drawn,
+    layout: &Layout,
+) -> Result<String, Memory>
+    ensures { IfOk result (λ bands. AreBands (map step_of drawn.now.scenes.items) (string_bytes bands)) }
+{
     let difference = run.difference();
-    for scene in scenes {
-        write_band(alloc, protocol, columns, layout, difference, scene, out)?;
+    let mut bands = String::new(alloc);
+    for scene in &drawn.scenes {
+        push_band(
+            alloc, protocol, drawn, layout, difference, scene, &mut bands,
+        )?;
     }
-    Ok(())
+    Ok(bands)
 }

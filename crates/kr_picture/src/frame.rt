@@ -1,8 +1,10 @@
-//! What stands around the telling of a run: the head of a page with its look, the table's name, the first words of the
-//! verdict, and the end.
-ghost use Rattle.std.specs.Prelude.{◌≡◌, IfOk, string_bytes};
+//! What stands around the body of a page: its head with its look, the table's name, the first words of the verdict, and the
+//! end.
+ghost use Rattle.std.specs.Prelude.{◌≡◌, IfOk, OnOk, string_bytes};
+ghost use Rattle.kr_html.specs.Parts.{IsMadeOfParts};
 ghost use Rattle.kr_picture.specs.Page.{page_of};
 
+use kr_html::Html;
 use std::alloc::{AllocError, Global};
 
 /// Up to the table's name in the title.
@@ -64,17 +66,28 @@ pub const SERIAL: &str = "<p class=\"verdict yes\"><b>✓ Serial.</b> ";
 /// How the verdict on a run that isn't serializable begins.
 pub const NOT_SERIAL: &str = "<p class=\"verdict no\"><b>✗ Not serial.</b> ";
 
+/// The end of the band of a step.
+pub const BAND_END: &str = "</section>\n";
+
 /// The end of a page.
 pub const END: &str = "</body>\n</html>\n";
 
-/// The page under this name, which has been escaped, with what is told behind the first words of the verdict.
-pub fn framed(
-    alloc: Global,
-    name: &str,
-    is_serial: bool,
-    telling: &str,
-) -> Result<String, AllocError>
-    ensures { IfOk result (λ page. string_bytes page ≡ page_of name.now is_serial telling.now) }
+/// What a page has behind the first words of its verdict.
+#[derive(Drop)]
+pub struct Body {
+    /// What comes before the bands of the steps.
+    pub before: Html,
+    /// A band for each step that is drawn.
+    pub bands: String,
+    pub behind: Html,
+}
+
+/// The page under this name, which has been escaped.
+pub fn framed(alloc: Global, name: &str, is_serial: bool, body: &Body) -> Result<String, AllocError>
+    ensures page { IfOk result (λ page. string_bytes page
+        ≡ page_of name.now is_serial body.now.before (string_bytes body.now.bands) body.now.behind) }
+    ensures before { OnOk result (IsMadeOfParts body.now.before) }
+    ensures behind { OnOk result (IsMadeOfParts body.now.behind) }
 {
     let mut page = String::new(alloc);
     page.push_str(HEAD)?;
@@ -83,7 +96,9 @@ pub fn framed(
     page.push_str(name)?;
     page.push_str(BEHIND_NAME)?;
     page.push_str(if is_serial { SERIAL } else { NOT_SERIAL })?;
-    page.push_str(telling)?;
+    page.push_str(body.before.as_str())?;
+    page.push_str(body.bands.as_str())?;
+    page.push_str(body.behind.as_str())?;
     page.push_str(END)?;
     Ok(page)
 }

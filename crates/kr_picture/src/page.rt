@@ -5,16 +5,15 @@ ghost use Rattle.kr_model.specs.Safe.{IsSafe};
 ghost use Rattle.kr_model.specs.State.{start};
 ghost use Rattle.kr_model.specs.Run.{run, programs};
 ghost use Rattle.kr_model.specs.Serial.{AreSerial};
-ghost use Rattle.kr_picture.specs.Page.{IsPage};
+ghost use Rattle.kr_scenes.specs.Scenes.{drawn_steps};
+ghost use Rattle.kr_picture.specs.Page.{AreBands, IsPage};
 
-use crate::bands::write_body;
-use crate::frame::framed;
-use kr_html::{Html, escape};
-use kr_index::Tree;
-use kr_locks::{Buckets, Memory};
-use kr_machine::Machine;
+use crate::bands::body_of;
+use crate::frame::{Body, framed};
+use kr_html::escape;
+use kr_locks::Memory;
 use kr_protocol::Protocol;
-use kr_scenes::{Run, STEPS_DRAWN};
+use kr_scenes::{Run, STEPS_DRAWN, scenes_of};
 use kr_script::Script;
 use kr_serial::{Ran, Verdict, judge, run_any};
 use std::alloc::Global;
@@ -23,15 +22,18 @@ use std::alloc::Global;
 /// the transactions that commit are serializable in commit order. Under a safe protocol they are, and so under a covered one.
 ///
 /// The page is HTML that stands alone. It has the name as its title and heading, and then tells whether the run is
-/// serializable. Behind that it is made of the parts of `kr_html`: no text of the table or the script is markup. At most 200 steps and 60 names are drawn, the last ones, and the page says so. The only error is that a
-/// growth was refused.
+/// serializable. Behind that it has a band for each step that is drawn, in the order of the run, with the step's number, its
+/// transaction, its operation and its reply; all else is made of the parts of `kr_html`: no text of the table or the script is
+/// markup. At most 200 steps and 60 names are drawn, the last ones, and the page says so. The only error is that a growth was
+/// refused.
 pub fn picture<P: Protocol>(
     alloc: Global,
     protocol: &P,
     table: &str,
     script: &Script,
 ) -> Result<(String, bool), Memory>
-    ensures page { IfOk result (λ told. IsPage table.now told.1 (string_bytes told.0)) }
+    ensures page { IfOk result (λ told. IsPage table.now
+        (drawn_steps (P.table protocol.now) script.now.opening script.now.steps) told.1 (string_bytes told.0)) }
     ensures serial { IfOk result (λ told. IsTrue told.1
         ↔ AreSerial script.now.opening (programs (run (P.table protocol.now) (start script.now.opening) script.now.steps).history)) }
     ensures safe { IsSafe (P.table protocol.now) → IfOk result (λ told. IsTrue told.1) }
@@ -41,19 +43,22 @@ pub fn picture<P: Protocol>(
     let verdict = judge(alloc, &ran)?;
     let is_serial = verdict.is_serial();
     let name = escape(alloc, table)?;
-    let telling = telling_of(alloc, protocol, script, &ran, &verdict)?;
-    let page = framed(alloc, name.as_str(), is_serial, telling.as_str())?;
+    let body = shown(alloc, protocol, script, &ran, &verdict)?;
+    let page = framed(alloc, name.as_str(), is_serial, &body)?;
     Ok((page, is_serial))
 }
 
-/// What a page tells behind the first words of the verdict.
-fn telling_of<P: Protocol>(
+/// What the page of a script's run has behind the first words of its verdict.
+fn shown<P: Protocol>(
     alloc: Global,
     protocol: &P,
     script: &Script,
     ran: &Ran,
     verdict: &Verdict,
-) -> Result<Html, Memory> {
+) -> Result<Body, Memory>
+    ensures { IfOk result (λ body. AreBands
+        (drawn_steps (P.table protocol.now) script.now.opening script.now.steps) (string_bytes body.bands)) }
+{
     let steps = script.steps();
     let run = Run {
         opening: script.opening(),
@@ -64,9 +69,6 @@ fn telling_of<P: Protocol>(
         verdict,
         skipped: steps.len().saturating_sub(STEPS_DRAWN),
     };
-    let mut out = Html::new(alloc);
-    let index = Tree::from_pairs(alloc, script.opening())?;
-    let mut machine = Machine::new(alloc, protocol, index, Buckets::new(alloc));
-    write_body(alloc, protocol, &mut machine, &run, &mut out)?;
-    Ok(out)
+    let drawn = scenes_of(alloc, protocol, script.opening(), steps)?;
+    body_of(alloc, protocol, &run, &drawn)
 }

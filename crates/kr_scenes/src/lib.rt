@@ -15,12 +15,12 @@ mod words;
 
 pub use asked::{Asked, Scans};
 pub use bar::{Bar, BarKind, BarLine, colour_of, mode_name};
-pub use columns::{Columns, keys_that_may_return};
+pub use columns::Columns;
 pub use commits::write_commits;
 pub use kr_locks::Memory;
 pub use layout::{Layout, bar_width, digits, text_width};
 pub use run::{Difference, Run, STEPS_DRAWN};
 pub use scene::{KeyState, Scene};
-pub use scenes::scenes_of;
+pub use scenes::{Drawn, scenes_of};
 pub use summary::write_summary;
 pub use words::{kind_of, letter_of, write_name, write_numbers, write_op, write_reply};

@@ -1,4 +1,5 @@
 //! A step as its band shows it: what it was, and the keys and locks that it left.
+ghost use Rattle.std.specs.Prelude.{◌≡◌, IfOk};
 
 use crate::asked::Asked;
 use crate::bar::{Bar, push_asked, push_held};
@@ -95,7 +96,11 @@ impl Scene {
         step: (u64, Event, Reply),
         standing: Standing<'_>,
         asked: Vec<Asked>,
-    ) -> Result<Scene, Memory> {
+    ) -> Result<Scene, Memory>
+        ensures number { IfOk result (λ scene. scene.number ≡ step.0) }
+        ensures event { IfOk result (λ scene. scene.event ≡ step.1) }
+        ensures reply { IfOk result (λ scene. scene.reply ≡ step.2) }
+    {
         let (number, event, reply) = step;
         let touched = match &reply {
             Reply::Going(key) => Some(*key),

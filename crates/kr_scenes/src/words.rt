@@ -1,4 +1,7 @@
 //! Operations, replies and refusals in words.
+ghost use Rattle.std.specs.Prelude.{◌≡◌, ◌++◌, ◌∷◌, ◌≤◌, OnOk, codes, decimal, drop, flat_map, length, map};
+ghost use Rattle.kr_html.specs.Escape.{escaped};
+ghost use Rattle.kr_scenes.specs.Words.{op_words, commas, pair_words, shown_pairs, pairs_words, reason_words, reply_words, kind_word};
 
 use kr_html::{Html, Part};
 use kr_model::{Name, Op, Refusal, Reply};
@@ -8,7 +11,9 @@ use std::alloc::AllocError;
 pub const PAIRS_SHOWN: usize = 60;
 
 /// Writes a number behind words.
-fn write_numbered(out: &mut Html, words: &str, number: u64) -> Result<(), AllocError> {
+fn write_numbered(out: &mut Html, words: &str, number: u64) -> Result<(), AllocError>
+    ensures { OnOk result (out.new ≡ out.old ++ escaped words.now ++ decimal number) }
+{
     out.put(&[Part::Text(words), Part::Number(number)])
 }
 
@@ -19,13 +24,17 @@ fn write_both(
     first: u64,
     between: &str,
     second: u64,
-) -> Result<(), AllocError> {
+) -> Result<(), AllocError>
+    ensures { OnOk result (out.new ≡ out.old ++ escaped words.now ++ decimal first ++ escaped between.now ++ decimal second) }
+{
     write_numbered(out, words, first)?;
     write_numbered(out, between, second)
 }
 
 /// Writes what an operation does.
-pub fn write_op(out: &mut Html, op: Op) -> Result<(), AllocError> {
+pub fn write_op(out: &mut Html, op: Op) -> Result<(), AllocError>
+    ensures { OnOk result (out.new ≡ out.old ++ op_words op) }
+{
     match op {
         Op::Fetch(key) => write_numbered(out, "fetch ", key),
         Op::Scan(lo, hi) => write_both(out, "scan ", lo, " to ", hi),
@@ -63,7 +72,9 @@ pub fn write_name(out: &mut Html, name: Name) -> Result<(), AllocError> {
 }
 
 /// Writes pairs of a key and its value, of many the last ones.
-pub fn write_pairs(out: &mut Html, pairs: &[(u64, u64)]) -> Result<(), AllocError> {
+pub fn write_pairs(out: &mut Html, pairs: &[(u64, u64)]) -> Result<(), AllocError>
+    ensures { OnOk result (out.new ≡ out.old ++ pairs_words pairs.now) }
+{
     if pairs.is_empty() {
         return out.text("nothing");
     }
@@ -71,26 +82,41 @@ pub fn write_pairs(out: &mut Html, pairs: &[(u64, u64)]) -> Result<(), AllocErro
     if hidden > 0 {
         out.put(&[Part::Number(hidden as u64), Part::Text(" more, and then ")])?;
     }
-    let mut separator = "";
-    for (key, value) in &pairs[hidden..] {
-        write_both(out, separator, *key, "=", *value)?;
-        separator = ", ";
+    write_each(out, &pairs[hidden..])
+}
+
+/// Writes pairs with a comma between them.
+fn write_each(out: &mut Html, pairs: &[(u64, u64)]) -> Result<(), AllocError>
+    ensures { OnOk result (out.new ≡ out.old ++ commas (map pair_words pairs.now)) }
+{
+    let Some((first, rest)) = pairs.split_first() else {
+        return Ok(());
+    };
+    write_both(out, "", first.0, "=", first.1)?;
+    for pair in rest {
+        write_both(out, ", ", pair.0, "=", pair.1)?;
     }
     Ok(())
 }
 
 /// Writes the numbers of transactions, as `1, 2`.
-pub fn write_numbers(out: &mut Html, numbers: &[u32]) -> Result<(), AllocError> {
-    let mut separator = "";
-    for number in numbers {
-        write_numbered(out, separator, u64::from(*number))?;
-        separator = ", ";
+pub fn write_numbers(out: &mut Html, numbers: &[u32]) -> Result<(), AllocError>
+    ensures { OnOk result (out.new ≡ out.old ++ commas (map decimal numbers.now)) }
+{
+    let Some((first, rest)) = numbers.split_first() else {
+        return Ok(());
+    };
+    out.number(u64::from(*first))?;
+    for number in rest {
+        write_numbered(out, ", ", u64::from(*number))?;
     }
     Ok(())
 }
 
 /// Why a step was refused.
-fn reason_of(refusal: Refusal) -> &'static str {
+fn reason_of(refusal: Refusal) -> &'static str
+    ensures { escaped result.now ≡ reason_words refusal }
+{
     match refusal {
         Refusal::Ended => "the transaction has ended",
         Refusal::Busy => "a scan is in progress",
@@ -105,7 +131,9 @@ fn reason_of(refusal: Refusal) -> &'static str {
 }
 
 /// Writes what a reply says.
-pub fn write_reply(out: &mut Html, reply: &Reply) -> Result<(), AllocError> {
+pub fn write_reply(out: &mut Html, reply: &Reply) -> Result<(), AllocError>
+    ensures { OnOk result (out.new ≡ out.old ++ reply_words reply.now) }
+{
     match reply {
         Reply::Found(value) => write_numbered(out, "found ", *value),
         Reply::None => out.text("none there"),
@@ -124,10 +152,11 @@ pub fn write_reply(out: &mut Html, reply: &Reply) -> Result<(), AllocError> {
         Reply::Updated(value) => write_numbered(out, "updated, was ", *value),
         Reply::Committed => out.text("committed"),
         Reply::Aborted => out.text("aborted"),
-        Reply::Undone(left) => {
-            write_numbered(out, "taken back, ", *left)?;
-            out.text(" left")
-        }
+        Reply::Undone(left) => out.put(&[
+            Part::Text("taken back, "),
+            Part::Number(*left),
+            Part::Text(" left"),
+        ]),
         Reply::Blocked(txns) => {
             out.text("blocked by ")?;
             write_numbers(out, txns.as_slice())
@@ -139,7 +168,9 @@ pub fn write_reply(out: &mut Html, reply: &Reply) -> Result<(), AllocError> {
 }
 
 /// The word for the kind of a reply, as a class of the page.
-pub fn kind_of(reply: &Reply) -> &'static str {
+pub fn kind_of(reply: &Reply) -> &'static str
+    ensures { result.now ≡ kind_word reply.now }
+{
     match reply {
         Reply::Blocked(_) => "blocked",
         Reply::Refused(_) => "refused",

@@ -4,6 +4,7 @@ use Rattle.std.proofs.Common.{subst, sym, inl, inr}
 use Rattle.std.specs.Io.KnownBytes.{Appends}
 use Rattle.kr_model.specs.Protocol.{IsLawful}
 use Rattle.kr_script.specs.Script.{Script}
+use Rattle.kr_scenes.specs.Scenes.{NumberedStep}
 use Rattle.kr_picture.specs.Page.{IsPage}
 use Rattle.kr_shell.specs.declared.endings.Ending.{Ending}
 use Rattle.kr_shell.specs.declared.endings.Ending.TheVariants.{NotUnderstood, Memory, Place, Output, Told}
@@ -12,10 +13,10 @@ use Rattle.kr_shell.specs.Endings.{MemoryOrTold}
 use Rattle.kr_shell.specs.Named.{NamesTable, TellsNoTable, NamesScript, TellsNoScript}
 use Rattle.kr_shell.specs.Questions.{IsNoQuestion}
 use Rattle.kr_shell.specs.Tables.{table_of}
-use Rattle.kr_view_program.specs.Program.{AreWords, AskNoPage, IsSerialScript, ShowsAsked, Explains}
+use Rattle.kr_view_program.specs.Program.{AreWords, AskNoPage, IsSerialScript, ShowsAsked, Explains, drawn_of_script}
 
 -- a page that was written, with the verdict on a script's run under a lawful table that words name
-pub shown : (may_give : List ℕ → Option (List ℕ) → Type 0) (words : List (List ℕ)) (r : Result Bool Ending) (t : AnyTable) (table script : List ℕ) (old new : Option (List ℕ)) (s : Script) → AreWords words table script → NamesTable may_give table t → IsLawful (table_of t) → NamesScript may_give script s → IfOk r (λ serial. (page : List ℕ) × (IsPage table serial page × Appends old new page)) → IfOk r (λ serial. IsTrue serial ↔ IsSerialScript (table_of t) s) → IfOk r (ShowsAsked may_give words old new)
+pub shown : (may_give : List ℕ → Option (List ℕ) → Type 0) (words : List (List ℕ)) (r : Result Bool Ending) (t : AnyTable) (table script : List ℕ) (old new : Option (List ℕ)) (s : Script) → AreWords words table script → NamesTable may_give table t → IsLawful (table_of t) → NamesScript may_give script s → IfOk r (λ serial. (page : List ℕ) × (IsPage table (drawn_of_script (table_of t) s) serial page × Appends old new page)) → IfOk r (λ serial. IsTrue serial ↔ IsSerialScript (table_of t) s) → IfOk r (ShowsAsked may_give words old new)
 shown may_give words (Ok serial) t table script old new s are_words names lawful named (page, (is_page, appends)) same = (table, script, (are_words, (t, (names, (lawful, (s, (named, (page, (is_page, (appends, same))))))))))
 shown may_give words (Err e) t table script old new s are_words names lawful named written same = tt
 
@@ -46,7 +47,7 @@ no_script may_give words t table script Output are_words names h = absurd h
 no_script may_give words t table script (Told line) are_words names h = (table, script, (are_words, inr (t, (names, h))))
 
 -- a text that was written is a page where its bytes are
-pub written : (bytes page table : List ℕ) (serial : Bool) (old new : Option (List ℕ)) → bytes ≡ page → IsPage table serial page → Appends old new bytes → (p : List ℕ) × (IsPage table serial p × Appends old new p)
-written bytes page table serial old new same is_page appends =
+pub written : (bytes page table : List ℕ) (steps : List NumberedStep) (serial : Bool) (old new : Option (List ℕ)) → bytes ≡ page → IsPage table steps serial page → Appends old new bytes → (p : List ℕ) × (IsPage table steps serial p × Appends old new p)
+written bytes page table steps serial old new same is_page appends =
     let P : List ℕ → Type 0 = λ bs. Appends old new bs in
     (page, (is_page, subst P same appends))

@@ -13,6 +13,7 @@ use Rattle.kr_shell.specs.Named.{NamesTable, TellsNoTable, NamesScript, TellsNoS
 use Rattle.kr_shell.specs.Questions.{IsNoQuestion}
 use Rattle.kr_shell.specs.Tables.{table_of}
 use Rattle.kr_shell.specs.Words.{IsPlain}
+use Rattle.kr_scenes.specs.Scenes.{NumberedStep, drawn_steps}
 use Rattle.kr_picture.specs.Page.{IsPage}
 
 -- The program's words: one names a table, and the other a script. Neither begins with a hyphen.
@@ -31,10 +32,14 @@ AskNothing words = IsNoQuestion words × AskNoPage words
 abbrev pub IsSerialScript : Protocol → Script → Type 0
 IsSerialScript p s = AreSerial s.opening (programs (run p (start s.opening) s.steps).history)
 
--- The page of a script's run under a table was written, under a name of the table and with the verdict on that run.
+-- The steps that a page draws of a script's run under a protocol, each with its number, its event and its reply.
+abbrev pub drawn_of_script : Protocol → Script → List NumberedStep
+drawn_of_script p s = drawn_steps p s.opening s.steps
+
+-- The page of a script's run under a table was written, under a name of the table, with the verdict on that run and a band for each of its steps that are drawn.
 abbrev pub ShowsRun : AnyTable → Script → List ℕ → Option (List ℕ) → Option (List ℕ) → Bool → Type 0
 ShowsRun t s name old new serial =
-    (page : List ℕ) × (IsPage name serial page × (Appends old new page × (IsTrue serial ↔ IsSerialScript (table_of t) s)))
+    (page : List ℕ) × (IsPage name (drawn_of_script (table_of t) s) serial page × (Appends old new page × (IsTrue serial ↔ IsSerialScript (table_of t) s)))
 
 -- The page was written of the run of the script that one word names, under the lawful table that the other names.
 abbrev pub Shows : (List ℕ → Option (List ℕ) → Type 0) → List ℕ → List ℕ → Option (List ℕ) → Option (List ℕ) → Bool → Type 0

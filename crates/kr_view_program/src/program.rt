@@ -13,7 +13,7 @@ ghost use Rattle.kr_shell.specs.declared.endings.Ending.{Ending};
 ghost use Rattle.kr_shell.specs.declared.endings.Ending.TheVariants as ending;
 ghost use Rattle.kr_shell.specs.declared.questions.Question.{Question};
 ghost use Rattle.kr_picture.specs.Page.{IsPage};
-ghost use Rattle.kr_view_program.specs.Program.{AskNothing, AskNoPage, IsSerialScript, ShowsAsked, Explains};
+ghost use Rattle.kr_view_program.specs.Program.{AskNothing, AskNoPage, IsSerialScript, ShowsAsked, Explains, drawn_of_script};
 
 use crate::manual::{MANUAL, NAME, USAGE, WORDS};
 use crate::words::read_words;
@@ -41,7 +41,9 @@ pub fn write_page<P: Protocol, W: Sink>(
     script: &Script,
     out: &mut W,
 ) -> Result<bool, Ending>
-    ensures page { IfOk result (λ serial. (page : List ℕ) × (IsPage table.now serial page × Appends (W.taken out.old) (W.taken out.new) page)) }
+    ensures page { IfOk result (λ serial. (page : List ℕ)
+        × (IsPage table.now (drawn_of_script (P.table protocol.now) script.now) serial page
+        × Appends (W.taken out.old) (W.taken out.new) page)) }
     ensures serial { IfOk result (λ serial. IsTrue serial ↔ IsSerialScript (P.table protocol.now) script.now) }
     ensures safe { IsSafe (P.table protocol.now) → IfOk result (λ serial. IsTrue serial) }
     ensures covered { IsCovered (P.table protocol.now) → IfOk result (λ serial. IsTrue serial) }
