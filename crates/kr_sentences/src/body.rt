@@ -32,7 +32,7 @@ pub fn write_body<P: Protocol>(
     can: &str,
 ) -> Result<(), Memory> {
     for sentence in body(alloc, protocol, cause, case, can)?.iter() {
-        write_paragraph(out, sentence.as_str(), INDENT, 0)?;
+        write_paragraph(out, sentence.as_str(), INDENT, INDENT)?;
     }
     Ok(())
 }

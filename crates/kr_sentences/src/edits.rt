@@ -1,7 +1,9 @@
 //! Changes as edits of a table's file.
+ghost use Rattle.std.specs.Prelude.{◌≡◌, IfOk, string_bytes};
+ghost use Rattle.kr_sentences.specs.Edits.{IsEdit, apart_words, convert_words, modes_of, request_words};
 
 use crate::answers::{asked, converted, name_of};
-use crate::lists::{listed, modes_listed};
+use crate::lists::{modes_chosen, modes_listed};
 use crate::words::{row_word, side_word, span_word};
 use kr_cases::Memory;
 use kr_causes::Change;
@@ -9,54 +11,49 @@ use kr_model::{Mode, Row, Side, Span};
 use kr_protocol::Protocol;
 use std::alloc::Global;
 
-/// Changes that differ in their mode alone, as one edit.
+/// Changes that differ in their mode alone, of which this is one, as one edit.
 pub fn edit_words<P: Protocol>(
     alloc: Global,
     protocol: &P,
+    first: Change,
     changes: &[Change],
-) -> Result<String, Memory> {
+) -> Result<String, Memory>
+    ensures { IfOk result (λ text. IsEdit (P.names protocol.now) first (modes_of changes.now) (string_bytes text)) }
+{
     let modes = modes_of(alloc, changes)?;
-    match changes.first() {
-        None => Ok(String::new(alloc)),
-        Some(
-            Change::Ask {
-                row,
-                side,
-                own_next,
-                span,
-                ..
-            },
-        ) => {
-            let owns = owns_words(alloc, protocol, *row, *side, *own_next, &modes, *span)?;
-            request_words(alloc, protocol, *row, *side, &modes, *span, owns.as_str())
+    match first {
+        Change::Ask {
+            row,
+            side,
+            own_next,
+            mode: _,
+            span,
+        } => {
+            let owns = owns_words(alloc, protocol, row, side, own_next, &modes, span)?;
+            let request = request_words(alloc, protocol, row, side, &modes, span)?;
+            format!(in alloc; "{request}{owns}")
         }
-        Some(
-            Change::Convert {
-                held,
-                requested,
-                ..
-            },
-        ) => convert_words(alloc, protocol, *held, *requested, &modes),
-        Some(Change::Apart { requested, held }) => {
-            let requested = name_of(protocol, *requested);
-            let held = name_of(protocol, *held);
-            format!(in alloc; "in [compatible], {requested}: remove {held}")
-        }
+        Change::Convert {
+            held,
+            requested,
+            mode: _,
+        } => convert_words(alloc, protocol, held, requested, &modes),
+        Change::Apart { requested, held } => apart_words(alloc, protocol, requested, held),
     }
 }
 
 /// The modes of the changes, in their order.
-fn modes_of(alloc: Global, changes: &[Change]) -> Result<Vec<Mode>, Memory> {
-    let mut modes = Vec::new(alloc);
-    for change in changes {
-        if let Some(mode) = change.mode() {
-            modes.push(mode)?;
-        }
-    }
-    Ok(modes)
+fn modes_of(alloc: Global, changes: &[Change]) -> Result<Vec<Mode>, Memory>
+    ensures { IfOk result (λ modes. modes.items ≡ modes_of changes.now) }
+{
+    changes
+        .iter()
+        .filter_map(|change| change.mode())
+        .collect(alloc)
 }
 
 /// An edit of what a row requests.
+#[tactic(auto, unfolding(crate::specs::Edits::request_words))]
 fn request_words<P: Protocol>(
     alloc: Global,
     protocol: &P,
@@ -64,36 +61,46 @@ fn request_words<P: Protocol>(
     side: Side,
     modes: &[Mode],
     span: Span,
-    owns: &str,
-) -> Result<String, Memory> {
+) -> Result<String, Memory>
+    ensures { IfOk result (λ text. string_bytes text ≡ request_words (P.names protocol.now) row side modes.now span) }
+{
     let row = row_word(row);
     let side = side_word(side);
     let modes = modes_listed(alloc, protocol, modes)?;
     let span = span_word(span);
-    format!(in alloc; "in [rules.{row}], {side}: request {modes} for {span} duration{owns}")
+    format!(in alloc; "in [rules.{row}], {side}: request {modes} for {span} duration")
 }
 
 /// An edit of a conversion.
+#[tactic(auto, unfolding(crate::specs::Edits::convert_words))]
 fn convert_words<P: Protocol>(
     alloc: Global,
     protocol: &P,
     held: Mode,
     requested: Mode,
     modes: &[Mode],
-) -> Result<String, Memory> {
-    let mut quoted = Vec::new(alloc);
-    for mode in modes {
-        let mode = name_of(protocol, *mode);
-        quoted.push(format!(in alloc; "\"{mode}\"")?)?;
-    }
-    let mut words = Vec::new(alloc);
-    for mode in quoted.iter() {
-        words.push(mode.as_str())?;
-    }
+) -> Result<String, Memory>
+    ensures { IfOk result (λ text. string_bytes text ≡ convert_words (P.names protocol.now) held requested modes.now) }
+{
     let held = name_of(protocol, held);
     let requested = name_of(protocol, requested);
-    let made = listed(alloc, &words, "or")?;
+    let made = modes_chosen(alloc, protocol, modes, true)?;
     format!(in alloc; "in [convert], {held}: {requested} = {made}")
+}
+
+/// An edit of the compatible modes.
+#[tactic(auto, unfolding(crate::specs::Edits::apart_words))]
+fn apart_words<P: Protocol>(
+    alloc: Global,
+    protocol: &P,
+    requested: Mode,
+    held: Mode,
+) -> Result<String, Memory>
+    ensures { IfOk result (λ text. string_bytes text ≡ apart_words (P.names protocol.now) requested held) }
+{
+    let requested = name_of(protocol, requested);
+    let held = name_of(protocol, held);
+    format!(in alloc; "in [compatible], {requested}: remove {held}")
 }
 
 /// For which own modes on the next key a request changes; nothing where it is for all, or makes no difference for the others.

@@ -3,7 +3,7 @@
 use crate::answers::name_of;
 use crate::body::protected;
 use crate::lists::{held_listed, listed};
-use crate::wrap::{INDENT, write_line, write_paragraph};
+use crate::wrap::{INDENT, write_paragraph};
 use kr_cases::Memory;
 use kr_model::{FailedCase, Mode};
 use kr_protocol::Protocol;
@@ -56,8 +56,8 @@ fn is_alike(case: &FailedCase, other: &FailedCase) -> bool {
 /// Writes why a cause is harmless.
 fn write_harmless(alloc: Global, out: &mut String, why: &str) -> Result<(), Memory> {
     let text = format!(in alloc; "Harmless: {why}")?;
-    write_line(out, "")?;
-    write_paragraph(out, text.as_str(), INDENT, 0)
+    out.push_str("\n")?;
+    write_paragraph(out, text.as_str(), INDENT, INDENT)
 }
 
 /// That nobody comes to request what the mode of this case has to block and doesn't.

@@ -1,5 +1,4 @@
 //! What is said of the schedule of a cause, and where none is known.
-ghost use Rattle.kr_model.specs.Map.{IsMap};
 
 use crate::anomaly::anomaly;
 use crate::seen::seen;
@@ -7,7 +6,7 @@ use crate::spoken::{origin_text, pairs_text};
 use crate::steps::write_steps;
 use crate::verdict::write_verdict;
 use crate::words::{cover_code, rule_code};
-use crate::wrap::{INDENT, write_line, write_paragraph};
+use crate::wrap::{INDENT, write_paragraph};
 use kr_cases::Memory;
 use kr_counterexample::Counterexample;
 use kr_model::FailedCase;
@@ -44,13 +43,11 @@ pub fn write_run<P: Protocol>(
     protocol: &P,
     out: &mut String,
     script: &Counterexample,
-) -> Result<(), Memory>
-    requires { IsMap script.now.opening.items }
-{
+) -> Result<(), Memory> {
     write_run_head(alloc, out, script)?;
     write_steps(alloc, protocol, out, script)?;
-    write_line(out, "")?;
-    write_paragraph(out, seen(alloc, script)?.as_str(), INDENT, 0)?;
+    out.push_str("\n")?;
+    write_paragraph(out, seen(alloc, script)?.as_str(), INDENT, INDENT)?;
     write_verdict(alloc, protocol, out, script)
 }
 
@@ -58,7 +55,7 @@ pub fn write_run<P: Protocol>(
 fn write_run_head(alloc: Global, out: &mut String, script: &Counterexample) -> Result<(), Memory> {
     let anomaly = anomaly(script.ending);
     let opening = pairs_text(alloc, script.opening.as_slice())?;
-    write!(out, "\n   {anomaly}. Initial index: {opening}.\n\n")
+    write!(out, "\n\n   {anomaly}. Initial index: {opening}.\n")
 }
 
 /// Writes the case that a schedule was made from, whether the holder comes to its mode in another way than the case says, and
@@ -79,7 +76,7 @@ pub fn write_case<P: Protocol>(
     };
     let share = share_text(alloc, tries)?;
     let text = format!(in alloc; "Case: {case}{way}{share}")?;
-    write_paragraph(out, text.as_str(), INDENT, 0)
+    write_paragraph(out, text.as_str(), INDENT, INDENT)
 }
 
 /// How many of the cause's cases gave a schedule, behind a space; nothing where all did.
@@ -109,8 +106,8 @@ pub fn write_no_run<P: Protocol>(
     tries: Tries,
 ) -> Result<(), Memory> {
     let text = no_run_text(alloc, protocol, case, is_reached, tries)?;
-    write_line(out, "")?;
-    write_paragraph(out, text.as_str(), INDENT, 0)
+    out.push_str("\n")?;
+    write_paragraph(out, text.as_str(), INDENT, INDENT)
 }
 
 /// That no schedule is known.

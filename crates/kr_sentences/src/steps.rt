@@ -1,6 +1,5 @@
 //! The table of a run: its steps, each in the column of its transaction, with the answer, and who holds what afterwards.
 ghost use Rattle.std.specs.Prelude.{◌≡◌, None};
-ghost use Rattle.kr_model.specs.Map.{IsMap};
 
 use crate::answers::name_of;
 use crate::spoken::{answer_text, lock_name, op_text};
@@ -10,9 +9,9 @@ use kr_counterexample::Counterexample;
 use kr_index::Tree;
 use kr_locks::Buckets;
 use kr_machine::Machine;
-use kr_model::{Event, Mode, Name, Reply, Txn};
+use kr_model::{Event, Mode, Name, Refusal, Reply, Txn};
 use kr_protocol::Protocol;
-use std::alloc::Global;
+use std::alloc::{AllocError, Global};
 
 /// A line of the table.
 #[derive(Drop)]
@@ -114,7 +113,8 @@ fn mark(script: &Counterexample, at: usize) -> &'static str {
     }
 }
 
-/// Attempts a step, and returns its line, of this number and with this mark.
+/// Attempts a step, and returns its line, of this number and with this mark. The only fault is that a growth was refused, the
+/// machine's too.
 fn step_line<P: Protocol>(
     alloc: Global,
     machine: &mut Machine<&P, Tree, Buckets>,
@@ -128,6 +128,9 @@ fn step_line<P: Protocol>(
     ensures { machine.new.pending ≡ None }
 {
     let reply = machine.step(event.txn, event.op);
+    if matches!(reply, Reply::Refused(Refusal::Memory)) {
+        return Err(AllocError);
+    }
     let held = machine.locks()?;
     let locks = locks_text(alloc, protocol, &held)?;
     columns.line(alloc, number, event, &reply, locks, mark)
@@ -138,9 +141,7 @@ fn lines_of<P: Protocol>(
     alloc: Global,
     protocol: &P,
     script: &Counterexample,
-) -> Result<Vec<Line>, Memory>
-    requires { IsMap script.now.opening.items }
-{
+) -> Result<Vec<Line>, Memory> {
     let columns = Columns::of(alloc, script.events.as_slice())?;
     let index = Tree::from_pairs(alloc, script.opening.as_slice())?;
     let mut machine = Machine::new(alloc, protocol, index, Buckets::new(alloc));
@@ -187,9 +188,10 @@ fn widths(alloc: Global, lines: &[Line]) -> Result<Vec<usize>, Memory> {
     Ok(widths)
 }
 
-/// Writes a line of the table behind five spaces: numbers are on the right of their column, and all else on the left.
+/// Writes a line of the table, behind a line feed and five spaces: numbers are on the right of their column, and all else on the left.
 /// No line ends in a space.
 fn write_row(out: &mut String, line: &Line, widths: &[usize]) -> Result<(), Memory> {
+    out.push_str("\n")?;
     let mut gap: usize = 5;
     for (at, (cell, width)) in line.cells.iter().zip(widths.iter()).enumerate() {
         let free = width.saturating_sub(cell.as_str().chars().count());
@@ -202,7 +204,7 @@ fn write_row(out: &mut String, line: &Line, widths: &[usize]) -> Result<(), Memo
         }
         gap = gap.saturating_add(after).saturating_add(2);
     }
-    out.push_str("\n")
+    Ok(())
 }
 
 /// Writes the table of a run.
@@ -211,9 +213,7 @@ pub fn write_steps<P: Protocol>(
     protocol: &P,
     out: &mut String,
     script: &Counterexample,
-) -> Result<(), Memory>
-    requires { IsMap script.now.opening.items }
-{
+) -> Result<(), Memory> {
     let lines = lines_of(alloc, protocol, script)?;
     let widths = widths(alloc, &lines)?;
     for line in lines.iter() {

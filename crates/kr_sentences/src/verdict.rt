@@ -1,5 +1,4 @@
 //! The verdict on a run, in words.
-ghost use Rattle.kr_model.specs.Map.{IsMap};
 
 use crate::orders::{OtherOrders, orders};
 use crate::spoken::{answer_text, op_text, txns_text};
@@ -52,9 +51,7 @@ pub fn write_verdict<P: Protocol>(
     protocol: &P,
     out: &mut String,
     script: &Counterexample,
-) -> Result<(), Memory>
-    requires { IsMap script.now.opening.items }
-{
+) -> Result<(), Memory> {
     let opening = script.opening.as_slice();
     let ran = run_any(alloc, protocol, opening, script.events.as_slice())?;
     match &judge(alloc, &ran)? {
@@ -90,7 +87,7 @@ fn write_difference(
     } else {
         format!(in alloc; "Not serializable: {differs}")?
     };
-    write_paragraph(out, text.as_str(), INDENT, 0)
+    write_paragraph(out, text.as_str(), INDENT, INDENT)
 }
 
 /// Which answer differs, where the transactions committed in this order.

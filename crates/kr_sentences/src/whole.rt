@@ -21,6 +21,6 @@ pub fn causes_words(alloc: Global, count: usize) -> Result<String, Memory> {
 pub fn write_command(out: &mut String, word: &str) -> Result<(), Memory> {
     write!(
         out,
-        "\nTo replay the schedule of cause N:\n    kr_explain {word} --script N >schedule.json\n    kr run {word} schedule.json\n"
+        "\n\nTo replay the schedule of cause N:\n    kr_explain {word} --script N >schedule.json\n    kr run {word} schedule.json"
     )
 }

@@ -1,9 +1,13 @@
 //! The words for the parts of a protocol table.
+ghost use Rattle.std.specs.Prelude.{◌≡◌};
+ghost use Rattle.kr_sentences.specs.Words.{row_word, rule_code, rule_number, side_word, side_words, span_word};
 
 use kr_model::{Cover, Row, Rule, Side, Span};
 
 /// A row, as tables name it.
-pub fn row_word(row: Row) -> &'static str {
+pub fn row_word(row: Row) -> &'static str
+    ensures { result.now ≡ row_word row }
+{
     match row {
         Row::FetchHit => "fetch-hit",
         Row::FetchMiss => "fetch-miss",
@@ -16,7 +20,9 @@ pub fn row_word(row: Row) -> &'static str {
 }
 
 /// A side, as tables name it.
-pub fn side_word(side: Side) -> &'static str {
+pub fn side_word(side: Side) -> &'static str
+    ensures { result.now ≡ side_word side }
+{
     match side {
         Side::Current => "current",
         Side::Next => "next",
@@ -24,7 +30,9 @@ pub fn side_word(side: Side) -> &'static str {
 }
 
 /// A side, seen from the row.
-pub fn side_words(side: Side) -> &'static str {
+pub fn side_words(side: Side) -> &'static str
+    ensures { result.now ≡ side_words side }
+{
     match side {
         Side::Current => "its key",
         Side::Next => "the next key",
@@ -32,7 +40,9 @@ pub fn side_words(side: Side) -> &'static str {
 }
 
 /// A duration, as tables name it.
-pub fn span_word(span: Span) -> &'static str {
+pub fn span_word(span: Span) -> &'static str
+    ensures { result.now ≡ span_word span }
+{
     match span {
         Span::Instant => "instant",
         Span::Commit => "commit",
@@ -40,7 +50,9 @@ pub fn span_word(span: Span) -> &'static str {
 }
 
 /// The code of a group of cases.
-pub fn rule_code(rule: Rule) -> &'static str {
+pub fn rule_code(rule: Rule) -> &'static str
+    ensures { result.now ≡ rule_code rule }
+{
     match rule {
         Rule::Conversion => "G1",
         Rule::FetchHit => "G2",
@@ -51,6 +63,23 @@ pub fn rule_code(rule: Rule) -> &'static str {
         Rule::Split => "G7",
         Rule::Delete => "G8",
         Rule::Update => "G9",
+    }
+}
+
+/// The number of a group of cases.
+pub fn rule_number(rule: Rule) -> u8
+    ensures { result ≡ rule_number rule }
+{
+    match rule {
+        Rule::Conversion => 1,
+        Rule::FetchHit => 2,
+        Rule::FetchMiss => 3,
+        Rule::ScanKey => 4,
+        Rule::ScanStop => 5,
+        Rule::Insert => 6,
+        Rule::Split => 7,
+        Rule::Delete => 8,
+        Rule::Update => 9,
     }
 }
 

@@ -1,0 +1,4 @@
+pub mod Lined
+pub mod Grouped
+pub mod Listed
+pub mod Joined

@@ -1,0 +1,5 @@
+pub mod Lines
+pub mod Words
+pub mod Titles
+pub mod Lists
+pub mod Edits
