@@ -1,3 +1,4 @@
 pub mod ToldCauses
 pub mod Clear
 pub mod Outcomes
+pub mod InBlocks

@@ -1,4 +1,5 @@
 pub mod Lines
 pub mod Harmless
 pub mod Explained
+pub mod Blocks
 pub mod Told

@@ -1,8 +1,10 @@
 -- How an explanation is written: its text, and the lines of its runs.
 use Rattle.std.specs.Prelude.{◌≡◌, ℕ, List, ◌++◌, [], ◌∷◌, Bool, true, false, Option, Some, None, codes, decimal}
+use Rattle.kr_model.specs.Protocol.{Protocol}
 use Rattle.kr_explanation.specs.declared.run.Run.{Run}
 use Rattle.kr_explanation.specs.declared.explanation.Explanation.{Explanation}
 use Rattle.kr_explanation.specs.declared.explanation.Explanation.TheVariants as told
+use Rattle.kr_explanation.specs.Blocks.{TellsAll}
 use Rattle.kr_explanation.specs.Lines.{IsLineOf}
 use Rattle.kr_explanation.specs.Explained.{has_run}
 
@@ -25,9 +27,9 @@ verdict_words (told.Accepted n) = accepted_words n
 verdict_words (told.Safe f) = safe_words f.failed f.cases
 verdict_words (told.Rejected f) = rejected_words (has_run f) f.failed f.cases
 
--- A text of an explanation: it begins with the verdict, and ends with a line feed.
-abbrev pub IsText : Explanation → List ℕ → Type 0
-IsText e text = (telling : List ℕ) × (text ≡ verdict_words e ++ telling ++ 10 ∷ [])
+-- A text of an explanation of a table p with these names of its modes: it begins with the verdict, then has a block for each cause in order, and ends with a line feed.
+abbrev pub IsText : Protocol → List (List ℕ) → Explanation → List ℕ → Type 0
+IsText p names e text = (telling : List ℕ) × (TellsAll p names e telling × (text ≡ verdict_words e ++ telling ++ 10 ∷ []))
 
 -- The line of the script of a run, exactly where there is a run.
 abbrev pub IsScriptOf : Option Run → Option (List ℕ) → Type 0

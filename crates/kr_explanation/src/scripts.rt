@@ -1,6 +1,5 @@
 //! The scripts of the schedules that are shown.
 ghost use Rattle.std.specs.Prelude.{◌≡◌, IfOk, IfSome, option_map, string_bytes};
-ghost use Rattle.kr_model.specs.Map.{IsMap};
 ghost use Rattle.kr_explanation.specs.Explained.{run_at};
 ghost use Rattle.kr_explanation.specs.Told.{IsScriptOf};
 
@@ -42,7 +41,6 @@ pub fn run_of(
     is_as_case: bool,
     script: Counterexample,
 ) -> Result<Option<Run>, Memory>
-    requires { IsMap script.opening.items }
     ensures { IfOk result (λ found. IfSome found (λ run. run.script ≡ script)) }
 {
     let line = json_line(alloc, &script.opening, &script.events)?;

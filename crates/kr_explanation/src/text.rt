@@ -1,5 +1,8 @@
 //! The text of an explanation.
-ghost use Rattle.std.specs.Prelude.{◌≡◌, IfOk, string_bytes};
+ghost use Rattle.std.specs.Prelude.{◌≡◌, ◌++◌, IfOk, string_bytes};
+ghost use Rattle.kr_sentences.specs.Edits.{IsMending};
+ghost use Rattle.kr_sentences.specs.Titles.{IsTitle};
+ghost use Rattle.kr_explanation.specs.Blocks.{AreBlocks, IsBlock, TellsAll, TellsCauses, TellsCounted};
 ghost use Rattle.kr_explanation.specs.Told.{IsText, accepted_words, rejected_words, safe_words, verdict_words};
 
 use crate::effort::MOST_MENDED;
@@ -7,6 +10,7 @@ use crate::explanation::{Explained, Explanation, Failures};
 use crate::harmless::Harmless;
 use crate::run::Run;
 use kr_cases::Memory;
+use kr_causes::{Cause, Mend};
 use kr_protocol::Protocol;
 use kr_sentences::{
     Tries, causes_words, write_body, write_case, write_command, write_mend, write_never_held,
@@ -24,21 +28,29 @@ impl Explanation {
         protocol: &P,
         word: &str,
     ) -> Result<String, Memory>
-        ensures { IfOk result (λ text. IsText self.now (string_bytes text)) }
+        ensures { IfOk result (λ text. IsText (P.table protocol.now) (P.names protocol.now) self.now (string_bytes text)) }
     {
-        let telling = match self {
-            Explanation::Accepted { .. } => String::new(alloc),
-            Explanation::Safe(failures) => causes_text(alloc, protocol, failures, word)?,
-            Explanation::Rejected(failures) => {
-                let count = causes_words(alloc, failures.causes.len())?;
-                let causes = causes_text(alloc, protocol, failures, word)?;
-                format!(in alloc; "{count}{causes}")?
-            }
-        };
+        let telling = self.telling(alloc, protocol, word)?;
         let mut out = self.verdict_text(alloc)?;
         out.push_str(telling.as_str())?;
         out.push_str("\n")?;
         Ok(out)
+    }
+
+    /// What comes between the verdict and the last line feed.
+    fn telling<P: Protocol>(
+        &self,
+        alloc: Global,
+        protocol: &P,
+        word: &str,
+    ) -> Result<String, Memory>
+        ensures { IfOk result (λ text. TellsAll (P.table protocol.now) (P.names protocol.now) self.now (string_bytes text)) }
+    {
+        match self {
+            Explanation::Accepted { .. } => Ok(String::new(alloc)),
+            Explanation::Safe(failures) => causes_text(alloc, protocol, failures, word),
+            Explanation::Rejected(failures) => counted_text(alloc, protocol, failures, word),
+        }
     }
 
     /// The words that the text begins with.
@@ -90,47 +102,119 @@ fn rejected_words(
     }
 }
 
-/// What is said of each cause of a table, without its last line feed.
+/// What is said of each cause of a table, and how to run its schedule.
 fn causes_text<P: Protocol>(
     alloc: Global,
     protocol: &P,
     failures: &Failures,
     word: &str,
-) -> Result<String, Memory> {
-    let mut out = String::from_str(alloc, "\n")?;
-    for (at, explained) in failures.causes.iter().enumerate() {
-        write_cause(alloc, protocol, &mut out, at, explained)?;
-    }
-    if failures.has_run() {
+) -> Result<String, Memory>
+    ensures { IfOk result (λ text. TellsCauses (P.table protocol.now) (P.names protocol.now) failures.now (string_bytes text)) }
+{
+    let blocks = blocks(alloc, protocol, &failures.causes)?;
+    let end = end_text(alloc, failures.has_run(), word)?;
+    let text = two(alloc, &blocks, &end)?;
+    Ok(text)
+}
+
+/// The same behind how many causes there are.
+fn counted_text<P: Protocol>(
+    alloc: Global,
+    protocol: &P,
+    failures: &Failures,
+    word: &str,
+) -> Result<String, Memory>
+    ensures { IfOk result (λ text. TellsCounted (P.table protocol.now) (P.names protocol.now) failures.now (string_bytes text)) }
+{
+    let count = causes_words(alloc, failures.causes.len())?;
+    let causes = causes_text(alloc, protocol, failures, word)?;
+    let text = two(alloc, &count, &causes)?;
+    Ok(text)
+}
+
+/// How to run the schedule of a cause, where there is one.
+fn end_text(alloc: Global, is_known: bool, word: &str) -> Result<String, Memory> {
+    let mut out = String::new(alloc);
+    if is_known {
         write_command(&mut out, word)?;
     }
-    let _last = out.pop();
     Ok(out)
 }
 
-/// Writes the cause at this place of the list, from 0: its title, what is said of it, why it is harmless or its schedule, and
-/// its fixes.
-fn write_cause<P: Protocol>(
+/// Two texts, one behind the other.
+fn two(alloc: Global, first: &str, second: &str) -> Result<String, Memory>
+    ensures { IfOk result (λ text. string_bytes text ≡ first.now ++ second.now) }
+{
+    format!(in alloc; "{first}{second}")
+}
+
+/// A block for each of the causes, in their order.
+fn blocks<P: Protocol>(alloc: Global, protocol: &P, causes: &[Explained]) -> Result<String, Memory>
+    ensures { IfOk result (λ text. AreBlocks (P.table protocol.now) (P.names protocol.now) 1 causes.now (string_bytes text)) }
+{
+    let mut out = String::new(alloc);
+    for at in 0..causes.len() {
+        let block = block(alloc, protocol, at + 1, &causes[at])?;
+        out.push_str(block.as_str())?;
+    }
+    Ok(out)
+}
+
+/// The block of the cause of this number, from 1: its title, what is said of it, why it is harmless or its schedule, and its
+/// fixes.
+fn block<P: Protocol>(
     alloc: Global,
     protocol: &P,
-    out: &mut String,
-    at: usize,
+    number: usize,
     explained: &Explained,
-) -> Result<(), Memory> {
-    write_title(alloc, protocol, out, at.saturating_add(1), &explained.cause)?;
-    match &explained.run {
-        Some(run) => write_with_run(alloc, protocol, out, explained, run)?,
-        None => write_without_run(alloc, protocol, out, explained)?,
-    }
+) -> Result<String, Memory>
+    ensures { IfOk result (λ text. IsBlock (P.table protocol.now) (P.names protocol.now) number explained.now (string_bytes text)) }
+{
     let is_harmless = explained.harmless.is_some();
-    write_mend(
-        alloc,
-        protocol,
-        out,
-        &explained.mend,
-        MOST_MENDED,
-        is_harmless,
-    )
+    let title = title_text(alloc, protocol, number, &explained.cause)?;
+    let said = said(alloc, protocol, explained)?;
+    let fixes = fixes_text(alloc, protocol, &explained.mend, is_harmless)?;
+    let behind = two(alloc, &said, &fixes)?;
+    let text = two(alloc, &title, &behind)?;
+    Ok(text)
+}
+
+/// The title of the cause of this number, from 1.
+fn title_text<P: Protocol>(
+    alloc: Global,
+    protocol: &P,
+    number: usize,
+    cause: &Cause,
+) -> Result<String, Memory>
+    ensures { IfOk result (λ text. IsTitle (P.table protocol.now) (P.names protocol.now) number cause.now (string_bytes text)) }
+{
+    let mut out = String::new(alloc);
+    write_title(alloc, protocol, &mut out, number, cause)?;
+    Ok(out)
+}
+
+/// The fixes of a cause, which is harmless or isn't.
+fn fixes_text<P: Protocol>(
+    alloc: Global,
+    protocol: &P,
+    mend: &Option<Mend>,
+    is_harmless: bool,
+) -> Result<String, Memory>
+    ensures { IfOk result (λ text. IsMending (P.names protocol.now) is_harmless mend.now (string_bytes text)) }
+{
+    let mut out = String::new(alloc);
+    write_mend(alloc, protocol, &mut out, mend, MOST_MENDED, is_harmless)?;
+    Ok(out)
+}
+
+/// What is said of a cause below its title, up to its fixes.
+fn said<P: Protocol>(alloc: Global, protocol: &P, explained: &Explained) -> Result<String, Memory> {
+    let mut out = String::new(alloc);
+    match &explained.run {
+        Some(run) => write_with_run(alloc, protocol, &mut out, explained, run)?,
+        None => write_without_run(alloc, protocol, &mut out, explained)?,
+    }
+    Ok(out)
 }
 
 /// How many of a cause's cases were tried.
