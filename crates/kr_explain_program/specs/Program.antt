@@ -16,18 +16,18 @@ use Rattle.kr_shell.specs.declared.tables.AnyTable.{AnyTable}
 use Rattle.kr_shell.specs.Lines.{told_line}
 use Rattle.kr_shell.specs.Named.{NamesTable, TellsNoTable}
 use Rattle.kr_shell.specs.Questions.{IsNoQuestion}
-use Rattle.kr_shell.specs.Tables.{table_of}
+use Rattle.kr_shell.specs.Tables.{names_of, table_of}
 use Rattle.kr_explain_program.specs.Words.{words_of, AskNothingOfTables, IsAsked}
 use Rattle.kr_explain_program.specs.declared.words.Wanted.{Wanted}
 use Rattle.kr_explain_program.specs.declared.words.Wanted.TheVariants as wanted
 
--- A whole text of an explanation of a table was written, and the answer is whether the table is safe.
-pub record Explains (p : Protocol) (old new : Option (List ℕ)) (safe : Bool) : Type 0 where
+-- A whole text of an explanation of a table with these names of its modes was written, and the answer is whether the table is safe.
+pub record Explains (p : Protocol) (names : List (List ℕ)) (old new : Option (List ℕ)) (safe : Bool) : Type 0 where
   pub explanation : Explanation
   pub text : List ℕ
   pub explained : IsExplained p explanation
-  -- the text begins with the verdict
-  pub is_text : IsText explanation text
+  -- the text begins with the verdict, and has a block for each cause, with its title and its fixes
+  pub is_text : IsText p names explanation text
   pub verdict : is_safe explanation ≡ safe
   pub is_so : IsTrue safe ↔ IsSafe p
   pub written : Appends old new text
@@ -44,9 +44,9 @@ pub record WritesScript (p : Protocol) (number : ℕ) (old new : Option (List �
   pub written : Appends old new (line ++ 10 ∷ [])
 
 -- What is wanted of a table was written, and the answer is whether the table is safe; one of which there is a script isn't.
-abbrev pub Reports : Protocol → Wanted → Option (List ℕ) → Option (List ℕ) → Bool → Type 0
-Reports p wanted.Explanation old new safe = Explains p old new safe
-Reports p (wanted.Script number) old new safe = (safe ≡ false) × WritesScript p number old new
+abbrev pub Reports : Protocol → List (List ℕ) → Wanted → Option (List ℕ) → Option (List ℕ) → Bool → Type 0
+Reports p names wanted.Explanation old new safe = Explains p names old new safe
+Reports p names (wanted.Script number) old new safe = (safe ≡ false) × WritesScript p number old new
 
 -- A table's cause of this number has no run, or there is no such cause; and the line tells that of the word that names the table.
 pub record TellsNoRun (p : Protocol) (table : List ℕ) (number : ℕ) (line : List ℕ) : Type 0 where
@@ -77,7 +77,7 @@ pub record Answers (may_give : List ℕ → Option (List ℕ) → Type 0) (words
   pub asked : IsAsked table wanted
   pub names : NamesTable may_give table named
   pub lawful : IsLawful (table_of named)
-  pub reports : Reports (table_of named) wanted old new safe
+  pub reports : Reports (table_of named) (names_of named) wanted old new safe
 
 -- The line tells why the word of a table names none; or what is missing of the table that it names.
 abbrev pub TellsWord : (List ℕ → Option (List ℕ) → Type 0) → List ℕ → Wanted → List ℕ → Type 0

@@ -38,7 +38,7 @@ fn report<P: Protocol, W: Sink>(
     wanted: Wanted,
     out: &mut W,
 ) -> Result<bool, Ending>
-    ensures reports { IfOk result (Reports (P.table protocol.now) wanted (W.taken out.old) (W.taken out.new)) }
+    ensures reports { IfOk result (Reports (P.table protocol.now) (P.names protocol.now) wanted (W.taken out.old) (W.taken out.new)) }
     ensures err { IfErr result (EndsReport (P.table protocol.now) table.now wanted) }
     ensures nothing { IfErr result (λ e. IsTrue (is_output e) ⊎ (out.new ≡ out.old)) }
     ensures cause { IfErr result (λ e. IsTrue (is_output e) → HasCause (W.failures out.old) (W.failures out.new)) }
