@@ -1,6 +1,5 @@
 //! Schedules that are shown, each with its script as a line of JSON.
 ghost use Rattle.std.specs.Prelude.{string_bytes};
-ghost use Rattle.kr_model.specs.Map.{IsMap};
 ghost use Rattle.kr_explanation.specs.Lines.{IsLineOf};
 
 use kr_counterexample::Counterexample;
@@ -17,6 +16,5 @@ pub struct Run {
     pub script: Counterexample,
     /// Its script as a line of JSON, with no line feed.
     pub line: String,
-    ghost rising: { IsMap script.opening.items },
     ghost reads: { IsLineOf script.opening.items script.events.items (string_bytes line) },
 }
