@@ -32,15 +32,8 @@ pub record TellsCauses (p : Protocol) (names : List (List ℕ)) (f : Failures) (
   pub are_blocks : AreBlocks p names 1 f.causes.items blocks
   pub written : text ≡ blocks ++ end
 
--- The same behind how many causes there are.
-pub record TellsCounted (p : Protocol) (names : List (List ℕ)) (f : Failures) (text : List ℕ) : Type 0 where
-  pub count : List ℕ
-  pub causes : List ℕ
-  pub tells : TellsCauses p names f causes
-  pub written : text ≡ count ++ causes
-
 -- What comes between the verdict and the last line feed: nothing where all cases hold, and else each cause.
 abbrev pub TellsAll : Protocol → List (List ℕ) → Explanation → List ℕ → Type 0
 TellsAll p names (told.Accepted cases) text = text ≡ []
 TellsAll p names (told.Safe f) text = TellsCauses p names f text
-TellsAll p names (told.Rejected f) text = TellsCounted p names f text
+TellsAll p names (told.Rejected f) text = TellsCauses p names f text

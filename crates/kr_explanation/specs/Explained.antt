@@ -10,6 +10,7 @@ use Rattle.kr_causes.specs.declared.cause.Cause.{Cause}
 use Rattle.kr_causes.specs.Causes.{ShareOut}
 use Rattle.kr_causes.specs.Mends.{AreMends}
 use Rattle.kr_counterexample.specs.GoesWrong.{GoesWrong}
+use Rattle.kr_exact.specs.Ordered.{IsOrdered}
 use Rattle.kr_explanation.specs.Harmless.{IsHarmless, IsReason}
 use Rattle.kr_explanation.specs.declared.run.Run.{Run}
 use Rattle.kr_explanation.specs.declared.explanation.Explained.{Explained}
@@ -43,6 +44,8 @@ pub record AreFailures (p : Protocol) (failed : List FailedCase) (f : Failures) 
   -- it has so many cases, and so many of them fail
   pub has_cases : f.cases ≡ length (cases p)
   pub has_failed : f.failed ≡ length failed
+  -- it is said to be ordered exactly where it is
+  pub ordered : f.is_ordered ≡ true ↔ IsOrdered p
   -- each failed case is in exactly one of the causes
   pub shared : ShareOut (causes_of f.causes.items) failed
   pub told : All (IsTold p failed) f.causes.items

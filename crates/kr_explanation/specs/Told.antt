@@ -1,6 +1,7 @@
 -- How an explanation is written: its text, and the lines of its runs.
-use Rattle.std.specs.Prelude.{◌≡◌, ℕ, List, ◌++◌, [], ◌∷◌, Bool, true, false, Option, Some, None, codes, decimal}
+use Rattle.std.specs.Prelude.{◌≡◌, ℕ, List, ◌++◌, [], ◌∷◌, length, Bool, true, false, Option, Some, None, codes, decimal}
 use Rattle.kr_model.specs.Protocol.{Protocol}
+use Rattle.kr_sentences.specs.Whole.{causes_words}
 use Rattle.kr_explanation.specs.declared.run.Run.{Run}
 use Rattle.kr_explanation.specs.declared.explanation.Explanation.{Explanation}
 use Rattle.kr_explanation.specs.declared.explanation.Explanation.TheVariants as told
@@ -21,11 +22,22 @@ abbrev pub rejected_words : Bool → ℕ → ℕ → List ℕ
 rejected_words true failed cases = codes "rejected: " ++ (decimal failed ++ (codes " of " ++ (decimal cases ++ codes " cases fail. ")))
 rejected_words false failed cases = codes "not known to be safe: " ++ (decimal failed ++ (codes " of " ++ (decimal cases ++ codes " cases fail. ")))
 
--- The words that a text begins with: the verdict, and how many cases hold or fail.
+-- What is said below the verdict of a table that is ordered: that the verdict is exact.
+abbrev pub exact_words : Bool → List ℕ
+exact_words true = 10 ∷ codes "This table is ordered, so the verdict is exact: safe if and only if every run is serializable in commit order."
+exact_words false = []
+
+-- What is said below the verdict of a table that isn't safe, where a run is known that goes wrong, or where none is: that the verdict is exact, or that the run shows it.
+abbrev pub shown_words : Bool → Bool → List ℕ
+shown_words true true = exact_words true
+shown_words true false = 10 ∷ codes "This table is not ordered: a schedule below shows that some run is not serializable in commit order."
+shown_words false is_ordered = []
+
+-- The words that a text begins with: the verdict, how many cases hold or fail and how many causes that has, and whether the verdict is exact.
 abbrev pub verdict_words : Explanation → List ℕ
 verdict_words (told.Accepted n) = accepted_words n
-verdict_words (told.Safe f) = safe_words f.failed f.cases
-verdict_words (told.Rejected f) = rejected_words (has_run f) f.failed f.cases
+verdict_words (told.Safe f) = safe_words f.failed f.cases ++ exact_words f.is_ordered
+verdict_words (told.Rejected f) = rejected_words (has_run f) f.failed f.cases ++ (causes_words (length f.causes.items) ++ shown_words (has_run f) f.is_ordered)
 
 -- A text of an explanation of a table p with these names of its modes: it begins with the verdict, then has a block for each cause in order, and ends with a line feed.
 abbrev pub IsText : Protocol → List (List ℕ) → Explanation → List ℕ → Type 0

@@ -13,6 +13,7 @@ use kr_causes::{Blame, Cause, Mend, causes, mends};
 use kr_counterexample::{Closure, Scenes};
 use kr_decide::Survey;
 use kr_model::FailedCase;
+use kr_ordered::is_ordered;
 use kr_protocol::Protocol;
 use std::alloc::{AllocError, Global};
 
@@ -70,6 +71,7 @@ fn failures<P: Protocol>(
     Ok(Failures {
         cases: cases(protocol.count(), protocol.updates()),
         failed: failed.len(),
+        is_ordered: is_ordered(protocol),
         causes: explained(alloc, protocol, survey, failed, causes)?,
     })
 }

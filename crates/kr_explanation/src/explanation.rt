@@ -37,6 +37,8 @@ pub struct Failures {
     pub cases: usize,
     /// How many of them fail.
     pub failed: usize,
+    /// Whether the table is ordered: then it is safe if and only if every run under it is serializable in commit order.
+    pub is_ordered: bool,
     /// What is to blame, with each failed case in exactly one of them.
     pub causes: Vec<Explained>,
 }

@@ -11,6 +11,7 @@ mod run;
 mod scripts;
 mod text;
 mod told_run;
+mod verdict;
 
 pub use explaining::explain;
 pub use explanation::{Explained, Explanation, Failures};

@@ -2,19 +2,20 @@
 ghost use Rattle.std.specs.Prelude.{◌≡◌, ◌++◌, IfOk, string_bytes};
 ghost use Rattle.kr_sentences.specs.Edits.{IsMending};
 ghost use Rattle.kr_sentences.specs.Titles.{IsTitle};
-ghost use Rattle.kr_explanation.specs.Blocks.{AreBlocks, IsBlock, TellsAll, TellsCauses, TellsCounted};
-ghost use Rattle.kr_explanation.specs.Told.{IsText, accepted_words, rejected_words, safe_words, verdict_words};
+ghost use Rattle.kr_explanation.specs.Blocks.{AreBlocks, IsBlock, TellsAll, TellsCauses};
+ghost use Rattle.kr_explanation.specs.Told.{IsText};
 
 use crate::effort::MOST_MENDED;
 use crate::explanation::{Explained, Explanation, Failures};
 use crate::harmless::Harmless;
 use crate::run::Run;
+use crate::verdict::verdict_text;
 use kr_cases::Memory;
 use kr_causes::{Cause, Mend};
 use kr_protocol::Protocol;
 use kr_sentences::{
-    Tries, causes_words, write_body, write_case, write_command, write_mend, write_never_held,
-    write_never_let_in, write_no_run, write_run, write_title,
+    Tries, write_body, write_case, write_command, write_mend, write_never_held, write_never_let_in,
+    write_no_run, write_run, write_title,
 };
 use std::alloc::Global;
 
@@ -31,7 +32,7 @@ impl Explanation {
         ensures { IfOk result (λ text. IsText (P.table protocol.now) (P.names protocol.now) self.now (string_bytes text)) }
     {
         let telling = self.telling(alloc, protocol, word)?;
-        let mut out = self.verdict_text(alloc)?;
+        let mut out = verdict_text(alloc, self)?;
         out.push_str(telling.as_str())?;
         out.push_str("\n")?;
         Ok(out)
@@ -48,57 +49,10 @@ impl Explanation {
     {
         match self {
             Explanation::Accepted { .. } => Ok(String::new(alloc)),
-            Explanation::Safe(failures) => causes_text(alloc, protocol, failures, word),
-            Explanation::Rejected(failures) => counted_text(alloc, protocol, failures, word),
-        }
-    }
-
-    /// The words that the text begins with.
-    fn verdict_text(&self, alloc: Global) -> Result<String, Memory>
-        ensures { IfOk result (λ text. string_bytes text ≡ verdict_words self.now) }
-    {
-        match self {
-            Explanation::Accepted { cases } => accepted_words(alloc, *cases),
-            Explanation::Safe(failures) => safe_words(alloc, failures.failed, failures.cases),
-            Explanation::Rejected(failures) => {
-                rejected_words(alloc, failures.has_run(), failures.failed, failures.cases)
+            Explanation::Safe(failures) | Explanation::Rejected(failures) => {
+                causes_text(alloc, protocol, failures, word)
             }
         }
-    }
-}
-
-/// The words that the text of a table begins with of which all cases hold, so many.
-fn accepted_words(alloc: Global, cases: usize) -> Result<String, Memory>
-    ensures { IfOk result (λ text. string_bytes text ≡ accepted_words cases) }
-{
-    format!(in alloc;
-        "accepted: all {cases} cases hold. Every run under this table is serializable in commit order."
-    )
-}
-
-/// The words that the text of a table begins with that is safe, though so many cases fail.
-fn safe_words(alloc: Global, failed: usize, cases: usize) -> Result<String, Memory>
-    ensures { IfOk result (λ text. string_bytes text ≡ safe_words failed cases) }
-{
-    format!(in alloc;
-        "safe: {failed} of {cases} cases fail, but no schedule reaches their locks. Every run is serializable in commit order."
-    )
-}
-
-/// The words that the text of a table begins with that isn't safe, of which so many cases fail, and for which a run is known
-/// or isn't.
-fn rejected_words(
-    alloc: Global,
-    has_run: bool,
-    failed: usize,
-    cases: usize,
-) -> Result<String, Memory>
-    ensures { IfOk result (λ text. string_bytes text ≡ rejected_words has_run failed cases) }
-{
-    if has_run {
-        format!(in alloc; "rejected: {failed} of {cases} cases fail. ")
-    } else {
-        format!(in alloc; "not known to be safe: {failed} of {cases} cases fail. ")
     }
 }
 
@@ -114,21 +68,6 @@ fn causes_text<P: Protocol>(
     let blocks = blocks(alloc, protocol, &failures.causes)?;
     let end = end_text(alloc, failures.has_run(), word)?;
     let text = two(alloc, &blocks, &end)?;
-    Ok(text)
-}
-
-/// The same behind how many causes there are.
-fn counted_text<P: Protocol>(
-    alloc: Global,
-    protocol: &P,
-    failures: &Failures,
-    word: &str,
-) -> Result<String, Memory>
-    ensures { IfOk result (λ text. TellsCounted (P.table protocol.now) (P.names protocol.now) failures.now (string_bytes text)) }
-{
-    let count = causes_words(alloc, failures.causes.len())?;
-    let causes = causes_text(alloc, protocol, failures, word)?;
-    let text = two(alloc, &count, &causes)?;
     Ok(text)
 }
 

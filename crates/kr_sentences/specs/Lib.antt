@@ -3,3 +3,4 @@ pub mod Words
 pub mod Titles
 pub mod Lists
 pub mod Edits
+pub mod Whole

@@ -1,20 +1,27 @@
 //! What is said of all the causes of a table.
+ghost use Rattle.std.specs.Prelude.{◌≡◌, IfOk, string_bytes};
+ghost use Rattle.kr_sentences.specs.Whole.{causes_words};
 
 use kr_cases::Memory;
 use std::alloc::Global;
 
-/// The numbers from 1 to 9 in words, at the beginning of a sentence.
-const NUMBERS: [&str; 9] = [
-    "One", "Two", "Three", "Four", "Five", "Six", "Seven", "Eight", "Nine",
-];
-
-/// How many causes there are, as a sentence.
-pub fn causes_words(alloc: Global, count: usize) -> Result<String, Memory> {
-    let causes = if count == 1 { "cause" } else { "causes" };
-    match NUMBERS.get(count.saturating_sub(1)) {
-        Some(number) if count > 0 => format!(in alloc; "{number} {causes}."),
-        _ => format!(in alloc; "{count} {causes}."),
-    }
+/// How many causes there are, as a sentence: up to nine in words. The only fault is that a growth was refused.
+pub fn causes_words(alloc: Global, count: usize) -> Result<String, Memory>
+    ensures { IfOk result (λ text. string_bytes text ≡ causes_words count) }
+{
+    let words = match count {
+        1 => "One cause.",
+        2 => "Two causes.",
+        3 => "Three causes.",
+        4 => "Four causes.",
+        5 => "Five causes.",
+        6 => "Six causes.",
+        7 => "Seven causes.",
+        8 => "Eight causes.",
+        9 => "Nine causes.",
+        _ => return format!(in alloc; "{count} causes."),
+    };
+    String::from_str(alloc, words)
 }
 
 /// Writes the commands that run the schedule of a cause, where `word` names the table.

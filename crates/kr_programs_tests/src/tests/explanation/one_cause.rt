@@ -17,6 +17,7 @@ const ROWS: &[Told] = &[
         },
         word: "delete-of-five-modes.toml",
         text: r#"rejected: 4 of 244 cases fail. One cause.
+This table is ordered, so the verdict is exact: safe if and only if every run is serializable in commit order.
 
 1. `delete` releases its lock on the next key too early. [G8: 4 cases]
    After `delete` a transaction must protect, until it ends, a gap in which it deleted a key.
@@ -59,6 +60,7 @@ To replay the schedule of cause N:
         },
         word: "no-insert.toml",
         text: r#"rejected: 10 of 61 cases fail. One cause.
+This table is ordered, so the verdict is exact: safe if and only if every run is serializable in commit order.
 
 1. `insert` requests no lock on its key. [G6: 6, G7: 4 cases]
    The key that it inserts is not protected.
@@ -96,6 +98,7 @@ To replay the schedule of cause N:
         },
         word: "goes-on.toml",
         text: r#"rejected: 36 of 988 cases fail. One cause.
+This table is not ordered: a schedule below shows that some run is not serializable in commit order.
 
 1. I-X held and N-S requested convert to I-N, a weaker mode. [G6: 36 cases]
    Locks are tested and held in the converted mode. After `insert` a transaction must protect a key that it
@@ -137,6 +140,7 @@ To replay the schedule of cause N:
         },
         word: "update-of-five-modes.toml",
         text: r#"rejected: 3 of 275 cases fail. One cause.
+This table is ordered, so the verdict is exact: safe if and only if every run is serializable in commit order.
 
 1. `update` releases its lock on its key too early. [G9: 3 cases]
    After `update` a transaction must protect, until it ends, a key that it updated.
@@ -178,6 +182,7 @@ To replay the schedule of cause N:
         },
         word: "no-lock-of-updates.toml",
         text: r#"rejected: 54 of 275 cases fail. One cause.
+This table is ordered, so the verdict is exact: safe if and only if every run is serializable in commit order.
 
 1. `update` requests no lock on its key. [G2: 6, G4: 6, G6: 36, G9: 6 cases]
    So whatever locks are held, another transaction can update that key: no transaction can protect a key that

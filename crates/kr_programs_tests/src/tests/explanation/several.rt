@@ -16,6 +16,7 @@ const SEVERAL: &[Told] = &[
         },
         word: "two-causes.toml",
         text: r#"rejected: 18 of 244 cases fail. Two causes.
+This table is ordered, so the verdict is exact: safe if and only if every run is serializable in commit order.
 
 1. `insert` requests too weak a lock on its key: IX. [G6: 15 cases]
    After `insert` a transaction must protect, until it ends, a key that it inserted.
@@ -84,6 +85,7 @@ To replay the schedule of cause N:
         },
         word: "nothing.toml",
         text: r#"rejected: 16 of 28 cases fail. Four causes.
+This table is ordered, so the verdict is exact: safe if and only if every run is serializable in commit order.
 
 1. `delete` requests no lock on its key. [G2: 2, G4: 2 cases]
    So whatever locks are held, another transaction can delete that key: no transaction can protect a key that
