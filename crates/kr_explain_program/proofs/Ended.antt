@@ -1,8 +1,8 @@
 -- Why the program ends without what is wanted.
-use Rattle.std.specs.Prelude.{◌≡◌, ◌++◌, ℕ, List, Bool, Option, Some, None, Result, Ok, Err, IfErr, String, codes, option_map, string_bytes, refl}
+use Rattle.std.specs.Prelude.{◌≡◌, ◌++◌, ℕ, List, Bool, Option, Some, None, Result, Ok, Err, IfOk, IfErr, String, codes, option_map, string_bytes, refl}
 use Rattle.std.proofs.Common.{Global, subst, inl, inr}
 use Rattle.std.specs.Fmt.{decimal}
-use Rattle.kr_model.specs.Protocol.{Protocol}
+use Rattle.kr_model.specs.Protocol.{Protocol, IsLawful}
 use Rattle.kr_shell.specs.declared.endings.Ending.{Ending}
 use Rattle.kr_shell.specs.declared.endings.Ending.TheVariants.{NotUnderstood, Memory, Place, Output, Told}
 use Rattle.kr_shell.specs.declared.tables.AnyTable.{AnyTable}
@@ -10,13 +10,13 @@ use Rattle.kr_shell.specs.Endings.{MemoryOrTold}
 use Rattle.kr_shell.specs.Lines.{told_line}
 use Rattle.kr_shell.specs.Named.{NamesTable, TellsNoTable}
 use Rattle.kr_shell.specs.Questions.{IsNoQuestion}
-use Rattle.kr_shell.specs.Tables.{table_of}
+use Rattle.kr_shell.specs.Tables.{names_of, table_of}
 use Rattle.kr_explanation.specs.Explained.{IsExplained, run_at}
 use Rattle.kr_explanation.specs.Told.{IsScriptOf}
 use Rattle.kr_explanation.specs.declared.run.Run.{Run}
 use Rattle.kr_explanation.specs.declared.explanation.Explanation.{Explanation}
 use Rattle.kr_explain_program.specs.Words.{words_of, IsAsked}
-use Rattle.kr_explain_program.specs.Program.{EndsReport, Ends}
+use Rattle.kr_explain_program.specs.Program.{Answers, EndsReport, Ends, Reports}
 use Rattle.kr_explain_program.specs.declared.words.Wanted.{Wanted}
 use Rattle.kr_explain_program.specs.declared.words.Wanted.TheVariants as wanted
 
@@ -53,6 +53,12 @@ ends_at may_give words table w t (Told line) are asked names ends = (table, (w, 
 pub report_ends : (may_give : List ℕ → Option (List ℕ) → Type 0) (words : List (List ℕ)) (r : Result Bool Ending) (table : List ℕ) (w : Wanted) (t : AnyTable) → words ≡ words_of table w → IsAsked table w → NamesTable may_give table t → IfErr r (EndsReport (table_of t) table w) → IfErr r (λ e. IsNoQuestion words → Ends may_give words e)
 report_ends may_give words (Ok accepted) table w t are asked names ends = tt
 report_ends may_give words (Err e) table w t are asked names ends = λ own. ends_at may_give words table w t e are asked names ends
+
+-- what is wanted of the table that a word names was written
+pub report_answers : (may_give : List ℕ → Option (List ℕ) → Type 0) (words : List (List ℕ)) (old new : Option (List ℕ)) (r : Result Bool Ending) (table : List ℕ) (w : Wanted) (t : AnyTable) → words ≡ words_of table w → IsAsked table w → NamesTable may_give table t → IsLawful (table_of t) → IfOk r (Reports (table_of t) (names_of t) w old new) → IfOk r (Answers may_give words old new)
+report_answers may_give words old new (Ok safe) table w t are asked names lawful reports =
+    record { table = table; wanted = w; named = t; words_are = are; asked = asked; names = names; lawful = lawful; reports = reports }
+report_answers may_give words old new (Err e) table w t are asked names lawful reports = tt
 
 -- the word of a table that names none
 pub no_table : (may_give : List ℕ → Option (List ℕ) → Type 0) (words : List (List ℕ)) (table : List ℕ) (w : Wanted) (e : Ending) → words ≡ words_of table w → IsAsked table w → MemoryOrTold e (TellsNoTable may_give table) → Ends may_give words e
