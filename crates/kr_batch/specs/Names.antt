@@ -5,7 +5,6 @@ use Rattle.kr_model.specs.Protocol.{Protocol}
 use Rattle.kr_serial.specs.declared.verdict.Verdict.{Verdict}
 use Rattle.kr_serial.specs.Verdicts.{verdict_of_run}
 use Rattle.kr_script.specs.Script.{Script, IsScript}
-use Rattle.kr_script.specs.declared.faults.ScriptFault.{ScriptFault}
 use Rattle.kr_script.specs.declared.faults.ScriptFault.TheVariants as told_as
 use Rattle.kr_script.specs.Faults.{Fault, fault_of}
 use Rattle.kr_script.specs.Reading.{reading}

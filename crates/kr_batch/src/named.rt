@@ -1,5 +1,6 @@
 //! Verdicts on scripts whose texts are found by their names, one by one.
-ghost use Rattle.std.specs.Prelude.{◌≡◌, ◌++◌, ◌∷◌, ◌⊎◌, ℕ, List, Option, Some, None, Ok, Err, IfOk, IfErr, Result, length, map};
+ghost use Rattle.std.specs.Prelude.{◌≡◌, ◌++◌, ◌∷◌, ◌⊎◌, ℕ, List, Option, Some, None, Ok, Err, IfOk, IfErr, IsTrue, Result, length, map};
+ghost use Rattle.kr_model.specs.Covers.{IsCovered};
 ghost use Rattle.kr_serial.specs.declared.verdict.Verdict.{Verdict};
 ghost use Rattle.kr_serial.specs.Verdicts.{verdict_of_run};
 ghost use Rattle.kr_script.specs.Script.{Script};
@@ -11,6 +12,7 @@ ghost use Rattle.kr_batch.specs.declared.named.Unjudged.TheVariants as unjudged;
 ghost use Rattle.kr_batch.specs.declared.named.JudgeFault.TheVariants as fault;
 
 use crate::judging::verdict_on;
+use kr_cases::check;
 use kr_protocol::Protocol;
 use kr_script::{ScriptFault, read_script};
 use kr_serial::Verdict;
@@ -131,17 +133,22 @@ fn verdicts_or_first(
     Ok(verdicts)
 }
 
-/// The verdict on the run of the script that a name stands for, of which nothing is kept.
+/// The verdict on the run of the script that a name stands for, of which nothing is kept. Under a covered protocol the run is
+/// serializable by the main theorem, and isn't made.
 fn verdict_on_text<P: Protocol, T: Texts>(
     alloc: Global,
     protocol: &P,
+    is_covered: bool,
     texts: &T,
     name: &str,
 ) -> Result<Verdict, Unjudged>
-    ensures { Judges (P.table protocol.now) (T.may_be texts.now) name.now result }
+    ensures { (IsTrue is_covered → IsCovered (P.table protocol.now)) → Judges (P.table protocol.now) (T.may_be texts.now) name.now result }
 {
     let text = texts.text(alloc, name)?;
     let script = read_script(alloc, text.as_slice())?;
+    if is_covered {
+        return Ok(Verdict::Serial);
+    }
     drop(text);
     let verdict = verdict_on(alloc, protocol, &script)?;
     Ok(verdict)
@@ -150,9 +157,9 @@ fn verdict_on_text<P: Protocol, T: Texts>(
 /// The verdicts on the runs of the scripts that names stand for, under a protocol and in the order of the names: the list
 /// that one thread gives which judges one after another; or the first fault in that order. The names are shared out by
 /// their number, in pieces of neighbours, two pieces for each processor, and each piece has a thread of its own, which for
-/// each of its names has the text, reads it, judges the script, and lets both go. After a fault the other names are gone
-/// over all the same. Want of memory is told where it comes before all other faults, or where the list of verdicts itself
-/// can't grow.
+/// each of its names has the text, reads it, judges the script, and lets both go. Under a covered protocol each run is
+/// serializable by the main theorem, so scripts are read there and not run. After a fault the other names are gone over all the
+/// same. Want of memory is told where it comes before all other faults, or where the list of verdicts itself can't grow.
 pub fn judge_texts<P: Protocol + Sync, T: Texts + Sync>(
     rt: &(impl Threads + Sync),
     alloc: Global,
@@ -164,14 +171,16 @@ pub fn judge_texts<P: Protocol + Sync, T: Texts + Sync>(
         × (verdicts.items ≡ map (λ s. verdict_of_run (P.table protocol.now) s.opening s.steps) ss))) }
     ensures err { IfErr result (ExplainsNames (T.may_be texts.now) (map (λ n. n.now) names.now)) }
 {
+    let is_covered = check(alloc, protocol).is_ok();
     // A script may have as many as 100,000 steps, so that one is worth a thread.
     let judged: Vec<Result<Verdict, Unjudged>> = names
         .par_iter()
         .with_min_len(1)
         .map(
             |name: &&str| -> Result<Verdict, Unjudged>
-                ensures { Judges (P.table protocol.entry.now) (T.may_be texts.entry.now) name.now.now result }
-            { verdict_on_text(alloc, protocol, texts, name) },
+                ensures { (IsTrue is_covered → IsCovered (P.table protocol.entry.now))
+                    → Judges (P.table protocol.entry.now) (T.may_be texts.entry.now) name.now.now result }
+            { verdict_on_text(alloc, protocol, is_covered, texts, name) },
         )
         .collect(rt, alloc)?;
     verdicts_or_first(alloc, judged)

@@ -6,6 +6,7 @@ ghost use Rattle.kr_model.specs.Safe.{IsSafe};
 ghost use Rattle.kr_model.specs.Difference.{first_difference};
 ghost use Rattle.kr_model.specs.Serial.{AreSerial};
 ghost use Rattle.kr_serial.specs.Verdicts.{verdict_of};
+ghost use Rattle.kr_serial.specs.declared.verdict.Verdict.TheVariants as verdict;
 ghost use Rattle.kr_script.specs.Script.{Script};
 ghost use Rattle.kr_script.specs.Reading.{reading};
 ghost use Rattle.kr_script.specs.Report.{run_text};
@@ -13,10 +14,23 @@ ghost use Rattle.kr_program.specs.Runs.{report_text, report_line, IsSerialScript
 ghost use Rattle.kr_program.specs.declared.faults.OverFault.TheVariants as fault;
 
 use crate::faults::OverFault;
+use kr_cases::check;
 use kr_protocol::Protocol;
 use kr_script::{Sink, print, read_script, report_run};
-use kr_serial::{Ran, judge, run_any};
+use kr_serial::{Ran, Verdict, judge, run_any};
 use std::alloc::{AllocError, Global};
+
+/// The verdict on a run. Under a covered protocol the run is serializable by the main theorem, so nothing is judged.
+fn verdict_on<P: Protocol>(alloc: Global, protocol: &P, ran: &Ran) -> Result<Verdict, AllocError>
+    requires { IsCovered (P.table protocol.now) → AreSerial ran.now.opening ran.now.programs }
+    ensures verdict { IfOk result (λ v. v ≡ verdict_of (first_difference ran.now.opening ran.now.programs)) }
+    ensures serial { IfOk result (λ v. (v ≡ verdict.Serial) ↔ AreSerial ran.now.opening ran.now.programs) }
+{
+    if check(alloc, protocol).is_ok() {
+        return Ok(Verdict::Serial);
+    }
+    judge(alloc, ran)
+}
 
 /// The report of a run with its verdict, and whether it is serializable.
 fn report_of<P: Protocol>(
@@ -24,11 +38,12 @@ fn report_of<P: Protocol>(
     protocol: &P,
     ran: &Ran,
 ) -> Result<(String, bool), AllocError>
+    requires { IsCovered (P.table protocol.now) → AreSerial ran.now.opening ran.now.programs }
     ensures text { IfOk result (λ told. string_bytes told.0 ≡ run_text (P.names protocol.now) ran.now.index ran.now.locks
         ran.now.replies ran.now.unfinished (verdict_of (first_difference ran.now.opening ran.now.programs))) }
     ensures serial { IfOk result (λ told. IsTrue told.1 ↔ AreSerial ran.now.opening ran.now.programs) }
 {
-    let verdict = judge(alloc, ran)?;
+    let verdict = verdict_on(alloc, protocol, ran)?;
     let text = report_run(alloc, protocol, ran, &verdict)?;
     Ok((text, verdict.is_serial()))
 }

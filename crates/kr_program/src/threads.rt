@@ -12,20 +12,18 @@ ghost use Rattle.kr_program.specs.declared.faults.OverFault.TheVariants as fault
 use crate::faults::OverFault;
 use kr_protocol::Covered;
 use kr_script::{Sink, Threaded, print, read_script, report_threads};
-use kr_serial::judge;
+use kr_serial::Verdict;
 use kr_threads::{Passage, RunFault, run_threads};
 use std::alloc::{AllocError, Global};
 use std::sync::Wait;
 use std::thread::Threads;
 
-/// The report of what several threads did with the verdict on the run of its history, and whether that run is serializable.
-fn report_of(alloc: Global, threaded: &Threaded) -> Result<(String, bool), AllocError>
-    ensures text { IfOk result (λ told. string_bytes told.0 ++ 10 ∷ [] ≡ threads_line threaded.now) }
-    ensures serial { IfOk result (λ told. IsTrue told.1 ↔ AreSerial threaded.now.ran.opening threaded.now.ran.programs) }
+/// The report of what several threads did, with the verdict on the run of its history, which is serializable.
+fn report_of(alloc: Global, threaded: &Threaded) -> Result<String, AllocError>
+    requires { AreSerial threaded.now.ran.opening threaded.now.ran.programs }
+    ensures { IfOk result (λ text. string_bytes text ++ 10 ∷ [] ≡ threads_line threaded.now) }
 {
-    let verdict = judge(alloc, &threaded.ran)?;
-    let text = report_threads(alloc, threaded, &verdict)?;
-    Ok((text, verdict.is_serial()))
+    report_threads(alloc, threaded, &Verdict::Serial)
 }
 
 /// Runs the script that the bytes are under a covered protocol, its transactions shared out to so many workers, each a
@@ -54,9 +52,9 @@ pub fn threads_over<P: Covered + Sync, W: Sink>(
         Err(RunFault::Memory) => return Err(OverFault::Memory),
         Err(RunFault::Place) => return Err(OverFault::Place),
     };
-    let (text, is_serial) = report_of(alloc, &threaded)?;
+    let text = report_of(alloc, &threaded)?;
     match print(out, text.as_str()) {
-        Ok(()) => Ok(is_serial),
+        Ok(()) => Ok(true),
         Err(_) => Err(OverFault::Print),
     }
 }
