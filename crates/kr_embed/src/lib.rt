@@ -1,0 +1,24 @@
+//! kr for programs in other languages: tables and scripts from bytes, sessions behind a handle, and replies as numbers. `kr_c`
+//! exports this to C.
+#![tactic(auto)]
+
+mod checks;
+mod faults;
+mod handle;
+mod modes;
+mod numbers;
+mod parts;
+mod runs;
+mod scripts;
+mod session;
+mod tables;
+
+pub use checks::{check_bytes, decide_bytes};
+pub use faults::Fault;
+pub use handle::Handle;
+pub use modes::mode_in;
+pub use numbers::{Lock, Pair, PlainReply, locks_of, operation, pairs_of, plain};
+pub use runs::run_bytes;
+pub use scripts::script_in;
+pub use session::{Session, open_bytes};
+pub use tables::table_in;
