@@ -1,0 +1,126 @@
+#!/usr/bin/env python3
+"""Compares libkr with kr, step by step, on random scripts under random tables.
+
+    compare.py PROGRAM COUNT NAME=DRIVER ..
+
+For each of COUNT scripts, PROGRAM, which is kr, runs it under its table. Each DRIVER then does the steps of all scripts through
+libkr, as driver.c says, and the module kr does them in this process. The replies, and at the end the index, the locks, the active
+transactions and the verdict, have to be those of the program's report. Prints the number of steps and each NAME that differs, with
+the first line in which it does; status 1 where one does."""
+import json
+import pathlib
+import random
+import subprocess
+import sys
+import tempfile
+
+sys.dont_write_bytecode = True
+TOP = pathlib.Path(__file__).resolve().parents[2]
+sys.path[:0] = [str(TOP / 'tests/second'), str(TOP / 'libkr/python')]
+
+import kr
+from runner import Run
+from samples import Draft, Script
+from table import Table
+
+OPERATIONS = list(kr.OPERATIONS)
+
+
+def some_table(rng, texts, format):
+    draft = Draft.of_text(rng.choice(texts)) if rng.random() < 0.8 else Draft.random(rng, format)
+    if format == 2 and draft.format == 1 and rng.random() < 0.7:
+        draft.offer_updates(rng)
+    for _ in range(rng.choice([0, 0, 1, 3])):
+        draft.change(rng)
+    return draft.text()
+
+
+def plain(reply):
+    """A reply of a report, as a driver prints it."""
+    word, *more = reply
+    if word == 'rows':
+        return ' '.join(['rows', *(f'{k}:{v}' for k, v in more[0])])
+    if word == 'blocked':
+        return ' '.join(['blocked', *map(str, more[0])])
+    return f'refused 0 {more[0]}' if word == 'refused' else f'{word} {more[0] if more else 0} 0'
+
+
+def plain_state(report, modes, serial):
+    locks = [f'{0 if name == "End" else name},{int(name == "End")},{txn},{modes.index(mode) + 1}' for name, txn, mode in report['locks']]
+    verdict = json.dumps({'script': 'session', 'verdict': report['verdict']}, separators=(',', ':'))
+    return ' '.join(['index', *(f'{k}:{v}' for k, v in report['index']), 'locks', *locks, 'unfinished', *map(str, report['unfinished']),
+                     'verdict', '0' if serial else '1', verdict])
+
+
+class Sample:
+    """A script under a table, in files, with the report of the program."""
+
+    def __init__(self, rng, texts, program, folder, number):
+        format = rng.choice([1, 2])
+        text = some_table(rng, texts, format)
+        self.table, self.script = folder / f'{number}.toml', folder / f'{number}.json'
+        script = Script(rng, lambda opening: Run(Table(text), opening), format)
+        self.opening, self.steps, self.text = script.opening, script.steps, text
+        self.table.write_text(text)
+        self.script.write_text(script.text())
+        done = subprocess.run([program, 'run', self.table, self.script], stdout=subprocess.PIPE, check=False)
+        if done.returncode > 1:
+            raise SystemExit(f'{program} run {self.table} {self.script} ends with status {done.returncode}')
+        self.serial, self.line, self.report = done.returncode == 0, done.stdout.decode(), json.loads(done.stdout)
+        self.modes = Draft.of_text(text).modes
+
+    def asked(self):
+        yield f'open {self.table} {self.script}'
+        for txn, word, *operands in self.steps:
+            first, second = (*operands, 0, 0)[:2]
+            yield f'step {txn} {OPERATIONS.index(word)} {first} {second}'
+        yield 'state'
+        yield 'close'
+
+    def wanted(self):
+        return ['opened', *map(plain, self.report['replies']), plain_state(self.report, self.modes, self.serial)]
+
+    def by_module(self):
+        """The same by the module kr, and first the report as a whole."""
+        table = kr.Table(self.text)
+        if table.run(self.script.read_bytes()) != (self.serial, self.line[:-1]):
+            return ['another report']
+        with table.open(self.opening) as session:
+            lines = ['opened', *(plain(session.step(*step)) for step in self.steps)]
+            report = {'index': session.index(), 'locks': session.locks(), 'unfinished': session.unfinished(), 'verdict': session.verdict()}
+            return [*lines, plain_state(report, self.modes, session.is_serializable())]
+
+
+def differs(name, wanted, got):
+    for number, (one, other) in enumerate(zip(wanted, got)):
+        if one != other:
+            print(f'{name}: line {number} is {other!r} and not {one!r}')
+            return True
+    if len(wanted) != len(got):
+        print(f'{name}: {len(got)} lines and not {len(wanted)}')
+        return True
+    return False
+
+
+def main(program, count, *drivers):
+    rng = random.Random(int(count))
+    texts = [it.read_text() for it in sorted([*(TOP / 'tables').glob('*.toml'), *(TOP / 'examples/rejected').glob('*.toml')])]
+    with tempfile.TemporaryDirectory() as name:
+        samples = [Sample(rng, texts, program, pathlib.Path(name), number) for number in range(int(count))]
+        asked = ''.join(f'{line}\n' for sample in samples for line in sample.asked())
+        wanted = [line for sample in samples for line in sample.wanted()]
+        bad = differs('python', wanted, [line for sample in samples for line in sample.by_module()])
+        for name, driver in (it.split('=', 1) for it in drivers):
+            done = subprocess.run([driver], input=asked.encode(), stdout=subprocess.PIPE, check=False)
+            bad = differs(name, wanted, done.stdout.decode().splitlines()) or bad
+            if done.returncode:
+                print(f'{name}: ends with status {done.returncode}')
+                bad = True
+    steps, serial = sum(len(it.steps) for it in samples), sum(it.serial for it in samples)
+    names = ', '.join(['python', *(it.split('=')[0] for it in drivers)])
+    print(f'{count} scripts with {steps} steps, of which {int(count) - serial} are not serializable, through {names}')
+    return int(bad)
+
+
+if __name__ == '__main__':
+    sys.exit(main(*sys.argv[1:]))

@@ -1,0 +1,99 @@
+/* Does what lines on standard input say through libkr, and prints a line for each: by it compare.py compares libkr with kr.
+
+     open TABLE SCRIPT        the files of a table and a script
+     step TXN OP FIRST SECOND prints the reply
+     state                    prints the index, the locks, the active transactions and the verdict
+     close */
+#include <inttypes.h>
+#include <stdio.h>
+#include <stdlib.h>
+#include <string.h>
+
+#include "kr.h"
+
+static const char *const kinds[] = {"found",   "none",    "going",     "rows",    "done",   "duplicate", "deleted",
+                                    "absent",  "updated", "committed", "aborted", "undone", "blocked",   "refused"};
+static kr_session session = KR_SESSION;
+static char text[1 << 20];
+static kr_pair pairs[1000];
+static kr_lock locks[10000];
+static uint32_t txns[1000];
+
+static void must(int code) {
+  if (code != KR_OK) {
+    fprintf(stderr, "driver: %s\n", kr_errmsg(code));
+    exit(2);
+  }
+}
+
+static size_t bytes_of(const char *name, char *into, size_t room) {
+  FILE *file = fopen(name, "rb");
+  size_t length = file ? fread(into, 1, room, file) : 0;
+  if (file) fclose(file);
+  return length;
+}
+
+static void open_files(const char *table, const char *script) {
+  static char table_text[1 << 16], script_text[1 << 20];
+  size_t length, n = bytes_of(table, table_text, sizeof table_text), m = bytes_of(script, script_text, sizeof script_text);
+  must(kr_open(&session, table_text, n, script_text, m, text, sizeof text, &length));
+  puts("opened");
+}
+
+static void print_pairs(size_t length) {
+  for (size_t i = 0; i < length; i++) printf(" %" PRIu64 ":%" PRIu64, pairs[i].key, pairs[i].value);
+}
+
+static void print_txns(size_t length) {
+  for (size_t i = 0; i < length; i++) printf(" %" PRIu32, txns[i]);
+}
+
+static void step(uint32_t txn, uint32_t op, uint64_t first, uint64_t second) {
+  kr_reply reply;
+  size_t length;
+  must(kr_step(&session, txn, op, first, second, &reply));
+  printf("%s", kinds[reply.kind]);
+  if (reply.kind == KR_ROWS) {
+    must(kr_rows(&session, pairs, 1000, &length));
+    if (length != reply.count) exit(3);
+    print_pairs(length);
+  } else if (reply.kind == KR_BLOCKED) {
+    must(kr_blockers(&session, txns, 1000, &length));
+    if (length != reply.count) exit(3);
+    print_txns(length);
+  } else {
+    printf(" %" PRIu64 " %" PRIu32, reply.value, reply.refusal);
+  }
+  putchar('\n');
+}
+
+static void state(void) {
+  size_t length;
+  must(kr_index(&session, pairs, 1000, &length));
+  printf("index");
+  print_pairs(length);
+  must(kr_locks(&session, locks, 10000, &length));
+  printf(" locks");
+  for (size_t i = 0; i < length; i++)
+    printf(" %" PRIu64 ",%" PRIu32 ",%" PRIu32 ",%" PRIu32, locks[i].key, locks[i].is_end, locks[i].txn, locks[i].mode);
+  must(kr_unfinished(&session, txns, 1000, &length));
+  printf(" unfinished");
+  print_txns(length);
+  int code = kr_verdict(&session, text, sizeof text, &length);
+  if (code > KR_NO) must(code);
+  printf(" verdict %d %.*s\n", code, (int)length, text);
+}
+
+int main(void) {
+  static char line[1 << 12], a[1 << 11], b[1 << 11];
+  uint32_t txn, op;
+  uint64_t first, second;
+  while (fgets(line, sizeof line, stdin)) {
+    if (sscanf(line, "open %2047s %2047s", a, b) == 2) open_files(a, b);
+    else if (sscanf(line, "step %" SCNu32 " %" SCNu32 " %" SCNu64 " %" SCNu64, &txn, &op, &first, &second) == 4) step(txn, op, first, second);
+    else if (!strcmp(line, "state\n")) state();
+    else if (!strcmp(line, "close\n")) must(kr_close(&session));
+    else return 2;
+  }
+  return 0;
+}

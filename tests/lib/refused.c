@@ -1,0 +1,108 @@
+/* Each growth refused in turn: malloc and realloc are wrapped by the linker (-Wl,--wrap), and the growth of each number is refused
+   until all pass. Each call returns the code that it returns else, or KR_NOMEM with the session as it was; and tried again it does
+   what it does else. Prints how many growths there were; status 1 where something differs. */
+#include <stdio.h>
+#include <stdlib.h>
+#include <string.h>
+
+#include "kr.h"
+
+void *__real_malloc(size_t);
+void *__real_realloc(void *, size_t);
+static long left = -1; /* growths until the one that is refused; below 0 none is */
+static int is_refused(void) { return left >= 0 && left-- == 0; }
+void *__wrap_malloc(size_t size) { return is_refused() ? NULL : __real_malloc(size); }
+void *__wrap_realloc(void *at, size_t size) { return is_refused() ? NULL : __real_realloc(at, size); }
+
+static const char script[] = "{\"format\":2,\"opening\":[[10,1],[20,2],[30,3]],\"steps\":[[1,\"fetch\",15],[2,\"insert\",17,5],[1,\"commit\"]]}";
+static const struct { uint32_t txn, op; uint64_t first, second; } steps[] = {
+  {1, KR_FETCH, 15, 0}, {2, KR_INSERT, 17, 5}, {3, KR_SCAN, 25, 40}, {3, KR_GO, 0, 0}, {1, KR_COMMIT, 0, 0},  {2, KR_INSERT, 17, 5},
+  {2, KR_DELETE, 20, 0}, {3, KR_COMMIT, 0, 0}, {2, KR_INSERT, 40, 6}, {2, KR_BACK, 0, 0}, {2, KR_ABORT, 0, 0}, {4, KR_FETCH, 20, 0}};
+
+static char state[4096], text[4096], first_text[4096];
+static long refused;
+static int failed;
+
+static void wrong(const char *what, long number) {
+  printf("refused.c: %s at growth %ld\n", what, number);
+  failed = 1;
+}
+
+/* The state of a session as bytes, told without a refusal. */
+static size_t state_of(kr_session *session, char *into) {
+  long kept = left;
+  size_t n, m, k;
+  kr_pair pairs[16] = {{0, 0}};
+  kr_lock locks[64];
+  uint32_t txns[16] = {0};
+  memset(locks, 0, sizeof locks);
+  left = -1;
+  kr_index(session, pairs, 16, &n);
+  kr_locks(session, locks, 64, &m);
+  kr_unfinished(session, txns, 16, &k);
+  left = kept;
+  memcpy(into, pairs, n * sizeof *pairs);
+  memcpy(into + n * sizeof *pairs, locks, m * sizeof *locks);
+  memcpy(into + n * sizeof *pairs + m * sizeof *locks, txns, k * sizeof *txns);
+  return n * sizeof *pairs + m * sizeof *locks + k * sizeof *txns;
+}
+
+/* Calls until the code isn't KR_NOMEM, which it is once at most. */
+#define AGAIN(code, call)            \
+  do {                               \
+    (code) = (call);                 \
+    if ((code) != KR_NOMEM) break;   \
+    refused++;                       \
+    if (n != 0) wrong("a text", number); \
+    (code) = (call);                 \
+  } while (0)
+
+static int all_with(long number) {
+  int code;
+  size_t n = 0, length = 0;
+  kr_session session = KR_SESSION;
+  left = number;
+  AGAIN(code, kr_check("@kvl", 4, text, sizeof text, &n));
+  if (code != KR_OK || n != 39) wrong("check", number);
+  AGAIN(code, kr_decide("@kvl", 4, text, sizeof text, &n));
+  if (code != KR_OK) wrong("decide", number);
+  AGAIN(code, kr_run("@kvl", 4, script, sizeof script - 1, text, sizeof text, &n));
+  if (number < 0) memcpy(first_text, text, length = n);
+  if (code != KR_OK || memcmp(text, first_text, n)) wrong("run", number);
+  AGAIN(code, kr_open(&session, "@kvl", 4, script, sizeof script - 1, text, sizeof text, &n));
+  if (code != KR_OK) wrong("open", number);
+  for (size_t i = 0; i < sizeof steps / sizeof *steps; i++) {
+    static char after[4096];
+    kr_reply reply;
+    size_t before = state_of(&session, state);
+    code = kr_step(&session, steps[i].txn, steps[i].op, steps[i].first, steps[i].second, &reply);
+    if (code == KR_NOMEM) {
+      refused++;
+      if (reply.kind != KR_REFUSED || reply.refusal != KR_OUT_OF_MEMORY) wrong("a reply", number);
+      if (state_of(&session, after) != before || memcmp(state, after, before)) wrong("a state", number);
+      code = kr_step(&session, steps[i].txn, steps[i].op, steps[i].first, steps[i].second, &reply);
+    }
+    if (code != KR_OK || (reply.kind == KR_REFUSED && reply.refusal == KR_OUT_OF_MEMORY)) wrong("a step", number);
+  }
+  kr_pair pairs[8];
+  kr_lock locks[8];
+  uint32_t txns[8];
+  AGAIN(code, kr_index(&session, pairs, 8, &n));
+  if (code != KR_OK || n != 3) wrong("index", number);
+  AGAIN(code, kr_locks(&session, locks, 8, &n));
+  if (code != KR_OK || n != 1) wrong("locks", number);
+  AGAIN(code, kr_unfinished(&session, txns, 8, &n));
+  if (code != KR_OK || n != 1) wrong("unfinished", number);
+  AGAIN(code, kr_verdict(&session, text, sizeof text, &n));
+  if (code != KR_OK) wrong("verdict", number);
+  if (kr_close(&session) != KR_OK) wrong("close", number);
+  return left >= 0;
+}
+
+int main(void) {
+  long number = 0;
+  all_with(-1);
+  while (!all_with(number)) number++;
+  printf("%ld growths, each refused in turn; KR_NOMEM %ld times\n", number, refused);
+  return failed;
+}
