@@ -3,13 +3,16 @@
 import base64
 import hashlib
 import os
+import re
 import sysconfig
 import zipfile
 
-NAME = 'kr-0.9.0'
-METADATA = """Metadata-Version: 2.1
+with open('pyproject.toml', encoding='utf-8') as file:
+    VERSION = re.search('^version = "(.*)"$', file.read(), re.M)[1]
+NAME = f'kr-{VERSION}'
+METADATA = f"""Metadata-Version: 2.1
 Name: kr
-Version: 0.9.0
+Version: {VERSION}
 Summary: Checks key-range locking protocols, and steps sessions under them: libkr by ctypes
 License: MIT OR Apache-2.0
 Requires-Python: >=3.8

@@ -4,7 +4,8 @@ import pathlib
 import sys
 
 sys.dont_write_bytecode = True
-sys.path.insert(0, str(pathlib.Path(__file__).resolve().parents[2] / 'libkr/python'))
+TOP = pathlib.Path(__file__).resolve().parents[2]
+sys.path.insert(0, str(TOP / 'libkr/python'))
 
 import kr
 
@@ -37,4 +38,4 @@ assert raised(kr.ScriptFault, table.run, 'x').line.startswith('script: fault 2')
 assert raised(kr.ScriptFault, table.open, [(2, 1), (1, 1)]).line == 'script: fault 5 Opening at 1'
 assert table.check() == (True, '{"accepted":true,"cases":244,"modes":5}')
 assert table.is_safe() and table.mode(5) == 'X' and table.mode(6) == ''
-assert kr.version() == '0.9.0'
+assert kr.version() == (TOP / 'VERSION').read_text().strip()
