@@ -1,5 +1,5 @@
 -- What the steps of a script request in the index of a state.
-use Rattle.std.specs.Prelude.{◌≡◌, ℕ, suc, Bool, true, false, ◌&&◌, not, List, [], ◌∷◌, Option, Some, None, refl}
+use Rattle.std.specs.Prelude.{◌≡◌, ℕ, suc, Bool, true, false, [], ◌∷◌, Some, None, refl}
 use Rattle.std.proofs.Common.{sym, subst}
 use Rattle.kr_model.specs.declared.Name.TheVariants.{Key}
 use Rattle.kr_model.specs.declared.Op.{Op}

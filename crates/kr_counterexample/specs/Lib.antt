@@ -1,7 +1,7 @@
 pub mod About
 pub mod Comes
-pub mod GoesWrong
 pub mod Marks
+pub mod Moments
 pub mod Reached
 pub mod Requests
 pub mod Rising

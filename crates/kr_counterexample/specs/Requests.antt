@@ -1,5 +1,6 @@
--- What a step requests, and whether that is the request of a case.
-use Rattle.std.specs.Prelude.{◌≡◌, ◌⊎◌, ℕ, Option, Some, None, option_map}
+-- Who takes a step, what it requests, and whether that is the request of a case.
+use Rattle.std.specs.Prelude.{◌≡◌, ◌⊎◌, ℕ, List, Option, Some, None, option_map, slice_get}
+use Rattle.kr_model.specs.declared.Event.{Event}
 use Rattle.kr_model.specs.declared.Name.{Name}
 use Rattle.kr_model.specs.declared.Op.{Op}
 use Rattle.kr_model.specs.declared.Op.TheVariants as op
@@ -21,6 +22,10 @@ use Rattle.kr_model.specs.Locks.{Locks, own}
 use Rattle.kr_model.specs.Plan.{Access, access_of, own_next}
 
 -- Steps --
+
+-- Who takes the step at this place, from 0, where the script has one.
+abbrev pub txn_at : List Event → ℕ → Option ℕ
+txn_at events place = option_map (λ e. e.txn) (slice_get events place)
 
 -- What an operation attempts in this index, if it requests locks: a scan looks at its first name.
 abbrev pub attempt_of : Map → Op → Option Step

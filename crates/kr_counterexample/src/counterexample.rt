@@ -1,7 +1,7 @@
 //! Scripts that go wrong.
 ghost use Rattle.std.specs.Prelude.{◌≡◌, Some};
 ghost use Rattle.kr_model.specs.Map.{IsMap};
-ghost use Rattle.kr_counterexample.specs.GoesWrong.{txn_at};
+ghost use Rattle.kr_counterexample.specs.Requests.{txn_at};
 
 use crate::ending::Ending;
 use kr_model::{Event, Row, Side, Txn};

@@ -5,13 +5,14 @@ ghost use Rattle.kr_counterexample.specs.Marks.{IsShown};
 use crate::counterexample::Counterexample;
 use crate::ending::Ending;
 use crate::entrances::Entrance;
+use crate::fit::Fit;
 use crate::judging::goes_wrong;
 use crate::last_steps::last_steps;
 use crate::marks::are_marked;
 use crate::numbers::Numbers;
 use crate::step::{Actor, Step};
 use kr_cases::Memory;
-use kr_model::{Event, Op};
+use kr_model::{Event, FailedCase, Op};
 use kr_protocol::Protocol;
 use std::alloc::{AllocError, Global};
 
@@ -80,15 +81,17 @@ impl Draft {
         Ok(events)
     }
 
-    /// The script with an ending by this entrance, if it goes wrong, and its marks are those of its run. The only fault is
-    /// that a growth was refused.
+    /// The script with an ending by this entrance, made from a case, if it goes wrong, and its marks are those of its run. The
+    /// only fault is that a growth was refused.
     pub(crate) fn ended<P: Protocol>(
         &self,
         alloc: Global,
         protocol: &P,
+        case: &FailedCase,
+        fit: Fit,
         entrance: Entrance,
     ) -> Result<Option<Counterexample>, Memory>
-        ensures { IfOk result (λ found. IfSome found (IsShown (P.table protocol.now))) }
+        ensures { IfOk result (λ found. IfSome found (IsShown (P.table protocol.now) case.now fit)) }
     {
         let (row, side, ending) = entrance;
         let mut numbers = Numbers::new(alloc);
@@ -115,7 +118,7 @@ impl Draft {
             intruder,
             third,
         };
-        if are_marked(alloc, protocol, &script)? {
+        if are_marked(alloc, protocol, case, fit, &script)? {
             Ok(Some(script))
         } else {
             Ok(None)

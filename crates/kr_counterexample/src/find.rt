@@ -1,6 +1,7 @@
 //! The order in which scripts are tried.
 ghost use Rattle.std.specs.Prelude.{IfOk, IfSome};
-ghost use Rattle.kr_counterexample.specs.GoesWrong.{GoesWrong};
+ghost use Rattle.kr_counterexample.specs.declared.fit.Fit.TheVariants as fit;
+ghost use Rattle.kr_wrong.specs.Wrong.{GoesWrong};
 ghost use Rattle.kr_counterexample.specs.Marks.{AreMarked, IsShown};
 
 use crate::closure::Closure;
@@ -32,7 +33,7 @@ impl Closure {
         prefer: Option<(Row, Side)>,
     ) -> Result<Option<Counterexample>, Memory>
         ensures wrong { IfOk result (λ found. IfSome found (λ c. GoesWrong (P.table protocol.now) c.opening.items c.events.items)) }
-        ensures marked { IfOk result (λ found. IfSome found (AreMarked (P.table protocol.now))) }
+        ensures marked { IfOk result (λ found. IfSome found (AreMarked (P.table protocol.now) case.now fit.Case)) }
     {
         let sought = self.find_within(alloc, protocol, case, prefer, MOST_RUNS)?;
         Ok(sought.script)
@@ -47,7 +48,7 @@ impl<P: Protocol> Finder<'_, P> {
         prefer: Option<(Row, Side)>,
         runs_left: &mut usize,
     ) -> Result<Option<Counterexample>, Memory>
-        ensures { IfOk result (λ found. IfSome found (IsShown (P.table self.now.table.protocol.now))) }
+        ensures { IfOk result (λ found. IfSome found (IsShown (P.table self.now.table.protocol.now) self.now.case.now fit.Case)) }
     {
         let mut open = self.open_entrances(self.case.mode)?;
         open.sort_by_key(|(row, side, _)| prefer != Some((*row, *side)))?;
@@ -66,7 +67,7 @@ impl<P: Protocol> Finder<'_, P> {
         ways: &[Way],
         runs_left: &mut usize,
     ) -> Result<Option<Counterexample>, Memory>
-        ensures { IfOk result (λ found. IfSome found (IsShown (P.table self.now.table.protocol.now))) }
+        ensures { IfOk result (λ found. IfSome found (IsShown (P.table self.now.table.protocol.now) self.now.case.now fit.Case)) }
     {
         let mut found = Vec::new(self.alloc);
         for way in ways {
@@ -89,7 +90,7 @@ impl<P: Protocol> Finder<'_, P> {
         moves: &[Moved],
         runs_left: &mut usize,
     ) -> Result<Option<Counterexample>, Memory>
-        ensures { IfOk result (λ found. IfSome found (IsShown (P.table self.now.table.protocol.now))) }
+        ensures { IfOk result (λ found. IfSome found (IsShown (P.table self.now.table.protocol.now) self.now.case.now fit.Case)) }
     {
         for moved in moves {
             if let Some(op) = self.weakens(state, *moved) {

@@ -1,11 +1,13 @@
 //! What is tried for a failed case.
 ghost use Rattle.std.specs.Prelude.{IfOk, IfSome};
+ghost use Rattle.kr_counterexample.specs.declared.fit.Fit.TheVariants as fit;
 ghost use Rattle.kr_counterexample.specs.Marks.{IsShown};
 
 use crate::closure::Closure;
 use crate::counterexample::Counterexample;
 use crate::draft::Draft;
 use crate::entrances::{Entrance, entrances};
+use crate::fit::Fit;
 use crate::own_steps::own_steps;
 use crate::reached::Reached;
 use crate::scripts::{opening_of, script_to};
@@ -81,13 +83,19 @@ impl<P: Protocol> Finder<'_, P> {
         entrance: Entrance,
         runs_left: &mut usize,
     ) -> Result<Option<Counterexample>, Memory>
-        ensures { IfOk result (λ found. IfSome found (IsShown (P.table self.now.table.protocol.now))) }
+        ensures { IfOk result (λ found. IfSome found (IsShown (P.table self.now.table.protocol.now) self.now.case.now fit.Case)) }
     {
         if *runs_left == 0 {
             return Ok(None);
         }
         *runs_left -= 1;
-        draft.ended(self.alloc, self.table.protocol, entrance)
+        draft.ended(
+            self.alloc,
+            self.table.protocol,
+            self.case,
+            Fit::Case,
+            entrance,
+        )
     }
 
     /// The draft with the first of these endings that goes wrong.
@@ -97,7 +105,7 @@ impl<P: Protocol> Finder<'_, P> {
         open: &[Entrance],
         runs_left: &mut usize,
     ) -> Result<Option<Counterexample>, Memory>
-        ensures { IfOk result (λ found. IfSome found (IsShown (P.table self.now.table.protocol.now))) }
+        ensures { IfOk result (λ found. IfSome found (IsShown (P.table self.now.table.protocol.now) self.now.case.now fit.Case)) }
     {
         for entrance in open {
             let found = self.ended(draft, *entrance, runs_left)?;

@@ -3,7 +3,7 @@ ghost use Rattle.std.specs.Prelude.{◌≡◌, ◌↔◌, IfOk, IsTrue, All};
 ghost use Rattle.kr_model.specs.Map.{IsMap};
 ghost use Rattle.kr_model.specs.Run.{is_granted};
 ghost use Rattle.kr_model.specs.Serial.{AreSerial};
-ghost use Rattle.kr_counterexample.specs.GoesWrong.{GoesWrong};
+ghost use Rattle.kr_wrong.specs.Wrong.{GoesWrong};
 ghost use Rattle.kr_counterexample.specs.Rising.{is_above};
 
 use kr_cases::Memory;

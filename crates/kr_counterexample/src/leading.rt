@@ -133,7 +133,7 @@ fn has_modes(ran: &Ran, state: State) -> bool
 }
 
 /// The mode of a transaction on a name, or 0.
-fn own(locks: &[((Name, Txn), Mode)], txn: Txn, name: Name) -> Mode
+pub(crate) fn own(locks: &[((Name, Txn), Mode)], txn: Txn, name: Name) -> Mode
     ensures { result ≡ own locks.now txn name }
 {
     for lock in locks {

@@ -20,6 +20,7 @@ mod keys;
 mod last_steps;
 mod leading;
 mod marks;
+mod moment;
 mod moves;
 mod numbers;
 mod own_steps;

@@ -1,5 +1,6 @@
 //! Intruders that have modes of their own.
 ghost use Rattle.std.specs.Prelude.{IfOk, IfSome};
+ghost use Rattle.kr_counterexample.specs.declared.fit.Fit.TheVariants as fit;
 ghost use Rattle.kr_counterexample.specs.Marks.{IsShown};
 
 use crate::counterexample::Counterexample;
@@ -29,7 +30,7 @@ impl<P: Protocol> Finder<'_, P> {
         ways: &[Way],
         runs_left: &mut usize,
     ) -> Result<Option<Counterexample>, Memory>
-        ensures { IfOk result (λ found. IfSome found (IsShown (P.table self.now.table.protocol.now))) }
+        ensures { IfOk result (λ found. IfSome found (IsShown (P.table self.now.table.protocol.now) self.now.case.now fit.Case)) }
     {
         for way in ways {
             let draft = self.draft(*way)?;
@@ -51,7 +52,7 @@ impl<P: Protocol> Finder<'_, P> {
         entrance: Entrance,
         runs_left: &mut usize,
     ) -> Result<Option<Counterexample>, Memory>
-        ensures { IfOk result (λ found. IfSome found (IsShown (P.table self.now.table.protocol.now))) }
+        ensures { IfOk result (λ found. IfSome found (IsShown (P.table self.now.table.protocol.now) self.now.case.now fit.Case)) }
     {
         for ready in self.closure.ready.iter() {
             if *runs_left > 0 && self.opens(entrance, *ready) {
@@ -98,7 +99,7 @@ impl<P: Protocol> Finder<'_, P> {
         beside: &Beside,
         runs_left: &mut usize,
     ) -> Result<Option<Counterexample>, Memory>
-        ensures { IfOk result (λ found. IfSome found (IsShown (P.table self.now.table.protocol.now))) }
+        ensures { IfOk result (λ found. IfSome found (IsShown (P.table self.now.table.protocol.now) self.now.case.now fit.Case)) }
     {
         for place in [0, draft.weak, draft.steps.len()] {
             let woven = draft.woven(self.alloc, &beside.opening, &beside.steps, place)?;

@@ -1,6 +1,6 @@
 //! Looking for a script among scenes.
 ghost use Rattle.std.specs.Prelude.{◌≡◌, ◌≤◌, IfOk, IfSome};
-ghost use Rattle.kr_counterexample.specs.GoesWrong.{GoesWrong};
+ghost use Rattle.kr_wrong.specs.Wrong.{GoesWrong};
 ghost use Rattle.kr_counterexample.specs.Marks.{AreMarked, IsShown};
 
 use crate::counterexample::Counterexample;
@@ -55,7 +55,7 @@ impl Scenes {
         most_runs: usize,
     ) -> Result<Sought, Memory>
         ensures wrong { IfOk result (λ sought. IfSome sought.script (λ c. GoesWrong (P.table protocol.now) c.opening.items c.events.items)) }
-        ensures marked { IfOk result (λ sought. IfSome sought.script (AreMarked (P.table protocol.now))) }
+        ensures marked { IfOk result (λ sought. IfSome sought.script (AreMarked (P.table protocol.now) case.now fit)) }
         ensures few { IfOk result (λ sought. sought.runs ≤ most_runs) }
     {
         let stage = Stage {
@@ -77,7 +77,7 @@ impl Scenes {
 impl<P: Protocol> Stage<'_, P> {
     /// The first script that goes wrong.
     fn first(&self, runs_left: &mut usize) -> Result<Option<Counterexample>, Memory>
-        ensures { IfOk result (λ found. IfSome found (IsShown (P.table self.now.table.protocol.now))) }
+        ensures { IfOk result (λ found. IfSome found (IsShown (P.table self.now.table.protocol.now) self.now.case.now self.now.fit)) }
     {
         for (at, reach) in self.scenes.reached.iter().enumerate() {
             for is_second in [false, true] {
@@ -120,7 +120,7 @@ impl<P: Protocol> Stage<'_, P> {
 
     /// The scene with the first ending that goes wrong.
     fn let_in(&self, held: Held, runs_left: &mut usize) -> Result<Option<Counterexample>, Memory>
-        ensures { IfOk result (λ found. IfSome found (IsShown (P.table self.now.table.protocol.now))) }
+        ensures { IfOk result (λ found. IfSome found (IsShown (P.table self.now.table.protocol.now) self.now.case.now self.now.fit)) }
     {
         for entrance in entrances(self.case.cover) {
             let (row, side, _) = *entrance;
@@ -146,7 +146,7 @@ impl<P: Protocol> Stage<'_, P> {
         entrance: Entrance,
         runs_left: &mut usize,
     ) -> Result<Option<Counterexample>, Memory>
-        ensures { IfOk result (λ found. IfSome found (IsShown (P.table self.now.table.protocol.now))) }
+        ensures { IfOk result (λ found. IfSome found (IsShown (P.table self.now.table.protocol.now) self.now.case.now self.now.fit)) }
     {
         let (row, side, _) = entrance;
         if (row, side) == DELETES_A {
@@ -167,7 +167,7 @@ impl<P: Protocol> Stage<'_, P> {
         entrance: Entrance,
         runs_left: &mut usize,
     ) -> Result<Option<Counterexample>, Memory>
-        ensures { IfOk result (λ found. IfSome found (IsShown (P.table self.now.table.protocol.now))) }
+        ensures { IfOk result (λ found. IfSome found (IsShown (P.table self.now.table.protocol.now) self.now.case.now self.now.fit)) }
     {
         let above = held.scene.above;
         let footings = Footings::beside(self.alloc, &self.table, above)?;
@@ -203,7 +203,7 @@ impl<P: Protocol> Stage<'_, P> {
         more: &[Step],
         runs_left: &mut usize,
     ) -> Result<Option<Counterexample>, Memory>
-        ensures { IfOk result (λ found. IfSome found (IsShown (P.table self.now.table.protocol.now))) }
+        ensures { IfOk result (λ found. IfSome found (IsShown (P.table self.now.table.protocol.now) self.now.case.now self.now.fit)) }
     {
         let way = self.scenes.way(self.alloc, held.at)?;
         let is_of_deleted = self.case.cover == Cover::DeletedGap;
@@ -222,6 +222,12 @@ impl<P: Protocol> Stage<'_, P> {
         }
         *runs_left -= 1;
         draft.steps.extend_from_slice(more)?;
-        draft.ended(self.alloc, self.table.protocol, entrance)
+        draft.ended(
+            self.alloc,
+            self.table.protocol,
+            self.case,
+            self.fit,
+            entrance,
+        )
     }
 }

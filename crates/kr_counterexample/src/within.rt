@@ -1,6 +1,7 @@
 //! Looking for a script with so many runs at most.
 ghost use Rattle.std.specs.Prelude.{◌≡◌, ◌≤◌, IfOk, IfSome, vec_len};
-ghost use Rattle.kr_counterexample.specs.GoesWrong.{GoesWrong};
+ghost use Rattle.kr_counterexample.specs.declared.fit.Fit.TheVariants as fit;
+ghost use Rattle.kr_wrong.specs.Wrong.{GoesWrong};
 ghost use Rattle.kr_counterexample.specs.Marks.{AreMarked, IsShown};
 
 use crate::closure::Closure;
@@ -43,7 +44,7 @@ impl Closure {
         most_runs: usize,
     ) -> Result<Sought, Memory>
         ensures wrong { IfOk result (λ sought. IfSome sought.script (λ c. GoesWrong (P.table protocol.now) c.opening.items c.events.items)) }
-        ensures marked { IfOk result (λ sought. IfSome sought.script (AreMarked (P.table protocol.now))) }
+        ensures marked { IfOk result (λ sought. IfSome sought.script (AreMarked (P.table protocol.now) case.now fit.Case)) }
         ensures few { IfOk result (λ sought. sought.runs ≤ most_runs) }
     {
         let finder = Finder {
@@ -68,7 +69,7 @@ impl<P: Protocol> Finder<'_, P> {
         prefer: Option<(Row, Side)>,
         runs_left: &mut usize,
     ) -> Result<Option<Counterexample>, Memory>
-        ensures { IfOk result (λ found. IfSome found (IsShown (P.table self.now.table.protocol.now))) }
+        ensures { IfOk result (λ found. IfSome found (IsShown (P.table self.now.table.protocol.now) self.now.case.now fit.Case)) }
     {
         let ways = self.ways(*runs_left)?;
         let found = self.fresh(&ways, prefer, runs_left)?;

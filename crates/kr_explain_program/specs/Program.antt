@@ -4,7 +4,7 @@ use Rattle.std.specs.Fmt.{decimal}
 use Rattle.std.specs.Io.KnownBytes.{Appends}
 use Rattle.kr_model.specs.Protocol.{Protocol, IsLawful}
 use Rattle.kr_model.specs.Safe.{IsSafe}
-use Rattle.kr_counterexample.specs.GoesWrong.{GoesWrong}
+use Rattle.kr_wrong.specs.Wrong.{GoesWrong}
 use Rattle.kr_explanation.specs.Explained.{IsExplained, is_safe, run_at}
 use Rattle.kr_explanation.specs.Told.{IsText}
 use Rattle.kr_explanation.specs.Lines.{IsLineOf}

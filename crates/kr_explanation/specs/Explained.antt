@@ -9,8 +9,8 @@ use Rattle.kr_model.specs.Safe.{IsSafe}
 use Rattle.kr_causes.specs.declared.cause.Cause.{Cause}
 use Rattle.kr_causes.specs.Causes.{ShareOut}
 use Rattle.kr_causes.specs.Mends.{AreMends}
-use Rattle.kr_counterexample.specs.GoesWrong.{GoesWrong}
 use Rattle.kr_exact.specs.Ordered.{IsOrdered}
+use Rattle.kr_wrong.specs.Wrong.{GoesWrong}
 use Rattle.kr_explanation.specs.Harmless.{IsHarmless, IsReason}
 use Rattle.kr_explanation.specs.declared.run.Run.{Run}
 use Rattle.kr_explanation.specs.declared.explanation.Explained.{Explained}

@@ -1,6 +1,6 @@
 //! The run that is told of a cause.
 ghost use Rattle.std.specs.Prelude.{◌≡◌, ◌≤◌, None, IfOk, IfSome, length};
-ghost use Rattle.kr_counterexample.specs.GoesWrong.{GoesWrong};
+ghost use Rattle.kr_wrong.specs.Wrong.{GoesWrong};
 ghost use Rattle.kr_explanation.specs.Explained.{GoesWrongWith};
 
 use crate::effort::{Effort, MOST_STAGED, MOST_STAGED_RUNS};

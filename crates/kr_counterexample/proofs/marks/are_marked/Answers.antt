@@ -1,20 +1,14 @@
-use Rattle.kr_model.specs.Plan.{access}
-use Rattle.kr_counterexample.proofs.Marking.{access_found}
+use Rattle.std.specs.Prelude.{Option, IfSome}
+use Rattle.std.proofs.Common.{subst}
+use Rattle.std.proofs.lemmas.Result.{IfOk-weaker}
+use Rattle.kr_counterexample.specs.declared.marks.Marks.{Marks}
+use Rattle.kr_counterexample.specs.Moments.{AreMarksOf}
+use Rattle.kr_counterexample.proofs.Marking.{all_marked}
 use Rattle.kr_counterexample.proofs.marks.are_marked.Goals as goal
 
--- the two steps are about the name that was found
-pub returns-then-is_row : goal.returns-then-is_row
-returns-then-is_row g c = λ is.
+-- the marks that were found
+pub returns : goal.returns
+returns g c =
     let p = g.P.Protocol.table c.args.protocol.now in
-    let script = c.args.script.now in
-    let same = c.is_on_same.ensures is in
-    record {
-      through = access c.in-Some.through.0 c.in-Some.through.1 c.in-Some.through.2;
-      through_is = access_found p script.opening.items c.as_slice-opening.result.now script.events.items c.as_slice-events.result.now script.let_in _ c.in-Some.through c.as_slice-opening.ensures.value c.as_slice-events.ensures.value c.in_ok-through.ensures c.in-Some.is;
-      row = c.is_row.ensures c.if-is_row.true;
-      name = same.0;
-      at_side = same.1.0;
-      own = access c.in-Some-2.own.0 c.in-Some-2.own.1 c.in-Some-2.own.2;
-      own_is = access_found p script.opening.items c.as_slice-opening.result.now script.events.items c.as_slice-events.result.now script.weak _ c.in-Some-2.own c.as_slice-opening.ensures.value c.as_slice-events.ensures.value c.in_ok-own.ensures c.in-Some-2.is;
-      on_name = same.1.1;
-    }
+    let marks = subst (λ (o : Option Marks). IfSome o (AreMarksOf p c.args.case.now.cover c.args.script.now)) c.in-Some.is c.in_ok-marks.ensures in
+    IfOk-weaker c.is_lock_of.result _ _ (λ is lock yes. all_marked p c.args.case.now c.args.fit c.args.script.now c.in-Some.marks marks (c.in_ok-is_last.ensures c.if-not-branch.false) (lock yes)) c.is_lock_of.ensures
