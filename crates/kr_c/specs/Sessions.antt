@@ -5,7 +5,7 @@ use Rattle.kr_embed.specs.Handles.{IsStepped}
 use Rattle.kr_embed.specs.Numbers.{IsOperation}
 use Rattle.kr_embed.specs.Session.{Seen}
 use Rattle.kr_embed.specs.declared.numbers.PlainReply.{PlainReply}
-use Rattle.kr_c.specs.Codes.{ok, no_memory, closed, misuse}
+use Rattle.kr_c.specs.Codes.{ok, no_memory, closed}
 
 -- The code of a reply: refused memory has a code of its own.
 abbrev pub reply_code : PlainReply → ℕ

@@ -1,5 +1,5 @@
 //! Calls on a session.
-ghost use Rattle.std.specs.Prelude.{◌≡◌, ◌<◌, ◌⊎◌, Bool, List, ℕ, None, Some, Option, Result, String, Vec, IfErr, map, if◌then◌else◌, is_some};
+ghost use Rattle.std.specs.Prelude.{◌≡◌, ◌<◌, Bool, ℕ, None, Some, Option, Result, String, Vec, map, if◌then◌else◌, is_some};
 ghost use Rattle.std.specs.Global.{Global};
 ghost use Rattle.std.specs.declared.alloc.AllocError.{AllocError};
 ghost use Rattle.kr_model.specs.Step.{blockers_in};
