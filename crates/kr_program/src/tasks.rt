@@ -51,7 +51,8 @@ impl Workers {
 
     /// How many there are.
     pub fn count(self) -> usize
-        ensures { (0 < result) × (result ≤ 64) }
+        ensures value { result ≡ self.count }
+        ensures within { (0 < result) × (result ≤ 64) }
     {
         self.count
     }
