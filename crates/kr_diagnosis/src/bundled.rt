@@ -13,7 +13,6 @@ pub fn bundled_help(alloc: Global, word: &str) -> Result<String, AllocError>
     ensures { IfOk result (λ text. IsHelp word.now [] (string_bytes text)) }
 {
     let what = "the bundled tables are @kvl, @kvl-update, @im and @range-key";
-    let mut help = Help::of(alloc, None, what)?;
-    help.near(alloc, word, &BUNDLED)?;
+    let help = Help::of(alloc, None, what)?.near(alloc, word, &BUNDLED)?;
     help.print(alloc, word, &[])
 }

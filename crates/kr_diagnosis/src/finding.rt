@@ -48,11 +48,13 @@ pub fn table_at<R: std::rt::Files + AllocGlobal, F: Files>(
 {
     let alloc = rt.alloc();
     if is_no_file(word) {
-        let table = kr_shell::table_at(rt, word, files);
-        if table.is_err() {
-            add(help, bundled_help(alloc, word));
-        }
-        return table;
+        return match kr_shell::table_at(rt, word, files) {
+            Ok(table) => Ok(table),
+            Err(ending) => {
+                add(help, bundled_help(alloc, word));
+                Err(ending)
+            }
+        };
     }
     table_in_file(rt, word, files, help)
 }

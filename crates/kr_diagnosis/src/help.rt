@@ -38,25 +38,32 @@ impl Help {
         Ok(Help::new(alloc, offset, String::from_str(alloc, what)?))
     }
 
-    /// Adds a line that may help.
-    pub fn hint(&mut self, hint: String) -> Result<(), AllocError> {
+    /// With a line more that may help.
+    pub fn hint(mut self, hint: String) -> Result<Help, AllocError> {
         self.hints.push(hint)?;
-        Ok(())
+        Ok(self)
     }
 
-    /// Adds the name that is nearest to the word, or all names where none is near.
-    pub fn name(&mut self, alloc: Global, word: &str, names: &[&str]) -> Result<(), AllocError> {
-        match nearest(alloc, word, names)? {
-            Some(name) => self.hint(did_you_mean(alloc, name)?),
-            None => self.hint(one_of(alloc, names)?),
-        }
+    /// With a line more that may help, of this text.
+    pub fn hint_of(self, alloc: Global, hint: &str) -> Result<Help, AllocError> {
+        let hint = String::from_str(alloc, hint)?;
+        self.hint(hint)
     }
 
-    /// Adds the name that is nearest to the word, if one is near.
-    pub fn near(&mut self, alloc: Global, word: &str, names: &[&str]) -> Result<(), AllocError> {
+    /// With the name that is nearest to the word, or all names where none is near.
+    pub fn name(self, alloc: Global, word: &str, names: &[&str]) -> Result<Help, AllocError> {
+        let hint = match nearest(alloc, word, names)? {
+            Some(name) => did_you_mean(alloc, name)?,
+            None => one_of(alloc, names)?,
+        };
+        self.hint(hint)
+    }
+
+    /// With the name that is nearest to the word, if one is near.
+    pub fn near(self, alloc: Global, word: &str, names: &[&str]) -> Result<Help, AllocError> {
         match nearest(alloc, word, names)? {
             Some(name) => self.hint(did_you_mean(alloc, name)?),
-            None => Ok(()),
+            None => Ok(self),
         }
     }
 

@@ -113,6 +113,11 @@ fn reason(
         let what = "a comma before an end";
         return Help::of(alloc, Some(before - 1), what);
     }
+    expected(alloc, text, open, offset)
+}
+
+/// What was expected at an offset outside quotes.
+fn expected(alloc: Global, text: &[u8], open: &Open, offset: usize) -> Result<Help, AllocError> {
     let Some((bracket, opened)) = open.brackets.last() else {
         let what = if offset == 0 {
             "expected an object"
@@ -123,22 +128,22 @@ fn reason(
     };
     let end = end_of(*bracket);
     let what = format!(in alloc; "expected a value, a comma or {end} here")?;
-    let mut help = Help::new(alloc, Some(offset), what);
-    hint_open(alloc, text, &mut help, *bracket, *opened)?;
-    Ok(help)
+    let help = Help::new(alloc, Some(offset), what);
+    hint_open(alloc, text, help, *bracket, *opened)
 }
 
-/// Adds where what is open begins.
+/// With a hint where what is open begins.
 fn hint_open(
     alloc: Global,
     text: &[u8],
-    help: &mut Help,
+    help: Help,
     bracket: u8,
     opened: usize,
-) -> Result<(), AllocError> {
+) -> Result<Help, AllocError> {
     let Place { line, column } = place_at(text, opened.min(text.len()));
     let sign = bracket as char;
-    help.hint(format!(in alloc; "the {sign} at line {line}, column {column} is open")?)
+    let hint = format!(in alloc; "the {sign} at line {line}, column {column} is open")?;
+    help.hint(hint)
 }
 
 fn at_end(alloc: Global, text: &[u8]) -> Result<Help, AllocError> {
@@ -152,11 +157,11 @@ fn at_end(alloc: Global, text: &[u8]) -> Result<Help, AllocError> {
     } else {
         "the file ends too early"
     };
-    let mut help = Help::of(alloc, Some(end), what)?;
-    if let Some((bracket, opened)) = open.brackets.last() {
-        hint_open(alloc, text, &mut help, *bracket, *opened)?;
+    let help = Help::of(alloc, Some(end), what)?;
+    match open.brackets.last() {
+        Some((bracket, opened)) => hint_open(alloc, text, help, *bracket, *opened),
+        None => Ok(help),
     }
-    Ok(help)
 }
 
 fn of_error(alloc: Global, text: &[u8], error: &Error) -> Result<Help, AllocError> {

@@ -31,10 +31,8 @@ fn member_kind(name: &str) -> &'static str {
 fn no_object(alloc: Global, source: &Source) -> Result<Help, AllocError> {
     let is = json_kind(&source.value);
     let what = format!(in alloc; "a script is an object, and this is {is}")?;
-    let mut help = Help::new(alloc, Some(0), what);
     let hint = "expected { \"format\": 1, \"opening\": [..], \"steps\": [..] }";
-    help.hint(String::from_str(alloc, hint)?)?;
-    Ok(help)
+    Help::new(alloc, Some(0), what).hint_of(alloc, hint)
 }
 
 pub fn field_fault(alloc: Global, source: &Source, name: &str) -> Result<Help, AllocError> {
@@ -42,11 +40,20 @@ pub fn field_fault(alloc: Global, source: &Source, name: &str) -> Result<Help, A
         return no_object(alloc, source);
     }
     if !MEMBERS.contains(&name) {
-        let what = format!(in alloc; "a script has no member \"{name}\"")?;
-        let mut help = Help::new(alloc, source.key_of(alloc, name)?, what);
-        help.name(alloc, name, &MEMBERS)?;
-        return Ok(help);
+        return no_member(alloc, source, name);
     }
+    member_fault(alloc, source, name)
+}
+
+fn no_member(alloc: Global, source: &Source, name: &str) -> Result<Help, AllocError> {
+    let place = source.key_of(alloc, name)?;
+    let what = format!(in alloc; "a script has no member \"{name}\"")?;
+    Help::new(alloc, place, what).name(alloc, name, &MEMBERS)
+}
+
+/// What is said of a member that is missing, or isn't what it is to be.
+fn member_fault(alloc: Global, source: &Source, name: &str) -> Result<Help, AllocError> {
+    let place = source.value_of(alloc, name)?;
     let kind = member_kind(name);
     let what = match source.value.get(name) {
         Some(value) => {
@@ -55,15 +62,13 @@ pub fn field_fault(alloc: Global, source: &Source, name: &str) -> Result<Help, A
         }
         None => format!(in alloc; "the member \"{name}\" is missing: {kind}")?,
     };
-    Ok(Help::new(alloc, source.value_of(alloc, name)?, what))
+    Ok(Help::new(alloc, place, what))
 }
 
 /// What is said of a pair of the opening whose two are whole numbers.
 fn key_fault(alloc: Global, place: Option<usize>) -> Result<Help, AllocError> {
     let what = "this key is not above the key before it";
-    let mut help = Help::of(alloc, place, what)?;
-    help.hint(String::from_str(alloc, "expected keys that rise, each once")?)?;
-    Ok(help)
+    Help::of(alloc, place, what)?.hint_of(alloc, "expected keys that rise, each once")
 }
 
 pub fn opening_fault(alloc: Global, source: &Source, index: usize) -> Result<Help, AllocError> {
@@ -72,14 +77,15 @@ pub fn opening_fault(alloc: Global, source: &Source, index: usize) -> Result<Hel
     let Some([key, value]) = pair.and_then(Value::as_array).map(|list| list.as_slice()) else {
         return Help::of(alloc, place, "expected a pair [key, value]");
     };
-    for (i, part) in [key, value].into_iter().enumerate() {
-        if part.as_u64().is_none() {
-            let at = place.and_then(|place| element(source.text, place, i));
-            let name = if i == 0 { "a key" } else { "a value" };
-            return number_fault(alloc, source.text, at, name, part);
-        }
-    }
-    key_fault(alloc, place)
+    let (name, index, part) = if key.as_u64().is_none() {
+        ("a key", 0, key)
+    } else if value.as_u64().is_none() {
+        ("a value", 1, value)
+    } else {
+        return key_fault(alloc, place);
+    };
+    let at = place.and_then(|place| element(source.text, place, index));
+    number_fault(alloc, source.text, at, name, part)
 }
 
 pub fn too_many(alloc: Global, source: &Source, name: &str) -> Result<Help, AllocError> {

@@ -58,9 +58,10 @@ pub fn number_fault(
     Ok(Help::new(alloc, place, what))
 }
 
-/// Adds what steps look like.
-fn hint_form(alloc: Global, help: &mut Help, form: &str) -> Result<(), AllocError> {
-    help.hint(format!(in alloc; "expected {form}")?)
+/// With what steps look like.
+fn hint_form(alloc: Global, help: Help, form: &str) -> Result<Help, AllocError> {
+    let hint = format!(in alloc; "expected {form}")?;
+    help.hint(hint)
 }
 
 /// What is said of the transaction's number.
@@ -79,17 +80,13 @@ fn transaction_fault(
 /// What is said of a word that is no operation.
 fn operation_fault(alloc: Global, place: Option<usize>, word: &str) -> Result<Help, AllocError> {
     let what = format!(in alloc; "there is no operation \"{word}\"")?;
-    let mut help = Help::new(alloc, place, what);
-    help.name(alloc, word, &OPERATIONS)?;
-    Ok(help)
+    Help::new(alloc, place, what).name(alloc, word, &OPERATIONS)
 }
 
 /// What is said of a step of format 2 in a script of format 1.
 fn later_fault(alloc: Global, place: Option<usize>, word: &str) -> Result<Help, AllocError> {
     let what = format!(in alloc; "\"{word}\" is in format 2 alone")?;
-    let mut help = Help::new(alloc, place, what);
-    help.hint(String::from_str(alloc, "write \"format\":2")?)?;
-    Ok(help)
+    Help::new(alloc, place, what).hint_of(alloc, "write \"format\":2")
 }
 
 /// What is said of a step's keys and values.
@@ -109,9 +106,8 @@ fn parts_fault(
             } else {
                 "a value"
             };
-            let mut help = number_fault(alloc, text, at, name, part)?;
-            hint_form(alloc, &mut help, form)?;
-            return Ok(help);
+            let help = number_fault(alloc, text, at, name, part)?;
+            return hint_form(alloc, help, form);
         }
     }
     Help::of(alloc, place, "this step is at fault")
@@ -133,12 +129,10 @@ fn form_fault(
     if !is_later && (word == "update" || word == "back") {
         return later_fault(alloc, at, word);
     }
-    if list.len() != count {
-        let has = list.len();
+    let has = list.len();
+    if has != count {
         let what = format!(in alloc; "a step \"{word}\" has {count} elements, and this has {has}")?;
-        let mut help = Help::new(alloc, place, what);
-        hint_form(alloc, &mut help, form)?;
-        return Ok(help);
+        return hint_form(alloc, Help::new(alloc, place, what), form);
     }
     parts_fault(alloc, text, place, word, form, list)
 }
@@ -156,9 +150,8 @@ pub fn step_fault(
         None => &[],
     };
     let Some(first) = list.first() else {
-        let mut help = Help::of(alloc, place, "a step is an array")?;
-        hint_form(alloc, &mut help, "a step, as [1,\"fetch\",10]")?;
-        return Ok(help);
+        let help = Help::of(alloc, place, "a step is an array")?;
+        return hint_form(alloc, help, "a step, as [1,\"fetch\",10]");
     };
     if !first.as_u64().is_some_and(|number| number < 1 << 32) {
         let at = place.and_then(|place| element(text, place, 0));
@@ -167,9 +160,7 @@ pub fn step_fault(
     let Some(word) = list.get(1).and_then(Value::as_str) else {
         let at = place.and_then(|place| element(text, place, 1));
         let what = "behind the transaction's number stands an operation";
-        let mut help = Help::of(alloc, at.or(place), what)?;
-        help.name(alloc, "", &OPERATIONS)?;
-        return Ok(help);
+        return Help::of(alloc, at.or(place), what)?.name(alloc, "", &OPERATIONS);
     };
     form_fault(alloc, text, place, is_later, word, list)
 }

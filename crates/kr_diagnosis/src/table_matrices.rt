@@ -15,9 +15,43 @@ pub fn unknown_mode(
     modes: &[&str],
 ) -> Result<Help, AllocError> {
     let what = format!(in alloc; "\"{name}\" is no mode of this table")?;
-    let mut help = Help::new(alloc, place, what);
-    help.name(alloc, name, modes)?;
-    Ok(help)
+    Help::new(alloc, place, what).name(alloc, name, modes)
+}
+
+/// Something at a path that is to be of another kind.
+pub fn wrong_kind(
+    alloc: Global,
+    document: &Document,
+    path: &[String],
+    kind: &str,
+    value: &Value,
+) -> Result<Help, AllocError> {
+    let place = document.place(alloc, path)?;
+    let is = toml_kind(value);
+    let what = format!(in alloc; "expected {kind}, and this is {is}")?;
+    Ok(Help::new(alloc, place, what))
+}
+
+/// Whether a value is the name of a mode, of those that may stand there.
+pub fn is_mode(value: &Value, modes: &[&str]) -> bool {
+    match value.as_str() {
+        Some(name) => modes.contains(&name),
+        None => false,
+    }
+}
+
+/// What is said of a value at a path that is to be the name of a mode, and is none.
+pub fn no_mode(
+    alloc: Global,
+    document: &Document,
+    path: &[String],
+    value: &Value,
+    modes: &[&str],
+) -> Result<Help, AllocError> {
+    match value.as_str() {
+        Some(name) => unknown_mode(alloc, document.place(alloc, path)?, name, modes),
+        None => wrong_kind(alloc, document, path, "the name of a mode", value),
+    }
 }
 
 /// The first element that is no name of a mode, of those that may stand there, and what is said of it.
@@ -29,22 +63,70 @@ pub fn element_fault(
     modes: &[&str],
 ) -> Result<Option<Help>, AllocError> {
     for (i, item) in list.iter().enumerate() {
-        let name = item.as_str().unwrap_or("");
-        if item.as_str().is_some() && modes.contains(&name) {
-            continue;
+        if !is_mode(item, modes) {
+            let step = format!(in alloc; "{i}")?;
+            let whole = with_step(alloc, path, step.as_str())?;
+            return Ok(Some(no_mode(alloc, document, whole.as_slice(), item, modes)?));
         }
-        let step = format!(in alloc; "{i}")?;
-        let whole = with_step(alloc, path, step.as_str())?;
-        let place = document.place(alloc, whole.as_slice())?;
-        return Ok(Some(if item.as_str().is_some() {
-            unknown_mode(alloc, place, name, modes)?
-        } else {
-            let is = toml_kind(item);
-            let what = format!(in alloc; "expected the name of a mode, and this is {is}")?;
-            Help::new(alloc, place, what)
-        }));
     }
     Ok(None)
+}
+
+/// What is said of a mode that has no entry in `compatible`.
+fn missing_entry(
+    alloc: Global,
+    document: &Document,
+    steps: &[String],
+    name: &str,
+) -> Result<Help, AllocError> {
+    let place = document.nearby(alloc, steps)?;
+    let what = format!(in alloc; "\"compatible\" has no entry for the mode \"{name}\"")?;
+    let hint = format!(in alloc; "expected an array, as {name} = []")?;
+    Help::new(alloc, place, what).hint(hint)
+}
+
+/// What is said of an array of `compatible`: of the mode that has it, or of an element.
+fn list_fault(
+    alloc: Global,
+    document: &Document,
+    steps: &[String],
+    name: &str,
+    list: &[Value],
+) -> Result<Option<Help>, AllocError> {
+    let modes = document.modes(alloc)?;
+    if modes.contains(&name) {
+        return element_fault(alloc, document, steps, list, modes.as_slice());
+    }
+    let key = document.key(alloc, steps)?;
+    Ok(Some(unknown_mode(alloc, key, name, modes.as_slice())?))
+}
+
+/// What is said of an entry of `compatible`.
+fn entry_fault(
+    alloc: Global,
+    document: &Document,
+    steps: &[String],
+    name: &str,
+    entry: &Value,
+) -> Result<Help, AllocError> {
+    if let Some(list) = entry.as_array() {
+        if let Some(help) = list_fault(alloc, document, steps, name, list.as_slice())? {
+            return Ok(help);
+        }
+    }
+    wrong_kind(alloc, document, steps, "an array of names of modes", entry)
+}
+
+/// What is said of what these steps lead to in `compatible`.
+fn compatible_at(alloc: Global, document: &Document, steps: &[String]) -> Result<Help, AllocError> {
+    let [_, name] = steps else {
+        return Help::of(alloc, None, "an entry of \"compatible\" is at fault");
+    };
+    let entries = document.value.get("compatible");
+    match entries.and_then(|entries| entries.get(name.as_str())) {
+        Some(entry) => entry_fault(alloc, document, steps, name.as_str(), entry),
+        None => missing_entry(alloc, document, steps, name.as_str()),
+    }
 }
 
 /// What is said of a fault of `compatible`.
@@ -54,38 +136,7 @@ pub fn compatible_fault(
     path: &str,
 ) -> Result<Help, AllocError> {
     let steps = steps_of(alloc, &document.value, path)?;
-    let modes = document.modes(alloc)?;
-    let [_, name] = steps.as_slice() else {
-        return Help::of(alloc, None, "an entry of \"compatible\" is at fault");
-    };
-    let entries = document.value.get("compatible");
-    let Some(entry) = entries.and_then(|entries| entries.get(name.as_str())) else {
-        let what = format!(in alloc; "\"compatible\" has no entry for the mode \"{name}\"")?;
-        let place = document.nearby(alloc, steps.as_slice())?;
-        let mut help = Help::new(alloc, place, what);
-        help.hint(format!(in alloc; "expected an array, as {name} = []")?)?;
-        return Ok(help);
-    };
-    if let Some(list) = entry.as_array() {
-        if !modes.contains(&name.as_str()) {
-            let key = document.key(alloc, steps.as_slice())?;
-            return unknown_mode(alloc, key, name.as_str(), modes.as_slice());
-        }
-        let fault = element_fault(
-            alloc,
-            document,
-            steps.as_slice(),
-            list.as_slice(),
-            modes.as_slice(),
-        )?;
-        if let Some(help) = fault {
-            return Ok(help);
-        }
-    }
-    let is = toml_kind(entry);
-    let what = format!(in alloc; "expected an array of names of modes, and this is {is}")?;
-    let place = document.place(alloc, steps.as_slice())?;
-    Ok(Help::new(alloc, place, what))
+    compatible_at(alloc, document, steps.as_slice())
 }
 
 /// What is said of an entry of `convert`.
@@ -96,13 +147,11 @@ fn held_fault(
     held: &str,
     entry: &Value,
 ) -> Result<Help, AllocError> {
-    if entry.as_table().is_some() {
-        let key = document.key(alloc, steps)?;
-        return unknown_mode(alloc, key, held, document.modes(alloc)?.as_slice());
+    if entry.as_table().is_none() {
+        return wrong_kind(alloc, document, steps, "a table of pairs", entry);
     }
-    let is = toml_kind(entry);
-    let what = format!(in alloc; "expected a table of pairs, and this is {is}")?;
-    Ok(Help::new(alloc, document.place(alloc, steps)?, what))
+    let key = document.key(alloc, steps)?;
+    unknown_mode(alloc, key, held, document.modes(alloc)?.as_slice())
 }
 
 /// What is said of a pair of `convert`.
@@ -114,46 +163,39 @@ fn pair_fault(
     value: &Value,
 ) -> Result<Help, AllocError> {
     let modes = document.modes(alloc)?;
-    if !modes.contains(&requested) {
-        let key = document.key(alloc, steps)?;
-        return unknown_mode(alloc, key, requested, modes.as_slice());
+    if modes.contains(&requested) {
+        return no_mode(alloc, document, steps, value, modes.as_slice());
     }
-    let place = document.place(alloc, steps)?;
-    if let Some(name) = value.as_str() {
-        return unknown_mode(alloc, place, name, modes.as_slice());
-    }
-    let is = toml_kind(value);
-    let what = format!(in alloc; "expected the name of a mode, and this is {is}")?;
-    Ok(Help::new(alloc, place, what))
+    let key = document.key(alloc, steps)?;
+    unknown_mode(alloc, key, requested, modes.as_slice())
 }
 
-/// What is said of a fault of `convert`.
-pub fn convert_fault(alloc: Global, document: &Document, path: &str) -> Result<Help, AllocError> {
-    let steps = steps_of(alloc, &document.value, path)?;
+/// What is said of what these steps lead to in `convert`.
+fn convert_at(alloc: Global, document: &Document, steps: &[String]) -> Result<Help, AllocError> {
     let entries = document.value.get("convert");
-    match steps.as_slice() {
+    match steps {
         [_, held] => match entries.and_then(|entries| at_step(entries, held.as_str())) {
-            Some(entry) => held_fault(alloc, document, steps.as_slice(), held.as_str(), entry),
-            None => missing_pair(alloc, document, steps.as_slice(), held.as_str()),
+            Some(entry) => held_fault(alloc, document, steps, held.as_str(), entry),
+            None => missing_pair(alloc, document, steps, held.as_str()),
         },
         [_, held, requested] => {
             let pairs = entries.and_then(|entries| at_step(entries, held.as_str()));
             match pairs.and_then(|pairs| at_step(pairs, requested.as_str())) {
-                Some(value) => pair_fault(
-                    alloc,
-                    document,
-                    steps.as_slice(),
-                    requested.as_str(),
-                    value,
-                ),
+                Some(value) => pair_fault(alloc, document, steps, requested.as_str(), value),
                 None => {
                     let pair = format!(in alloc; "{held}.{requested}")?;
-                    missing_pair(alloc, document, steps.as_slice(), pair.as_str())
+                    missing_pair(alloc, document, steps, pair.as_str())
                 }
             }
         }
         _ => Help::of(alloc, None, "an entry of \"convert\" is at fault"),
     }
+}
+
+/// What is said of a fault of `convert`.
+pub fn convert_fault(alloc: Global, document: &Document, path: &str) -> Result<Help, AllocError> {
+    let steps = steps_of(alloc, &document.value, path)?;
+    convert_at(alloc, document, steps.as_slice())
 }
 
 fn missing_pair(
@@ -162,9 +204,8 @@ fn missing_pair(
     steps: &[String],
     pair: &str,
 ) -> Result<Help, AllocError> {
+    let place = document.nearby(alloc, steps)?;
     let what = format!(in alloc; "\"convert\" has no pair {pair}")?;
-    let mut help = Help::new(alloc, document.nearby(alloc, steps)?, what);
     let hint = "expected a pair of each held mode with each requested one, the equal ones too";
-    help.hint(String::from_str(alloc, hint)?)?;
-    Ok(help)
+    Help::new(alloc, place, what).hint_of(alloc, hint)
 }

@@ -37,15 +37,22 @@ fn member_kind(name: &str) -> &'static str {
 }
 
 pub fn field_fault(alloc: Global, document: &Document, name: &str) -> Result<Help, AllocError> {
+    if !MEMBERS.contains(&name) {
+        return no_member(alloc, document, name);
+    }
+    member_fault(alloc, document, name)
+}
+
+fn no_member(alloc: Global, document: &Document, name: &str) -> Result<Help, AllocError> {
+    let key = document.key(alloc, path_of(alloc, &[name])?.as_slice())?;
+    let what = format!(in alloc; "a table has no member \"{name}\"")?;
+    Help::new(alloc, key, what).name(alloc, name, &MEMBERS)
+}
+
+/// What is said of a member that is missing, or isn't what it is to be.
+fn member_fault(alloc: Global, document: &Document, name: &str) -> Result<Help, AllocError> {
     let place = document.member(alloc, name)?;
     let kind = member_kind(name);
-    if !MEMBERS.contains(&name) {
-        let key = document.key(alloc, path_of(alloc, &[name])?.as_slice())?;
-        let what = format!(in alloc; "a table has no member \"{name}\"")?;
-        let mut help = Help::new(alloc, key, what);
-        help.name(alloc, name, &MEMBERS)?;
-        return Ok(help);
-    }
     let what = match document.value.get(name) {
         Some(value) => {
             let is = toml_kind(value);

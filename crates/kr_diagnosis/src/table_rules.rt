@@ -2,9 +2,8 @@
 
 use crate::document::Document;
 use crate::help::Help;
-use crate::kinds::toml_kind;
-use crate::table_matrices::{element_fault, unknown_mode};
-use crate::toml_paths::{at_step, steps_of, with_step};
+use crate::table_matrices::{element_fault, is_mode, no_mode, wrong_kind};
+use crate::toml_paths::{at_path, steps_of, with_step};
 use std::alloc::{AllocError, Global};
 use toml::Value;
 
@@ -46,19 +45,6 @@ fn sides(row: &str) -> &'static [&'static str] {
     }
 }
 
-/// Something at a path that is to be of another kind.
-fn wrong_kind(
-    alloc: Global,
-    document: &Document,
-    path: &[String],
-    kind: &str,
-    value: &Value,
-) -> Result<Help, AllocError> {
-    let is = toml_kind(value);
-    let what = format!(in alloc; "expected {kind}, and this is {is}")?;
-    Ok(Help::new(alloc, document.place(alloc, path)?, what))
-}
-
 fn row_fault(
     alloc: Global,
     document: &Document,
@@ -72,14 +58,10 @@ fn row_fault(
     let place = document.key(alloc, path)?;
     if row == "update" {
         let what = "a row \"update\" is in format 2 alone";
-        let mut help = Help::of(alloc, place, what)?;
-        help.hint(String::from_str(alloc, "write format = 2")?)?;
-        return Ok(help);
+        return Help::of(alloc, place, what)?.hint_of(alloc, "write format = 2");
     }
     let what = format!(in alloc; "there is no row \"{row}\"")?;
-    let mut help = Help::new(alloc, place, what);
-    help.name(alloc, row, rows(document))?;
-    Ok(help)
+    Help::new(alloc, place, what).name(alloc, row, rows(document))
 }
 
 fn side_fault(
@@ -93,10 +75,22 @@ fn side_fault(
     if value.as_array().is_none() {
         return wrong_kind(alloc, document, path, "an array of clauses", value);
     }
+    let place = document.key(alloc, path)?;
     let what = format!(in alloc; "the row \"{row}\" has no side \"{side}\"")?;
-    let mut help = Help::new(alloc, document.key(alloc, path)?, what);
-    help.name(alloc, side, sides(row))?;
-    Ok(help)
+    Help::new(alloc, place, what).name(alloc, side, sides(row))
+}
+
+/// What is said of a name that no member of a clause has.
+fn no_member(
+    alloc: Global,
+    document: &Document,
+    path: &[String],
+    word: &str,
+) -> Result<Help, AllocError> {
+    let whole = with_step(alloc, path, word)?;
+    let place = document.key(alloc, whole.as_slice())?;
+    let what = format!(in alloc; "a clause has no member \"{word}\"")?;
+    Help::new(alloc, place, what).name(alloc, word, &CLAUSE)
 }
 
 /// What is said of a member of a clause that no clause has.
@@ -111,12 +105,7 @@ fn word_fault(
     };
     for (word, _) in members.iter() {
         if !CLAUSE.contains(&word.as_str()) {
-            let whole = with_step(alloc, path, word.as_str())?;
-            let place = document.key(alloc, whole.as_slice())?;
-            let what = format!(in alloc; "a clause has no member \"{word}\"")?;
-            let mut help = Help::new(alloc, place, what);
-            help.name(alloc, word.as_str(), &CLAUSE)?;
-            return Ok(Some(help));
+            return Ok(Some(no_member(alloc, document, path, word.as_str())?));
         }
     }
     Ok(None)
@@ -129,12 +118,11 @@ fn missing_word(
     path: &[String],
     word: &str,
 ) -> Result<Help, AllocError> {
+    let place = document.place(alloc, path)?;
     let what = format!(in alloc; "this clause has no \"{word}\"")?;
-    let mut help = Help::new(alloc, document.place(alloc, path)?, what);
     let hint =
         "expected { mode = \"..\", span = \"commit\" } or { mode = \"..\", span = \"instant\" }";
-    help.hint(String::from_str(alloc, hint)?)?;
-    Ok(help)
+    Help::new(alloc, place, what).hint_of(alloc, hint)
 }
 
 /// What is said of a clause's mode.
@@ -144,20 +132,16 @@ fn mode_fault(
     path: &[String],
     clause: &Value,
 ) -> Result<Option<Help>, AllocError> {
-    let modes = document.modes(alloc)?;
     let Some(value) = clause.get("mode") else {
         return Ok(Some(missing_word(alloc, document, path, "mode")?));
     };
-    let whole = with_step(alloc, path, "mode")?;
-    let Some(name) = value.as_str() else {
-        let kind = "the name of a mode";
-        return Ok(Some(wrong_kind(alloc, document, whole.as_slice(), kind, value)?));
-    };
-    if modes.contains(&name) {
+    let modes = document.modes(alloc)?;
+    if is_mode(value, modes.as_slice()) {
         return Ok(None);
     }
-    let place = document.place(alloc, whole.as_slice())?;
-    Ok(Some(unknown_mode(alloc, place, name, modes.as_slice())?))
+    let whole = with_step(alloc, path, "mode")?;
+    let help = no_mode(alloc, document, whole.as_slice(), value, modes.as_slice())?;
+    Ok(Some(help))
 }
 
 /// What is said of a clause's span.
@@ -167,21 +151,28 @@ fn span_fault(
     path: &[String],
     clause: &Value,
 ) -> Result<Option<Help>, AllocError> {
-    let Some(value) = clause.get("span") else {
-        return Ok(Some(missing_word(alloc, document, path, "span")?));
-    };
+    match clause.get("span") {
+        None => Ok(Some(missing_word(alloc, document, path, "span")?)),
+        Some(value) if value.as_str().is_some_and(|word| SPANS.contains(&word)) => Ok(None),
+        Some(value) => Ok(Some(no_span(alloc, document, path, value)?)),
+    }
+}
+
+/// What is said of a value that is to be a span, and is none.
+fn no_span(
+    alloc: Global,
+    document: &Document,
+    path: &[String],
+    value: &Value,
+) -> Result<Help, AllocError> {
     let whole = with_step(alloc, path, "span")?;
     let Some(word) = value.as_str() else {
         let kind = "\"commit\" or \"instant\"";
-        return Ok(Some(wrong_kind(alloc, document, whole.as_slice(), kind, value)?));
+        return wrong_kind(alloc, document, whole.as_slice(), kind, value);
     };
-    if SPANS.contains(&word) {
-        return Ok(None);
-    }
+    let place = document.place(alloc, whole.as_slice())?;
     let what = format!(in alloc; "there is no span \"{word}\"")?;
-    let mut help = Help::new(alloc, document.place(alloc, whole.as_slice())?, what);
-    help.name(alloc, word, &SPANS)?;
-    Ok(Some(help))
+    Help::new(alloc, place, what).name(alloc, word, &SPANS)
 }
 
 /// What is said of a clause's `own`.
@@ -221,16 +212,7 @@ fn clause_fault(
         let kind = "a clause, as { mode = \"..\", span = \"commit\" }";
         return wrong_kind(alloc, document, path, kind, clause);
     }
-    if let Some(help) = word_fault(alloc, document, path, clause)? {
-        return Ok(help);
-    }
-    if let Some(help) = mode_fault(alloc, document, path, clause)? {
-        return Ok(help);
-    }
-    if let Some(help) = span_fault(alloc, document, path, clause)? {
-        return Ok(help);
-    }
-    match own_list_fault(alloc, document, path, clause)? {
+    match member_fault(alloc, document, path, clause)? {
         Some(help) => Ok(help),
         None => Help::of(
             alloc,
@@ -240,30 +222,48 @@ fn clause_fault(
     }
 }
 
+/// What is said of the first member of a clause that is at fault.
+fn member_fault(
+    alloc: Global,
+    document: &Document,
+    path: &[String],
+    clause: &Value,
+) -> Result<Option<Help>, AllocError> {
+    if let Some(help) = word_fault(alloc, document, path, clause)? {
+        return Ok(Some(help));
+    }
+    if let Some(help) = mode_fault(alloc, document, path, clause)? {
+        return Ok(Some(help));
+    }
+    match span_fault(alloc, document, path, clause)? {
+        Some(help) => Ok(Some(help)),
+        None => own_list_fault(alloc, document, path, clause),
+    }
+}
+
 /// What is said of a fault of `rules`.
 pub fn rule_fault(alloc: Global, document: &Document, path: &str) -> Result<Help, AllocError> {
     let steps = steps_of(alloc, &document.value, path)?;
-    let mut value = &document.value;
-    for step in &steps {
-        match at_step(value, step.as_str()) {
-            Some(next) => value = next,
-            None => {
-                let place = document.nearby(alloc, steps.as_slice())?;
-                return Help::of(alloc, place, "a part of \"rules\" is at fault");
-            }
+    match at_path(&document.value, steps.as_slice()) {
+        Some(value) => part_fault(alloc, document, steps.as_slice(), value),
+        None => {
+            let place = document.nearby(alloc, steps.as_slice())?;
+            Help::of(alloc, place, "a part of \"rules\" is at fault")
         }
     }
-    match steps.as_slice() {
-        [_, row] => row_fault(alloc, document, steps.as_slice(), row.as_str(), value),
-        [_, row, side] => side_fault(
-            alloc,
-            document,
-            steps.as_slice(),
-            row.as_str(),
-            side.as_str(),
-            value,
-        ),
-        _ => clause_fault(alloc, document, steps.as_slice(), value),
+}
+
+/// What is said of a row, a side or a clause, by how long its path is.
+fn part_fault(
+    alloc: Global,
+    document: &Document,
+    path: &[String],
+    value: &Value,
+) -> Result<Help, AllocError> {
+    match path {
+        [_, row] => row_fault(alloc, document, path, row.as_str(), value),
+        [_, row, side] => side_fault(alloc, document, path, row.as_str(), side.as_str(), value),
+        _ => clause_fault(alloc, document, path, value),
     }
 }
 
@@ -272,11 +272,6 @@ pub fn own_fault(alloc: Global, document: &Document, path: &str) -> Result<Help,
     let steps = steps_of(alloc, &document.value, path)?;
     let whole = with_step(alloc, steps.as_slice(), "own")?;
     let place = document.nearby(alloc, whole.as_slice())?;
-    let mut help = Help::of(
-        alloc,
-        place,
-        "only clauses of \"insert\" and \"delete\" have an \"own\"",
-    )?;
-    help.hint(String::from_str(alloc, "leave it out")?)?;
-    Ok(help)
+    let what = "only clauses of \"insert\" and \"delete\" have an \"own\"";
+    Help::of(alloc, place, what)?.hint_of(alloc, "leave it out")
 }

@@ -39,6 +39,15 @@ pub fn at_step<'a>(value: &'a Value, step: &str) -> Option<&'a Value> {
     }
 }
 
+/// What stands at the end of a path.
+pub fn at_path<'a>(value: &'a Value, path: &[String]) -> Option<&'a Value> {
+    let mut value = value;
+    for step in path {
+        value = at_step(value, step.as_str())?;
+    }
+    Some(value)
+}
+
 /// The path of these steps.
 pub fn path_of(alloc: Global, steps: &[&str]) -> Result<Vec<String>, AllocError> {
     let mut path = Vec::new(alloc);

@@ -22,7 +22,6 @@ fn said(fault: FileFault) -> &'static str {
 pub fn file_help(alloc: Global, word: &str, fault: FileFault) -> Result<String, AllocError>
     ensures help { IfOk result (λ text. IsHelp word.now [] (string_bytes text)) }
 {
-    let mut help = Help::of(alloc, None, said(fault))?;
-    help.near(alloc, word, &BUNDLED)?;
+    let help = Help::of(alloc, None, said(fault))?.near(alloc, word, &BUNDLED)?;
     help.print(alloc, word, &[])
 }
