@@ -25,6 +25,12 @@ pub adds_warnings : {E : Type 0} (word bytes old new : List ℕ) (more : Result 
 adds_warnings word bytes old new (Ok t) three is same = put_three word bytes old new (string_bytes t) three is
 adds_warnings word bytes old new (Err e) three is same = (bytes, [], (inl (inl refl), same ∙ sym (append-nil old)))
 
+-- where what helps says nothing, nothing is put behind what was there
+pub nothing_put : {E : Type 0} (old new : List ℕ) (more : Result (String Global) E) → IfOk more (λ t. string_bytes t ≡ []) → IfOk more (λ t. MayBePut old new (string_bytes t)) → OnErr more (new ≡ old) → new ≡ old
+nothing_put old new (Ok t) none (inl is) same = is ∙ (ap (λ x. old ++ x) none ∙ append-nil old)
+nothing_put old new (Ok t) none (inr is) same = is
+nothing_put old new (Err e) none is same = same
+
 -- lines behind lines are lines
 both : (a b : List ℕ) → AreLines a → AreLines b → AreLines (a ++ b)
 both a b (xs, is_a) (ys, is_b) = (xs ++ ys, ap (λ x. x ++ b) is_a ∙ (ap (λ y. lines xs ++ y) is_b ∙ sym (flat_map-append line xs ys)))

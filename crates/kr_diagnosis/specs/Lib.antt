@@ -3,3 +3,4 @@ pub mod Help
 pub mod Lines
 pub mod Nearest
 pub mod Place
+pub mod Repeated

@@ -1,12 +1,14 @@
 //! Tables and scripts that words name, and what helps where they name none.
-ghost use Rattle.std.specs.Prelude.{◌≡◌, false, IfOk, IfErr, IsOk, IsTrue, OnErr, OnOk, string_bytes};
+ghost use Rattle.std.specs.Prelude.{◌≡◌, ℕ, List, Some, false, IfOk, IfErr, IsOk, IsTrue, OnErr, OnOk, string_bytes};
 ghost use Rattle.kr_shell.specs.declared.endings.Ending.TheVariants as ending;
 ghost use Rattle.kr_shell.specs.declared.files.FileFault.TheVariants as file_fault;
 ghost use Rattle.kr_shell.specs.Endings.{MemoryOrTold, is_output};
+ghost use Rattle.kr_shell.specs.Files.{MayBeScript};
 ghost use Rattle.kr_shell.specs.Lines.{unreadable_line};
 ghost use Rattle.kr_shell.specs.Named.{NamesScript, NamesTable, TellsNoScript, TellsNoTable};
 ghost use Rattle.kr_shell.specs.Words.{is_bundled};
 ghost use Rattle.kr_diagnosis.specs.Finding.{MayBePut, AddsHelp, AddsHelps, AddsLines};
+ghost use Rattle.kr_diagnosis.specs.Repeated.{HasNoMemberTwice};
 
 use crate::bundled::bundled_help;
 use crate::repeated::repeated_help;
@@ -101,7 +103,7 @@ fn no_file(alloc: Global, word: &str, fault: FileFault, help: &mut String) -> En
 }
 
 /// The script that a word names, as `kr_shell::script_at` finds it. Where it names none, what helps is put behind `help`, and
-/// else a warning of each member that the script has twice.
+/// else a warning of each member that the script has twice: where none is twice, `help` says what it said.
 pub fn script_at<R: std::rt::Files + AllocGlobal, F: Files>(
     rt: &R,
     word: &str,
@@ -112,6 +114,8 @@ pub fn script_at<R: std::rt::Files + AllocGlobal, F: Files>(
     ensures fault { IfErr result (λ e. MemoryOrTold e (TellsNoScript (F.may_give files.now) word.now)) }
     ensures other { IfErr result (λ e. is_output e ≡ false) }
     ensures help { AddsHelps word.now (string_bytes help.old) (string_bytes help.new) }
+    ensures unwarned { ((bytes : List ℕ) → MayBeScript (F.may_give files.now) word.now (Some bytes) → HasNoMemberTwice bytes)
+        → OnOk result (string_bytes help.new ≡ string_bytes help.old) }
     ensures lines { AddsLines (string_bytes help.old) (string_bytes help.new) }
 {
     let alloc = rt.alloc();

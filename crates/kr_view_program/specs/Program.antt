@@ -1,5 +1,5 @@
 -- What the program writes of a script's run, what it answers, and why it ends without a page.
-use Rattle.std.specs.Prelude.{◌≡◌, ◌⊎◌, ℕ, Bool, List, [], ◌∷◌, Option, ◌↔◌, IsTrue, string_bytes}
+use Rattle.std.specs.Prelude.{◌≡◌, ◌⊎◌, ℕ, Bool, List, [], ◌∷◌, Option, Some, ◌↔◌, IsTrue, string_bytes}
 use Rattle.std.specs.Io.KnownBytes.{Appends}
 use Rattle.kr_model.specs.Protocol.{Protocol, IsLawful}
 use Rattle.kr_model.specs.State.{start}
@@ -9,10 +9,12 @@ use Rattle.kr_script.specs.Script.{Script}
 use Rattle.kr_shell.specs.declared.endings.Ending.{Ending}
 use Rattle.kr_shell.specs.declared.endings.Ending.TheVariants.{NotUnderstood, Memory, Place, Output, Told}
 use Rattle.kr_shell.specs.declared.tables.AnyTable.{AnyTable}
+use Rattle.kr_shell.specs.Files.{MayBeScript}
 use Rattle.kr_shell.specs.Named.{NamesTable, TellsNoTable, NamesScript, TellsNoScript}
 use Rattle.kr_shell.specs.Questions.{IsNoQuestion}
 use Rattle.kr_shell.specs.Tables.{table_of}
 use Rattle.kr_shell.specs.Words.{IsPlain}
+use Rattle.kr_diagnosis.specs.Repeated.{HasNoMemberTwice}
 use Rattle.kr_scenes.specs.Scenes.{NumberedStep, drawn_steps}
 use Rattle.kr_picture.specs.Page.{IsPage}
 
@@ -49,6 +51,11 @@ Shows may_give table script old new serial =
 -- The page that the words ask for was written.
 abbrev pub ShowsAsked : (List ℕ → Option (List ℕ) → Type 0) → List (List ℕ) → Option (List ℕ) → Option (List ℕ) → Bool → Type 0
 ShowsAsked may_give words old new serial = (table script : List ℕ) × (AreWords words table script × Shows may_give table script old new serial)
+
+-- No script that the words may name has an object with two members of one name.
+abbrev pub NameNoMemberTwice : (List ℕ → Option (List ℕ) → Type 0) → List (List ℕ) → Type 0
+NameNoMemberTwice may_give words =
+    (table script bytes : List ℕ) → AreWords words table script → MayBeScript may_give script (Some bytes) → HasNoMemberTwice bytes
 
 -- The line tells why the word of a table names none; or why the word of a script does, where that of the table names one.
 abbrev pub TellsWord : (List ℕ → Option (List ℕ) → Type 0) → List ℕ → List ℕ → List ℕ → Type 0

@@ -1,5 +1,5 @@
 //! The program over its words, files and streams.
-ghost use Rattle.std.specs.Prelude.{◌≡◌, ◌⊎◌, ◌↔◌, ◌≤◌, ◌++◌, ℕ, List, true, false, Ok, Err, IfOk, IfErr, IsTrue, map, string_bytes};
+ghost use Rattle.std.specs.Prelude.{◌≡◌, ◌⊎◌, ◌↔◌, ◌≤◌, ◌++◌, ℕ, List, true, false, Ok, Err, IfOk, IfErr, OnOk, IsTrue, map, string_bytes};
 ghost use Rattle.std.specs.Io.KnownBytes.{Appends};
 ghost use Rattle.kr_model.specs.Protocol.{IsLawful};
 ghost use Rattle.kr_model.specs.Covers.{IsCovered};
@@ -13,7 +13,7 @@ ghost use Rattle.kr_shell.specs.declared.endings.Ending.{Ending};
 ghost use Rattle.kr_shell.specs.declared.endings.Ending.TheVariants as ending;
 ghost use Rattle.kr_shell.specs.declared.questions.Question.{Question};
 ghost use Rattle.kr_picture.specs.Page.{IsPage};
-ghost use Rattle.kr_view_program.specs.Program.{AskNothing, AskNoPage, IsSerialScript, ShowsAsked, Explains, drawn_of_script};
+ghost use Rattle.kr_view_program.specs.Program.{AskNothing, AskNoPage, IsSerialScript, ShowsAsked, NameNoMemberTwice, Explains, drawn_of_script};
 
 use crate::manual::{MANUAL, NAME, USAGE, WORDS};
 use crate::words::read_words;
@@ -73,6 +73,8 @@ fn view<R: std::rt::Files + AllocGlobal, F: Files, W: Sink>(
     ensures cause { IfErr result (λ e. IsTrue (is_output e) → HasCause (W.failures out.old) (W.failures out.new)) }
     ensures nothing { IfErr result (λ e. IsTrue (is_output e) ⊎ (out.new ≡ out.old)) }
     ensures help { AddsLines (string_bytes help.old) (string_bytes help.new) }
+    ensures unwarned { NameNoMemberTwice (F.may_give files.now) (map string_bytes words.now)
+        → OnOk result (string_bytes help.new ≡ string_bytes help.old) }
 {
     let asked = read_words(words)?;
     let table = table_at(rt, asked.table, files, help)?;
@@ -101,6 +103,8 @@ fn answered<R: std::rt::Files + AllocGlobal, F: Files, W: Sink>(
     ensures cause { IfErr result (λ e. IsTrue (is_output e) → HasCause (W.failures out.old) (W.failures out.new)) }
     ensures nothing { IfErr result (λ e. IsTrue (is_output e) ⊎ (out.new ≡ out.old)) }
     ensures help { AddsLines (string_bytes help.old) (string_bytes help.new) }
+    ensures unwarned { NameNoMemberTwice (F.may_give files.now) (map string_bytes words.now)
+        → OnOk result (string_bytes help.new ≡ string_bytes help.old) }
 {
     match question_in(words) {
         Some(question) => {
@@ -114,8 +118,9 @@ fn answered<R: std::rt::Files + AllocGlobal, F: Files, W: Sink>(
 /// Runs the program on words without its own name, and answers its status: 0 where the run is serializable, 1 where it isn't,
 /// and 2 where it told a fault on `err`. At 0 and 1 the whole page is written on `out`, of the run of the script that the
 /// second word names under the table that the first names, and on `err` at most a warning of each member that the script has
-/// twice; at a fault of words, files, tables, scripts or memory nothing is written on `out`. Words that ask for help or the version are answered on `out` with 0. Behind the
-/// line of words that aren't understood `err` has the usage.
+/// twice, and nothing where none is twice; at a fault of words, files, tables, scripts or memory nothing is written on `out`.
+/// Words that ask for help or the version are answered on `out` with 0. Behind the line of words that aren't understood `err`
+/// has the usage.
 pub fn execute<R: std::rt::Files + AllocGlobal, F: Files, W: Sink, E: Sink>(
     rt: &R,
     words: &[String],
@@ -139,6 +144,8 @@ pub fn execute<R: std::rt::Files + AllocGlobal, F: Files, W: Sink, E: Sink>(
         (ending_text NAME.now USAGE.now e ++ help)))) }
     ensures warned { (result ≡ 2) ⊎ ((help : List ℕ) × (AreLines help
         × IsTold (E.taken err.old) (E.taken err.new) (E.failures err.old) (E.failures err.new) help)) }
+    ensures silent { NameNoMemberTwice (F.may_give files.now) (map string_bytes words.now)
+        → (err.new ≡ err.old) ⊎ (result ≡ 2) }
     ensures fault { result ≡ 2 → HasCause (W.failures out.old) (W.failures out.new) ⊎ (out.new ≡ out.old) }
 {
     let mut help = String::new(rt.alloc());

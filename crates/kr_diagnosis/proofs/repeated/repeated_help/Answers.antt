@@ -3,8 +3,8 @@ use Rattle.std.proofs.lemmas.Grind.{common_steps}
 use Rattle.std.specs.Prelude.{string_bytes}
 use Rattle.kr_diagnosis.proofs.repeated.repeated_help.Goals as goal
 
-pub returns : goal.returns
-returns c = (
+pub returns-clause-helps : goal.returns-clause-helps
+returns-clause-helps c = (
   string_bytes c.in_ok-format.format,
   (
     c.in_ok-format.ensures,

@@ -1,7 +1,7 @@
 use Rattle.std.specs.Prelude.{map, string_bytes}
 use Rattle.std.proofs.Common.{rules}
 use Rattle.kr_diagnosis.proofs.Helped.{more_lines}
-use Rattle.kr_view_program.proofs.Shown.{shown, page_fault, no_form, no_table, no_script}
+use Rattle.kr_view_program.proofs.Shown.{shown, page_fault, no_form, no_table, no_script, unwarned}
 use Rattle.kr_view_program.proofs.program.view.Goals as goal
 
 pub returns-in_err-asked-clause-err : goal.returns-in_err-asked-clause-err
@@ -36,3 +36,7 @@ returns-in_err-script-clause-help g c = more_lines (string_bytes c.args.help.now
 
 pub returns-clause-help : goal.returns-clause-help
 returns-clause-help g c = more_lines (string_bytes c.args.help.now) (string_bytes c.table_at.new.help) (string_bytes c.script_at.new.help) c.table_at.ensures.lines c.script_at.ensures.lines
+
+pub returns-clause-unwarned : goal.returns-clause-unwarned
+returns-clause-unwarned g c =
+    unwarned (g.F.Files.may_give c.args.files.now) (map string_bytes c.args.words.now) c.write_page.result c.in_ok-asked.asked.table.now c.in_ok-asked.asked.script.now c.args.help.now c.table_at.new.help c.script_at.new.help c.in_ok-asked.ensures.words c.in_ok-table.ensures.unhelped c.in_ok-script.ensures.unwarned
