@@ -1,6 +1,6 @@
 -- Texts in lines: as they are, one behind another, and word by word.
 use Rattle.std.specs.List.{join_with_byte}
-use Rattle.std.proofs.Common.{◌≡◌, ◌⊎◌, inl, inr, ◌++◌, [], ◌∷◌, ℕ, zero, suc, ◌+◌, ◌<◌, List, Bool, true, false, length, map, replicate, refl, sym, ap, subst, ◌∙◌, append_assoc, add-one, arith}
+use Rattle.std.proofs.Common.{◌≡◌, ◌⊎◌, inl, inr, ◌++◌, [], ◌∷◌, ℕ, zero, suc, ◌+◌, ◌<◌, List, Bool, true, false, length, map, refl, sym, ap, subst, ◌∙◌, append_assoc, arith}
 use Rattle.std.proofs.lemmas.List.{append-nil, map_push, length-map}
 use denote.Ref.{Bor}
 use native.Mathlib.Numerals.{unary_clauses}

@@ -1,5 +1,5 @@
 -- The words for the parts of a protocol table.
-use Rattle.std.specs.Prelude.{ℕ, List, codes, nat_le, Option, None, if◌then◌else◌, ◌&&◌, ◌==◌}
+use Rattle.std.specs.Prelude.{ℕ, List, codes, nat_le, Option, None, if◌then◌else◌, ◌&&◌}
 use Rattle.kr_model.specs.declared.Row.{Row}
 use Rattle.kr_model.specs.declared.Row.TheVariants as row
 use Rattle.kr_model.specs.declared.Rule.{Rule}

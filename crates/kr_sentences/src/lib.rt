@@ -5,13 +5,16 @@
 mod anomaly;
 mod answers;
 mod body;
+mod cells;
 mod edits;
 mod granted;
 mod harmless;
 mod json;
 mod lists;
+mod locks;
 mod mending;
 mod orders;
+mod rows;
 mod runs;
 mod seen;
 mod spoken;

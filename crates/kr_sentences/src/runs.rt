@@ -1,4 +1,7 @@
 //! What is said of the schedule of a cause, and where none is known.
+ghost use Rattle.std.specs.Prelude.{OnOk, string_bytes};
+ghost use Rattle.kr_sentences.specs.Lines.{Adds};
+ghost use Rattle.kr_sentences.specs.Steps.{IsSchedule};
 
 use crate::anomaly::anomaly;
 use crate::seen::seen;
@@ -43,19 +46,34 @@ pub fn write_run<P: Protocol>(
     protocol: &P,
     out: &mut String,
     script: &Counterexample,
-) -> Result<(), Memory> {
-    write_run_head(alloc, out, script)?;
+) -> Result<(), Memory>
+    ensures { OnOk result (Adds (IsSchedule (P.table protocol.now) (P.names protocol.now) script.now) (string_bytes out.old) (string_bytes out.new)) }
+{
+    let before = run_head(alloc, script)?;
+    let behind = run_end(alloc, protocol, script)?;
+    out.push_str(before.as_str())?;
     write_steps(alloc, protocol, out, script)?;
-    out.push_str("\n")?;
-    write_paragraph(out, seen(alloc, script)?.as_str(), INDENT, INDENT)?;
-    write_verdict(alloc, protocol, out, script)
+    out.push_str(behind.as_str())?;
+    Ok(())
 }
 
-/// Writes the line above a schedule: its anomaly and the initial index.
-fn write_run_head(alloc: Global, out: &mut String, script: &Counterexample) -> Result<(), Memory> {
+/// What is above a schedule: its anomaly and the initial index.
+fn run_head(alloc: Global, script: &Counterexample) -> Result<String, Memory> {
     let anomaly = anomaly(script.ending);
     let opening = pairs_text(alloc, script.opening.as_slice())?;
-    write!(out, "\n\n   {anomaly}. Initial index: {opening}.\n")
+    format!(in alloc; "\n\n   {anomaly}. Initial index: {opening}.\n")
+}
+
+/// What is below a schedule: what is wrong with it, and the verdict.
+fn run_end<P: Protocol>(
+    alloc: Global,
+    protocol: &P,
+    script: &Counterexample,
+) -> Result<String, Memory> {
+    let mut out = String::from_str(alloc, "\n")?;
+    write_paragraph(&mut out, seen(alloc, script)?.as_str(), INDENT, INDENT)?;
+    write_verdict(alloc, protocol, &mut out, script)?;
+    Ok(out)
 }
 
 /// Writes the case that a schedule was made from, whether the holder comes to its mode in another way than the case says, and

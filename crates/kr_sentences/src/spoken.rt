@@ -1,4 +1,6 @@
 //! Operations, answers and modes that a case is taken at, as the text has them.
+ghost use Rattle.std.specs.Prelude.{◌≡◌, IfOk, string_bytes};
+ghost use Rattle.kr_sentences.specs.Spoken.{name_words, op_words, reply_words, rows_words};
 
 use crate::answers::name_of;
 use kr_cases::Memory;
@@ -32,18 +34,26 @@ pub fn op_numbers(op: Op) -> [Option<u64>; 2] {
 }
 
 /// An operation, by its word and its numbers.
-pub fn op_text(alloc: Global, op: Op) -> Result<String, Memory> {
-    let mut out = String::from_str(alloc, op_word(op))?;
-    for number in op_numbers(op) {
-        if let Some(number) = number {
-            write!(out, " {number}")?;
-        }
+pub fn op_text(alloc: Global, op: Op) -> Result<String, Memory>
+    ensures { IfOk result (λ text. string_bytes text ≡ op_words op) }
+{
+    match op {
+        Op::Fetch(key) => format!(in alloc; "fetch {key}"),
+        Op::Scan(lo, hi) => format!(in alloc; "scan {lo} {hi}"),
+        Op::Go => String::from_str(alloc, "go"),
+        Op::Insert(key, value) => format!(in alloc; "insert {key} {value}"),
+        Op::Delete(key) => format!(in alloc; "delete {key}"),
+        Op::Update(key, value) => format!(in alloc; "update {key} {value}"),
+        Op::Commit => String::from_str(alloc, "commit"),
+        Op::Abort => String::from_str(alloc, "abort"),
+        Op::Back => String::from_str(alloc, "back"),
     }
-    Ok(out)
 }
 
 /// An answer, by its word and its numbers.
-pub fn answer_text(alloc: Global, reply: &Reply) -> Result<String, Memory> {
+pub fn answer_text(alloc: Global, reply: &Reply) -> Result<String, Memory>
+    ensures { IfOk result (λ text. string_bytes text ≡ reply_words reply.now) }
+{
     match reply {
         Reply::Found(value) => format!(in alloc; "found {value}"),
         Reply::None => String::from_str(alloc, "none"),
@@ -63,13 +73,15 @@ pub fn answer_text(alloc: Global, reply: &Reply) -> Result<String, Memory> {
 }
 
 /// The rows of a scan.
-fn rows_text(alloc: Global, rows: &[(u64, u64)]) -> Result<String, Memory> {
+fn rows_text(alloc: Global, rows: &[(u64, u64)]) -> Result<String, Memory>
+    ensures { IfOk result (λ text. string_bytes text ≡ rows_words rows.now) }
+{
+    if rows.is_empty() {
+        return String::from_str(alloc, "rows (none)");
+    }
     let mut out = String::from_str(alloc, "rows")?;
     for (key, value) in rows {
         write!(out, " {key}:{value}")?;
-    }
-    if rows.is_empty() {
-        out.push_str(" (none)")?;
     }
     Ok(out)
 }
@@ -99,7 +111,9 @@ pub fn txns_text(alloc: Global, txns: &[Txn]) -> Result<String, Memory> {
 }
 
 /// A lock name.
-pub fn lock_name(alloc: Global, name: Name) -> Result<String, Memory> {
+pub fn lock_name(alloc: Global, name: Name) -> Result<String, Memory>
+    ensures { IfOk result (λ text. string_bytes text ≡ name_words name) }
+{
     match name {
         Name::Key(key) => format!(in alloc; "{key}"),
         Name::End => String::from_str(alloc, "End"),

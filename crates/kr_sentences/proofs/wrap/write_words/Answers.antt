@@ -1,7 +1,5 @@
-use Rattle.std.proofs.Common.{◌≡◌, ◌++◌, [], ◌∷◌, List, ℕ, map, length, sym, ap, subst, ◌∙◌, append_assoc, refl, string_bytes, arith}
-use Rattle.std.specs.List.{join_with_byte}
-use Rattle.std.proofs.lemmas.List.{map_push, length_push}
-use Rattle.kr_sentences.specs.Lines.{AreLines}
+use Rattle.std.proofs.Common.{string_bytes, arith}
+use Rattle.std.proofs.lemmas.List.{length_push}
 use Rattle.kr_sentences.proofs.Lined.{added_word}
 use Rattle.kr_sentences.proofs.wrap.write_words.Goals as goal
 
