@@ -1,12 +1,12 @@
 -- What a survey says of a cause is so of its table.
-use Rattle.std.specs.Prelude.{◌≡◌, ◌<◌, ◌+◌, ◌⊎◌, ◌↔◌, ℕ, Bool, true, false, List, All, Option, Some, None, is_some, IfSome, refl}
+use Rattle.std.specs.Prelude.{◌≡◌, ◌<◌, ◌+◌, ◌⊎◌, ◌↔◌, ℕ, Bool, true, false, List}
 use Rattle.std.proofs.Common.{subst, sym, inl, inr, arith, get_or, length}
 use Rattle.std.proofs.lemmas.List.{get_or_default}
 use Rattle.kr_model.specs.declared.Cover.{Cover}
 use Rattle.kr_model.specs.declared.Cover.TheVariants.{ReadKey, ReadGap, InsertedKey, DeletedGap, UpdatedKey}
 use Rattle.kr_model.specs.declared.FailedCase.{FailedCase}
 use Rattle.kr_model.specs.Protocol.{Protocol}
-use Rattle.kr_decide.specs.Survey.{IsSurvey, IsHeld, HasHole, is_held, has_hole}
+use Rattle.kr_decide.specs.Survey.{IsSurvey, is_held, has_hole}
 use Rattle.kr_decide.specs.declared.survey.Survey.{Survey}
 use Rattle.kr_explanation.specs.declared.harmless.Harmless.{Harmless}
 use Rattle.kr_explanation.specs.declared.harmless.Harmless.TheVariants.{NeverHeld, NeverLetIn}

@@ -1,5 +1,5 @@
 -- Blocks, one behind another.
-use Rattle.std.proofs.Common.{◌≡◌, ◌++◌, [], ◌∷◌, ℕ, ◌+◌, ◌<◌, ◌≤◌, List, length, take, get_or, refl, sym, ap, subst, ◌∙◌, append_assoc, add-one, add-zero, arith}
+use Rattle.std.proofs.Common.{◌≡◌, ◌++◌, [], ◌∷◌, ℕ, ◌+◌, ◌<◌, ◌≤◌, List, length, take, get_or, refl, sym, ap, subst, ◌∙◌, append_assoc, arith}
 use Rattle.std.proofs.lemmas.List.{append-nil, take_more, take_all, length-take-le}
 use Rattle.kr_model.specs.Protocol.{Protocol}
 use Rattle.kr_explanation.specs.declared.explanation.Explained.{Explained}

@@ -1,4 +1,5 @@
 pub mod ToldCauses
+pub mod Trying
 pub mod Clear
 pub mod Outcomes
 pub mod InBlocks

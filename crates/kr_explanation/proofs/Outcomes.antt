@@ -1,5 +1,5 @@
 -- The three outcomes.
-use Rattle.std.specs.Prelude.{◌≡◌, ◌<◌, ◌↔◌, ℕ, Bool, true, false, List, All, length, is_some, refl}
+use Rattle.std.specs.Prelude.{◌≡◌, ℕ, true, false, List, length, refl}
 use Rattle.std.proofs.Common.{get_or}
 use Rattle.kr_model.specs.declared.Cover.{Cover}
 use Rattle.kr_model.specs.declared.FailedCase.{FailedCase}
@@ -8,11 +8,10 @@ use Rattle.kr_model.specs.Covers.{IsCovered, failed_cases, cases}
 use Rattle.kr_model.specs.Safe.{IsSafe}
 use Rattle.kr_headline.proofs.safe.AllCases.{covered_is_safe}
 use Rattle.kr_decide.specs.Survey.{HasHole}
-use Rattle.kr_explanation.specs.declared.explanation.Explained.{Explained}
 use Rattle.kr_explanation.specs.declared.explanation.Failures.{Failures}
 use Rattle.kr_explanation.specs.declared.explanation.Explanation.TheVariants as told
 use Rattle.kr_explanation.specs.Harmless.{IsHarmless}
-use Rattle.kr_explanation.specs.Explained.{AreFailures, AreHarmless, IsExplained, IsTold}
+use Rattle.kr_explanation.specs.Explained.{AreFailures, AreHarmless, IsExplained}
 
 -- no hole is in a safe table
 no_hole : (p : Protocol) (c : Cover) (m : ℕ) → IsSafe p → HasHole p c m → ⊥

@@ -1,17 +1,20 @@
 -- What is explained of a protocol table: whether it is accepted, or else safe; and where cases fail, what is to blame, with why it
 -- is harmless or runs that go wrong, and changes that mend.
-use Rattle.std.specs.Prelude.{◌≡◌, ◌≤◌, ◌↔◌, ℕ, ◌-◌, ◌==◌, List, All, map, length, Bool, true, false, Option, None, IfSome, is_some, slice_get, option_and_then, if◌then◌else◌}
+use Rattle.std.specs.Prelude.{◌≡◌, ◌↔◌, ℕ, ◌-◌, ◌==◌, List, All, map, length, Bool, true, false, Option, None, IfSome, is_some, slice_get, option_and_then, if◌then◌else◌}
 use Rattle.std.specs.List.{list_any}
+use Rattle.std.specs.List.Sorted.{IsPermutation}
 use Rattle.kr_model.specs.declared.FailedCase.{FailedCase}
 use Rattle.kr_model.specs.Protocol.{Protocol}
 use Rattle.kr_model.specs.Covers.{IsCovered, failed_cases, cases}
 use Rattle.kr_model.specs.Safe.{IsSafe}
 use Rattle.kr_causes.specs.declared.cause.Cause.{Cause}
 use Rattle.kr_causes.specs.Causes.{ShareOut}
-use Rattle.kr_causes.specs.Mends.{AreMends}
+use Rattle.kr_causes.specs.Mends.{AreMends, AreOfOneEntry}
+use Rattle.kr_causes.specs.Shares.{IsCause}
 use Rattle.kr_exact.specs.Ordered.{IsOrdered}
 use Rattle.kr_wrong.specs.Wrong.{GoesWrong}
 use Rattle.kr_explanation.specs.Harmless.{IsHarmless, IsReason}
+use Rattle.kr_explanation.specs.Tried.{AreTried, IsUntried}
 use Rattle.kr_explanation.specs.declared.run.Run.{Run}
 use Rattle.kr_explanation.specs.declared.explanation.Explained.{Explained}
 use Rattle.kr_explanation.specs.declared.explanation.Failures.{Failures}
@@ -29,11 +32,14 @@ pub record IsTold (p : Protocol) (failed : List FailedCase) (e : Explained) : Ty
   pub reason : IfSome e.harmless (IsReason p e.cause.cases.items)
   -- the run that is told, if there is one, goes wrong
   pub wrong : IfSome e.run (GoesWrongWith p)
-  -- each change that is named mends the cause's cases
+  -- its cases were tried in this order, from the first on; none where it is harmless
+  pub order : List FailedCase
+  pub same : IsPermutation e.cause.cases.items order
+  pub tried : AreTried p order e.tried e.runs e.run e.is_reached
+  pub untried : is_some e.harmless ≡ true → IsUntried e.tried e.runs e.run e.is_reached
+  -- each change that is named mends the cause's cases, and all are of the entry that is to blame
   pub mended : IfSome e.mend (AreMends p e.cause.cases.items failed)
-  -- it has so many cases at least as were tried, and so many were tried at least as gave a run
-  pub tried : e.tried ≤ length e.cause.cases.items
-  pub runs : e.runs ≤ e.tried
+  pub entry : IfSome e.mend (AreOfOneEntry e.cause.blame)
 
 -- The causes that are told.
 abbrev pub causes_of : List Explained → List Cause
@@ -48,6 +54,8 @@ pub record AreFailures (p : Protocol) (failed : List FailedCase) (f : Failures) 
   pub ordered : f.is_ordered ≡ true ↔ IsOrdered p
   -- each failed case is in exactly one of the causes
   pub shared : ShareOut (causes_of f.causes.items) failed
+  -- what is to blame is a reason of each of a cause's cases, which stand in their order
+  pub blamed : All (IsCause p failed) (causes_of f.causes.items)
   pub told : All (IsTold p failed) f.causes.items
 
 -- Each of the causes is told to be harmless.

@@ -1,4 +1,5 @@
 //! How much is tried.
+ghost use Rattle.std.specs.Prelude.{◌≡◌, ◌≤◌, ◌-◌, IfSome};
 
 /// The searches for all cases of a table look at so many states at most.
 const MOST_STATES: usize = 1_000_000;
@@ -37,7 +38,9 @@ impl Effort {
     }
 
     /// How many scripts a search may run that looks at so many states, or `None` where it may not begin.
-    pub fn for_case(self, states: usize) -> Option<usize> {
+    pub fn for_case(self, states: usize) -> Option<usize>
+        ensures { IfSome result (λ most_runs. states ≤ self.states) }
+    {
         if self.states < states || self.runs == 0 {
             None
         } else {
@@ -46,7 +49,9 @@ impl Effort {
     }
 
     /// What is left after a search.
-    pub fn after(self, states: usize, runs: usize) -> Effort {
+    pub fn after(self, states: usize, runs: usize) -> Effort
+        ensures { result.states ≡ self.states - states }
+    {
         Effort {
             states: self.states.saturating_sub(states),
             runs: self.runs.saturating_sub(runs),

@@ -1,8 +1,11 @@
 //! Explaining a table.
-ghost use Rattle.std.specs.Prelude.{IfOk, IfSome, ◌≡◌, ◌≤◌, All, length};
-ghost use Rattle.kr_causes.specs.Mends.{AreMends};
+ghost use Rattle.std.specs.Prelude.{IfOk, IfSome, ◌≡◌, All, IsTrue};
+ghost use Rattle.std.specs.List.Sorted.{IsPermutation};
+ghost use Rattle.kr_causes.specs.Mends.{AreMends, AreOfOneEntry};
+ghost use Rattle.kr_counterexample.specs.Comes.{IsClosureOf};
 ghost use Rattle.kr_decide.specs.Survey.{IsSurvey};
-ghost use Rattle.kr_explanation.specs.Explained.{AreFailures, GoesWrongWith, IsExplained, IsTold, causes_of};
+ghost use Rattle.kr_explanation.specs.Explained.{AreFailures, IsExplained, IsTold, causes_of};
+ghost use Rattle.kr_explanation.specs.Telling.{AreToldInOrder, AreWithin, IsUntold};
 
 use crate::effort::{Effort, MOST_MENDED};
 use crate::explanation::{Explained, Explanation, Failures};
@@ -57,7 +60,7 @@ pub fn explain<P: Protocol>(alloc: Global, protocol: &P) -> Result<Explanation, 
 }
 
 /// Why cases of a table fail, of which these do.
-#[tactic(auto, using(crate::proofs::ToldCauses::same_shared))]
+#[tactic(auto, using(crate::proofs::ToldCauses::same_shared, crate::proofs::ToldCauses::same_blamed))]
 fn failures<P: Protocol>(
     alloc: Global,
     protocol: &P,
@@ -125,9 +128,11 @@ fn told<P: Protocol>(
     cause: Cause,
     is_mended: bool,
 ) -> Result<Explained, Memory>
-    requires { IsSurvey (P.table protocol.now) known.survey.now }
+    requires survey { IsSurvey (P.table protocol.now) known.survey.now }
+    requires closure { IsClosureOf (P.table protocol.now) known.closure.now }
     ensures told { IfOk result (IsTold (P.table protocol.now) known.entry.failed.now) }
     ensures cause { IfOk result (λ e. e.cause ≡ cause) }
+    ensures within { IfOk result (λ e. AreWithin known.entry.effort known.entry.closure.now e.tried) }
 {
     let harmless = why_harmless(protocol, known.survey, known.failed, &cause.cases);
     let told = sought(alloc, protocol, known, &cause, harmless.is_some())?;
@@ -151,7 +156,8 @@ fn mend_of<P: Protocol>(
     cause: &Cause,
     is_asked: bool,
 ) -> Result<Option<Mend>, Memory>
-    ensures { IfOk result (λ mend. IfSome mend (AreMends (P.table protocol.now) cause.now.cases.items known.entry.failed.now)) }
+    ensures mends { IfOk result (λ mend. IfSome mend (AreMends (P.table protocol.now) cause.now.cases.items known.entry.failed.now)) }
+    ensures of_one_entry { IfOk result (λ mend. IfSome mend (AreOfOneEntry cause.now.blame)) }
 {
     if is_asked {
         let is_safe = known.survey.is_safe();
@@ -170,9 +176,10 @@ fn sought<P: Protocol>(
     cause: &Cause,
     is_harmless: bool,
 ) -> Result<ToldRun, Memory>
-    ensures wrong { IfOk result (λ told. IfSome told.run (GoesWrongWith (P.table protocol.now))) }
-    ensures tried { IfOk result (λ told. told.tried ≤ length cause.now.cases.items) }
-    ensures runs { IfOk result (λ told. told.runs ≤ told.tried) }
+    requires { IsClosureOf (P.table protocol.now) known.closure.now }
+    ensures told { IfOk result (AreToldInOrder (P.table protocol.now) cause.now.cases.items) }
+    ensures within { IfOk result (λ told. AreWithin known.entry.effort known.entry.closure.now told.tried) }
+    ensures untold { IsTrue is_harmless → IfOk result IsUntold }
 {
     if is_harmless {
         return Ok(ToldRun::none());
@@ -200,16 +207,16 @@ fn holes_first(
     survey: &Survey,
     cases: &[FailedCase],
 ) -> Result<Vec<FailedCase>, Memory>
-    ensures { IfOk result (λ list. length list.items ≡ length cases.now) }
+    ensures { IfOk result (λ list. IsPermutation cases.now list.items) }
 {
-    let mut all = cases.to_vec(alloc)?;
+    let mut all = Vec::from_slice(alloc, cases)?;
     all.sort_by_key(|case| !survey.has_hole(case.cover, case.mode))?;
     firsts_first(alloc, &all)
 }
 
 /// The cases, the first of each rule, cover and mode before the others.
 fn firsts_first(alloc: Global, cases: &[FailedCase]) -> Result<Vec<FailedCase>, Memory>
-    ensures { IfOk result (λ list. length list.items ≡ length cases.now) }
+    ensures { IfOk result (λ list. IsPermutation cases.now list.items) }
 {
     let mut firsts: Vec<FailedCase> = Vec::new(alloc);
     let mut others = Vec::new(alloc);

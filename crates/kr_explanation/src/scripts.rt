@@ -1,6 +1,7 @@
 //! The scripts of the schedules that are shown.
 ghost use Rattle.std.specs.Prelude.{◌≡◌, IfOk, IfSome, option_map, string_bytes};
 ghost use Rattle.kr_explanation.specs.Explained.{run_at};
+ghost use Rattle.kr_explanation.specs.Telling.{IsRunWith};
 ghost use Rattle.kr_explanation.specs.Told.{IsScriptOf};
 
 use crate::explanation::Explanation;
@@ -41,7 +42,7 @@ pub fn run_of(
     is_as_case: bool,
     script: Counterexample,
 ) -> Result<Option<Run>, Memory>
-    ensures { IfOk result (λ found. IfSome found (λ run. run.script ≡ script)) }
+    ensures { IfOk result (λ found. IfSome found (IsRunWith case is_as_case script)) }
 {
     let line = json_line(alloc, &script.opening, &script.events)?;
     if is_line_of(alloc, line.as_str(), &script.opening, &script.events)? {

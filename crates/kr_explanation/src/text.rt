@@ -1,5 +1,5 @@
 //! The text of an explanation.
-ghost use Rattle.std.specs.Prelude.{◌≡◌, ◌++◌, IfOk, string_bytes};
+ghost use Rattle.std.specs.Prelude.{◌≡◌, ◌++◌, IfOk, string_bytes, vec_len};
 ghost use Rattle.kr_sentences.specs.Edits.{IsMending};
 ghost use Rattle.kr_sentences.specs.Titles.{IsTitle};
 ghost use Rattle.kr_explanation.specs.Blocks.{AreBlocks, IsBlock, TellsAll, TellsCauses};
@@ -156,8 +156,12 @@ fn said<P: Protocol>(alloc: Global, protocol: &P, explained: &Explained) -> Resu
     Ok(out)
 }
 
-/// How many of a cause's cases were tried.
-fn tries_of(explained: &Explained) -> Tries {
+/// How many of a cause's cases were tried, and gave a schedule.
+fn tries_of(explained: &Explained) -> Tries
+    ensures cases { result.cases ≡ vec_len explained.now.cause.cases }
+    ensures tried { result.tried ≡ explained.now.tried }
+    ensures runs { result.runs ≡ explained.now.runs }
+{
     Tries {
         cases: explained.cause.cases.len(),
         tried: explained.tried,

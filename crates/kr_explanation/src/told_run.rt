@@ -1,7 +1,10 @@
 //! The run that is told of a cause.
-ghost use Rattle.std.specs.Prelude.{◌≡◌, ◌≤◌, None, IfOk, IfSome, length};
-ghost use Rattle.kr_wrong.specs.Wrong.{GoesWrong};
-ghost use Rattle.kr_explanation.specs.Explained.{GoesWrongWith};
+ghost use Rattle.std.specs.Prelude.{◌≡◌, ◌≤◌, ◌<◌, false, IfOk, IfSome, IsTrue, take, if◌then◌else◌};
+ghost use Rattle.std.specs.List.{Any};
+ghost use Rattle.kr_counterexample.specs.declared.fit.Fit.TheVariants.{Case, Mode};
+ghost use Rattle.kr_counterexample.specs.Comes.{CanComeTo, IsClosureOf};
+ghost use Rattle.kr_explanation.specs.Tried.{IsRunOf};
+ghost use Rattle.kr_explanation.specs.Telling.{AreToldOf, AreWithin, IsToldAfter, IsUntold};
 
 use crate::effort::{Effort, MOST_STAGED, MOST_STAGED_RUNS};
 use crate::run::Run;
@@ -27,9 +30,7 @@ pub struct ToldRun {
 impl ToldRun {
     /// None is told, and none was sought.
     pub fn none() -> ToldRun
-        ensures run { result.run ≡ None }
-        ensures runs { result.runs ≡ 0 }
-        ensures tried { result.tried ≡ 0 }
+        ensures { IsUntold result }
     {
         ToldRun {
             run: None,
@@ -51,14 +52,14 @@ pub fn told_run<P: Protocol>(
     prefer: Option<(Row, Side)>,
     effort: Effort,
 ) -> Result<ToldRun, Memory>
-    ensures wrong { IfOk result (λ told. IfSome told.run (GoesWrongWith (P.table protocol.now))) }
-    ensures tried { IfOk result (λ told. told.tried ≤ length cases.now) }
-    ensures runs { IfOk result (λ told. told.runs ≤ told.tried) }
+    requires { IsClosureOf (P.table protocol.now) closure.now }
+    ensures told { IfOk result (AreToldOf (P.table protocol.now) cases.now) }
+    ensures within { IfOk result (λ told. AreWithin effort closure.now told.tried) }
 {
     let told = tried(alloc, protocol, closure, cases, prefer, effort)?;
-    let mut told = or_staged(alloc, protocol, scenes, cases, told)?;
-    told.is_reached = told.run.is_none() && is_reached(protocol, closure, cases, told.tried);
-    Ok(told)
+    let told = or_staged(alloc, protocol, scenes, cases, told)?;
+    let is_reached = told.run.is_none() && is_reached(protocol, closure, cases, told.tried);
+    Ok(ToldRun { is_reached, ..told })
 }
 
 /// The same, without whether a transaction comes to a case.
@@ -70,30 +71,52 @@ fn tried<P: Protocol>(
     prefer: Option<(Row, Side)>,
     effort: Effort,
 ) -> Result<ToldRun, Memory>
-    ensures wrong { IfOk result (λ told. IfSome told.run (GoesWrongWith (P.table protocol.now))) }
-    ensures tried { IfOk result (λ told. told.tried ≤ length cases.now) }
-    ensures runs { IfOk result (λ told. told.runs ≤ told.tried) }
+    ensures told { IfOk result (AreToldOf (P.table protocol.now) cases.now) }
+    ensures within { IfOk result (λ told. AreWithin effort closure.now told.tried) }
+    ensures unreached { IfOk result (λ told. told.is_reached ≡ false) }
 {
     let states = closure.states();
-    let mut effort = effort;
+    let mut left = effort;
     let mut told = ToldRun::none();
     for case in cases {
-        let Some(most_runs) = effort.for_case(states) else {
+        let Some(most_runs) = left.for_case(states) else {
             return Ok(told);
         };
         let sought = closure.find_within(alloc, protocol, case, prefer, most_runs)?;
-        effort = effort.after(states, sought.runs);
-        told.tried += 1;
-        if let Some(script) = sought.script {
-            told.runs += 1;
-            if is_told_before(&script, &told.run, prefer) {
-                if let Some(run) = run_of(alloc, *case, true, script)? {
-                    told.run = Some(run);
-                }
-            }
-        }
+        left = left.after(states, sought.runs);
+        told = with_case(alloc, *case, sought.script, prefer, told)?;
     }
     Ok(told)
+}
+
+/// What is told when one case more was tried, and gave this script or none.
+fn with_case(
+    alloc: Global,
+    case: FailedCase,
+    script: Option<Counterexample>,
+    prefer: Option<(Row, Side)>,
+    told: ToldRun,
+) -> Result<ToldRun, Memory>
+    requires few { told.runs ≤ told.tried }
+    requires fits { told.tried < usize.MAX }
+    ensures { IfOk result (IsToldAfter case script told) }
+{
+    let tried = told.tried + 1;
+    let Some(script) = script else {
+        return Ok(ToldRun { tried, ..told });
+    };
+    let runs = told.runs + 1;
+    let run = if is_told_before(&script, &told.run, prefer) {
+        run_of(alloc, case, true, script)?
+    } else {
+        None
+    };
+    Ok(ToldRun {
+        run: run.or(told.run),
+        runs,
+        tried,
+        is_reached: told.is_reached,
+    })
 }
 
 /// What was told; or where that is no run, the run that scenes give for one of the cases that were tried.
@@ -104,12 +127,9 @@ fn or_staged<P: Protocol>(
     cases: &[FailedCase],
     told: ToldRun,
 ) -> Result<ToldRun, Memory>
-    requires wrong { IfSome told.run (GoesWrongWith (P.table protocol.now)) }
-    requires tried { told.tried ≤ length cases.now }
-    requires runs { told.runs ≤ told.tried }
-    ensures wrong { IfOk result (λ told. IfSome told.run (GoesWrongWith (P.table protocol.now))) }
-    ensures tried { IfOk result (λ told. told.tried ≤ length cases.now) }
-    ensures runs { IfOk result (λ told. told.runs ≤ told.tried) }
+    requires told { AreToldOf (P.table protocol.now) cases.now told }
+    ensures told { IfOk result (AreToldOf (P.table protocol.now) cases.now) }
+    ensures tried { IfOk result (λ new. new.tried ≡ told.tried) }
 {
     if told.run.is_some() || told.tried == 0 {
         return Ok(told);
@@ -135,17 +155,46 @@ fn staged<P: Protocol>(
     cases: &[FailedCase],
     tried: usize,
 ) -> Result<Option<Run>, Memory>
-    ensures { IfOk result (λ run. IfSome run (GoesWrongWith (P.table protocol.now))) }
+    ensures { IfOk result (λ run. IfSome run (IsRunOf (P.table protocol.now) (take tried cases.now))) }
 {
-    for fit in [Fit::Case, Fit::Mode] {
-        for case in cases.iter().take(tried.min(MOST_STAGED)) {
-            let sought = scenes.find(alloc, protocol, case, fit, MOST_STAGED_RUNS)?;
-            if let Some(script) = sought.script {
-                return run_of(alloc, *case, fit == Fit::Case, script);
-            }
+    let run = staged_by(alloc, protocol, scenes, cases, tried, Fit::Case)?;
+    if run.is_some() {
+        return Ok(run);
+    }
+    staged_by(alloc, protocol, scenes, cases, tried, Fit::Mode)
+}
+
+/// The same of the scripts that are as near to the case as this.
+fn staged_by<P: Protocol>(
+    alloc: Global,
+    protocol: &P,
+    scenes: &Scenes,
+    cases: &[FailedCase],
+    tried: usize,
+    fit: Fit,
+) -> Result<Option<Run>, Memory>
+    ensures { IfOk result (λ run. IfSome run (IsRunOf (P.table protocol.now) (take tried cases.now))) }
+{
+    for at in 0..tried.min(MOST_STAGED) {
+        let Some(case) = cases.get(at) else {
+            return Ok(None);
+        };
+        let sought = scenes.find(alloc, protocol, case, fit, MOST_STAGED_RUNS)?;
+        if let Some(script) = sought.script {
+            return run_of(alloc, *case, is_of_case(fit), script);
         }
     }
     Ok(None)
+}
+
+/// Whether a script as near to its case as this comes to the case's mode as the case says.
+fn is_of_case(fit: Fit) -> bool
+    ensures { (if result then Case else Mode) ≡ fit }
+{
+    match fit {
+        Fit::Case => true,
+        Fit::Mode => false,
+    }
 }
 
 /// Whether some state of the closure has a step that one of the first cases is about, of which so many were tried.
@@ -154,11 +203,19 @@ fn is_reached<P: Protocol>(
     closure: &Closure,
     cases: &[FailedCase],
     tried: usize,
-) -> bool {
-    cases
-        .iter()
-        .take(tried)
-        .any(|case| closure.is_reached(protocol, case))
+) -> bool
+    requires { IsClosureOf (P.table protocol.now) closure.now }
+    ensures { IsTrue result → Any (CanComeTo (P.table protocol.now)) (take tried cases.now) }
+{
+    for at in 0..tried {
+        let Some(case) = cases.get(at) else {
+            return false;
+        };
+        if closure.is_reached(protocol, case) {
+            return true;
+        }
+    }
+    false
 }
 
 /// Whether a script is told rather than the run so far.

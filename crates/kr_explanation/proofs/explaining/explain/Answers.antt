@@ -1,4 +1,4 @@
-use Rattle.std.proofs.Common.{◌≡◌, rules, sym}
+use Rattle.std.proofs.Common.{rules, sym}
 use Rattle.kr_explanation.proofs.Outcomes.{accepted_told}
 use Rattle.kr_explanation.proofs.explaining.explain.Goals as goal
 

@@ -1,4 +1,4 @@
-use Rattle.std.proofs.Common.{rules, sym, ◌∙◌}
+use Rattle.std.proofs.Common.{sym, ◌∙◌}
 use Rattle.kr_explanation.proofs.Clear.{one_case_more, case_read}
 use Rattle.kr_explanation.proofs.harmless.reason.Goals as goal
 

@@ -1,4 +1,4 @@
-use Rattle.std.proofs.Common.{◌≡◌, refl}
+use Rattle.std.proofs.Common.{refl}
 use Rattle.kr_explanation.proofs.Clear.{harmless_by, false_not_true}
 use Rattle.kr_explanation.proofs.harmless.why_harmless.Goals as goal
 

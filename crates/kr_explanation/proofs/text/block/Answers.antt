@@ -1,4 +1,4 @@
-use Rattle.std.proofs.Common.{string_bytes, subst, Bool, ap, ◌++◌, ◌∙◌}
+use Rattle.std.proofs.Common.{string_bytes, subst, Bool, ◌∙◌}
 use Rattle.kr_sentences.specs.Edits.{IsMending}
 use Rattle.kr_explanation.proofs.InBlocks.{both}
 use Rattle.kr_explanation.proofs.text.block.Goals as goal

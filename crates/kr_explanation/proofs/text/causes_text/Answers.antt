@@ -1,4 +1,4 @@
-use Rattle.std.proofs.Common.{string_bytes, subst, sym, List}
+use Rattle.std.proofs.Common.{string_bytes, subst, List}
 use Rattle.kr_explanation.specs.declared.explanation.Explained.{Explained}
 use Rattle.kr_explanation.specs.Blocks.{AreBlocks}
 use Rattle.kr_explanation.proofs.InBlocks.{both}

@@ -1,11 +1,12 @@
--- the cases so far were tried, and the run so far, if there is one, goes wrong
-use Rattle.std.specs.Prelude.{◌≡◌, ◌≤◌, IfSome}
-use Rattle.kr_explanation.specs.Explained.{GoesWrongWith}
+-- the cases so far were tried, within the effort
+use Rattle.std.specs.Prelude.{◌≡◌, ◌≤◌, ◌+◌, ◌*◌, false, vec_len}
+use Rattle.kr_explanation.specs.Telling.{AreToldOf}
 use Rattle.kr_explanation.proofs.told_run.tried.Given as goal
 
 abbrev pub invariant-loop-case : goal.invariant-loop-case
 invariant-loop-case g l = record {
-  wrong : IfSome l.told.run (GoesWrongWith (g.P.Protocol.table l.protocol));
+  told : AreToldOf (g.P.Protocol.table l.protocol) l.cases l.told;
   tried : l.told.tried ≡ l.case-index;
-  runs : l.told.runs ≤ l.told.tried;
+  unreached : l.told.is_reached ≡ false;
+  within : l.told.tried * vec_len l.closure.reached + l.left.states ≤ l.fn.effort.states;
 }
