@@ -3,3 +3,4 @@ pub mod Trying
 pub mod Clear
 pub mod Outcomes
 pub mod InBlocks
+pub mod Shown

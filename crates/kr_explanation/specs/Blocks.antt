@@ -1,12 +1,19 @@
 -- The text of an explanation block by block: one for each cause, in order.
-use Rattle.std.specs.Prelude.{◌≡◌, ◌+◌, ℕ, List, [], ◌∷◌, ◌++◌, is_some}
+use Rattle.std.specs.Prelude.{◌≡◌, ◌+◌, ℕ, List, [], ◌∷◌, ◌++◌, is_some, Option, Some, None}
 use Rattle.kr_model.specs.Protocol.{Protocol}
 use Rattle.kr_sentences.specs.Titles.{IsTitle}
 use Rattle.kr_sentences.specs.Edits.{IsMending}
+use Rattle.kr_sentences.specs.Steps.{IsSchedule}
+use Rattle.kr_explanation.specs.declared.run.Run.{Run}
 use Rattle.kr_explanation.specs.declared.explanation.Explained.{Explained}
 use Rattle.kr_explanation.specs.declared.explanation.Failures.{Failures}
 use Rattle.kr_explanation.specs.declared.explanation.Explanation.{Explanation}
 use Rattle.kr_explanation.specs.declared.explanation.Explanation.TheVariants as told
+
+-- What is said of a cause between its title and its fixes: where it has a run, some prose, the schedule of the run under p, and some prose.
+abbrev pub IsSaid : Protocol → List (List ℕ) → Option Run → List ℕ → Type 0
+IsSaid p names None said = Unit {0}
+IsSaid p names (Some run) said = IsSchedule p names run.script said
 
 -- The block of the cause of a number, of a table p with these names of its modes: its title, then what is said of it, and then its fixes.
 pub record IsBlock (p : Protocol) (names : List (List ℕ)) (n : ℕ) (e : Explained) (block : List ℕ) : Type 0 where
@@ -15,6 +22,8 @@ pub record IsBlock (p : Protocol) (names : List (List ℕ)) (n : ℕ) (e : Expla
   pub fixes : List ℕ
   -- the title has the number, what is to blame, and how many of the cases are of each group
   pub is_title : IsTitle p names n e.cause title
+  -- what is said has the schedule of the run, if the cause has one
+  pub is_said : IsSaid p names e.run said
   -- each fix is an edit of the entry that the changes are of, to their modes
   pub is_mending : IsMending names (is_some e.harmless) e.mend fixes
   pub written : block ≡ title ++ (said ++ fixes)

@@ -1,8 +1,9 @@
 //! The text of an explanation.
 ghost use Rattle.std.specs.Prelude.{◌≡◌, ◌++◌, IfOk, string_bytes, vec_len};
 ghost use Rattle.kr_sentences.specs.Edits.{IsMending};
+ghost use Rattle.kr_sentences.specs.Steps.{IsSchedule};
 ghost use Rattle.kr_sentences.specs.Titles.{IsTitle};
-ghost use Rattle.kr_explanation.specs.Blocks.{AreBlocks, IsBlock, TellsAll, TellsCauses};
+ghost use Rattle.kr_explanation.specs.Blocks.{AreBlocks, IsBlock, IsSaid, TellsAll, TellsCauses};
 ghost use Rattle.kr_explanation.specs.Told.{IsText};
 
 use crate::effort::MOST_MENDED;
@@ -147,13 +148,19 @@ fn fixes_text<P: Protocol>(
 }
 
 /// What is said of a cause below its title, up to its fixes.
-fn said<P: Protocol>(alloc: Global, protocol: &P, explained: &Explained) -> Result<String, Memory> {
-    let mut out = String::new(alloc);
+fn said<P: Protocol>(alloc: Global, protocol: &P, explained: &Explained) -> Result<String, Memory>
+    ensures { IfOk result (λ text. IsSaid (P.table protocol.now) (P.names protocol.now) explained.now.run (string_bytes text)) }
+{
     match &explained.run {
-        Some(run) => write_with_run(alloc, protocol, &mut out, explained, run)?,
-        None => write_without_run(alloc, protocol, &mut out, explained)?,
+        Some(run) => {
+            let text = with_run(alloc, protocol, explained, run)?;
+            Ok(text)
+        }
+        None => {
+            let text = without_run(alloc, protocol, explained)?;
+            Ok(text)
+        }
     }
-    Ok(out)
 }
 
 /// How many of a cause's cases were tried, and gave a schedule.
@@ -169,18 +176,45 @@ fn tries_of(explained: &Explained) -> Tries
     }
 }
 
-/// Writes what is said of a cause with its schedule.
-fn write_with_run<P: Protocol>(
+/// What is said of a cause with its schedule.
+fn with_run<P: Protocol>(
     alloc: Global,
     protocol: &P,
-    out: &mut String,
     explained: &Explained,
     run: &Run,
-) -> Result<(), Memory> {
-    write_body(alloc, protocol, out, &explained.cause, &run.case, "can")?;
+) -> Result<String, Memory>
+    ensures { IfOk result (λ text. IsSchedule (P.table protocol.now) (P.names protocol.now) run.now.script (string_bytes text)) }
+{
+    let mut out = String::new(alloc);
+    write_body(alloc, protocol, &mut out, &explained.cause, &run.case, "can")?;
+    write_run(alloc, protocol, &mut out, &run.script)?;
+    let case = case_text(alloc, protocol, explained, run)?;
+    out.push_str(case.as_str())?;
+    Ok(out)
+}
+
+/// The case that a schedule was made from.
+fn case_text<P: Protocol>(
+    alloc: Global,
+    protocol: &P,
+    explained: &Explained,
+    run: &Run,
+) -> Result<String, Memory> {
+    let mut out = String::new(alloc);
     let tries = tries_of(explained);
-    write_run(alloc, protocol, out, &run.script)?;
-    write_case(alloc, protocol, out, &run.case, run.is_as_case, tries)
+    write_case(alloc, protocol, &mut out, &run.case, run.is_as_case, tries)?;
+    Ok(out)
+}
+
+/// What is said of a cause that has no schedule.
+fn without_run<P: Protocol>(
+    alloc: Global,
+    protocol: &P,
+    explained: &Explained,
+) -> Result<String, Memory> {
+    let mut out = String::new(alloc);
+    write_without_run(alloc, protocol, &mut out, explained)?;
+    Ok(out)
 }
 
 /// Writes what is said of a cause that has no schedule: why it is harmless, or that none is known.

@@ -11,6 +11,7 @@ returns g c =
       said = string_bytes c.in_ok-said.said;
       fixes = string_bytes c.in_ok-fixes.fixes;
       is_title = c.in_ok-title.ensures;
+      is_said = c.in_ok-said.ensures;
       is_mending = subst P c.is_some-is_harmless.ensures c.in_ok-fixes.ensures;
       written = both c.deref-3.ensures (c.deref-4.ensures ∙ both c.deref.ensures c.deref-2.ensures c.in_ok-behind.ensures) c.in_ok-text.ensures;
     }
