@@ -186,7 +186,14 @@ fn with_run<P: Protocol>(
     ensures { IfOk result (λ text. IsSchedule (P.table protocol.now) (P.names protocol.now) run.now.script (string_bytes text)) }
 {
     let mut out = String::new(alloc);
-    write_body(alloc, protocol, &mut out, &explained.cause, &run.case, "can")?;
+    write_body(
+        alloc,
+        protocol,
+        &mut out,
+        &explained.cause,
+        &run.case,
+        "can",
+    )?;
     write_run(alloc, protocol, &mut out, &run.script)?;
     let case = case_text(alloc, protocol, explained, run)?;
     out.push_str(case.as_str())?;
