@@ -8,6 +8,8 @@ typedef struct handle { void *at; } handle;
 /* The exports of crates/kr_c: a slice is an address and a length, and `&mut` an address. */
 uint32_t krr_check(const void *, size_t, void *, size_t, size_t *);
 uint32_t krr_decide(const void *, size_t, void *, size_t, size_t *);
+uint32_t krr_explain(const void *, size_t, void *, size_t, size_t *);
+uint32_t krr_explain_script(const void *, size_t, size_t, void *, size_t, size_t *);
 uint32_t krr_run(const void *, size_t, const void *, size_t, void *, size_t, size_t *);
 uint32_t krr_mode(const void *, size_t, uint32_t, void *, size_t, size_t *);
 uint32_t krr_open(handle *, const void *, size_t, const void *, size_t, void *, size_t, size_t *);
@@ -45,7 +47,7 @@ const char *kr_version(void) { return KR_VERSION; }
 const char *kr_errmsg(int code) {
   static const char *const messages[] = {
     "KR_OK: all is well",
-    "KR_NO: rejected, not safe or not serializable",
+    "KR_NO: rejected, not safe, not serializable, or none is there",
     "KR_TABLE: the bytes are no table",
     "KR_SCRIPT: the bytes are no script",
     "KR_NOMEM: out of memory",
@@ -64,6 +66,16 @@ int kr_check(const void *table, size_t n, void *text, size_t room, size_t *lengt
 int kr_decide(const void *table, size_t n, void *text, size_t room, size_t *length) {
   if (is_bad(table, n, 1) || is_bad(text, room, 1) || !length) return KR_MISUSE;
   return (int)krr_decide(AT(table), n, AT(text), room, length);
+}
+
+int kr_explain(const void *table, size_t n, void *text, size_t room, size_t *length) {
+  if (is_bad(table, n, 1) || is_bad(text, room, 1) || !length) return KR_MISUSE;
+  return (int)krr_explain(AT(table), n, AT(text), room, length);
+}
+
+int kr_explain_script(const void *table, size_t n, size_t number, void *text, size_t room, size_t *length) {
+  if (is_bad(table, n, 1) || is_bad(text, room, 1) || !length) return KR_MISUSE;
+  return (int)krr_explain_script(AT(table), n, number, AT(text), room, length);
 }
 
 int kr_run(const void *table, size_t n, const void *script, size_t m, void *text, size_t room, size_t *length) {

@@ -1,5 +1,5 @@
-/* kr.h: kr inside a program. Checks tables of key-range locking protocols, runs scripts under them, and opens sessions that
-   say of one step at a time what the table answers. The functions need the C library and nothing else.
+/* kr.h: kr inside a program. Checks and explains tables of key-range locking protocols, runs scripts under them, and opens
+   sessions that say of one step at a time what the table answers. The functions need the C library and nothing else.
 
    A table is the word of a bundled one, "@kvl", "@kvl-update", "@im" or "@range-key", or the text of one in TOML. A script is
    a text in JSON. Both are given by an address and a length in bytes, and need no zero at the end. docs/TABLES.md and
@@ -37,8 +37,8 @@ extern "C" {
 
 /* What a function returns. */
 enum kr_code {
-  KR_OK = 0,      /* accepted; safe; serializable; done */
-  KR_NO = 1,      /* rejected; not safe; not serializable */
+  KR_OK = 0,      /* accepted; safe; serializable; found; done */
+  KR_NO = 1,      /* rejected; not safe; not serializable; none is there */
   KR_TABLE = 2,   /* the bytes are no table: the text tells their first fault */
   KR_SCRIPT = 3,  /* the bytes are no script: the text tells their first fault */
   KR_NOMEM = 4,   /* malloc or realloc refused */
@@ -134,6 +134,18 @@ int kr_check(const void *table, size_t table_length, void *text, size_t room, si
    it has to keep out. No text in both cases.
    Also KR_TABLE with the fault's line, KR_NOMEM, KR_MISUSE. */
 int kr_decide(const void *table, size_t table_length, void *text, size_t room, size_t *length);
+
+/* Explains a table. KR_OK: it is safe, accepted or not. KR_NO: it is rejected, or not known to be safe. The text is what
+   `kr_explain` prints of a file named `table`, to its last line feed: the verdict, and where cases fail, each cause, with a
+   schedule that goes wrong where one is known, and what mends it.
+   Also KR_TABLE with the fault's line, KR_NOMEM, KR_MISUSE. */
+int kr_explain(const void *table, size_t table_length, void *text, size_t room, size_t *length);
+
+/* The script of the schedule that kr_explain shows of a cause, which has its number in that text, from 1. KR_OK: the text is the
+   script, as a line of JSON without a line feed, which kr_run and kr_open take. Its run under the table isn't serializable in
+   commit order, and each of its steps is granted. KR_NO, with no text: there is no such cause, or no schedule of it is shown.
+   Each call explains the table anew. Also KR_TABLE with the fault's line, KR_NOMEM, KR_MISUSE. */
+int kr_explain_script(const void *table, size_t table_length, size_t number, void *text, size_t room, size_t *length);
 
 /* Runs a script under a table. KR_OK: the run is serializable in commit order. KR_NO: it isn't. The text is the line that `kr run`
    prints, without its line feed.

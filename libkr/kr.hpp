@@ -2,6 +2,7 @@
 #pragma once
 #include <cstdint>
 #include <memory>
+#include <optional>
 #include <stdexcept>
 #include <string>
 #include <string_view>
@@ -82,6 +83,22 @@ inline bool is_safe(std::string_view table) {
   return detail::tell([&](char *text, std::size_t room, std::size_t *length) {
     return kr_decide(table.data(), table.size(), text, room, length);
   }).is_yes;
+}
+
+// Whether a table is safe, accepted or not, and its explanation.
+inline told explain(std::string_view table) {
+  return detail::tell([&](char *text, std::size_t room, std::size_t *length) {
+    return kr_explain(table.data(), table.size(), text, room, length);
+  });
+}
+
+// The script of the schedule that the explanation shows of a cause, from 1; none where it shows none, or there is no such cause.
+inline std::optional<std::string> explain_script(std::string_view table, std::size_t number) {
+  told found = detail::tell([&](char *text, std::size_t room, std::size_t *length) {
+    return kr_explain_script(table.data(), table.size(), number, text, room, length);
+  });
+  if (!found) return std::nullopt;
+  return std::move(found.text);
 }
 
 // Whether the run of a script under a table is serializable in commit order, and its report.

@@ -1,5 +1,6 @@
 /* Bad use of libkr: each call returns the code that kr.h says, and writes nothing that kr.h doesn't say. Prints each line that
-   doesn't hold; status 1 where one doesn't. It is built with -fsanitize=address,undefined. */
+   doesn't hold; status 1 where one doesn't. Its argument is the file of a table that isn't safe, whose first cause has a script. It is
+   built with -fsanitize=address,undefined. */
 #include <stdio.h>
 #include <stdlib.h>
 #include <string.h>
@@ -57,6 +58,54 @@ static void of_texts(void) {
   HOLDS(!strcmp(kr_version(), KR_VERSION));
   HOLDS(!strncmp(kr_errmsg(KR_CLOSED), "KR_CLOSED", 9));
   HOLDS(!strcmp(kr_errmsg(-1), "unknown code") && !strcmp(kr_errmsg(8), "unknown code"));
+}
+
+static void of_explanations(void) {
+  static char text[1 << 16];
+  size_t n = 7;
+  HOLDS(kr_explain(NULL, 5, text, sizeof text, &n) == KR_MISUSE && n == 7);
+  HOLDS(kr_explain("@kvl", 4, NULL, 5, &n) == KR_MISUSE && n == 7);
+  HOLDS(kr_explain("@kvl", 4, text, sizeof text, NULL) == KR_MISUSE);
+  HOLDS(kr_explain("@kvl", SIZE_MAX, text, sizeof text, &n) == KR_MISUSE && n == 7);
+  HOLDS(kr_explain("@kvl", 4, text, SIZE_MAX, &n) == KR_MISUSE && n == 7);
+  HOLDS(kr_explain_script(NULL, 5, 1, text, sizeof text, &n) == KR_MISUSE && n == 7);
+  HOLDS(kr_explain_script("@kvl", 4, 1, NULL, 5, &n) == KR_MISUSE && n == 7);
+  HOLDS(kr_explain_script("@kvl", 4, 1, text, sizeof text, NULL) == KR_MISUSE);
+  HOLDS(kr_explain_script("@kvl", SIZE_MAX, 1, text, sizeof text, &n) == KR_MISUSE && n == 7);
+  HOLDS(kr_explain_script("@kvl", 4, 1, text, SIZE_MAX, &n) == KR_MISUSE && n == 7);
+  HOLDS(kr_explain(NULL, 0, text, sizeof text, &n) == KR_TABLE && starts(text, n, "table: fault "));
+  HOLDS(kr_explain("\xff\xfe", 2, text, sizeof text, &n) == KR_TABLE && starts(text, n, "table: fault 2 NotToml"));
+  HOLDS(kr_explain_script("x", 1, 1, text, sizeof text, &n) == KR_TABLE && starts(text, n, "table: fault "));
+  HOLDS(kr_explain("@kvl", 4, NULL, 0, &n) == KR_OK && n == 90);
+  HOLDS(kr_explain("@kvl", 4, text, sizeof text, &n) == KR_OK && starts(text, n, "accepted: all 244 cases hold. ") && text[n - 1] == '\n');
+  text[0] = '.';
+  HOLDS(kr_explain_script("@kvl", 4, 1, text, sizeof text, &n) == KR_NO && n == 0 && text[0] == '.');
+}
+
+/* A table that isn't safe: its text in less room than it has, and its script, which goes wrong. */
+static void of_causes(const char *name) {
+  static char table[1 << 16], text[1 << 16];
+  FILE *file = fopen(name, "rb");
+  if (!file) exit(2);
+  size_t n, length, size = fread(table, 1, sizeof table, file);
+  fclose(file);
+  HOLDS(kr_decide(table, size, text, sizeof text, &n) == KR_NO);
+  HOLDS(kr_explain(table, size, text, sizeof text, &length) == KR_NO && starts(text, length, "rejected: "));
+  char *room = exactly(text, length - 1);
+  memset(room, '.', length - 1);
+  HOLDS(kr_explain(table, size, room, length - 1, &n) == KR_NO && n == length && !memcmp(room, text, length - 1));
+  free(room);
+  HOLDS(kr_explain_script(table, size, 1, text, sizeof text, &length) == KR_OK && starts(text, length, "{\"format\":"));
+  char *script = exactly(text, length);
+  HOLDS(kr_run(table, size, script, length, text, sizeof text, &n) == KR_NO);
+  HOLDS(kr_run("@kvl-update", 11, script, length, text, sizeof text, &n) == KR_OK);
+  kr_session session = KR_SESSION;
+  HOLDS(kr_open(&session, table, size, script, length, text, sizeof text, &n) == KR_OK && kr_close(&session) == KR_OK);
+  HOLDS(kr_explain_script(table, size, 1, NULL, 0, &n) == KR_OK && n == length);
+  free(script);
+  HOLDS(kr_explain_script(table, size, 0, text, sizeof text, &n) == KR_NO && n == 0);
+  HOLDS(kr_explain_script(table, size, 1000, text, sizeof text, &n) == KR_NO && n == 0);
+  HOLDS(kr_explain_script(table, size, SIZE_MAX, text, sizeof text, &n) == KR_NO && n == 0);
 }
 
 /* Texts at the limits, each in memory of its own length. */
@@ -160,8 +209,11 @@ static void of_lists(void) {
   free(one);
 }
 
-int main(void) {
+int main(int count, char **words) {
+  if (count != 2) return 2;
   of_texts();
+  of_explanations();
+  of_causes(words[1]);
   of_lengths();
   of_rooms();
   of_sessions();

@@ -1,15 +1,17 @@
 #!/usr/bin/env python3
-"""Compares libkr with kr, step by step, on random scripts under random tables.
+"""Compares libkr with kr, step by step, on random scripts under random tables; and with kr_explain, byte by byte.
 
-    compare.py PROGRAM COUNT NAME=DRIVER ..
+    compare.py PROGRAM EXPLAINER COUNT NAME=DRIVER ..
 
 For each of COUNT scripts, PROGRAM, which is kr, runs it under its table. Each DRIVER then does the steps of all scripts through
 libkr, as driver.c says, and the module kr does them in this process. The replies, and at the end the index, the locks, the active
-transactions and the verdict, have to be those of the program's report. Prints the number of steps and each NAME that differs, with
-the first line in which it does; status 1 where one does."""
+transactions and the verdict, have to be those of the program's report. The explanation of each table of tables/, examples/rejected
+and examples/explained, and the script of each of its causes, have to be what EXPLAINER prints, which is kr_explain. Prints the number
+of steps and each NAME that differs, with the first line in which it does; status 1 where one does."""
 import json
 import pathlib
 import random
+import re
 import subprocess
 import sys
 import tempfile
@@ -91,6 +93,45 @@ class Sample:
             return [*lines, plain_state(report, self.modes, session.is_serializable())]
 
 
+class Explained:
+    """A table in a file named `table`, with what kr_explain prints of it and of its causes, and of one cause more than it has."""
+
+    def __init__(self, text, explainer, folder):
+        folder.mkdir()
+        self.text, self.table = text, folder / 'table'
+        self.table.write_text(text)
+        done = subprocess.run([explainer, 'table'], cwd=folder, stdout=subprocess.PIPE, check=False)
+        self.lines = self.told(done.returncode, done.stdout.decode())
+        self.numbers = range(1, 2 + len(re.findall(r'^[0-9]+\. ', done.stdout.decode(), re.M)))
+        self.scripts = 0
+        for number in self.numbers:
+            done = subprocess.run([explainer, 'table', '--script', str(number)], cwd=folder, capture_output=True, check=False)
+            self.scripts += done.returncode == 1
+            self.lines += self.told(done.returncode - 1, done.stdout.decode()[:-1])
+
+    @staticmethod
+    def told(code, text):
+        """What a driver prints of a code and a text."""
+        return f'{code} {len(text.encode())} {text}'.split('\n')
+
+    def asked(self):
+        yield f'explain {self.table}'
+        yield from (f'script {self.table} {number}' for number in self.numbers)
+
+    def wanted(self):
+        return self.lines
+
+    def by_module(self):
+        table = kr.Table(self.text)
+        explained, scripts = table.explain(), map(table.script, self.numbers)
+        return [*self.told(int(not explained.is_yes), explained.text),
+                *(line for script in scripts for line in self.told(int(script is None), script or ''))]
+
+
+def texts_of(*folders):
+    return [it.read_text() for it in sorted(it for folder in folders for it in (TOP / folder).glob('*.toml'))]
+
+
 def differs(name, wanted, got):
     for number, (one, other) in enumerate(zip(wanted, got)):
         if one != other:
@@ -102,14 +143,16 @@ def differs(name, wanted, got):
     return False
 
 
-def main(program, count, *drivers):
+def main(program, explainer, count, *drivers):
     rng = random.Random(int(count))
-    texts = [it.read_text() for it in sorted([*(TOP / 'tables').glob('*.toml'), *(TOP / 'examples/rejected').glob('*.toml')])]
+    texts = texts_of('tables', 'examples/rejected')
     with tempfile.TemporaryDirectory() as name:
         samples = [Sample(rng, texts, program, pathlib.Path(name), number) for number in range(int(count))]
-        asked = ''.join(f'{line}\n' for sample in samples for line in sample.asked())
-        wanted = [line for sample in samples for line in sample.wanted()]
-        bad = differs('python', wanted, [line for sample in samples for line in sample.by_module()])
+        explained = [Explained(text, explainer, pathlib.Path(name) / f'explained{number}')
+                     for number, text in enumerate(texts_of('tables', 'examples/rejected', 'examples/explained'))]
+        asked = ''.join(f'{line}\n' for sample in [*samples, *explained] for line in sample.asked())
+        wanted = [line for sample in [*samples, *explained] for line in sample.wanted()]
+        bad = differs('python', wanted, [line for sample in [*samples, *explained] for line in sample.by_module()])
         for name, driver in (it.split('=', 1) for it in drivers):
             done = subprocess.run([driver], input=asked.encode(), stdout=subprocess.PIPE, check=False)
             bad = differs(name, wanted, done.stdout.decode().splitlines()) or bad
@@ -118,7 +161,8 @@ def main(program, count, *drivers):
                 bad = True
     steps, serial = sum(len(it.steps) for it in samples), sum(it.serial for it in samples)
     names = ', '.join(['python', *(it.split('=')[0] for it in drivers)])
-    print(f'{count} scripts with {steps} steps, of which {int(count) - serial} are not serializable, through {names}')
+    print(f'{count} scripts with {steps} steps, of which {int(count) - serial} are not serializable, and {len(explained)} explanations '
+          f'with {sum(it.scripts for it in explained)} scripts, through {names}')
     return int(bad)
 
 

@@ -2,6 +2,8 @@
 
      open TABLE SCRIPT        the files of a table and a script
      step TXN OP FIRST SECOND prints the reply
+     explain TABLE            the file of a table: prints the code, the length, and the explanation
+     script TABLE NUMBER      the same of the script of a cause
      state                    prints the index, the locks, the active transactions and the verdict
      close */
 #include <inttypes.h>
@@ -31,6 +33,14 @@ static size_t bytes_of(const char *name, char *into, size_t room) {
   size_t length = file ? fread(into, 1, room, file) : 0;
   if (file) fclose(file);
   return length;
+}
+
+static void explain(const char *name, size_t number) {
+  static char table[1 << 16];
+  size_t length, n = bytes_of(name, table, sizeof table);
+  int code = number ? kr_explain_script(table, n, number, text, sizeof text, &length) : kr_explain(table, n, text, sizeof text, &length);
+  if (code > KR_NO) must(code);
+  printf("%d %zu %.*s\n", code, length, (int)length, text);
 }
 
 static void open_files(const char *table, const char *script) {
@@ -88,8 +98,11 @@ int main(void) {
   static char line[1 << 12], a[1 << 11], b[1 << 11];
   uint32_t txn, op;
   uint64_t first, second;
+  size_t number;
   while (fgets(line, sizeof line, stdin)) {
     if (sscanf(line, "open %2047s %2047s", a, b) == 2) open_files(a, b);
+    else if (sscanf(line, "explain %2047s", a) == 1) explain(a, 0);
+    else if (sscanf(line, "script %2047s %zu", a, &number) == 2) explain(a, number);
     else if (sscanf(line, "step %" SCNu32 " %" SCNu32 " %" SCNu64 " %" SCNu64, &txn, &op, &first, &second) == 4) step(txn, op, first, second);
     else if (!strcmp(line, "state\n")) state();
     else if (!strcmp(line, "close\n")) must(kr_close(&session));

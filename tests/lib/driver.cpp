@@ -49,6 +49,17 @@ int main() {
       kr::session opened(bytes_of(table), bytes_of(script));
       session = std::make_unique<kr::session>(std::move(opened));
       std::cout << "opened\n";
+    } else if (word == "explain") {
+      std::string table;
+      words >> table;
+      const kr::told told = kr::explain(bytes_of(table));
+      std::cout << (told ? 0 : 1) << ' ' << told.text.size() << ' ' << told.text << '\n';
+    } else if (word == "script") {
+      std::string table;
+      std::size_t number;
+      words >> table >> number;
+      const std::string script = kr::explain_script(bytes_of(table), number).value_or("");
+      std::cout << (script.empty() ? 1 : 0) << ' ' << script.size() << ' ' << script << '\n';
     } else if (word == "step") {
       step(*session, words);
     } else if (word == "state") {

@@ -39,6 +39,7 @@ static void steps() {
 int main() {
   steps();
   HOLDS(kr::check("@kvl") && kr::is_safe("@kvl"));
+  HOLDS(kr::explain("@kvl") && kr::explain("@kvl").text.rfind("accepted: ", 0) == 0 && !kr::explain_script("@kvl", 1));
   const kr::error table = thrown([] { kr::session("x", script); });
   HOLDS(table.code() == KR_TABLE && table.line().rfind("table: fault 2", 0) == 0);
   HOLDS(thrown([] { kr::run("@kvl", "x"); }).code() == KR_SCRIPT);

@@ -37,5 +37,8 @@ assert raised(kr.TableFault, kr.Table, 'x').line.startswith('table: fault 2')
 assert raised(kr.ScriptFault, table.run, 'x').line.startswith('script: fault 2')
 assert raised(kr.ScriptFault, table.open, [(2, 1), (1, 1)]).line == 'script: fault 5 Opening at 1'
 assert table.check() == (True, '{"accepted":true,"cases":244,"modes":5}')
+assert table.explain().is_yes and table.explain().text.startswith('accepted: all 244 cases hold. ') and table.script(1) is None
+rejected = kr.Table((TOP / 'examples/rejected/insert.toml').read_bytes())
+assert not rejected.explain().is_yes and not rejected.run(rejected.script(1)).is_yes and rejected.script(2) is None
 assert table.is_safe() and table.mode(5) == 'X' and table.mode(6) == ''
 assert kr.version() == (TOP / 'VERSION').read_text().strip()

@@ -1,6 +1,8 @@
 /* Each growth refused in turn: malloc and realloc are wrapped by the linker (-Wl,--wrap), and the growth of each number is refused
    until all pass. Each call returns the code that it returns else, or KR_NOMEM with the session as it was; and tried again it does
-   what it does else. Prints how many growths there were; status 1 where something differs. */
+   what it does else. Of the explanation of a table and of the script of its first cause only some growths are refused, evenly from the
+   first on. The arguments are the table's file, and how many. Prints how many growths there were; status 1 where something differs. */
+#include <limits.h>
 #include <stdio.h>
 #include <stdlib.h>
 #include <string.h>
@@ -99,10 +101,45 @@ static int all_with(long number) {
   return left >= 0;
 }
 
-int main(void) {
+/* Explains a table with the growth of this number refused, or else with none. Gives how many growths there were. */
+static long explain_with(const char *table, size_t size, long number) {
+  static char told[1 << 16], wanted[1 << 16];
+  static size_t lengths[2];
+  int code;
+  long growths = 0;
+  for (int is_script = 0; is_script < 2; is_script++) {
+    size_t n = 0;
+    left = number < 0 ? LONG_MAX : number;
+    AGAIN(code, is_script ? kr_explain_script(table, size, 1, told, sizeof told, &n) : kr_explain(table, size, told, sizeof told, &n));
+    if (number < 0) {
+      memcpy(wanted + is_script * sizeof wanted / 2, told, lengths[is_script] = n);
+      if (LONG_MAX - left > growths) growths = LONG_MAX - left;
+    }
+    if (code != (is_script ? KR_OK : KR_NO) || n != lengths[is_script] || memcmp(told, wanted + is_script * sizeof wanted / 2, n))
+      wrong("an explanation", number);
+  }
+  left = -1;
+  return growths;
+}
+
+static void explanations(const char *name, long most) {
+  static char table[1 << 16];
+  FILE *file = fopen(name, "rb");
+  if (!file) exit(2);
+  size_t size = fread(table, 1, sizeof table, file);
+  fclose(file);
+  long growths = explain_with(table, size, -1);
+  for (long number = 0; number < growths; number += 1 + growths / most) explain_with(table, size, number);
+}
+
+int main(int count, char **words) {
   long number = 0;
+  if (count != 3) return 2;
   all_with(-1);
   while (!all_with(number)) number++;
   printf("%ld growths, each refused in turn; KR_NOMEM %ld times\n", number, refused);
+  refused = 0;
+  explanations(words[1], atol(words[2]));
+  printf("an explanation and a script: KR_NOMEM %ld times\n", refused);
   return failed;
 }

@@ -4,7 +4,7 @@ use Rattle.std.specs.Global.{Global}
 use Rattle.std.specs.declared.alloc.AllocError.{AllocError}
 use Rattle.kr_embed.specs.declared.faults.Fault.{Fault}
 use Rattle.kr_embed.specs.declared.faults.Fault.TheVariants.{NoTable, NoScript, Memory}
-use Rattle.kr_c.specs.Codes.{ok, no_memory, closed, answer_code, fault_code}
+use Rattle.kr_c.specs.Codes.{ok, no, no_memory, closed, answer_code, fault_code}
 
 -- Memory after as much of a list was written as it has room for, from its front.
 abbrev pub filled : {A : Type 0} → List A → List A → List A
@@ -24,6 +24,12 @@ fault_line Memory = []
 abbrev pub IsTold : Result (Bool × String Global) Fault → ℕ → List ℕ → List ℕ → ℕ → Type 0
 IsTold (Ok told) code old new n = (code ≡ answer_code told.0) × Tells old new n (string_bytes told.1)
 IsTold (Err fault) code old new n = (code ≡ fault_code fault) × Tells old new n (fault_line fault)
+
+-- The code and the line of what was looked for, which may be none, or of the fault.
+abbrev pub IsFound : Result (Option (String Global)) Fault → ℕ → List ℕ → List ℕ → ℕ → Type 0
+IsFound (Ok (Some line)) code old new n = (code ≡ ok) × Tells old new n (string_bytes line)
+IsFound (Ok None) code old new n = (code ≡ no) × ((new ≡ old) × (n ≡ 0))
+IsFound (Err fault) code old new n = (code ≡ fault_code fault) × Tells old new n (fault_line fault)
 
 -- The code of what was read of a session, and the list; where the session is closed or memory ran out, the list is none.
 abbrev pub IsListed : {A : Type 0} → Option (Result (Vec A Global) AllocError) → ℕ → List A → List A → ℕ → Type 0

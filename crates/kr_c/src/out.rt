@@ -1,7 +1,7 @@
 //! What a call writes into the caller's memory.
 ghost use Rattle.std.specs.Prelude.{◌≡◌};
 ghost use Rattle.kr_c.specs.Codes.{answer_code, fault_code};
-ghost use Rattle.kr_c.specs.Out.{Tells, IsTold, IsListed, IsJudgement, fault_line};
+ghost use Rattle.kr_c.specs.Out.{Tells, IsTold, IsFound, IsListed, IsJudgement, fault_line};
 
 use crate::codes::{CLOSED, MEMORY, NO, OK, SCRIPT, TABLE};
 use kr_embed::Fault;
@@ -52,6 +52,23 @@ pub fn tell(told: Result<(bool, String), Fault>, out: &mut [u8], length: &mut us
         Ok((is_yes, text)) => {
             fill(text.as_bytes(), out, length);
             answer_code(is_yes)
+        }
+        Err(fault) => fault_code(fault, out, length),
+    }
+}
+
+/// The code of what was looked for, whose line is told where there is one, or of the fault.
+pub fn found(told: Result<Option<String>, Fault>, out: &mut [u8], length: &mut usize) -> u32
+    ensures { IsFound told result out.old out.new length.new }
+{
+    match told {
+        Ok(Some(line)) => {
+            fill(line.as_bytes(), out, length);
+            OK
+        }
+        Ok(None) => {
+            *length = 0;
+            NO
         }
         Err(fault) => fault_code(fault, out, length),
     }

@@ -1,2 +1,3 @@
 pub mod FirstFaults
+pub mod Causes
 pub mod Values

@@ -3,6 +3,7 @@
 #![tactic(auto)]
 
 mod checks;
+mod explanations;
 mod faults;
 mod handle;
 mod modes;
@@ -14,6 +15,7 @@ mod session;
 mod tables;
 
 pub use checks::{check_bytes, decide_bytes};
+pub use explanations::{explain_bytes, script_of_cause};
 pub use faults::Fault;
 pub use handle::Handle;
 pub use modes::mode_in;

@@ -18,7 +18,7 @@ import ctypes.util
 import json
 import os
 from ctypes import POINTER, Structure, byref, c_char_p, c_int, c_size_t, c_uint32, c_uint64, c_void_p
-from typing import Any, Callable, Iterable, List, NamedTuple, Tuple, Union
+from typing import Any, Callable, Iterable, List, NamedTuple, Optional, Tuple, Union
 
 __all__ = ['Closed', 'Error', 'Misuse', 'OutOfMemory', 'ScriptFault', 'Session', 'Table', 'TableFault', 'Told', 'version']
 
@@ -92,7 +92,8 @@ def _load() -> ctypes.CDLL:
         raise ImportError('libkr.so is found neither at KR_LIBRARY, nor beside this module, nor by the system')
     lib = ctypes.CDLL(name)
     text, out, session = [c_char_p, c_size_t], [c_void_p, c_size_t, POINTER(c_size_t)], POINTER(_Session)
-    arguments = {'check': text + out, 'decide': text + out, 'run': text * 2 + out, 'mode': text + [c_uint32] + out,
+    arguments = {'check': text + out, 'decide': text + out, 'explain': text + out, 'explain_script': text + [c_size_t] + out,
+                 'run': text * 2 + out, 'mode': text + [c_uint32] + out,
                  'open': [session] + text * 2 + out, 'close': [session],
                  'step': [session, c_uint32, c_uint32, c_uint64, c_uint64, POINTER(_Reply)]}
     arguments.update((name, [session] + out) for name in ('blockers', 'rows', 'index', 'locks', 'unfinished', 'verdict'))
@@ -147,6 +148,15 @@ class Table:
     def is_safe(self) -> bool:
         """Whether every run under it is serializable in commit order."""
         return _tell(_lib.kr_decide, self._text, len(self._text)).is_yes
+
+    def explain(self) -> Told:
+        """Whether it is safe, accepted or not, and the text that `kr_explain` prints of a file named `table`."""
+        return _tell(_lib.kr_explain, self._text, len(self._text))
+
+    def script(self, cause: int) -> Optional[str]:
+        """The script of the schedule that the explanation shows of a cause, from 1; None where it shows none."""
+        found = _tell(_lib.kr_explain_script, self._text, len(self._text), cause)
+        return found.text if found.is_yes else None
 
     def run(self, script: Text) -> Told:
         """Whether the run of a script is serializable in commit order, and the report that `kr run` prints."""

@@ -54,6 +54,8 @@ extern "C" {
     pub fn kr_errmsg(code: c_int) -> *const c_char;
     pub fn kr_check(table: *const u8, table_length: usize, text: *mut u8, room: usize, length: *mut usize) -> c_int;
     pub fn kr_decide(table: *const u8, table_length: usize, text: *mut u8, room: usize, length: *mut usize) -> c_int;
+    pub fn kr_explain(table: *const u8, table_length: usize, text: *mut u8, room: usize, length: *mut usize) -> c_int;
+    pub fn kr_explain_script(table: *const u8, table_length: usize, number: usize, text: *mut u8, room: usize, length: *mut usize) -> c_int;
     pub fn kr_run(table: *const u8, table_length: usize, script: *const u8, script_length: usize, text: *mut u8, room: usize, length: *mut usize) -> c_int;
     pub fn kr_mode(table: *const u8, table_length: usize, mode: u32, text: *mut u8, room: usize, length: *mut usize) -> c_int;
     pub fn kr_open(session: *mut kr_session, table: *const u8, table_length: usize, script: *const u8, script_length: usize, text: *mut u8, room: usize, length: *mut usize) -> c_int;

@@ -69,6 +69,15 @@ fn main() -> Result<(), Box<dyn Error>> {
                 session = Some(Session::open(&fs::read(table)?, &fs::read(script)?)?);
                 writeln!(out, "opened")?;
             }
+            (["explain", table], _) => {
+                let (is_safe, text) = kr::explain(&fs::read(table)?)?;
+                writeln!(out, "{} {} {text}", u32::from(!is_safe), text.len())?;
+            }
+            (["script", table, number], _) => {
+                let script = kr::explain_script(&fs::read(table)?, number.parse()?)?;
+                let line = script.as_deref().unwrap_or("");
+                writeln!(out, "{} {} {line}", u32::from(script.is_none()), line.len())?;
+            }
             (["step", txn, kind, first, second], Some(session)) => {
                 let op = operation(kind, first.parse()?, second.parse()?).ok_or("an operation")?;
                 writeln!(out, "{}", line_of(&session.step(txn.parse()?, op)?))?;

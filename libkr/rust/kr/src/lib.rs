@@ -137,6 +137,22 @@ pub fn is_safe(table: &[u8]) -> Result<bool, Error> {
     Ok(told(|text, room, length| unsafe { sys::kr_decide(table.as_ptr(), table.len(), text, room, length) })?.0)
 }
 
+/// Whether a table is safe, accepted or not, and its explanation.
+pub fn explain(table: &[u8]) -> Result<(bool, String), Error> {
+    // SAFETY: as in `check`.
+    told(|text, room, length| unsafe { sys::kr_explain(table.as_ptr(), table.len(), text, room, length) })
+}
+
+/// The script of the schedule that the explanation shows of a cause, from 1; `None` where it shows none, or there is no such
+/// cause.
+pub fn explain_script(table: &[u8], number: usize) -> Result<Option<String>, Error> {
+    // SAFETY: as in `check`.
+    let (is_found, line) = told(|text, room, length| unsafe {
+        sys::kr_explain_script(table.as_ptr(), table.len(), number, text, room, length)
+    })?;
+    Ok(is_found.then_some(line))
+}
+
 /// Whether the run of a script under a table is serializable in commit order, and its report.
 pub fn run(table: &[u8], script: &[u8]) -> Result<(bool, String), Error> {
     // SAFETY: as in `check`.

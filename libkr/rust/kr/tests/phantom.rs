@@ -27,6 +27,8 @@ fn faults_have_their_lines() {
     assert_eq!(kr::mode(b"@kvl", 1).as_deref(), Ok("IS"));
     assert_eq!(kr::is_safe(b"@kvl"), Ok(true));
     assert!(kr::check(b"@kvl").is_ok_and(|told| told.0));
+    assert!(kr::explain(b"@kvl").is_ok_and(|told| told.0 && told.1.starts_with("accepted: ")));
+    assert_eq!(kr::explain_script(b"@kvl", 1), Ok(None));
     assert_eq!(kr::version(), env!("CARGO_PKG_VERSION"));
 }
 
