@@ -1,3 +1,4 @@
 pub mod Placed
 pub mod Told
 pub mod Threaded
+pub mod Faults

@@ -5,6 +5,8 @@ ghost use Rattle.kr_model.specs.Protocol.{Protocol, IsLawful};
 ghost use Rattle.kr_model.specs.Map.{IsMap};
 ghost use Rattle.kr_engine.specs.Closed.{IsClosed};
 ghost use Rattle.kr_follows.specs.Dealt.{AreDealt};
+ghost use Rattle.kr_threads.specs.Faults.{fault_of_close, fault_of_row};
+ghost use Rattle.kr_threads.specs.declared.run.RunFault.TheVariants as fault;
 ghost use Rattle.kr_threads.specs.Told.{IsToldToOne, IsWorked};
 ghost use Rattle.kr_threads.specs.Threaded.{IsThreaded};
 
@@ -35,12 +37,16 @@ pub enum RunFault {
 }
 
 impl From<AllocError> for RunFault {
+    ghost from_gives = { λ _ e. e ≡ fault.Memory };
+
     fn from(_e: AllocError) -> RunFault {
         RunFault::Memory
     }
 }
 
 impl From<NewFault> for RunFault {
+    ghost from_gives = { λ f e. e ≡ fault_of_row f };
+
     fn from(fault: NewFault) -> RunFault {
         match fault {
             NewFault::Memory => RunFault::Memory,
@@ -50,6 +56,8 @@ impl From<NewFault> for RunFault {
 }
 
 impl From<CloseFault> for RunFault {
+    ghost from_gives = { λ f e. e ≡ fault_of_close f };
+
     fn from(fault: CloseFault) -> RunFault {
         match fault {
             CloseFault::Memory => RunFault::Memory,
