@@ -271,7 +271,7 @@ impl Ordered for Tree {
     }
 
     fn copy(&self, alloc: Global) -> Result<Pairs, Memory> {
-        let mut list = Vec::new(alloc);
+        let mut list = Vec::with_capacity(alloc, self.slots.len())?;
         for (key, slot) in &self.slots {
             if let Some(value) = slot.value {
                 list.push((*key, value))?;

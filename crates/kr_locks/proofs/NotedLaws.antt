@@ -1,6 +1,6 @@
 -- What notes of names are left, and which locks they cover.
-use Rattle.std.proofs.Common.{◌≡◌, ℕ, Bool, true, false, cond, not, List, [], ◌∷◌, ◌++◌, Option, Some, None, sym, ap, ◌∙◌, refl, subst, arith}
-use Rattle.std.specs.Prelude.{◌≢◌, ◌||◌, ◌==◌, Vec}
+use Rattle.std.proofs.Common.{◌≡◌, ℕ, zero, suc, Bool, true, false, cond, not, List, [], ◌∷◌, ◌++◌, Option, Some, None, sym, ap, ◌∙◌, refl, subst, arith}
+use Rattle.std.specs.Prelude.{◌≢◌, ◌||◌, ◌==◌, Vec, unwrap_or}
 use mathlib.Core.Bool.{false≢true}
 use Rattle.std.specs.Global.{Global}
 use Rattle.std.specs.BTreeMap as tree
@@ -10,7 +10,7 @@ use Rattle.std.specs.FinMap.{find}
 use Rattle.std.specs.FinMap.Entries.{find-put}
 use Rattle.std.proofs.lemmas.Bool.Decides.{nat_tests}
 use Rattle.kr_model.specs.declared.Name.{Name}
-use Rattle.kr_model.specs.Locks.{Locks, Holder, name_cmp, holder_cmp, keep, forget, release}
+use Rattle.kr_model.specs.Locks.{Locks, Holder, name_cmp, holder_cmp, own, keep, forget, release}
 use Rattle.kr_model.proofs.LockLaws.{name_total, holder_total, find-release}
 use Rattle.kr_model.proofs.Keep.{same, same_holder}
 use Rattle.kr_locks.specs.Noted.{names_in, noted, IsNoted, AreNoted}
@@ -103,3 +103,10 @@ AreNoted-keep m h t n q all here x u some = by (same (x, u) (n, t)) refl
         let is : ◌≡◌ {A = Holder} (x, u) (n, t) = same_holder (x, u) (n, t) e in
         subst (λ (k : Holder). IsNoted m k.1 k.0) (sym is) here
     by false e = all x u (λ none. some (find-put holder_cmp holder_total (x, u) (n, t) q h ∙ ap (λ b. cond b (Some q) (find holder_cmp (x, u) h)) e ∙ none))
+
+-- a name is noted where it was noted for a lock, or is noted now
+pub noted_anyway : (m w : Held) (h : Locks) (t : ℕ) (n : Name) (was : ℕ) → AreNoted m h → ((u : ℕ) (x : Name) → IsNoted m u x → IsNoted w u x) → was ≡ own h t n → (was ≡ 0 → IsNoted w t n) → IsNoted w t n
+noted_anyway m w h t n zero all keeps is first = first refl
+noted_anyway m w h t n (suc k) all keeps is first = keeps t n (all n t (λ none.
+    let e : suc k ≡ 0 = is ∙ ap (λ (o : Option ℕ). unwrap_or o 0) none in
+    absurd (omega (arith, e))))

@@ -1,12 +1,14 @@
 //! The locks of all transactions, by name.
-ghost use Rattle.std.specs.Prelude.{◌≡◌, ◌≢◌, ℕ, [], false, IsTrue, IsOk, OnOk, IfOk, IfSome, IfNone};
+ghost use Rattle.std.specs.Prelude.{◌≡◌, ◌≢◌, ◌<◌, ◌≤◌, ℕ, [], false, IsTrue, IsOk, OnOk, OnErr, IfOk, IfSome, IfNone};
 ghost use Rattle.kr_model.specs.declared.Name.{Name};
-ghost use Rattle.kr_model.specs.Locks.{own};
-ghost use Rattle.kr_locks.specs.Buckets.{IsNames, locks_of};
+ghost use Rattle.kr_model.specs.Locks.{AreWithin, own, keep};
+ghost use Rattle.kr_locks.specs.Buckets.{IsNames, holders_at, locks_of};
 ghost use Rattle.kr_locks.specs.Noted.{IsNoted, AreNoted, noted};
 
 use crate::bucket::Bucket;
-use crate::names::{all_locks, conflicting, drop_lock, drop_locks, is_free, own_in, store};
+use crate::names::{
+    all_locks, conflicting, drop_lock, drop_locks, is_free, own_in, store, store_new,
+};
 use crate::{Holdings, Memory, Mode, Name, Txn};
 use kr_protocol::Protocol;
 use std::alloc::Global;
@@ -106,6 +108,79 @@ fn note_new(
     Ok(())
 }
 
+/// Notes a name of a transaction, whose own mode there is given. One that holds a lock there has noted it.
+fn note_unless_held(
+    alloc: Global,
+    held: &mut BTreeMap<Txn, Vec<Name>>,
+    was: Mode,
+    txn: Txn,
+    name: Name,
+) -> Result<(), Memory>
+    ensures kept { (t : ℕ) (n : Name) → IsNoted held.old t n → IsNoted held.new t n }
+    ensures noted { OnOk result (was ≡ 0 → IsNoted held.new txn name) }
+{
+    if was != 0 {
+        return Ok(());
+    }
+    note(alloc, held, txn, name)?;
+    Ok(())
+}
+
+/// Makes the mode of a transaction the one to which a request converts it, on a name that has holders, and answers the
+/// mode before; `None` where it has none. It takes one look at the names.
+fn raise_there<P: Protocol>(
+    alloc: Global,
+    held: &mut BTreeMap<Txn, Vec<Name>>,
+    names: &mut BTreeMap<Name, Bucket>,
+    protocol: &P,
+    txn: Txn,
+    name: Name,
+    mode: Mode,
+) -> Result<Option<Mode>, Memory>
+    requires in_order { IsNames names.old.entries }
+    requires all { AreNoted held.old (locks_of names.old.entries) }
+    requires asked { (0 < mode) × (mode ≤ (P.table protocol.now).count) }
+    requires within { AreWithin (P.table protocol.now).count (locks_of names.old.entries) }
+    ensures in_order { IsNames names.new.entries }
+    ensures all { AreNoted held.new (locks_of names.new.entries) }
+    ensures was { IfOk result (λ there. IfSome there (λ was. was ≡ own (locks_of names.old.entries) txn name)) }
+    ensures raised { IfOk result (λ there. IfSome there (λ was. locks_of names.new.entries ≡ keep (locks_of names.old.entries) txn name ((P.table protocol.now).convert was mode))) }
+    ensures absent { IfOk result (λ there. IfNone there (holders_at names.old.entries name ≡ [])) }
+    ensures same { IfOk result (λ there. IfNone there (names.new.entries ≡ names.old.entries)) }
+    ensures err { OnErr result (locks_of names.new.entries ≡ locks_of names.old.entries) }
+{
+    if let Some(bucket) = names.get_mut(&name) {
+        let was = bucket.own(txn);
+        let kept = protocol.convert(was, mode);
+        note_unless_held(alloc, held, was, txn, name)?;
+        bucket.keep(txn, kept)?;
+        return Ok(Some(was));
+    }
+    Ok(None)
+}
+
+/// Notes a name that nobody holds a lock on, and gives a transaction its first lock there.
+fn raise_new(
+    alloc: Global,
+    held: &mut BTreeMap<Txn, Vec<Name>>,
+    names: &mut BTreeMap<Name, Bucket>,
+    txn: Txn,
+    name: Name,
+    mode: Mode,
+) -> Result<(), Memory>
+    requires in_order { IsNames names.old.entries }
+    requires all { AreNoted held.old (locks_of names.old.entries) }
+    requires absent { holders_at names.old.entries name ≡ [] }
+    ensures in_order { IsNames names.new.entries }
+    ensures all { AreNoted held.new (locks_of names.new.entries) }
+    ensures ok { OnOk result (locks_of names.new.entries ≡ keep (locks_of names.old.entries) txn name mode) }
+    ensures err { OnErr result (locks_of names.new.entries ≡ locks_of names.old.entries) }
+{
+    note(alloc, held, txn, name)?;
+    store_new(alloc, names, txn, name, mode)?;
+    Ok(())
+}
+
 /// The names of a transaction, which are forgotten.
 fn take_noted(held: &mut BTreeMap<Txn, Vec<Name>>, txn: Txn) -> Option<Vec<Name>>
     ensures some { IfSome result (λ list. list.items ≡ noted held.old txn) }
@@ -158,6 +233,31 @@ impl Holdings for Buckets {
         note_new(self.alloc, &mut self.held, &self.names, txn, name)?;
         store(self.alloc, &mut self.names, txn, name, mode)?;
         Ok(())
+    }
+
+    fn raise<P: Protocol>(
+        &mut self,
+        protocol: &P,
+        txn: Txn,
+        name: Name,
+        mode: Mode,
+    ) -> Result<Mode, Memory> {
+        let there = raise_there(
+            self.alloc,
+            &mut self.held,
+            &mut self.names,
+            protocol,
+            txn,
+            name,
+            mode,
+        )?;
+        match there {
+            Some(was) => Ok(was),
+            None => {
+                raise_new(self.alloc, &mut self.held, &mut self.names, txn, name, mode)?;
+                Ok(0)
+            }
+        }
     }
 
     fn release(&mut self, txn: Txn) {

@@ -1,7 +1,7 @@
 //! The locks that transactions hold on names, and what a lock table answers of them.
 #![tactic(auto)]
 
-ghost use Rattle.std.specs.Prelude.{◌≡◌, ◌≢◌, ◌≤◌, [], ◌∷◌, ◌↔◌, IsTrue, IsOk, OnOk, OnErr, IfOk};
+ghost use Rattle.std.specs.Prelude.{◌≡◌, ◌≢◌, ◌<◌, ◌≤◌, [], ◌∷◌, ◌↔◌, IsTrue, IsOk, OnOk, OnErr, IfOk};
 ghost use Rattle.kr_model.specs.Locks.{Locks, AreWithin, own, keep_or_drop, release, blockers};
 ghost use Rattle.kr_model.specs.declared.Span.TheVariants as span;
 
@@ -19,8 +19,8 @@ use std::alloc::Global;
 
 /// A set of locks, each a transaction, a name and a mode: one mode for each transaction and name.
 ///
-/// A mode is 0 for no lock, or one of a protocol's modes, 1 to its count. Only `blockers`, `keep` and `copy` may
-/// answer `Memory`, and then nothing has changed.
+/// A mode is 0 for no lock, or one of a protocol's modes, 1 to its count. Only `blockers`, `keep`, `raise` and `copy`
+/// may answer `Memory`, and then nothing has changed.
 pub trait Holdings: Drop {
     /// The locks by name, the end last, and then by transaction.
     ghost locks: { Self → Locks };
@@ -64,6 +64,28 @@ pub trait Holdings: Drop {
         ensures err { OnErr result (locks self.new ≡ locks self.old) }
         ensures none_takes_no_memory { mode ≡ 0 → IsOk result }
         ensures held_takes_no_memory { own (locks self.old) txn name ≢ 0 → IsOk result };
+
+    /// Makes the mode of a transaction on a name the one to which a request converts it, and answers the mode before.
+    ///
+    /// The mode asked for is a mode of the protocol, and all held modes are at most its count.
+    fn raise<P: Protocol>(
+        &mut self,
+        protocol: &P,
+        txn: Txn,
+        name: Name,
+        mode: Mode,
+    ) -> Result<Mode, Memory>
+        requires asked { (0 < mode) × (mode ≤ (P.table protocol.now).count) }
+        requires held { AreWithin (P.table protocol.now).count (locks self.old) }
+        ensures was { IfOk result (λ was. was ≡ own (locks self.old) txn name) }
+        ensures ok { IfOk result (λ was. locks self.new ≡ keep_or_drop (locks self.old) txn name ((P.table protocol.now).convert was mode)) }
+        ensures err { OnErr result (locks self.new ≡ locks self.old) }
+    {
+        let was = self.own(txn, name);
+        let kept = protocol.convert(was, mode);
+        self.keep(txn, name, kept)?;
+        Ok(was)
+    }
 
     /// Takes away all locks of a transaction, and no other.
     fn release(&mut self, txn: Txn)

@@ -45,7 +45,7 @@ fn store_there(
 }
 
 /// Writes the mode of a transaction on a name that nobody holds a lock on.
-fn store_new(
+pub(crate) fn store_new(
     alloc: Global,
     names: &mut BTreeMap<Name, Bucket>,
     txn: Txn,

@@ -182,10 +182,11 @@ abbrev pub HoldsSide : Locks → ℕ → Option Request → Type 0
 HoldsSide locks t None = Unit {0}
 HoldsSide locks t (Some (n, q, s)) = HoldsMode locks t n s
 
--- There is room for what an operation adds to its transaction: one more row of the scan in progress, or a change.
+-- There is room for what an operation may add to its transaction: one more row of the scan in progress, or a change.
 abbrev pub HasRoomIn : Standing → Op → Type 0
 HasRoomIn s op.Go = IfSome s.scan (λ c. vec_len c.rows < vec_capacity c.rows)
 HasRoomIn s (op.Scan lo hi) = Unit {0}
+HasRoomIn s (op.Fetch k) = Unit {0}
 HasRoomIn s o = vec_len s.changes < vec_capacity s.changes
 
 -- A scan that begins has no rows yet, and room for the first.

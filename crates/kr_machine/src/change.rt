@@ -87,7 +87,7 @@ pub(crate) fn perform<I: Ordered>(
 fn change<I: Ordered>(index: &mut I, standing: Standing, touch: KeyTouch, row: Row) -> Standing
     requires row { IsRowOf (I.map index.old) (active_of standing).scan (op_of_key touch) row }
     requires pins { (q : ℕ) → taken_pins (op_of_key touch) row q ≤ I.pins index.old q }
-    requires room { vec_len standing.changes < vec_capacity standing.changes }
+    requires room { HasRoomIn standing (op_of_key touch) }
     ensures map { I.map index.new ≡ (effect_of (I.map index.old) (active_of standing) (op_of_key touch)).map }
     ensures pins { (q : ℕ) → I.pins index.new q + taken_pins (op_of_key touch) row q + changes_of (active_of standing).changes q ≡ I.pins index.old q + changes_of (active_of result).changes q }
     ensures txn { result.txn ≡ standing.txn }

@@ -27,10 +27,7 @@ fn hold_mode<P: Protocol, L: Holdings>(
     ensures was { IfOk result (λ was. Held (P.table protocol.now) (L.locks locks.old) (L.locks locks.new) txn name mode was) }
     ensures err { OnErr result (L.locks locks.new ≡ L.locks locks.old) }
 {
-    let was = locks.own(txn, name);
-    let kept = protocol.convert(was, mode);
-    locks.keep(txn, name, kept)?;
-    Ok(was)
+    locks.raise(protocol, txn, name, mode)
 }
 
 /// Keeps the mode of one side's request, where it is to commit, and answers the mode before; else 0.

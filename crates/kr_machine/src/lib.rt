@@ -4,6 +4,7 @@
 //! does it or `cancel` gives it up, neither of which can fail.
 #![tactic(auto)]
 
+mod at_once;
 mod change;
 mod holds;
 mod machine;
@@ -19,3 +20,4 @@ mod stepper;
 pub use kr_model::{Mode, Name, Txn};
 pub use machine::Machine;
 pub use pending::Ready;
+pub use stepper::Stepper;

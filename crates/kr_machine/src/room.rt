@@ -9,7 +9,7 @@ ghost use Rattle.kr_machine.specs.Parts.{op_of_touch};
 ghost use Rattle.kr_machine.specs.Pending.{HasRoomIn};
 ghost use Rattle.kr_machine.specs.Pins.{changes_of, all_changes_of};
 
-use crate::parts::Touch;
+use crate::parts::{KeyTouch, Touch};
 use kr_locks::Holdings;
 use kr_model::Txn;
 use kr_txn::{Ended, Memory, Scan, Standing, position, put_in, take_out};
@@ -46,13 +46,13 @@ fn make_room_in(standing: &mut Standing, touch: Touch) -> Result<(), Memory>
     ensures ok { OnOk result (HasRoomIn standing.new (op_of_touch touch)) }
 {
     match touch {
-        Touch::Scan(_, _) => {}
+        Touch::Scan(_, _) | Touch::Key(KeyTouch::Fetch(_)) => {}
         Touch::Go => {
             if let Some(scan) = &mut standing.scan {
                 scan.rows.reserve(1)?;
             }
         }
-        Touch::Key(_) => {
+        Touch::Key(KeyTouch::Insert(_, _) | KeyTouch::Delete(_) | KeyTouch::Update(_, _)) => {
             standing.changes.reserve(1)?;
         }
     }

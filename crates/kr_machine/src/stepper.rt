@@ -17,12 +17,12 @@ use kr_txn::{Ended, Standing, put_in};
 use std::alloc::Global;
 use std::marker::Model;
 
-/// A machine without its log: an index under a locking protocol, with the locks of its transactions and how each stands.
+/// A machine without a log: an index under a locking protocol, with the locks of its transactions and how each stands.
 ///
 /// Contracts see its protocol, its state between two steps, and the event of a step that is ready and not yet done.
 /// While a step is ready it has taken what the step needs, and the state is seen as without it.
 #[derive(Drop)]
-pub(crate) struct Stepper<P: Protocol, I: Ordered, L: Holdings> {
+pub struct Stepper<P: Protocol, I: Ordered, L: Holdings> {
     /// The locking protocol.
     protocol: P,
     /// The index, with a pin for each change of an active transaction, and one for that of a pending step.

@@ -16,6 +16,11 @@ pub record IsRest (p : Protocol) (first : State) (begun : Log) (all : List Event
   pub state : (let r = run p now left in r.state) ≡ (let r = run p first all in r.state)
   pub log : (let r = run p now left in log_after so_far r.history) ≡ (let r = run p first all in log_after begun r.history)
 
+-- The same of a run of which no log is kept.
+pub record IsLeft (p : Protocol) (first : State) (all : List Event) (now : State) (left : List Event) (given : List Reply) : Type 0 where
+  pub replies : given ++ (let r = run p now left in replies_of r.history) ≡ (let r = run p first all in replies_of r.history)
+  pub state : (let r = run p now left in r.state) ≡ (let r = run p first all in r.state)
+
 -- The committed programs of a log that went along with a run are those of the run.
 pub programs_of_run : (p : Protocol) (opening : Map) (events : List Event) (l : Log) → (let r = run p (start opening) events in l ≡ log_after no_log r.history)
     → l.committed ≡ (let r = run p (start opening) events in programs r.history)

@@ -5,6 +5,7 @@
 mod covered;
 mod index;
 mod judging;
+mod played;
 mod ran;
 mod runs;
 mod steps;
@@ -15,6 +16,7 @@ pub use covered::run;
 pub use index::Index;
 pub use judging::judge;
 pub use kr_model::{Items, Mode, Name, Pairs, Program, Programs, Reply, Txn, Txns};
+pub use played::{Played, play};
 pub use ran::{Ran, Replies, Triples};
 pub use runs::run_any;
 pub use steps::replay;

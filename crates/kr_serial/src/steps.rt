@@ -39,7 +39,7 @@ pub fn replay<P: Protocol, I: Ordered, L: Holdings>(
 }
 
 /// Whether a reply is the refusal `Memory`.
-fn lacks_memory(reply: &Reply) -> bool
+pub(crate) fn lacks_memory(reply: &Reply) -> bool
     ensures { IsTrue result ↔ (reply.now ≡ reply_is.Refused refusal_is.Memory) }
 {
     match reply {

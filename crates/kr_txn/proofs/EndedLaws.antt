@@ -42,7 +42,7 @@ any_at [] t i lt e = absurd (omega arith)
 any_at (x ∷ xs) t zero lt e = ap (λ b. b || list_any (λ u. u == t) xs) (let same : (x == t) ≡ true = grind (arith, nat_tests) in same)
 any_at (x ∷ xs) t (suc i) lt e = ap (λ b. (x == t) || b) (any_at xs t i (omega arith) e) ∙ or_true (x == t)
 
-none_at : (xs : List ℕ) (t : ℕ) → ((k : ℕ) → k < length xs → get_or xs k 0 ≢ t) → list_any (λ u. u == t) xs ≡ false
+pub none_at : (xs : List ℕ) (t : ℕ) → ((k : ℕ) → k < length xs → get_or xs k 0 ≢ t) → list_any (λ u. u == t) xs ≡ false
 none_at [] t out = refl
 none_at (x ∷ xs) t out =
     ap (λ b. b || list_any (λ u. u == t) xs) (let ne : x ≢ t = out 0 (omega arith) in let differ : (x == t) ≡ false = grind (arith, nat_tests) in differ)

@@ -94,6 +94,9 @@ fn is_in(numbers: &[Txn], txn: Txn) -> bool
     requires { IsStrictlyIncreasing numbers.now }
     ensures { result ≡ list_any (λ u. u == txn) numbers.now }
 {
+    if is_past(numbers, txn) {
+        return false;
+    }
     numbers.binary_search(&txn).is_ok()
 }
 

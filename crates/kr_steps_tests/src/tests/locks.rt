@@ -73,6 +73,34 @@ fn answers<H: Holdings>(rt: &impl Abort, alloc: Global, mut locks: H) -> Result<
     Ok(())
 }
 
+/// What a raised mode was, and what it is then: by a conversion that leaves it, and of one who holds none.
+fn raises<H: Holdings>(
+    rt: &impl Abort,
+    alloc: Global,
+    mut empty: H,
+    mut locks: H,
+) -> Result<(), Fail>
+    requires empty { H.locks empty ≡ [] }
+    requires locks { H.locks locks ≡ [] }
+{
+    assert_eq!(rt; empty.raise(&SharedExclusive, 1, Name::End, EXCLUSIVE)?, 0);
+    assert_eq!(rt; empty.own(1, Name::End), EXCLUSIVE);
+    fill(&mut locks)?;
+    assert_eq!(rt;
+        locks.raise(&SharedExclusive, 1, Name::End, SHARED)?,
+        EXCLUSIVE
+    );
+    let kept = [
+        ((LOW, 2), SHARED),
+        ((MIDDLE, 2), SHARED),
+        ((MIDDLE, 5), SHARED),
+        ((HIGH, 3), EXCLUSIVE),
+        ((Name::End, 1), EXCLUSIVE),
+    ];
+    same!(rt; locks.copy(alloc)?.as_slice(), kept.as_slice());
+    Ok(())
+}
+
 /// What a kept mode, a mode taken away and a release leave.
 fn changes<H: Holdings>(rt: &impl Abort, alloc: Global, mut locks: H) -> Result<(), Fail>
     requires { H.locks locks ≡ [] }
@@ -117,6 +145,16 @@ fn list_changes(rt: HostRuntime) -> Result<(), Fail> {
 }
 
 #[test]
+fn list_raises(rt: HostRuntime) -> Result<(), Fail> {
+    raises(
+        &rt,
+        rt.alloc(),
+        List::new(rt.alloc()),
+        List::new(rt.alloc()),
+    )
+}
+
+#[test]
 fn buckets_answer(rt: HostRuntime) -> Result<(), Fail> {
     answers(&rt, rt.alloc(), Buckets::new(rt.alloc()))
 }
@@ -124,6 +162,16 @@ fn buckets_answer(rt: HostRuntime) -> Result<(), Fail> {
 #[test]
 fn buckets_change(rt: HostRuntime) -> Result<(), Fail> {
     changes(&rt, rt.alloc(), Buckets::new(rt.alloc()))
+}
+
+#[test]
+fn buckets_raise(rt: HostRuntime) -> Result<(), Fail> {
+    raises(
+        &rt,
+        rt.alloc(),
+        Buckets::new(rt.alloc()),
+        Buckets::new(rt.alloc()),
+    )
 }
 
 #[test]

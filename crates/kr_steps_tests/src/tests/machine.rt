@@ -2,6 +2,7 @@
 //! whose replies are told by a list of the changes beside the machine.
 
 mod ample;
+mod at_once;
 mod beside;
 mod changes;
 mod machines;

@@ -1,6 +1,13 @@
-use Rattle.std.proofs.Common.{◌∙◌, sym}
-use Rattle.kr_txn.proofs.EndedLaws.{found_at, any-found}
+use Rattle.std.proofs.Common.{◌<◌, get_or, ◌∙◌, sym, arith}
+use Rattle.kr_txn.proofs.EndedLaws.{found_at, any-found, none_at}
 use Rattle.kr_txn.proofs.ended.is_in.Goals as goal
+
+pub returns-then-is_past : goal.returns-then-is_past
+returns-then-is_past c =
+    let xs = c.args.numbers.now in
+    sym (none_at xs c.args.txn (λ k lt e.
+    let below : get_or xs k 0 < c.args.txn = c.is_past.ensures c.if-is_past.true k lt in
+    absurd (omega (arith, below, e))))
 
 pub returns : goal.returns
 returns c =

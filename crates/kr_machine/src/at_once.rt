@@ -1,0 +1,29 @@
+//! Steps at once, of which nothing is noted.
+ghost use Rattle.std.specs.Prelude.{◌≡◌, None};
+ghost use Rattle.kr_model.specs.Step.{IsStep};
+
+use crate::pending::Ready;
+use crate::stepper::Stepper;
+use kr_index::Ordered;
+use kr_locks::Holdings;
+use kr_model::{Op, Reply, Txn};
+use kr_protocol::Protocol;
+
+impl<P: Protocol, I: Ordered, L: Holdings> Stepper<P, I, L> {
+    /// Attempts one operation of a transaction, as `Machine::step` does, and notes nothing of it.
+    pub fn step(&mut self, txn: Txn, op: Op) -> Reply
+        requires at_rest { self.old.pending ≡ None }
+        ensures step { IsStep (P.table self.old.protocol) self.old.state txn op result self.new.state }
+        ensures protocol { self.new.protocol ≡ self.old.protocol }
+        ensures at_rest { self.new.pending ≡ None }
+    {
+        match self.ready(txn, op) {
+            Ok(ready) => {
+                let Ready { event, reply } = ready;
+                self.finish(event);
+                reply
+            }
+            Err(reply) => reply,
+        }
+    }
+}

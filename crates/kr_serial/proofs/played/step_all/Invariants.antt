@@ -1,0 +1,11 @@
+use Rattle.std.proofs.Common.{◌≡◌, None, drop}
+use Rattle.kr_serial.proofs.Replayed.{IsLeft}
+use Rattle.kr_serial.proofs.played.step_all.Given as goal
+
+-- the machine is at rest with its protocol, and what is left of the run gives what is left to tell
+abbrev pub invariant-loop-event : goal.invariant-loop-event
+invariant-loop-event g l = record {
+  at_rest : l.stepper.pending ≡ None;
+  protocol : l.stepper.protocol ≡ l.fn.stepper.protocol;
+  rest : IsLeft (g.P.Protocol.table l.fn.stepper.protocol) l.fn.stepper.state l.events l.stepper.state (drop l.event-index l.events) l.replies.items;
+}
