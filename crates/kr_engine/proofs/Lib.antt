@@ -14,5 +14,5 @@ pub mod Waiters
 pub mod Keys
 pub mod Ways
 pub mod Waking
-pub mod Entangled
+pub mod Deadlocked
 pub mod Waiting

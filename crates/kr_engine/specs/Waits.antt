@@ -47,8 +47,8 @@ pub record IsWaitCycle (p : Protocol) (s : State) (es : List Event) (t : ℕ) (c
   pub waits : WaitInTurn (Waits p s es) cycle t
 
 -- Each of these transactions is blocked by one of them.
-abbrev pub AreEntangled : (ℕ → List ℕ) → List ℕ → Type 0
-AreEntangled blockers txns = (t : ℕ) → Contains txns t → (u : ℕ) × Contains txns u × Contains (blockers t) u
+abbrev pub AreDeadlocked : (ℕ → List ℕ) → List ℕ → Type 0
+AreDeadlocked blockers txns = (t : ℕ) → Contains txns t → (u : ℕ) × Contains txns u × Contains (blockers t) u
 
 -- Each of these transactions has an entry, with those that block it.
 abbrev pub HaveEntries : (ℕ → List ℕ) → List ℕ → List Waiting → Type 0

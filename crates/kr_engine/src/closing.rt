@@ -6,8 +6,8 @@ ghost use Rattle.kr_model.specs.Run.{programs};
 ghost use Rattle.kr_engine.specs.Histories.{events_with_replies};
 ghost use Rattle.kr_engine.specs.Closed.{lent, fits, StandsIn, IsClosed};
 
-use crate::hand::Hand;
 use crate::kernel::{Core, SeatNote};
+use crate::seat_state::SeatState;
 use kr_model::{Mode, Name, Pairs, Programs, Txn, Txns};
 use kr_places::{EngineName, Entry, Known, PlaceRow, Seen};
 use kr_protocol::Covered;
@@ -36,17 +36,17 @@ impl<K: EngineName> Model for Share<K> {
 }
 
 impl<K: EngineName> Share<K> {
-    /// What a seat keeps of its own part where it leaves.
-    pub(crate) fn of(hand: Hand<K>) -> Share<K>
-        ensures { result ≡ lent hand }
+    /// What a seat keeps where it leaves.
+    pub(crate) fn of(state: SeatState<K>) -> Share<K>
+        ensures { result ≡ lent state }
     {
-        let Hand {
+        let SeatState {
             seat,
             speaks: _,
             count,
             last,
             view,
-        } = hand;
+        } = state;
         Share {
             seat,
             count,
@@ -121,7 +121,7 @@ impl<P: Covered, K: EngineName> Core<P, K> {
         ensures place { list_all (fits self.now.seats self.now.entries) shares.now ≡ false → result ≡ Err fault.Place }
         ensures only_place { result ≡ Err fault.Place → list_all (fits self.now.seats self.now.entries) shares.now ≡ false }
     {
-        self.law();
+        self.lemma_invariant();
         if !self.fits_all(shares) {
             return Err(CloseFault::Place);
         }
@@ -148,7 +148,7 @@ impl<P: Covered, K: EngineName> Core<P, K> {
         ensures place { list_all (fits self.seats self.entries) shares.now ≡ false → result ≡ Err fault.Place }
         ensures only_place { result ≡ Err fault.Place → list_all (fits self.seats self.entries) shares.now ≡ false }
     {
-        self.law();
+        self.lemma_invariant();
         if !self.fits_all(shares) {
             return Err(CloseFault::Place);
         }
@@ -236,7 +236,7 @@ impl<P: Covered, K: EngineName> Core<P, K> {
         ensures fits { result ≡ fits self.now.seats self.now.entries share.now }
         ensures stands { result ≡ true → StandsIn self.now.seats self.now.entries share.now }
     {
-        self.law();
+        self.lemma_invariant();
         if share.seat >= self.seats.len() {
             return false;
         }
@@ -247,7 +247,7 @@ impl<P: Covered, K: EngineName> Core<P, K> {
         if share.view.len() > self.history.len() {
             return false;
         }
-        self.compare(&share.view);
+        self.lemma_history_begins_with_view(&share.view);
         true
     }
 }

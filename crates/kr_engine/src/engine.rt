@@ -1,26 +1,20 @@
 //! One lock over the core.
-ghost use Rattle.std.specs.Prelude.{◌≡◌, ◌≢◌, true, false, All, IfOk, IfErr, OnOk, OnErr, Some, None, Err, []};
-ghost use mathlib.Core.List.{IsPrefix};
+ghost use Rattle.std.specs.Prelude.{◌≡◌, ◌≢◌, All, IfOk, None, Err, []};
 ghost use Rattle.kr_model.specs.Map.{IsMap};
-ghost use Rattle.kr_model.specs.Step.{is_end as ends};
 ghost use Rattle.kr_places.specs.Notes.{KnowsNoneFrom};
-ghost use Rattle.kr_engine.specs.declared.faults.EngineFault.TheVariants as fault;
-ghost use Rattle.kr_engine.specs.Faults.{is_unbegun, is_blocked, is_of_begin, is_of_try, is_of_call};
 ghost use Rattle.std.specs.List.Sorted.{IsStrictlyIncreasing};
 ghost use Rattle.kr_engine.specs.declared.closing.CloseFault.TheVariants as close_fault;
-ghost use Rattle.kr_engine.specs.Closed.{lent, IsClosed};
+ghost use Rattle.kr_engine.specs.Closed.{IsClosed};
 ghost use Rattle.kr_engine.specs.declared.wakes.Change.TheVariants as change_is;
 ghost use Rattle.kr_engine.specs.Waits.{in_the_way};
-ghost use Rattle.kr_engine.specs.Seats.{Shows, SeesFault, ToldFault, IsOpen, IsIdle};
 
 use crate::closing::{CloseFault, History, Share};
-use crate::faults::{Attempted, EngineFault};
-use crate::hand::Hand;
 use crate::kernel::Core;
 use crate::queues::{Queues, Woken};
 use crate::seat::Seat;
-use crate::wakes::{Change, change_of};
-use kr_model::{Op, Txn, Txns};
+use crate::seat_state::SeatState;
+use crate::wakes::Change;
+use kr_model::Txns;
 use kr_places::{EngineName, PlaceRow, Watch};
 use kr_protocol::Covered;
 use std::alloc::{AllocError, Global};
@@ -34,7 +28,7 @@ pub struct Engine<P: Covered, K: EngineName> {
     pub(crate) row: PlaceRow,
     pub(crate) core: Mutex<Core<P, K>>,
     /// Where calls sleep whose steps are blocked.
-    queues: Queues,
+    pub(crate) queues: Queues,
     ghost row_is: { row ≡ K.places },
 }
 
@@ -71,7 +65,7 @@ impl<P: Covered, K: EngineName> Engine<P, K> {
         let number = core.new_seat()?;
         Ok(Seat {
             engine: self,
-            hand: Hand::new(number, &self.row),
+            state: SeatState::new(number, &self.row),
         })
     }
 
@@ -122,103 +116,9 @@ impl<P: Covered, K: EngineName> Engine<P, K> {
         self.core.lock(rt).waiting()
     }
 
-    /// Notes that a seat left, and gives out its share.
-    pub(crate) fn part<R: Wait>(&self, rt: &R, hand: Hand<K>) -> Share<K>
-        ensures { result ≡ lent hand }
-    {
-        let mut core = self.core.lock(rt);
-        if core.fits(&hand) {
-            core.leave(hand.seat);
-        }
-        Share::of(hand)
-    }
-
-    /// Begins a number for a seat.
-    pub(crate) fn begin<R: Wait>(
-        &self,
-        rt: &R,
-        hand: &mut Hand<K>,
-        txn: Txn,
-    ) -> Result<(), EngineFault>
-        ensures ok { OnOk result (hand.new ≡ record hand.old { speaks = Some txn }) }
-        ensures err { OnErr result (hand.new ≡ hand.old) }
-        ensures faults { IfErr result (λ f. f ≢ fault.PlaceTaken → is_of_begin f ≡ true) }
-        ensures only_open { result ≡ Err fault.Open → IsOpen K.table K.opening hand.old }
-    {
-        let mut core = self.core.lock(rt);
-        if !core.fits(hand) {
-            return Err(EngineFault::PlaceTaken);
-        }
-        core.compare(&hand.view);
-        core.law();
-        match core.begin(&self.row, hand.seat, txn) {
-            Ok(()) => {
-                hand.speaks = Some(txn);
-                Ok(())
-            }
-            Err(fault) => Err(fault),
-        }
-    }
-
-    /// One attempt of a seat.
-    pub(crate) fn attempt<R: Wait>(&self, rt: &R, hand: &mut Hand<K>, op: Op) -> Attempted
-        ensures seat { (hand.new.seat ≡ hand.old.seat) × (hand.new.speaks ≡ hand.old.speaks) }
-        ensures begins { IsPrefix hand.old.view hand.new.view }
-        ensures done { IfOk result (λ r. Shows K.table K.opening hand.old hand.new op r) }
-        ensures fault { IfErr result (λ f. SeesFault K.table K.opening hand.old hand.new op f) }
-        ensures faults { IfErr result (λ f. is_of_try f ≡ true) }
-        ensures unbegun { hand.old.speaks ≡ None → result ≡ Err fault.NotBegun }
-        ensures only_unbegun { IfErr result (λ f. is_unbegun f ≡ true → hand.old.speaks ≡ None) }
-        ensures only_full { result ≡ Err fault.RowFull → ends op ≡ false }
-        ensures memory { result ≡ Err fault.Memory → ends op ≡ true → IsIdle K.table K.opening hand.old }
-    {
-        let mut core = self.core.lock(rt);
-        let result = core.serve(&self.row, hand, op);
-        if let Ok(receipt) = &result {
-            self.pass_on(&mut core, change_of(&receipt.reply));
-        }
-        result
-    }
-
-    /// Attempts of a seat, one each time that it is woken, until one isn't blocked.
-    pub(crate) fn attend<R: Wait>(&self, rt: &R, hand: &mut Hand<K>, op: Op) -> Attempted
-        ensures seat { (hand.new.seat ≡ hand.old.seat) × (hand.new.speaks ≡ hand.old.speaks) }
-        ensures begins { IsPrefix hand.old.view hand.new.view }
-        ensures done { IfOk result (λ r. Shows K.table K.opening hand.old hand.new op r) }
-        ensures fault { IfErr result (λ f. ToldFault K.table K.opening hand.old hand.new op f) }
-        ensures faults { IfErr result (λ f. is_of_call f ≡ true) }
-        ensures unbegun { hand.old.speaks ≡ None → result ≡ Err fault.NotBegun }
-        ensures only_unbegun { IfErr result (λ f. is_unbegun f ≡ true → hand.old.speaks ≡ None) }
-        ensures only_full { result ≡ Err fault.RowFull → ends op ≡ false }
-        ensures memory { result ≡ Err fault.Memory → ends op ≡ true → IsIdle K.table K.opening hand.old }
-        ensures free { IfErr result (λ f. is_blocked f ≡ false) }
-    {
-        let txn = hand.speaks.unwrap_or(0);
-        let mut least = Change::Nothing;
-        let mut core = self.core.lock(rt);
-        for _ in rt.forever() {
-            match core.serve_or_wait(&self.row, hand, op) {
-                Ok(receipt) => {
-                    self.pass_on(&mut core, change_of(&receipt.reply).or(least));
-                    return Ok(receipt);
-                }
-                Err(fault) => {
-                    self.pass_on(&mut core, least);
-                    if !fault.is_blocked() {
-                        return Err(fault);
-                    }
-                }
-            }
-            core = self.queues.sleep(rt, txn, core);
-            // The wake was for one call, and others may be free.
-            least = Change::Locks;
-        }
-        unreachable!()
-    }
-
     /// Wakes the first call that a change may have let go on, which wakes the next; and where the index is another, each
     /// that may be in a deadlock now. The answer is that first call, and none where each is blocked. The core stays.
-    fn pass_on(&self, core: &mut Core<P, K>, change: Change) -> Option<Woken>
+    pub(crate) fn pass_on(&self, core: &mut Core<P, K>, change: Change) -> Option<Woken>
         ensures same { core.new ≡ core.old }
         ensures none { result ≡ None → change ≢ change_is.Nothing → All (λ e. in_the_way (P.table core.old.protocol) core.old.state e ≢ []) core.old.waiting }
     {
@@ -227,7 +127,7 @@ impl<P: Covered, K: EngineName> Engine<P, K> {
         }
         let woken = self.wake_first(core);
         if change == Change::Index {
-            self.wake_entangled(core);
+            self.wake_deadlocked(core);
         }
         woken
     }
@@ -244,10 +144,10 @@ impl<P: Covered, K: EngineName> Engine<P, K> {
     }
 
     /// Wakes each call that may be in a deadlock now. The core stays.
-    fn wake_entangled(&self, core: &mut Core<P, K>)
+    fn wake_deadlocked(&self, core: &mut Core<P, K>)
         ensures { core.new ≡ core.old }
     {
-        match core.entangled() {
+        match core.deadlocked() {
             Ok(waits) => {
                 for wait in &waits {
                     self.queues.wake(wait.txn);

@@ -98,7 +98,7 @@ impl<P: Covered, K: EngineName> Core<P, K> {
     /// and each number was begun by one seat that was given, and each entry's transaction by the entry's seat; the main
     /// theorem holds of the run, so the transactions that committed are serializable in commit order; and one place is kept for each number
     /// whose transaction hasn't ended, with room for all of them in the row.
-    pub fn law(&self)
+    pub fn lemma_invariant(&self)
         ensures table { P.table self.now.protocol ≡ K.table }
         ensures run { IsHistory K.table K.opening self.now.entries self.now.state }
         ensures one_seat { AreOfOneSeat self.now.entries }
@@ -112,7 +112,7 @@ impl<P: Covered, K: EngineName> Core<P, K> {
         ensures kept { self.now.kept ≡ unended self.now.state self.now.numbers }
         ensures room { length self.now.entries + self.now.kept ≤ length K.places }
     {
-        self.numbers.law();
+        self.numbers.lemma_distinct();
     }
 
     /// Gives a new seat: its number, from 0 in the order in which they are given. Where a growth is refused it answers an

@@ -5,11 +5,11 @@
 mod closing;
 mod engine;
 mod faults;
-mod hand;
 mod kernel;
 mod numbers;
 mod queues;
 mod seat;
+mod seat_state;
 mod waits;
 mod wakes;
 mod writes;

@@ -48,7 +48,7 @@ impl Numbers {
     }
 
     /// No number stands at two places.
-    pub fn law(&self)
+    pub fn lemma_distinct(&self)
         ensures { AreDistinct self.now }
     {
         let _ = &self.list;

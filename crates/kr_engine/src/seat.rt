@@ -11,7 +11,8 @@ ghost use Rattle.kr_engine.specs.Seats.{Shows, SeesFault, ToldFault, IsOpen, IsI
 use crate::closing::Share;
 use crate::engine::Engine;
 use crate::faults::{EngineFault, Receipt};
-use crate::hand::Hand;
+use crate::seat_state::SeatState;
+use crate::wakes::{Change, change_of};
 use kr_model::{Op, Txn};
 use kr_places::{EngineName, Watch};
 use kr_protocol::Covered;
@@ -24,7 +25,7 @@ use std::sync::Wait;
 #[derive(Drop)]
 pub struct Seat<'a, P: Covered, K: EngineName> {
     pub(crate) engine: &'a Engine<P, K>,
-    pub(crate) hand: Hand<K>,
+    pub(crate) state: SeatState<K>,
 }
 
 impl<'a, P: Covered, K: EngineName> Model for Seat<'a, P, K> {
@@ -32,7 +33,7 @@ impl<'a, P: Covered, K: EngineName> Model for Seat<'a, P, K> {
 
     ghost Value = { Held };
 
-    ghost view = { λ s. s.hand };
+    ghost view = { λ s. s.state };
 }
 
 impl<'a, P: Covered, K: EngineName> Seat<'a, P, K> {
@@ -54,7 +55,20 @@ impl<'a, P: Covered, K: EngineName> Seat<'a, P, K> {
         ensures only_open { result ≡ Err fault.Open → IsOpen K.table K.opening self.old }
     {
         let engine = self.engine;
-        engine.begin(rt, &mut self.hand, txn)
+        let seat = &mut self.state;
+        let mut core = engine.core.lock(rt);
+        if !core.fits(seat) {
+            return Err(EngineFault::PlaceTaken);
+        }
+        core.lemma_history_begins_with_view(&seat.view);
+        core.lemma_invariant();
+        match core.begin(&engine.row, seat.seat, txn) {
+            Ok(()) => {
+                seat.speaks = Some(txn);
+                Ok(())
+            }
+            Err(fault) => Err(fault),
+        }
     }
 
     /// One attempt at an operation of the transaction that the seat speaks for. It waits for the lock alone: where the step
@@ -79,7 +93,12 @@ impl<'a, P: Covered, K: EngineName> Seat<'a, P, K> {
         ensures memory { result ≡ Err fault.Memory → ends op ≡ true → IsIdle K.table K.opening self.old }
     {
         let engine = self.engine;
-        engine.attempt(rt, &mut self.hand, op)
+        let mut core = engine.core.lock(rt);
+        let result = core.attempt_under_lock(&engine.row, &mut self.state, op);
+        if let Ok(receipt) = &result {
+            engine.pass_on(&mut core, change_of(&receipt.reply));
+        }
+        result
     }
 
     /// The same, but while the step is blocked it waits, and attempts it again when a step of another seat may have let it
@@ -98,7 +117,28 @@ impl<'a, P: Covered, K: EngineName> Seat<'a, P, K> {
         ensures free { IfErr result (λ f. is_blocked f ≡ false) }
     {
         let engine = self.engine;
-        engine.attend(rt, &mut self.hand, op)
+        let seat = &mut self.state;
+        let txn = seat.speaks.unwrap_or(0);
+        let mut least = Change::Nothing;
+        let mut core = engine.core.lock(rt);
+        for _ in rt.forever() {
+            match core.attempt_or_wait(&engine.row, seat, op) {
+                Ok(receipt) => {
+                    engine.pass_on(&mut core, change_of(&receipt.reply).or(least));
+                    return Ok(receipt);
+                }
+                Err(fault) => {
+                    engine.pass_on(&mut core, least);
+                    if !fault.is_blocked() {
+                        return Err(fault);
+                    }
+                }
+            }
+            core = engine.queues.sleep(rt, txn, core);
+            // The wake was for one call, and others may be free.
+            least = Change::Locks;
+        }
+        unreachable!()
     }
 
     /// A watch that knows what the seat has seen, and nothing else yet. It takes no lock; an error where a growth is
@@ -108,7 +148,7 @@ impl<'a, P: Covered, K: EngineName> Seat<'a, P, K> {
         ensures others { IfOk result (λ w. KnowsNoneFrom w (length self.now.view)) }
     {
         let engine = self.engine;
-        Watch::of(engine.alloc, &engine.row, &self.hand.view)
+        Watch::of(engine.alloc, &engine.row, &self.state.view)
     }
 
     /// Leaves the engine, which notes it, and gives out the seat's share of the history: its number, how many receipts it
@@ -117,7 +157,11 @@ impl<'a, P: Covered, K: EngineName> Seat<'a, P, K> {
     pub fn leave<R: Wait>(self, rt: &R) -> Share<K>
         ensures { result ≡ lent self.entry }
     {
-        let Seat { engine, hand } = self;
-        engine.part(rt, hand)
+        let Seat { engine, state } = self;
+        let mut core = engine.core.lock(rt);
+        if core.fits(&state) {
+            core.leave(state.seat);
+        }
+        Share::of(state)
     }
 }

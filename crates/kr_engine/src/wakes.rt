@@ -3,7 +3,7 @@ ghost use Rattle.std.specs.Prelude.{◌≡◌, ◌≢◌, ◌==◌, ℕ, List, [
 ghost use Rattle.std.specs.List.{AllZip, Contains, list_any};
 ghost use Rattle.kr_waits.specs.Waits.{IsCycle};
 ghost use Rattle.kr_engine.specs.declared.wakes.Change.TheVariants as change;
-ghost use Rattle.kr_engine.specs.Waits.{in_the_way, blockers_now, IsEntry, AreEntangled, HaveEntries};
+ghost use Rattle.kr_engine.specs.Waits.{in_the_way, blockers_now, IsEntry, AreDeadlocked, HaveEntries};
 ghost use Rattle.kr_engine.specs.Wakes.{FreesNobody, LeavesKeys, BlocksNobody};
 
 use crate::kernel::Core;
@@ -76,14 +76,15 @@ impl<P: Covered, K: EngineName> Core<P, K> {
         first_free(self.alloc, &mut self.machine, &self.waiting)
     }
 
-    /// The noted operations that wait for one another, or for such: of each set of them in which each is blocked by another,
-    /// all, so each member of a cycle of waiting transactions. An error where a growth is refused. The core stays.
-    pub(crate) fn entangled(&mut self) -> Result<Vec<Waiting>, AllocError>
+    /// The noted operations that are deadlocked, since they wait for one another, or for such: of each set of them in which
+    /// each is blocked by another, all, so each member of a cycle of waiting transactions. An error where a growth is
+    /// refused. The core stays.
+    pub(crate) fn deadlocked(&mut self) -> Result<Vec<Waiting>, AllocError>
         ensures same { self.new ≡ self.old }
-        ensures all { IfOk result (λ waits. (txns : List ℕ) → AreEntangled (blockers_now (in_the_way (P.table self.old.protocol) self.old.state) self.old.waiting) txns → (t : ℕ) → Contains txns t → list_any (λ w. w.txn == t) waits.items ≡ true) }
+        ensures all { IfOk result (λ waits. (txns : List ℕ) → AreDeadlocked (blockers_now (in_the_way (P.table self.old.protocol) self.old.state) self.old.waiting) txns → (t : ℕ) → Contains txns t → list_any (λ w. w.txn == t) waits.items ≡ true) }
         ensures cycles { IfOk result (λ waits. (txn : ℕ) (cycle : List ℕ) → IsCycle (blockers_now (in_the_way (P.table self.old.protocol) self.old.state) self.old.waiting) txn cycle → (t : ℕ) → Contains cycle t → list_any (λ w. w.txn == t) waits.items ≡ true) }
     {
-        entangled(self.alloc, &mut self.machine, &self.waiting)
+        deadlocked(self.alloc, &mut self.machine, &self.waiting)
     }
 }
 
@@ -130,15 +131,15 @@ fn all_blockers<P: Covered>(
     Ok(waits)
 }
 
-/// Those of these operations that wait for one another, or for such.
-fn entangled<P: Covered>(
+/// Those of these operations that are deadlocked: they wait for one another, or for such.
+fn deadlocked<P: Covered>(
     alloc: Global,
     machine: &mut Machine<P, Tree, Buckets>,
     noted: &[Event],
 ) -> Result<Vec<Waiting>, AllocError>
     requires { machine.old.pending ≡ None }
     ensures same { machine.new ≡ machine.old }
-    ensures all { IfOk result (λ waits. (txns : List ℕ) → AreEntangled (blockers_now (in_the_way (P.table machine.old.protocol) machine.old.state) noted.now) txns → (t : ℕ) → Contains txns t → list_any (λ w. w.txn == t) waits.items ≡ true) }
+    ensures all { IfOk result (λ waits. (txns : List ℕ) → AreDeadlocked (blockers_now (in_the_way (P.table machine.old.protocol) machine.old.state) noted.now) txns → (t : ℕ) → Contains txns t → list_any (λ w. w.txn == t) waits.items ≡ true) }
     ensures cycles { IfOk result (λ waits. (txn : ℕ) (cycle : List ℕ) → IsCycle (blockers_now (in_the_way (P.table machine.old.protocol) machine.old.state) noted.now) txn cycle → (t : ℕ) → Contains cycle t → list_any (λ w. w.txn == t) waits.items ≡ true) }
 {
     let waits = all_blockers(alloc, machine, noted)?;
@@ -147,7 +148,7 @@ fn entangled<P: Covered>(
 
 /// Takes out those whom none of the rest blocks, again and again. Those of which each is blocked by another stay.
 fn shed_all(mut waits: Vec<Waiting>) -> Vec<Waiting>
-    ensures { (blockers : ℕ → List ℕ) (txns : List ℕ) → AreEntangled blockers txns → HaveEntries blockers txns waits.items → HaveEntries blockers txns result.items }
+    ensures { (blockers : ℕ → List ℕ) (txns : List ℕ) → AreDeadlocked blockers txns → HaveEntries blockers txns waits.items → HaveEntries blockers txns result.items }
 {
     for _ in 0..waits.len() {
         if !shed(&mut waits) {
@@ -159,7 +160,7 @@ fn shed_all(mut waits: Vec<Waiting>) -> Vec<Waiting>
 
 /// Takes out those whom none of the rest blocks. Whether there were any. Those of which each is blocked by another stay.
 fn shed(waits: &mut Vec<Waiting>) -> bool
-    ensures { (blockers : ℕ → List ℕ) (txns : List ℕ) → AreEntangled blockers txns → HaveEntries blockers txns waits.old.items → HaveEntries blockers txns waits.new.items }
+    ensures { (blockers : ℕ → List ℕ) (txns : List ℕ) → AreDeadlocked blockers txns → HaveEntries blockers txns waits.old.items → HaveEntries blockers txns waits.new.items }
 {
     let count = waits.len();
     for place in (0..count).rev() {

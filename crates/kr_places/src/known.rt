@@ -47,7 +47,7 @@ impl<T> Known<T> {
     }
 
     /// Two of one cell that know its value know the same one.
-    pub fn agree(&self, other: &Known<T>)
+    pub fn lemma_agree(&self, other: &Known<T>)
         requires { other.now.cell ≡ self.now.cell }
         ensures { IfSome other.now.known (Agrees self.now.known) }
     {}

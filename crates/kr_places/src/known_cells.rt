@@ -58,7 +58,7 @@ impl<T> KnownCells<T> {
     }
 
     /// Where the other's cells begin with these, the other's values do too.
-    pub fn agree(&self, other: &KnownCells<T>)
+    pub fn lemma_agree(&self, other: &KnownCells<T>)
         requires { IsPrefix (map name_in self.now.known) (map name_in other.now.known) }
         ensures { IsPrefix self.now.known other.now.known }
     {}

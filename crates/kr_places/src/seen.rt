@@ -73,11 +73,11 @@ impl<K: EngineName> Seen<K> {
     }
 
     /// What this knows is where the other begins, if it is no longer.
-    pub fn begins(&self, other: &Seen<K>)
+    pub fn lemma_is_prefix_of(&self, other: &Seen<K>)
         requires { length self.now ≤ length other.now }
         ensures { IsPrefix self.now other.now }
     {
-        self.known.agree(&other.known);
+        self.known.lemma_agree(&other.known);
     }
 
     /// Learns what the other knows, which is no less.
@@ -86,7 +86,7 @@ impl<K: EngineName> Seen<K> {
         ensures begins { IsPrefix self.old self.new }
         ensures all { self.new ≡ other.now }
     {
-        self.begins(other);
+        self.lemma_is_prefix_of(other);
         self.known = other.known.again();
         self.places = other.places;
     }

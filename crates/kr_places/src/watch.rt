@@ -105,6 +105,6 @@ impl<'a, K: EngineName> Watch<'a, K> {
         requires { place < length K.places }
         ensures { AgreeAt self.now other.now place }
     {
-        self.known[place].agree(&other.known[place]);
+        self.known[place].lemma_agree(&other.known[place]);
     }
 }

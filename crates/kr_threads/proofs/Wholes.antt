@@ -14,8 +14,8 @@ use Rattle.kr_engine.specs.Histories.{IsHistory, events_with_replies}
 use Rattle.kr_engine.specs.Closed.{IsClosed, Lent}
 use Rattle.kr_serial.specs.declared.ran.Ran.{Ran}
 use Rattle.kr_follows.specs.Follows.{Follows}
-use Rattle.kr_script.specs.declared.threaded.Answered.{Answered}
-use Rattle.kr_script.specs.declared.threaded.Threaded.{Threaded}
+use Rattle.kr_report.specs.declared.threaded.Answered.{Answered}
+use Rattle.kr_report.specs.declared.threaded.Threaded.{Threaded}
 use Rattle.kr_threads.specs.Told.{IsTold}
 use Rattle.kr_threads.specs.Threaded.{answered, steps_of, with_replies, IsRanOf, IsThreaded}
 use Rattle.kr_threads.proofs.Gathered.{none_mapped}

@@ -9,8 +9,8 @@ use Rattle.kr_model.specs.Run as model
 use Rattle.kr_places.specs.declared.name.Entry.{Entry}
 use Rattle.kr_serial.specs.declared.ran.Ran.{Ran}
 use Rattle.kr_follows.specs.Follows.{Follows}
-use Rattle.kr_script.specs.declared.threaded.Answered.{Answered}
-use Rattle.kr_script.specs.declared.threaded.Threaded.{Threaded}
+use Rattle.kr_report.specs.declared.threaded.Answered.{Answered}
+use Rattle.kr_report.specs.declared.threaded.Threaded.{Threaded}
 use Rattle.kr_threads.specs.Told.{IsTold}
 
 -- An entry as a step with its reply.

@@ -5,7 +5,7 @@ ghost use Rattle.kr_threads.specs.Threaded.{answered};
 
 use kr_engine::{Entry, History};
 use kr_model::Event;
-use kr_script::Answered;
+use kr_report::Answered;
 use kr_serial::{Index, Ran, Replies, Triples};
 use std::alloc::{AllocError, Global};
 

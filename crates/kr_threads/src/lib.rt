@@ -6,6 +6,7 @@ mod gate;
 mod history;
 mod left_out;
 mod placing;
+mod report;
 mod run;
 mod turn;
 mod work;

@@ -9,9 +9,10 @@ ghost use Rattle.kr_threads.specs.Told.{IsCaused};
 use crate::calls::call_in_turn;
 use crate::gate::Gate;
 use crate::left_out::{LeftOut, settle};
+use crate::report::Report;
 use crate::run::RunFault;
 use crate::turn::{MOST_CALLS, Turn};
-use kr_engine::{EngineFault, EngineName, Receipt, Seat, Share};
+use kr_engine::{EngineFault, EngineName, Receipt, Seat};
 use kr_follows::{Dealt, StepFault, WhyNotDone};
 use kr_model::{Op, Txn};
 use kr_protocol::Covered;
@@ -44,25 +45,6 @@ impl<'a, P: Covered, K: EngineName> Model for Worker<'a, P, K> {
     ghost view = { λ w. record { seat = w.seat; last = w.last; recent = w.recent.items; passed = w.passed; left_out = w.left_out.items } };
 
     ghost invariant = { λ w. IsWorker K.table K.opening (record { seat = w.seat; last = w.last; recent = w.recent.items; passed = w.passed; left_out = w.left_out.items }) };
-}
-
-/// What a worker hands back: its seat's share, the steps that it left out, each told at the end of a prefix of what
-/// the share has seen, and why it gave up, where it did.
-#[derive(Drop)]
-pub(crate) struct Report<K: EngineName> {
-    pub share: Share<K>,
-    pub left_out: Vec<LeftOut>,
-    pub failed: Option<RunFault>,
-}
-
-impl<K: EngineName> Model for Report<K> {
-    ghost use Rattle.kr_threads.specs.Told.{Reported, AreTold};
-
-    ghost Value = { Reported };
-
-    ghost view = { λ r. record { share = r.share; left_out = r.left_out.items } };
-
-    ghost invariant = { λ r. AreTold K.table K.opening r.share.view r.left_out.items };
 }
 
 /// What became of a step.

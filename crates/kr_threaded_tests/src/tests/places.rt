@@ -95,7 +95,7 @@ fn three_places_of<K: EngineName, R: Abort>(
     assert_eq!(rt; seen.len(), 2);
 
     let mut other = Seen::<K>::new(&row);
-    other.begins(&seen);
+    other.lemma_is_prefix_of(&seen);
     other.learn(&seen);
     assert_eq!(rt; other.len(), 2);
     let mut told = Watch::of(alloc, &row, &other)?;
@@ -121,7 +121,7 @@ fn many_places_of<K: EngineName, R: Abort>(rt: &R, alloc: Global, row: PlaceRow)
     let mut seat = Seen::<K>::new(&row);
     for place in 0..row.len() {
         add(alloc, &row, &mut seen, place)?;
-        seat.begins(&seen);
+        seat.lemma_is_prefix_of(&seen);
         seat.learn(&seen);
     }
     assert_eq!(rt; seat.len(), 100_000);

@@ -8,7 +8,8 @@ mod soak;
 mod turns;
 
 use kr_protocol::{Covered, Kvl, KvlUpdate};
-use kr_script::{Script, Threaded, read_script};
+use kr_report::Threaded;
+use kr_script::{Script, read_script};
 use kr_serial::run;
 use kr_threads::{Gate, run_threads};
 use std::alloc::Global;

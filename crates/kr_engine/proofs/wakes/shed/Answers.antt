@@ -1,6 +1,6 @@
 use Rattle.std.proofs.Common.{◌≡◌, ◌==◌, ◌-◌, ◌<◌, ◌∙◌, length, false, ap, sym, subst, arith}
 use Rattle.std.specs.List.{list_any}
-use Rattle.kr_engine.proofs.Entangled.{entangled_stay, same_at}
+use Rattle.kr_engine.proofs.Deadlocked.{deadlocked_stay, same_at}
 use Rattle.kr_engine.proofs.wakes.shed.Goals as goal
 
 pub loop-place-preserved-then-not-is_held : goal.loop-place-preserved-then-not-is_held
@@ -15,5 +15,5 @@ loop-place-preserved-then-not-is_held c =
     (subst (λ l. list_any (λ u. list_any (λ w. w.txn == u) l) c.deref-in-loop-place.result.now ≡ false) c.deref.ensures.value (sym c.is_held.ensures ∙ c.if-not-is_held.true)) in
     record {
       there = omega (arith, c.loop-place.invariant.there, c.loop-place-test.true, c.swap_remove.ensures.len);
-      kept = λ blockers txns tied all. entangled_stay ws c.swap_remove.new.self.items i x within c.swap_remove.ensures.value c.swap_remove.ensures.items none blockers txns tied (c.loop-place.invariant.kept blockers txns tied all);
+      kept = λ blockers txns tied all. deadlocked_stay ws c.swap_remove.new.self.items i x within c.swap_remove.ensures.value c.swap_remove.ensures.items none blockers txns tied (c.loop-place.invariant.kept blockers txns tied all);
     }

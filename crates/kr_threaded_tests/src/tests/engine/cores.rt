@@ -249,7 +249,7 @@ fn has_answers<K: EngineName>(
         return Ok(false);
     }
     let good = are_answers(&mut core, row, lines);
-    core.law();
+    core.lemma_invariant();
     Ok(good)
 }
 

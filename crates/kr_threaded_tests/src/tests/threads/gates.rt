@@ -1,7 +1,7 @@
 //! Gates that count calls, or hold a worker's call until another worker's.
 
 use super::done_by;
-use kr_script::Threaded;
+use kr_report::Threaded;
 use kr_threads::Gate;
 use std::sync::{Mutex, Wait};
 use std::test::Fail;

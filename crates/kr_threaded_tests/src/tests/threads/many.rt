@@ -3,7 +3,7 @@
 use super::{done_by, done_with_updates, next};
 use kr_follows::{StepFault, WhyNotDone};
 use kr_model::{Op, Refusal, Reply};
-use kr_script::Answered;
+use kr_report::Answered;
 use kr_serial::judge;
 use kr_threads::Passage;
 use std::alloc::Global;

@@ -1,7 +1,7 @@
 //! Whole reports of runs whose history doesn't depend on how threads take turns.
 
 use super::{done_by, done_with_updates};
-use kr_script::{Threaded, report_threads};
+use kr_report::{Threaded, report_threads};
 use kr_serial::judge;
 use kr_threads::Passage;
 use std::alloc::Global;
