@@ -30,14 +30,21 @@ static int starts(const char *text, size_t length, const char *with) {
   return length >= strlen(with) && !memcmp(text, with, strlen(with));
 }
 
+/* A call on a table that writes a text refuses each argument that it cannot take, and then changes nothing. */
+static void of_arguments(int call(const void *, size_t, void *, size_t, size_t *)) {
+  char text[4096];
+  size_t n = 7;
+  HOLDS(call(NULL, 5, text, sizeof text, &n) == KR_MISUSE && n == 7);
+  HOLDS(call("@kvl", 4, NULL, 5, &n) == KR_MISUSE && n == 7);
+  HOLDS(call("@kvl", 4, text, sizeof text, NULL) == KR_MISUSE);
+  HOLDS(call("@kvl", SIZE_MAX, text, sizeof text, &n) == KR_MISUSE && n == 7);
+  HOLDS(call("@kvl", 4, text, SIZE_MAX, &n) == KR_MISUSE && n == 7);
+}
+
 static void of_texts(void) {
   char text[4096];
   size_t n = 7;
-  HOLDS(kr_check(NULL, 5, text, sizeof text, &n) == KR_MISUSE && n == 7);
-  HOLDS(kr_check("@kvl", 4, NULL, 5, &n) == KR_MISUSE && n == 7);
-  HOLDS(kr_check("@kvl", 4, text, sizeof text, NULL) == KR_MISUSE);
-  HOLDS(kr_check("@kvl", SIZE_MAX, text, sizeof text, &n) == KR_MISUSE && n == 7);
-  HOLDS(kr_check("@kvl", 4, text, SIZE_MAX, &n) == KR_MISUSE && n == 7);
+  of_arguments(kr_check);
   HOLDS(kr_check("@kvl", 4, NULL, 0, &n) == KR_OK && n == 39);
   HOLDS(kr_check(NULL, 0, text, sizeof text, &n) == KR_TABLE && starts(text, n, "table: fault "));
   HOLDS(kr_check("", 0, text, sizeof text, &n) == KR_TABLE);
@@ -63,11 +70,7 @@ static void of_texts(void) {
 static void of_explanations(void) {
   static char text[1 << 16];
   size_t n = 7;
-  HOLDS(kr_explain(NULL, 5, text, sizeof text, &n) == KR_MISUSE && n == 7);
-  HOLDS(kr_explain("@kvl", 4, NULL, 5, &n) == KR_MISUSE && n == 7);
-  HOLDS(kr_explain("@kvl", 4, text, sizeof text, NULL) == KR_MISUSE);
-  HOLDS(kr_explain("@kvl", SIZE_MAX, text, sizeof text, &n) == KR_MISUSE && n == 7);
-  HOLDS(kr_explain("@kvl", 4, text, SIZE_MAX, &n) == KR_MISUSE && n == 7);
+  of_arguments(kr_explain);
   HOLDS(kr_explain_script(NULL, 5, 1, text, sizeof text, &n) == KR_MISUSE && n == 7);
   HOLDS(kr_explain_script("@kvl", 4, 1, NULL, 5, &n) == KR_MISUSE && n == 7);
   HOLDS(kr_explain_script("@kvl", 4, 1, text, sizeof text, NULL) == KR_MISUSE);

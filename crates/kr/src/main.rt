@@ -2,8 +2,8 @@
 #![tactic(auto)]
 
 use kr_program::{NAME, execute};
-use kr_script::Io;
 use kr_shell::{Disk, finish, words_given};
+use kr_sink::Io;
 use std::process::ExitCode;
 
 fn main(rt: HostRuntime) -> ExitCode {

@@ -4,7 +4,7 @@ use Rattle.std.specs.Global.{Global}
 use Rattle.std.specs.declared.alloc.AllocError.{AllocError}
 use Rattle.kr_model.specs.declared.Op.{Op}
 use Rattle.kr_model.specs.Serial.{AreSerial}
-use Rattle.kr_script.specs.Report.{verdict_text}
+use Rattle.kr_report.specs.Report.{verdict_text}
 use Rattle.kr_embed.specs.Numbers.{plain}
 use Rattle.kr_embed.specs.Session.{Seen, IsNext, verdict_so_far}
 use Rattle.kr_embed.specs.declared.numbers.PlainReply.{PlainReply}

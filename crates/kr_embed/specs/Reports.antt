@@ -9,8 +9,8 @@ use Rattle.kr_model.specs.Serial.{AreSerial}
 use Rattle.kr_serial.specs.Verdicts.{verdict_of_run}
 use Rattle.kr_script.specs.Script.{Script}
 use Rattle.kr_script.specs.Reading.{reading}
-use Rattle.kr_script.specs.CheckReport.{check_text}
-use Rattle.kr_script.specs.Report.{run_text}
+use Rattle.kr_report.specs.CheckReport.{check_text}
+use Rattle.kr_report.specs.Report.{run_text}
 use Rattle.kr_shell.specs.declared.tables.AnyTable.{AnyTable}
 use Rattle.kr_shell.specs.Tables.{table_of, names_of}
 use Rattle.kr_embed.specs.Inputs.{IsTable}

@@ -9,7 +9,7 @@ use crate::faults::Fault;
 use crate::tables::table_in;
 use kr_cases::{Rejected, WhyRejected, check};
 use kr_decide::{Decision, decide};
-use kr_script::report_check;
+use kr_report::report_check;
 use kr_shell::AnyTable;
 use std::alloc::{AllocError, Global};
 

@@ -3,7 +3,7 @@ ghost use Rattle.std.specs.Prelude.{◌≡◌, ◌↔◌, map, IfOk, IfErr, IsTr
 ghost use Rattle.kr_model.specs.Map.{IsMap};
 ghost use Rattle.kr_model.specs.Serial.{AreSerial};
 ghost use Rattle.kr_model.specs.Step.{blockers_in};
-ghost use Rattle.kr_script.specs.Report.{verdict_text};
+ghost use Rattle.kr_report.specs.Report.{verdict_text};
 ghost use Rattle.kr_embed.specs.Inputs.{Explains};
 ghost use Rattle.kr_embed.specs.Numbers.{pair_of, lock_of};
 ghost use Rattle.kr_embed.specs.Session.{IsNext, IsOpened, at_start, rows_in, verdict_so_far};
@@ -16,7 +16,7 @@ use kr_index::Tree;
 use kr_locks::Buckets;
 use kr_machine::Machine;
 use kr_model::{Memory, Op, Reply, Txn, Txns};
-use kr_script::report_verdict;
+use kr_report::report_verdict;
 use kr_serial::{Index, Ran, Replies, Triples, judge};
 use kr_shell::AnyTable;
 use std::alloc::Global;

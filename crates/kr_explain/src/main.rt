@@ -3,8 +3,8 @@
 #![tactic(auto)]
 
 use kr_explain_program::{MANUAL, execute};
-use kr_script::Io;
 use kr_shell::{Disk, words_given};
+use kr_sink::Io;
 use std::process::ExitCode;
 
 fn main(rt: HostRuntime) -> ExitCode {

@@ -1,14 +1,14 @@
 //! From a locking protocol to its explanation, or a script of it, on a sink.
 ghost use Rattle.std.specs.Prelude.{◌≡◌, ◌⊎◌, IfOk, IfErr, IsTrue};
-ghost use Rattle.kr_script.specs.Puts.{HasCause};
+ghost use Rattle.kr_sink.specs.Puts.{HasCause};
 ghost use Rattle.kr_shell.specs.Endings.{is_output};
 ghost use Rattle.kr_explain_program.specs.Program.{Explains, WritesScript, EndsReport};
 ghost use Rattle.kr_explain_program.specs.declared.words.Wanted.TheVariants as wanted;
 
 use kr_explanation::explain;
 use kr_protocol::Protocol;
-use kr_script::{Sink, print, put_all};
 use kr_shell::Ending;
+use kr_sink::{Sink, print, put_all};
 use std::alloc::Global;
 
 /// Writes the explanation of a protocol, whose table this word names, and answers whether the table is safe, accepted or not.

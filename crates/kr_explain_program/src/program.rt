@@ -2,7 +2,7 @@
 ghost use Rattle.std.specs.Prelude.{◌≡◌, ◌⊎◌, ◌≤◌, ◌++◌, ℕ, List, true, false, Ok, Err, IfOk, IfErr, OnOk, IsTrue, map, string_bytes};
 ghost use Rattle.std.specs.Io.KnownBytes.{Appends};
 ghost use Rattle.kr_model.specs.Protocol.{IsLawful};
-ghost use Rattle.kr_script.specs.Puts.{HasCause};
+ghost use Rattle.kr_sink.specs.Puts.{HasCause};
 ghost use Rattle.kr_diagnosis.specs.Finding.{AreLines, AddsLines};
 ghost use Rattle.kr_shell.specs.Endings.{is_output};
 ghost use Rattle.kr_shell.specs.Manual.{IsTold, answer_of, ending_text};
@@ -18,8 +18,8 @@ use crate::manual::{MANUAL, NAME, USAGE, WORDS};
 use crate::words::{Wanted, read_words};
 use kr_diagnosis::table_at;
 use kr_protocol::Protocol;
-use kr_script::Sink;
 use kr_shell::{Ending, Files, VERSION, question_in};
+use kr_sink::Sink;
 use std::alloc::Global;
 
 /// Does nothing: a protocol is lawful.

@@ -1,12 +1,13 @@
 -- The three outcomes.
 use Rattle.std.specs.Prelude.{◌≡◌, ℕ, true, false, List, length, refl}
-use Rattle.std.proofs.Common.{get_or}
+use Rattle.std.proofs.Common.{get_or, sym, ◌∙◌}
 use Rattle.kr_model.specs.declared.Cover.{Cover}
 use Rattle.kr_model.specs.declared.FailedCase.{FailedCase}
 use Rattle.kr_model.specs.Protocol.{Protocol, IsLawful}
 use Rattle.kr_model.specs.Covers.{IsCovered, failed_cases, cases}
 use Rattle.kr_model.specs.Safe.{IsSafe}
 use Rattle.kr_headline.proofs.safe.AllCases.{covered_is_safe}
+use Rattle.kr_decide.specs.Survey as survey
 use Rattle.kr_decide.specs.Survey.{HasHole}
 use Rattle.kr_explanation.specs.declared.explanation.Failures.{Failures}
 use Rattle.kr_explanation.specs.declared.explanation.Explanation.TheVariants as told
@@ -31,13 +32,17 @@ all_harmless p f safe are = λ i e at. (are.told i e at).harmless.1 (harmless_in
 pub accepted_told : (p : Protocol) (n : ℕ) → IsLawful p → IsCovered p → n ≡ length (cases p) → IsExplained p (told.Accepted n)
 accepted_told p n laws covered is = record { accepted = (λ _. covered, λ _. refl); safe = (λ _. covered_is_safe p laws covered, λ _. refl); told = is }
 
-not_true : false ≡ true → ⊥
+pub not_true : false ≡ true → ⊥
 not_true e = absurd (cc)
 
--- one that isn't covered but safe
-pub safe_told : (p : Protocol) (f : Failures) → (IsCovered p → ⊥) → IsSafe p → AreFailures p (failed_cases p) f → IsExplained p (told.Safe f)
-safe_told p f uncovered safe are = record { accepted = (λ e. absurd (not_true e), λ covered. absurd (uncovered covered)); safe = (λ _. safe, λ _. refl); told = (are, all_harmless p f safe are) }
+-- one that isn't covered but found to be safe
+pub safe_told : (p : Protocol) (f : Failures) → (IsCovered p → ⊥) → survey.is_safe f.survey ≡ true → AreFailures p (failed_cases p) f → IsExplained p (told.Safe f)
+safe_told p f uncovered found are =
+    let safe = are.survey.safe.0 found in
+    record { accepted = (λ e. absurd (not_true e), λ covered. absurd (uncovered covered)); safe = (λ _. safe, λ _. refl); told = (are, all_harmless p f safe are) }
 
--- and one that isn't safe
-pub rejected_told : (p : Protocol) (f : Failures) → (IsCovered p → ⊥) → (IsSafe p → ⊥) → AreFailures p (failed_cases p) f → IsExplained p (told.Rejected f)
-rejected_told p f uncovered unsafe are = record { accepted = (λ e. absurd (not_true e), λ covered. absurd (uncovered covered)); safe = (λ e. absurd (not_true e), λ safe. absurd (unsafe safe)); told = are }
+-- and one that isn't
+pub rejected_told : (p : Protocol) (f : Failures) → (IsCovered p → ⊥) → survey.is_safe f.survey ≡ false → AreFailures p (failed_cases p) f → IsExplained p (told.Rejected f)
+rejected_told p f uncovered found are =
+    let unsafe : IsSafe p → ⊥ = λ safe. not_true (sym found ∙ are.survey.safe.1 safe) in
+    record { accepted = (λ e. absurd (not_true e), λ covered. absurd (uncovered covered)); safe = (λ e. absurd (not_true e), λ safe. absurd (unsafe safe)); told = are }

@@ -11,6 +11,7 @@ use Rattle.kr_causes.specs.declared.cause.Cause.{Cause}
 use Rattle.kr_causes.specs.Causes.{ShareOut}
 use Rattle.kr_causes.specs.Mends.{AreMends, AreOfOneEntry}
 use Rattle.kr_causes.specs.Shares.{IsCause}
+use Rattle.kr_decide.specs.Survey.{IsSurvey}
 use Rattle.kr_exact.specs.Ordered.{IsOrdered}
 use Rattle.kr_wrong.specs.Wrong.{GoesWrong}
 use Rattle.kr_explanation.specs.Harmless.{IsHarmless, IsReason}
@@ -52,6 +53,8 @@ pub record AreFailures (p : Protocol) (failed : List FailedCase) (f : Failures) 
   pub has_failed : f.failed ≡ length failed
   -- it is said to be ordered exactly where it is
   pub ordered : f.is_ordered ≡ true ↔ IsOrdered p
+  -- what schedules reach is found
+  pub survey : IsSurvey p f.survey
   -- each failed case is in exactly one of the causes
   pub shared : ShareOut (causes_of f.causes.items) failed
   -- what is to blame is a reason of each of a cause's cases, which stand in their order

@@ -36,7 +36,6 @@ struct Known<'a> {
 /// together by what is to blame; for each cause why it is harmless, or else a run that goes wrong where one is known; and the
 /// changes that mend it of those that are tried. How much is tried is bounded, and the explanation says what was left out.
 /// The only fault is that a growth was refused.
-#[tactic(auto, using(crate::proofs::Outcomes::safe_told, crate::proofs::Outcomes::rejected_told))]
 pub fn explain<P: Protocol>(alloc: Global, protocol: &P) -> Result<Explanation, Memory>
     ensures { IfOk result (IsExplained (P.table protocol.now)) }
 {
@@ -46,9 +45,8 @@ pub fn explain<P: Protocol>(alloc: Global, protocol: &P) -> Result<Explanation, 
         }),
         Err(rejected) => match rejected.cause {
             WhyRejected::Failed(failed) => {
-                let survey = Survey::of(alloc, protocol)?;
-                let failures = failures(alloc, protocol, &survey, &failed)?;
-                if survey.is_safe() {
+                let failures = failures(alloc, protocol, &failed)?;
+                if failures.survey.is_safe() {
                     Ok(Explanation::Safe(failures))
                 } else {
                     Ok(Explanation::Rejected(failures))
@@ -64,18 +62,19 @@ pub fn explain<P: Protocol>(alloc: Global, protocol: &P) -> Result<Explanation, 
 fn failures<P: Protocol>(
     alloc: Global,
     protocol: &P,
-    survey: &Survey,
     failed: &[FailedCase],
 ) -> Result<Failures, Memory>
-    requires { IsSurvey (P.table protocol.now) survey.now }
     ensures { IfOk result (AreFailures (P.table protocol.now) failed.now) }
 {
+    let survey = Survey::of(alloc, protocol)?;
     let causes = causes(alloc, protocol, failed)?;
+    let causes = explained(alloc, protocol, &survey, failed, causes)?;
     Ok(Failures {
         cases: cases(protocol.count(), protocol.updates()),
         failed: failed.len(),
         is_ordered: is_ordered(protocol),
-        causes: explained(alloc, protocol, survey, failed, causes)?,
+        survey,
+        causes,
     })
 }
 

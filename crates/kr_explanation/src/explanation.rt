@@ -5,6 +5,7 @@ ghost use Rattle.kr_explanation.specs.Explained.{has_run, is_safe};
 use crate::harmless::Harmless;
 use crate::run::Run;
 use kr_causes::{Cause, Mend};
+use kr_decide::Survey;
 
 /// What is said of a table, and where cases of it fail, why.
 #[derive(Drop)]
@@ -39,6 +40,8 @@ pub struct Failures {
     pub failed: usize,
     /// Whether the table is ordered: then it is safe if and only if every run under it is serializable in commit order.
     pub is_ordered: bool,
+    /// What schedules reach under the table.
+    pub survey: Survey,
     /// What is to blame, with each failed case in exactly one of them.
     pub causes: Vec<Explained>,
 }

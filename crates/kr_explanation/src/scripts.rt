@@ -1,16 +1,15 @@
 //! The scripts of the schedules that are shown.
-ghost use Rattle.std.specs.Prelude.{◌≡◌, IfOk, IfSome, option_map, string_bytes};
+ghost use Rattle.std.specs.Prelude.{◌≡◌, ◌≢◌, All, IfOk, IfSome, IsTrue, option_map, string_bytes};
 ghost use Rattle.kr_explanation.specs.Explained.{run_at};
 ghost use Rattle.kr_explanation.specs.Telling.{IsRunWith};
 ghost use Rattle.kr_explanation.specs.Told.{IsScriptOf};
 
 use crate::explanation::Explanation;
-use crate::lines::is_line_of;
 use crate::run::Run;
 use kr_cases::Memory;
 use kr_counterexample::Counterexample;
 use kr_model::FailedCase;
-use kr_sentences::json_line;
+use kr_script::{MAX_ELEMENTS, write_script};
 use std::alloc::Global;
 
 impl Explanation {
@@ -35,7 +34,14 @@ impl Explanation {
     }
 }
 
-/// The run of a script that was made from a case, if its line reads as the script.
+/// Whether none of the bytes is a line feed.
+fn has_no_line_feed(bytes: &[u8]) -> bool
+    ensures { IsTrue result → All (λ b. b ≢ 10) bytes.now }
+{
+    bytes.iter().all(|byte| *byte != b'\n')
+}
+
+/// The run of a script that was made from a case, if it is no longer than scripts may be, and its line has no line feed.
 pub fn run_of(
     alloc: Global,
     case: FailedCase,
@@ -44,8 +50,11 @@ pub fn run_of(
 ) -> Result<Option<Run>, Memory>
     ensures { IfOk result (λ found. IfSome found (IsRunWith case is_as_case script)) }
 {
-    let line = json_line(alloc, &script.opening, &script.events)?;
-    if is_line_of(alloc, line.as_str(), &script.opening, &script.events)? {
+    if script.opening.len() > MAX_ELEMENTS || script.events.len() > MAX_ELEMENTS {
+        return Ok(None);
+    }
+    let line = write_script(alloc, &script.opening, &script.events)?;
+    if has_no_line_feed(line.as_bytes()) {
         Ok(Some(Run {
             case,
             is_as_case,

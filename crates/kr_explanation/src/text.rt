@@ -119,8 +119,8 @@ fn block<P: Protocol>(
     Ok(text)
 }
 
-/// The title of the cause of this number, from 1.
-fn title_text<P: Protocol>(
+/// The title of the cause of this number, from 1, behind an empty line. The only fault is that a growth was refused.
+pub fn title_text<P: Protocol>(
     alloc: Global,
     protocol: &P,
     number: usize,
@@ -133,8 +133,8 @@ fn title_text<P: Protocol>(
     Ok(out)
 }
 
-/// The fixes of a cause, which is harmless or isn't.
-fn fixes_text<P: Protocol>(
+/// The fixes of a cause, which is harmless or isn't. The only fault is that a growth was refused.
+pub fn fixes_text<P: Protocol>(
     alloc: Global,
     protocol: &P,
     mend: &Option<Mend>,
@@ -195,6 +195,29 @@ fn with_run<P: Protocol>(
         "can",
     )?;
     write_run(alloc, protocol, &mut out, &run.script)?;
+    let case = case_text(alloc, protocol, explained, run)?;
+    out.push_str(case.as_str())?;
+    Ok(out)
+}
+
+/// What is said of a cause between its title and its fixes, but its schedule. The only fault is that a growth was refused.
+pub fn prose_text<P: Protocol>(
+    alloc: Global,
+    protocol: &P,
+    explained: &Explained,
+) -> Result<String, Memory> {
+    let Some(run) = &explained.run else {
+        return without_run(alloc, protocol, explained);
+    };
+    let mut out = String::new(alloc);
+    write_body(
+        alloc,
+        protocol,
+        &mut out,
+        &explained.cause,
+        &run.case,
+        "can",
+    )?;
     let case = case_text(alloc, protocol, explained, run)?;
     out.push_str(case.as_str())?;
     Ok(out)

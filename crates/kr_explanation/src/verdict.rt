@@ -8,7 +8,7 @@ use kr_cases::Memory;
 use kr_sentences::causes_words;
 use std::alloc::Global;
 
-/// The words that the text begins with.
+/// The words that the text begins with. The only fault is that a growth was refused.
 pub fn verdict_text(alloc: Global, explanation: &Explanation) -> Result<String, Memory>
     ensures { IfOk result (λ text. string_bytes text ≡ verdict_words explanation.now) }
 {

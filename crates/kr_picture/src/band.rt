@@ -10,26 +10,35 @@ use kr_locks::Memory;
 use kr_model::Span;
 use kr_protocol::Protocol;
 use kr_scenes::{
-    Asked, Difference, Drawn, Layout, Scene, kind_of, mode_name, write_name, write_numbers,
+    Asked, Columns, Difference, Layout, Scene, kind_of, mode_name, write_name, write_numbers,
     write_op, write_reply,
 };
 use std::alloc::Global;
+
+/// What the bands of a run have in common.
+#[derive(Clone, Copy)]
+pub struct Setting<'a> {
+    pub columns: &'a Columns,
+    pub layout: &'a Layout,
+    /// The first operation whose answer isn't that of a serial run.
+    pub difference: Option<Difference<'a>>,
+    /// What their ids begin with, before the number of the step.
+    pub ids: &'a str,
+}
 
 /// Writes the band of a step behind those of other steps.
 pub fn push_band<P: Protocol>(
     alloc: Global,
     protocol: &P,
-    drawn: &Drawn,
-    layout: &Layout,
-    difference: Option<Difference<'_>>,
+    setting: &Setting<'_>,
     scene: &Scene,
     bands: &mut String,
 ) -> Result<(), Memory>
-    ensures { (steps : List NumberedStep) → AreBands steps (string_bytes bands.old)
-        → OnOk result (AreBands (steps ++ step_of scene.now ∷ []) (string_bytes bands.new)) }
+    ensures { (steps : List NumberedStep) → AreBands setting.now.ids.now steps (string_bytes bands.old)
+        → OnOk result (AreBands setting.now.ids.now (steps ++ step_of scene.now ∷ []) (string_bytes bands.new)) }
 {
-    let head = head_of(alloc, scene)?;
-    let telling = telling_of(alloc, protocol, drawn, layout, difference, scene)?;
+    let head = head_of(alloc, setting.ids, scene)?;
+    let telling = telling_of(alloc, protocol, setting, scene)?;
     bands.push_str(head.as_str())?;
     bands.push_str(telling.as_str())?;
     bands.push_str(BAND_END)?;
@@ -37,8 +46,8 @@ pub fn push_band<P: Protocol>(
 }
 
 /// The head of the band of a step.
-fn head_of(alloc: Global, scene: &Scene) -> Result<String, Memory>
-    ensures { IfOk result (λ head. string_bytes head ≡ band_head (step_of scene.now)) }
+fn head_of(alloc: Global, ids: &str, scene: &Scene) -> Result<String, Memory>
+    ensures { IfOk result (λ head. string_bytes head ≡ band_head ids.now (step_of scene.now)) }
 {
     let mut op = Html::new(alloc);
     write_op(&mut op, scene.event.op)?;
@@ -48,7 +57,8 @@ fn head_of(alloc: Global, scene: &Scene) -> Result<String, Memory>
     let number = format!(in alloc; "{number}")?;
     let txn = format!(in alloc; "{txn}")?;
     let mut head = String::new(alloc);
-    head.push_str("<section id=\"s")?;
+    head.push_str("<section id=\"")?;
+    head.push_str(ids)?;
     head.push_str(number.as_str())?;
     head.push_str("\" class=\"")?;
     head.push_str(kind_of(&scene.reply))?;
@@ -68,19 +78,17 @@ fn head_of(alloc: Global, scene: &Scene) -> Result<String, Memory>
 fn telling_of<P: Protocol>(
     alloc: Global,
     protocol: &P,
-    drawn: &Drawn,
-    layout: &Layout,
-    difference: Option<Difference<'_>>,
+    setting: &Setting<'_>,
     scene: &Scene,
 ) -> Result<Html, Memory> {
     let mut telling = Html::new(alloc);
-    if let Some(difference) = difference {
+    if let Some(difference) = setting.difference {
         write_difference(scene.number, difference, &mut telling)?;
     }
     for request in &scene.asked {
         write_request(protocol, request, &mut telling)?;
     }
-    write_drawing(alloc, &drawn.columns, layout, scene, &mut telling)?;
+    write_drawing(alloc, setting.columns, setting.layout, scene, &mut telling)?;
     Ok(telling)
 }
 

@@ -15,12 +15,15 @@ pub const HEAD: &str = "<!DOCTYPE html>
 <meta name=\"viewport\" content=\"width=device-width, initial-scale=1\">
 <title>A run under ";
 
-/// From there to the table's name in the heading, with the look of the page: six colours that stand apart for readers who
-/// see fewer, in a light and a dark form. A drawing that fits the window if it shrinks by a quarter or less does so; else it
-/// scrolls by itself at full size.
+/// From there to the look of the page.
 pub const STYLE: &str = "</title>
 <style>
-:root{color-scheme:light dark;--ink:#1a1a1a;--paper:#fff;--soft:#5a5a5a;--rule:#c9c9c9;--band:#f6f6f4;--bad:#a8320a;--good:#00634a;
+";
+
+/// The look of the page: six colours that stand apart for readers who see fewer, in a light and a dark form. A drawing that
+/// fits the window if it shrinks by a quarter or less does so; else it scrolls by itself at full size.
+pub const LOOK: &str =
+    ":root{color-scheme:light dark;--ink:#1a1a1a;--paper:#fff;--soft:#5a5a5a;--rule:#c9c9c9;--band:#f6f6f4;--bad:#a8320a;--good:#00634a;
 --c0:#bcdcf2;--c1:#f7d9a0;--c2:#b5e3d2;--c3:#f3cfe0;--c4:#f5ee9e;--c5:#d9d2ee}
 @media screen and (prefers-color-scheme:dark){:root{--ink:#ececec;--paper:#16181b;--soft:#a9adb3;--rule:#474c53;--band:#1f2227;--bad:#ff9d76;--good:#62d6ae;
 --c0:#1d4f70;--c1:#6b4a0c;--c2:#0e5a45;--c3:#6e2f50;--c4:#5b5509;--c5:#473c74}}
@@ -52,7 +55,10 @@ table{border-collapse:collapse}th,td{border:1px solid var(--rule);padding:4px 10
 .differs{color:var(--bad);font-weight:700}
 @media screen and (max-width:640px){body{padding:10px}section{padding:8px}th,td{padding:4px 6px;font-size:14px}}
 @media print{.wide{overflow:visible}svg{width:min(var(--w),100%)}}
-</style>
+";
+
+/// From there to the table's name in the heading.
+pub const BODY: &str = "</style>
 </head>
 <body>
 <h1>A run under <code>";
@@ -65,6 +71,9 @@ pub const SERIAL: &str = "<p class=\"verdict yes\"><b>✓ Serial.</b> ";
 
 /// How the verdict on a run that isn't serializable begins.
 pub const NOT_SERIAL: &str = "<p class=\"verdict no\"><b>✗ Not serial.</b> ";
+
+/// What the ids of the bands of the steps begin with, to which links lead.
+pub const STEP_IDS: &str = "s";
 
 /// The end of the band of a step.
 pub const BAND_END: &str = "</section>\n";
@@ -93,6 +102,8 @@ pub fn framed(alloc: Global, name: &str, is_serial: bool, body: &Body) -> Result
     page.push_str(HEAD)?;
     page.push_str(name)?;
     page.push_str(STYLE)?;
+    page.push_str(LOOK)?;
+    page.push_str(BODY)?;
     page.push_str(name)?;
     page.push_str(BEHIND_NAME)?;
     page.push_str(if is_serial { SERIAL } else { NOT_SERIAL })?;

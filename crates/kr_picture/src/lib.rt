@@ -9,6 +9,8 @@ mod lanes;
 mod page;
 mod svg;
 
+pub use bands::bands_of_run;
+pub use frame::LOOK;
 pub use kr_html::escape;
 pub use kr_locks::Memory;
 pub use page::picture;

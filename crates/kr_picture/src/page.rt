@@ -6,14 +6,15 @@ ghost use Rattle.kr_model.specs.State.{start};
 ghost use Rattle.kr_model.specs.Run.{run, programs};
 ghost use Rattle.kr_model.specs.Serial.{AreSerial};
 ghost use Rattle.kr_scenes.specs.Scenes.{drawn_steps};
+ghost use Rattle.kr_picture.specs.declared.frame.TheConstants.{STEP_IDS};
 ghost use Rattle.kr_picture.specs.Page.{AreBands, IsPage};
 
-use crate::bands::body_of;
+use crate::bands::{body_of, run_of};
 use crate::frame::{Body, framed};
 use kr_html::escape;
 use kr_locks::Memory;
 use kr_protocol::Protocol;
-use kr_scenes::{Run, STEPS_DRAWN, scenes_of};
+use kr_scenes::scenes_of;
 use kr_script::Script;
 use kr_serial::{Ran, Verdict, judge, run_any};
 use std::alloc::Global;
@@ -56,19 +57,11 @@ fn shown<P: Protocol>(
     ran: &Ran,
     verdict: &Verdict,
 ) -> Result<Body, Memory>
-    ensures { IfOk result (λ body. AreBands
+    ensures { IfOk result (λ body. AreBands STEP_IDS.now
         (drawn_steps (P.table protocol.now) script.now.opening script.now.steps) (string_bytes body.bands)) }
 {
-    let steps = script.steps();
-    let run = Run {
-        opening: script.opening(),
-        steps,
-        replies: ran.replies.as_slice(),
-        programs: ran.programs.as_slice(),
-        unfinished: ran.unfinished.as_slice(),
-        verdict,
-        skipped: steps.len().saturating_sub(STEPS_DRAWN),
-    };
-    let drawn = scenes_of(alloc, protocol, script.opening(), steps)?;
+    let (opening, steps) = (script.opening(), script.steps());
+    let run = run_of(opening, steps, ran, verdict);
+    let drawn = scenes_of(alloc, protocol, opening, steps)?;
     body_of(alloc, protocol, &run, &drawn)
 }

@@ -1,4 +1,5 @@
 pub mod Answered
+pub mod Covered
 pub mod Ended
 pub mod Reported
 pub mod Serials

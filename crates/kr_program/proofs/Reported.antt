@@ -2,7 +2,7 @@
 use Rattle.std.proofs.Common.{◌≡◌, ℕ, zero, suc, ◌+◌, ◌<◌, ◌≤◌, List, [], ◌∷◌, ◌++◌, map, take, get_or, length, min, refl, ap, subst, ◌∙◌, append-nil, arith}
 use Rattle.std.proofs.lemmas.List.Concat.{flat_map-append}
 use Rattle.kr_serial.specs.declared.verdict.Verdict.{Verdict}
-use Rattle.kr_script.specs.Report.{verdict_text}
+use Rattle.kr_report.specs.Report.{verdict_text}
 use Rattle.kr_program.specs.Judges.{lines, reports_of}
 
 -- the reports up to one, and that one, are the reports up to the next

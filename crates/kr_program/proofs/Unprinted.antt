@@ -4,7 +4,7 @@ use Rattle.std.specs.Result.{IsErrAnd}
 use Rattle.kr_model.specs.Protocol.{Protocol}
 use Rattle.kr_script.specs.Script.{Script}
 use Rattle.kr_script.specs.Reading.{reading}
-use Rattle.kr_script.specs.Puts.{AppendsFront, HasCause}
+use Rattle.kr_sink.specs.Puts.{AppendsFront, HasCause}
 use Rattle.kr_program.specs.declared.faults.OverFault.{OverFault}
 use Rattle.kr_program.specs.declared.faults.OverFault.TheVariants as fault
 use Rattle.kr_program.specs.Runs.{report_text, Explains}

@@ -3,8 +3,8 @@ use Rattle.std.specs.Prelude.{ℕ, List, ◌++◌, [], ◌∷◌, Option}
 use Rattle.kr_model.specs.declared.FailedCase.{FailedCase}
 use Rattle.kr_model.specs.Protocol.{Protocol}
 use Rattle.kr_model.specs.Covers.{failed_cases}
-use Rattle.kr_script.specs.CheckReport.{check_text}
-use Rattle.kr_script.specs.Puts.{AppendsFront, HasCause}
+use Rattle.kr_report.specs.CheckReport.{check_text}
+use Rattle.kr_sink.specs.Puts.{AppendsFront, HasCause}
 use Rattle.kr_program.specs.declared.faults.OverFault.{OverFault}
 use Rattle.kr_program.specs.declared.faults.OverFault.TheVariants as fault
 

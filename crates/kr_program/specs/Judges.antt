@@ -6,8 +6,8 @@ use Rattle.kr_serial.specs.declared.verdict.Verdict.{Verdict}
 use Rattle.kr_serial.specs.declared.verdict.Verdict.TheVariants.{Serial, NotSerial}
 use Rattle.kr_serial.specs.Verdicts.{verdict_of_run}
 use Rattle.kr_script.specs.Script.{Script}
-use Rattle.kr_script.specs.Report.{verdict_text}
-use Rattle.kr_script.specs.Puts.{AppendsFront, HasCause}
+use Rattle.kr_report.specs.Report.{verdict_text}
+use Rattle.kr_sink.specs.Puts.{AppendsFront, HasCause}
 use Rattle.kr_batch.specs.Names.{AreNamed, ExplainsNames}
 use Rattle.kr_program.specs.declared.judges.LinesFault.{LinesFault}
 use Rattle.kr_program.specs.declared.judges.LinesFault.TheVariants as fault

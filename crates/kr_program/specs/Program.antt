@@ -16,7 +16,7 @@ use Rattle.kr_program.specs.Checks.{check_line}
 use Rattle.kr_program.specs.Judges.{judge_lines}
 use Rattle.kr_program.specs.Threads.{threads_line}
 use Rattle.kr_program.specs.Words.{AreWords}
-use Rattle.kr_script.specs.declared.threaded.Threaded.{Threaded}
+use Rattle.kr_report.specs.declared.threaded.Threaded.{Threaded}
 use Rattle.kr_threads.specs.Threaded.{IsThreaded}
 use Rattle.kr_program.specs.declared.tasks.Task.{Task}
 use Rattle.kr_program.specs.declared.tasks.Task.TheVariants.{Check, Run, Judge, Threads}

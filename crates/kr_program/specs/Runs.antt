@@ -10,8 +10,8 @@ use Rattle.kr_script.specs.declared.faults.ScriptFault.{ScriptFault}
 use Rattle.kr_script.specs.declared.faults.ScriptFault.TheVariants as told_as
 use Rattle.kr_script.specs.Faults.{Fault, fault_of}
 use Rattle.kr_script.specs.Reading.{reading}
-use Rattle.kr_script.specs.Report.{run_text}
-use Rattle.kr_script.specs.Puts.{AppendsFront, HasCause}
+use Rattle.kr_report.specs.Report.{run_text}
+use Rattle.kr_sink.specs.Puts.{AppendsFront, HasCause}
 use Rattle.kr_program.specs.declared.faults.OverFault.{OverFault}
 use Rattle.kr_program.specs.declared.faults.OverFault.TheVariants as fault
 

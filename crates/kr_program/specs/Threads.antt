@@ -6,9 +6,9 @@ use Rattle.kr_serial.specs.Verdicts.{verdict_of}
 use Rattle.kr_script.specs.Script.{Script}
 use Rattle.kr_script.specs.Faults.{Fault, fault_of}
 use Rattle.kr_script.specs.Reading.{reading}
-use Rattle.kr_script.specs.ThreadsReport.{threads_text}
-use Rattle.kr_script.specs.Puts.{AppendsFront, HasCause}
-use Rattle.kr_script.specs.declared.threaded.Threaded.{Threaded}
+use Rattle.kr_report.specs.ThreadsReport.{threads_text}
+use Rattle.kr_sink.specs.Puts.{AppendsFront, HasCause}
+use Rattle.kr_report.specs.declared.threaded.Threaded.{Threaded}
 use Rattle.kr_threads.specs.Threaded.{IsThreaded}
 use Rattle.kr_program.specs.declared.faults.OverFault.{OverFault}
 use Rattle.kr_program.specs.declared.faults.OverFault.TheVariants as fault

@@ -8,7 +8,8 @@ ghost use Rattle.kr_program.specs.declared.faults.OverFault.TheVariants as fault
 use crate::faults::OverFault;
 use kr_cases::{FailedCase, Rejected, WhyRejected, check};
 use kr_protocol::Protocol;
-use kr_script::{Sink, print, report_check};
+use kr_report::report_check;
+use kr_sink::{Sink, print};
 use std::alloc::Global;
 
 /// Writes the report of a check with its failed cases, and a line feed, and answers whether there are none.

@@ -3,7 +3,8 @@ ghost use Rattle.std.specs.Prelude.{◌≡◌};
 ghost use Rattle.kr_program.specs.Runs.{report_fault};
 ghost use Rattle.kr_program.specs.declared.faults.OverFault.TheVariants as fault;
 
-use kr_script::{PrintFault, ScriptFault};
+use kr_script::ScriptFault;
+use kr_sink::PrintFault;
 use std::alloc::AllocError;
 use thiserror::Error;
 

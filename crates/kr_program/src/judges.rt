@@ -14,8 +14,9 @@ ghost use Rattle.kr_program.specs.declared.judges.LinesFault.TheVariants as faul
 
 use kr_batch::{JudgeFault, Texts, judge_texts};
 use kr_protocol::Protocol;
-use kr_script::{PrintFault, Sink, put_all, report_verdict};
+use kr_report::report_verdict;
 use kr_serial::Verdict;
+use kr_sink::{PrintFault, Sink, put_all};
 use std::alloc::{AllocError, Global};
 use std::thread::Threads;
 use thiserror::Error;

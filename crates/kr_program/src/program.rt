@@ -2,7 +2,7 @@
 ghost use Rattle.std.specs.Prelude.{◌≡◌, ◌⊎◌, ◌↔◌, ◌≤◌, List, All, true, false, IfOk, IfErr, IsTrue, map, string_bytes};
 ghost use Rattle.std.specs.Io.KnownBytes.{Appends};
 ghost use Rattle.kr_model.specs.Covers.{IsCovered};
-ghost use Rattle.kr_script.specs.Puts.{AppendsFront, HasCause};
+ghost use Rattle.kr_sink.specs.Puts.{AppendsFront, HasCause};
 ghost use Rattle.kr_script.specs.Script.{Script};
 ghost use Rattle.kr_shell.specs.Endings.{TellsOneLine, is_output, ending_line};
 ghost use Rattle.kr_shell.specs.Files.{MayBeScript};
@@ -14,7 +14,7 @@ ghost use Rattle.kr_program.specs.Runs.{report_line, IsSerialScript};
 ghost use Rattle.kr_program.specs.Judges.{judge_lines};
 ghost use Rattle.kr_program.specs.Program.{Answers, Ends, Reports, TellsFirst, TellsTask, ThreadsReported, Unreported};
 ghost use Rattle.kr_program.specs.Threads.{threads_line};
-ghost use Rattle.kr_script.specs.declared.threaded.Threaded.{Threaded};
+ghost use Rattle.kr_report.specs.declared.threaded.Threaded.{Threaded};
 ghost use Rattle.kr_threads.specs.Threaded.{IsThreaded};
 ghost use Rattle.kr_program.specs.declared.faults.OverFault.TheVariants as fault;
 
@@ -28,11 +28,11 @@ use crate::words::read_words;
 use kr_batch::{JudgeFault, TextFault, Texts};
 use kr_cases::{Rejected, WhyRejected, check};
 use kr_protocol::{Covered, Protocol};
-use kr_script::Sink;
 use kr_shell::{
     Ending, FileFault, Files, SCRIPT_BYTES, at_fault, finish, read_file, table_at, unreadable,
     whole,
 };
+use kr_sink::Sink;
 use std::alloc::Global;
 use std::sync::Wait;
 use std::thread::Threads;

@@ -9,42 +9,47 @@ ghost use Rattle.kr_serial.specs.Verdicts.{verdict_of};
 ghost use Rattle.kr_serial.specs.declared.verdict.Verdict.TheVariants as verdict;
 ghost use Rattle.kr_script.specs.Script.{Script};
 ghost use Rattle.kr_script.specs.Reading.{reading};
-ghost use Rattle.kr_script.specs.Report.{run_text};
+ghost use Rattle.kr_report.specs.Report.{run_text};
 ghost use Rattle.kr_program.specs.Runs.{report_text, report_line, IsSerialScript, Explains};
 ghost use Rattle.kr_program.specs.declared.faults.OverFault.TheVariants as fault;
 
 use crate::faults::OverFault;
 use kr_cases::check;
 use kr_protocol::Protocol;
-use kr_script::{Sink, print, read_script, report_run};
-use kr_serial::{Ran, Verdict, judge, run_any};
+use kr_report::{report_played, report_run};
+use kr_script::read_script;
+use kr_serial::{Verdict, judge, play, run_any};
+use kr_sink::{Sink, print};
 use std::alloc::{AllocError, Global};
 
-/// The verdict on a run. Under a covered protocol the run is serializable by the main theorem, so nothing is judged.
-fn verdict_on<P: Protocol>(alloc: Global, protocol: &P, ran: &Ran) -> Result<Verdict, AllocError>
-    requires { IsCovered (P.table protocol.now) → AreSerial ran.now.opening ran.now.programs }
-    ensures verdict { IfOk result (λ v. v ≡ verdict_of (first_difference ran.now.opening ran.now.programs)) }
-    ensures serial { IfOk result (λ v. (v ≡ verdict.Serial) ↔ AreSerial ran.now.opening ran.now.programs) }
-{
-    if check(alloc, protocol).is_ok() {
-        return Ok(Verdict::Serial);
-    }
-    judge(alloc, ran)
-}
-
-/// The report of a run with its verdict, and whether it is serializable.
-fn report_of<P: Protocol>(
+/// The report of the run of a script under a covered protocol. By the main theorem the run is serializable, so nothing is
+/// judged, and what its transactions did isn't kept.
+fn report_covered<P: Protocol>(
     alloc: Global,
     protocol: &P,
-    ran: &Ran,
-) -> Result<(String, bool), AllocError>
-    requires { IsCovered (P.table protocol.now) → AreSerial ran.now.opening ran.now.programs }
-    ensures text { IfOk result (λ told. string_bytes told.0 ≡ run_text (P.names protocol.now) ran.now.index ran.now.locks
-        ran.now.replies ran.now.unfinished (verdict_of (first_difference ran.now.opening ran.now.programs))) }
-    ensures serial { IfOk result (λ told. IsTrue told.1 ↔ AreSerial ran.now.opening ran.now.programs) }
+    script: &kr_script::Script,
+) -> Result<String, AllocError>
+    requires { IsCovered (P.table protocol.now) }
+    ensures text { IfOk result (λ text. string_bytes text ≡ report_text (P.table protocol.now) (P.names protocol.now) script.now) }
+    ensures serial { IsSerialScript (P.table protocol.now) script.now }
 {
-    let verdict = verdict_on(alloc, protocol, ran)?;
-    let text = report_run(alloc, protocol, ran, &verdict)?;
+    let played = play(alloc, protocol, script.opening(), script.steps())?;
+    report_played(alloc, protocol, &played, &Verdict::Serial)
+}
+
+/// The report of the run of a script under any protocol, which is judged, and whether the run is serializable.
+fn report_judged<P: Protocol>(
+    alloc: Global,
+    protocol: &P,
+    script: &kr_script::Script,
+) -> Result<(String, bool), AllocError>
+    ensures text { IfOk result (λ told. string_bytes told.0 ≡ report_text (P.table protocol.now) (P.names protocol.now) script.now) }
+    ensures serial { IfOk result (λ told. IsTrue told.1 ↔ IsSerialScript (P.table protocol.now) script.now) }
+    ensures safe { IsSafe (P.table protocol.now) → IfOk result (λ told. IsTrue told.1) }
+{
+    let ran = run_any(alloc, protocol, script.opening(), script.steps())?;
+    let verdict = judge(alloc, &ran)?;
+    let text = report_run(alloc, protocol, &ran, &verdict)?;
     Ok((text, verdict.is_serial()))
 }
 
@@ -60,8 +65,11 @@ fn reported<P: Protocol>(
     ensures safe { IsSafe (P.table protocol.now) → IfOk result (λ told. IsTrue told.1) }
     ensures covered { IsCovered (P.table protocol.now) → IfOk result (λ told. IsTrue told.1) }
 {
-    let ran = run_any(alloc, protocol, script.opening(), script.steps())?;
-    report_of(alloc, protocol, &ran)
+    if check(alloc, protocol).is_ok() {
+        let text = report_covered(alloc, protocol, script)?;
+        return Ok((text, true));
+    }
+    report_judged(alloc, protocol, script)
 }
 
 /// Runs the script that the bytes are under a protocol, writes the report of the run with its verdict and a line feed, and

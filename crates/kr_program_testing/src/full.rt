@@ -1,6 +1,6 @@
 //! A sink that takes nothing.
 
-use kr_script::{Failed, Sink};
+use kr_sink::{Failed, Sink};
 
 /// A sink that takes nothing, of which no more failures are counted.
 #[derive(Drop)]

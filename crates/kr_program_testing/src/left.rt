@@ -1,7 +1,7 @@
 //! What a program leaves.
 ghost use Rattle.std.specs.Prelude.{◌≡◌, IfOk};
 
-use kr_script::Io;
+use kr_sink::Io;
 use std::alloc::{AllocError, Global};
 
 /// What a program left: its status, and the bytes on its two streams.

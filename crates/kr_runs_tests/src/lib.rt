@@ -1,5 +1,5 @@
-//! Tests of runs, scripts and reports, from outside: they call what `kr_serial`, `kr_counterexample`, `kr_follows`, `kr_script`
-//! and `kr_batch` offer.
+//! Tests of runs, scripts and reports, from outside: they call what `kr_serial`, `kr_counterexample`, `kr_follows`, `kr_script`,
+//! `kr_sink`, `kr_report` and `kr_batch` offer.
 #![tactic(auto)]
 
 #[cfg(test)]

@@ -1,5 +1,5 @@
 -- A document that is read token by token, and what it reads as.
-use Rattle.std.proofs.Common.{◌≡◌, ℕ, suc, ◌+◌, ◌-◌, ◌<◌, ◌≤◌, ◌&&◌, List, [], ◌∷◌, ◌++◌, map, length, codes, Bool, true, false, nat_lt, Option, Some, None, Ok, IfSome, ◌==◌, ◌^◌, slice_index, lt-ltb, refl, sym, ap, subst, ◌∙◌, arith}
+use Rattle.std.proofs.Common.{◌≡◌, ℕ, ◌+◌, ◌-◌, ◌<◌, ◌≤◌, ◌&&◌, List, [], ◌∷◌, ◌++◌, map, length, codes, Bool, true, false, nat_lt, Option, Some, None, Ok, IfSome, ◌==◌, ◌^◌, slice_index, lt-ltb, refl, sym, ap, subst, ◌∙◌, arith}
 use Rattle.std.proofs.lemmas.Bool.Decides.{nat_tests}
 use Rattle.std.proofs.lemmas.Bool.{and_parts}
 use Rattle.std.specs.Prelude.{IsUtf8}
@@ -9,11 +9,11 @@ use Rattle.json.specs.Token.{Token}
 use Rattle.json.specs.Json as json
 use Rattle.json.specs.Json.{parse_map, after_end_array, read_key, items, members, value}
 use Rattle.json.proofs.Grammar.{value_is, value-begin_array, value-begin_object, after_end_array-shorter, read_key-shorter, items_more, items_end, members_more, members_end}
-use Rattle.serde_json.specs.Data.{Data, unsigned, string, array, object, Items, no_items, item, Members, no_members, member, put}
+use Rattle.serde_json.specs.Data.{Data, unsigned, string, array, object, item, no_members, member, put}
 use Rattle.serde_json.specs.Events.{items_len}
 use Rattle.std.specs.Option.{SomeIff}
 use Rattle.fast_float.specs.Text.{Parts, scan, digits_of, IsInteger}
-use Rattle.serde_json.specs.Read.{of_json, of_items, of_members, number_of, number_from}
+use Rattle.serde_json.specs.Read.{of_json, of_items, number_of, number_from}
 use Rattle.serde_json.specs.View.{items_of}
 use Rattle.serde_json.proofs.OnLiterals.{serde_json_on_literals}
 use Rattle.kr_model.specs.declared.Op.{Op}
@@ -21,12 +21,13 @@ use Rattle.kr_model.specs.declared.Op.TheVariants.{Fetch, Scan, Go, Insert, Dele
 use Rattle.kr_model.specs.declared.Event.{Event}
 use Rattle.kr_model.specs.Map.{Map}
 use Rattle.kr_script.specs.Json.{whole}
-use Rattle.kr_script.specs.Report.{pair_data, pairs_data}
+use Rattle.kr_script.specs.Line.{document_of, format_number}
+use Rattle.kr_script.specs.Pairs.{pair_data, pairs_data}
 use Rattle.kr_script.specs.Script.{Script}
 use Rattle.kr_script.specs.Steps.{event_of, step_of, items_of_op}
-use Rattle.kr_script.specs.Faults.{format_faults, is_two, is_above, opening_faults, step_faults, faults}
-use Rattle.kr_script.specs.Reading.{pairs_of, events_of, script_in, document, reading_of}
-use Rattle.kr_script.specs.Tokens.{IsNext, AreNext, format_number, word_of, behind_word}
+use Rattle.kr_script.specs.Faults.{format_faults, is_two, is_above, opening_faults, step_faults}
+use Rattle.kr_script.specs.Reading.{pairs_of, events_of, document, reading_of}
+use Rattle.kr_script.specs.Tokens.{IsNext, AreNext, word_of, behind_word}
 
 -- Values --
 
@@ -183,12 +184,7 @@ many_steps (e ∷ es) = let more = many_steps es in omega arith
 
 -- The document --
 
--- a script as a document, in format 2 or in format 1
-abbrev pub document_of : Bool → Map → List Event → Data
-document_of two ps es =
-    object (member (codes "format") (whole (format_number two)) (member (codes "opening") (pairs_data ps) (member (codes "steps") (array (items_of (map step_of es))) no_members)))
-
-three_put : (f o s : Data) → put (codes "steps") s (put (codes "opening") o (put (codes "format") f no_members)) ≡ member (codes "format") f (member (codes "opening") o (member (codes "steps") s no_members))
+pub three_put : (f o s : Data) → put (codes "steps") s (put (codes "opening") o (put (codes "format") f no_members)) ≡ member (codes "format") f (member (codes "opening") o (member (codes "steps") s no_members))
 unfolding serde_json_on_literals
 three_put f o s = refl
 

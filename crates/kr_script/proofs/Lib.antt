@@ -1,7 +1,6 @@
-pub mod Grows
-pub mod NoFloats
 pub mod Firsts
 pub mod Kept
 pub mod Written
-pub mod Writes
 pub mod Documents
+pub mod Numbers
+pub mod LineReads

@@ -1,16 +1,12 @@
 -- Values of JSON documents, and their parts.
 use Rattle.std.specs.Prelude.{ℕ, List, Option, Some, None, option_and_then, option_map, unwrap_or}
-use Rattle.serde_json.specs.Data.{Data, number, unsigned, string, array, Items, item, no_items, Members, no_members}
+use Rattle.serde_json.specs.Data.{Data, number, unsigned, Items, no_items, Members, no_members}
 use Rattle.serde_json.specs.Find.{get, at, as_number, as_str, as_array, as_object, as_u64}
 use Rattle.serde_json.specs.Events.{items_len}
 
 -- A whole number.
 abbrev pub whole : ℕ → Data
 whole n = number (unsigned n)
-
--- An array that begins with a word.
-abbrev pub after_word : List ℕ → Items → Data
-after_word word rest = array (item (string word) rest)
 
 -- How many elements an array has.
 abbrev pub length_of : Data → Option ℕ

@@ -1,10 +1,8 @@
-pub mod Puts
 pub mod Json
-pub mod Report
+pub mod Pairs
 pub mod Script
 pub mod Steps
 pub mod Faults
 pub mod Reading
-pub mod CheckReport
-pub mod ThreadsReport
+pub mod Line
 pub mod Tokens

@@ -1,5 +1,5 @@
 -- Values that come next among the tokens of a text.
-use Rattle.std.specs.Prelude.{◌≡◌, ◌<◌, ℕ, List, [], ◌∷◌, length, codes, Bool, if◌then◌else◌, Some, None}
+use Rattle.std.specs.Prelude.{◌≡◌, ◌<◌, ℕ, List, [], ◌∷◌, length, codes, Some, None}
 use Rattle.json.specs.Token.{Token}
 use Rattle.json.specs.Json.{Json, after_end_array, value}
 use Rattle.serde_json.specs.Data.{Data}
@@ -20,10 +20,6 @@ pub record IsNext (depth : ℕ) (old : List Token) (d : Data) (new : List Token)
 abbrev pub AreNext : ℕ → List Token → List Data → List Token → Type 0
 AreNext depth old [] new = new ≡ old
 AreNext depth old (d ∷ ds) new = (between : List Token) × IsNext depth old d between × AreNext depth between ds new
-
--- The number of a format: format 2 or format 1.
-abbrev pub format_number : Bool → ℕ
-format_number two = if two then 2 else 1
 
 -- The word of an operation.
 abbrev pub word_of : Op → List ℕ

@@ -1,26 +1,18 @@
-//! Scripts of transactions' steps: read from JSON, and the reports of their runs and of checks, printed on a sink.
+//! Scripts of transactions' steps: read from JSON, and written as a line that reads back.
 #![tactic(auto)]
 
-mod check_reports;
 mod faults;
+mod line;
 mod parts;
 mod plain;
 mod reading;
-mod replies;
-mod reports;
 mod script;
-mod sink;
 mod steps;
-mod threaded;
-mod threads_reports;
 mod writing;
 
-pub use check_reports::report_check;
 pub use faults::ScriptFault;
-pub use reading::read_script;
-pub use reports::{report_run, report_verdict};
+pub use line::write_script;
+pub use reading::{MAX_ELEMENTS, read_script};
 pub use script::Script;
-pub use sink::{Failed, Io, PrintFault, Sink, print, put_all};
 pub use steps::one_step_for_each_event;
-pub use threaded::{Answered, Threaded};
-pub use threads_reports::report_threads;
+pub use writing::{separator, write_number, write_pairs, write_step, write_with_number};

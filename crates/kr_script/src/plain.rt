@@ -1,17 +1,20 @@
 //! Scripts in their plain form, read token by token with no value made of the document: the members `format`, `opening`
 //! and `steps` in this order, and no fault.
-ghost use Rattle.std.specs.Prelude.{◌≡◌, ◌∷◌, ◌≤◌, ◌<◌, [], ℕ, IfSome, OnSome, None, Ok, Some, map, true, vec_len};
+ghost use Rattle.std.specs.Prelude.{◌≡◌, ◌∷◌, ◌≤◌, ◌<◌, [], ℕ, IfSome, OnSome, None, Ok, Some, length, map, true, vec_len};
+ghost use Rattle.std.specs.Option.{SomeIff};
+ghost use Rattle.std.specs.Str.Parse.{IsNumeral, digits_value};
 ghost use Rattle.json.specs.Token.{begin_array, begin_object};
 ghost use Rattle.json.specs.Json.{Json, read_key, value};
 ghost use Rattle.serde_json.specs.Data.{array, string, unsigned};
 ghost use Rattle.serde_json.specs.Read.{number_of, of_json};
 ghost use Rattle.serde_json.specs.View.{items_of};
 ghost use Rattle.kr_script.specs.Json.{whole};
-ghost use Rattle.kr_script.specs.Report.{pair_data, pairs_data};
+ghost use Rattle.kr_script.specs.Line.{format_number};
+ghost use Rattle.kr_script.specs.Pairs.{pair_data, pairs_data};
 ghost use Rattle.kr_script.specs.Steps.{event_of, is_later, step_of};
 ghost use Rattle.kr_script.specs.Faults.{opening_faults};
 ghost use Rattle.kr_script.specs.Reading.{document, reading_of};
-ghost use Rattle.kr_script.specs.Tokens.{AreNext, IsNext, behind_word, format_number, word_of};
+ghost use Rattle.kr_script.specs.Tokens.{AreNext, IsNext, behind_word, word_of};
 
 use crate::Script;
 use crate::reading::{MAX_ELEMENTS, is_above};
@@ -21,11 +24,31 @@ use kr_model::{Event, Op};
 use std::alloc::Global;
 use std::str;
 
+/// The number that the bytes write, where these are 1 to 19 decimal digits: so it is below 10^19, and fits.
+fn decimal(bytes: &[u8]) -> Option<u64>
+    ensures { SomeIff result (IsNumeral 10 bytes.now × (length bytes.now ≤ 19)) (digits_value 10 bytes.now) }
+{
+    if bytes.is_empty() || bytes.len() > 19 {
+        return None;
+    }
+    let mut n = 0;
+    for &byte in bytes {
+        if !byte.is_ascii_digit() {
+            return None;
+        }
+        n = n * 10 + u64::from(byte - b'0');
+    }
+    Some(n)
+}
+
 /// The whole number that a number's text is.
 fn whole_number(text: &str) -> Option<u64>
     ensures { IfSome result (λ n. number_of text.now ≡ Some (unsigned n)) }
 {
     let bytes = text.as_bytes();
+    if let Some(n) = decimal(bytes) {
+        return Some(n);
+    }
     if bytes.is_empty() || bytes[0] == b'-' {
         return None;
     }

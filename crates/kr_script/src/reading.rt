@@ -20,6 +20,7 @@ use std::alloc::Global;
 
 const MAX_BYTES: usize = 16_777_216;
 
+/// The most pairs that a script has, and the most steps.
 pub const MAX_ELEMENTS: usize = 100_000;
 
 fn field(alloc: Global, name: &str) -> ScriptFault

@@ -1,15 +1,13 @@
-//! The words and sentences that say why a protocol table is rejected: each part of the text of a cause, and a script as a
-//! line of JSON.
+//! The words and sentences that say why a protocol table is rejected: each part of the text of a cause.
 #![tactic(auto)]
 
-mod anomaly;
+mod anomalies;
 mod answers;
 mod body;
 mod cells;
 mod edits;
 mod granted;
 mod harmless;
-mod json;
 mod lists;
 mod locks;
 mod mending;
@@ -25,11 +23,14 @@ mod whole;
 mod words;
 mod wrap;
 
+pub use anomalies::anomaly;
+pub use answers::name_of;
 pub use body::write_body;
 pub use harmless::{write_never_held, write_never_let_in};
-pub use json::json_line;
 pub use kr_cases::Memory;
+pub use lists::modes_listed;
 pub use mending::write_mend;
-pub use runs::{Tries, write_case, write_no_run, write_run};
+pub use runs::{Tries, run_end, run_head, write_case, write_no_run, write_run};
 pub use title::write_title;
 pub use whole::{causes_words, write_command};
+pub use words::{cover_words, deed_words, row_word};

@@ -3,7 +3,7 @@ ghost use Rattle.std.specs.Prelude.{OnOk, string_bytes};
 ghost use Rattle.kr_sentences.specs.Lines.{Adds};
 ghost use Rattle.kr_sentences.specs.Steps.{IsSchedule};
 
-use crate::anomaly::anomaly;
+use crate::anomalies::anomaly;
 use crate::seen::seen;
 use crate::spoken::{origin_text, pairs_text};
 use crate::steps::write_steps;
@@ -58,14 +58,14 @@ pub fn write_run<P: Protocol>(
 }
 
 /// What is above a schedule: its anomaly and the initial index.
-fn run_head(alloc: Global, script: &Counterexample) -> Result<String, Memory> {
+pub fn run_head(alloc: Global, script: &Counterexample) -> Result<String, Memory> {
     let anomaly = anomaly(script.ending);
     let opening = pairs_text(alloc, script.opening.as_slice())?;
     format!(in alloc; "\n\n   {anomaly}. Initial index: {opening}.\n")
 }
 
 /// What is below a schedule: what is wrong with it, and the verdict.
-fn run_end<P: Protocol>(
+pub fn run_end<P: Protocol>(
     alloc: Global,
     protocol: &P,
     script: &Counterexample,

@@ -8,31 +8,6 @@ use kr_model::{FailedCase, Mode, Name, Op, Origin, Reply, Txn};
 use kr_protocol::Protocol;
 use std::alloc::Global;
 
-/// The word of an operation.
-pub fn op_word(op: Op) -> &'static str {
-    match op {
-        Op::Fetch(_) => "fetch",
-        Op::Scan(_, _) => "scan",
-        Op::Go => "go",
-        Op::Insert(_, _) => "insert",
-        Op::Delete(_) => "delete",
-        Op::Update(_, _) => "update",
-        Op::Commit => "commit",
-        Op::Abort => "abort",
-        Op::Back => "back",
-    }
-}
-
-/// The numbers behind it.
-pub fn op_numbers(op: Op) -> [Option<u64>; 2] {
-    match op {
-        Op::Fetch(key) | Op::Delete(key) => [Some(key), None],
-        Op::Scan(lo, hi) => [Some(lo), Some(hi)],
-        Op::Insert(key, value) | Op::Update(key, value) => [Some(key), Some(value)],
-        Op::Go | Op::Commit | Op::Abort | Op::Back => [None, None],
-    }
-}
-
 /// An operation, by its word and its numbers.
 pub fn op_text(alloc: Global, op: Op) -> Result<String, Memory>
     ensures { IfOk result (λ text. string_bytes text ≡ op_words op) }

@@ -1,6 +1,6 @@
 //! The words for the parts of a protocol table.
 ghost use Rattle.std.specs.Prelude.{◌≡◌};
-ghost use Rattle.kr_sentences.specs.Words.{row_word, rule_code, rule_number, side_word, side_words, span_word};
+ghost use Rattle.kr_sentences.specs.Words.{cover_words, deed_words, row_word, rule_code, rule_number, side_word, side_words, span_word};
 
 use kr_model::{Cover, Row, Rule, Side, Span};
 
@@ -109,7 +109,9 @@ pub fn cover_code(cover: Cover) -> &'static str {
 }
 
 /// What a transaction must protect by a lock with a cover.
-pub fn cover_words(cover: Cover) -> &'static str {
+pub fn cover_words(cover: Cover) -> &'static str
+    ensures { result.now ≡ cover_words cover }
+{
     match cover {
         Cover::ReadKey => "a key that it read",
         Cover::ReadGap => "a gap that it read",
@@ -120,7 +122,9 @@ pub fn cover_words(cover: Cover) -> &'static str {
 }
 
 /// What a transaction does whose request for a row at a side is granted on a key.
-pub fn deed_words(row: Row, side: Side) -> &'static str {
+pub fn deed_words(row: Row, side: Side) -> &'static str
+    ensures { result.now ≡ deed_words row side }
+{
     match (row, side) {
         (Row::FetchHit, _) => "fetch that key",
         (Row::FetchMiss, _) => "fetch in the gap below that key and find nothing",

@@ -8,7 +8,7 @@ use Rattle.std.specs.Str.{chars}
 use Rattle.std.proofs.lemmas.Bool.{ltb-true}
 use Rattle.std.proofs.lemmas.List.Elements.{All-append}
 use Rattle.std.proofs.lemmas.List.Sums.{AllPass-from_list_all}
-use Rattle.kr_script.specs.Puts.{AppendsFront}
+use Rattle.kr_sink.specs.Puts.{AppendsFront}
 use Rattle.kr_shell.specs.declared.endings.Ending.{Ending}
 use Rattle.kr_shell.specs.Endings.{TellsOneLine, ending_line, line_of}
 use Rattle.kr_shell.specs.Named.{TellsNoScript, TellsNoTable}

@@ -1,8 +1,8 @@
 -- What is told at an ending: its line, and the usage behind words that aren't understood.
 use Rattle.std.specs.Prelude.{◌≡◌, ℕ, List, [], ◌∷◌, ◌++◌, Option}
 use Rattle.std.specs.Io.KnownBytes.{Appends}
-use Rattle.kr_script.specs.Puts.{AppendsFront}
-use Rattle.kr_script.proofs.Grows.{appends_more, front_of_more, front_behind}
+use Rattle.kr_sink.specs.Puts.{AppendsFront}
+use Rattle.kr_sink.proofs.Grows.{appends_more, front_of_more, front_behind}
 use Rattle.kr_shell.specs.declared.endings.Ending.{Ending}
 use Rattle.kr_shell.specs.declared.endings.Ending.TheVariants.{NotUnderstood, Memory, Place, Output, Told}
 use Rattle.kr_shell.specs.Endings.{ending_line}

@@ -1,6 +1,6 @@
 -- How a program ends, and the line that tells it.
 use Rattle.std.specs.Prelude.{ℕ, Bool, true, false, List, [], ◌∷◌, ◌++◌, Option, codes, string_bytes}
-use Rattle.kr_script.specs.Puts.{AppendsFront}
+use Rattle.kr_sink.specs.Puts.{AppendsFront}
 use Rattle.kr_shell.specs.declared.endings.Ending.{Ending}
 use Rattle.kr_shell.specs.declared.endings.Ending.TheVariants.{NotUnderstood, Memory, Place, Output, Told}
 use Rattle.kr_shell.specs.Lines.{HasNoLineFeed}

@@ -1,7 +1,7 @@
 -- What a program says of itself.
 use Rattle.std.specs.Prelude.{◌⊎◌, ℕ, List, [], ◌∷◌, ◌++◌, Option, codes}
 use Rattle.std.specs.Io.KnownBytes.{Appends}
-use Rattle.kr_script.specs.Puts.{AppendsFront, HasCause}
+use Rattle.kr_sink.specs.Puts.{AppendsFront, HasCause}
 use Rattle.kr_shell.specs.declared.endings.Ending.{Ending}
 use Rattle.kr_shell.specs.declared.endings.Ending.TheVariants.{NotUnderstood, Memory, Place, Output, Told}
 use Rattle.kr_shell.specs.declared.questions.Question.{Question}

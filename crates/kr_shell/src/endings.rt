@@ -1,13 +1,13 @@
 //! How a program ends.
 ghost use Rattle.std.specs.Prelude.{◌≡◌, ◌≤◌, ◌↔◌, true, false, Ok, OnOk, OnErr, IfErr};
 ghost use Rattle.std.specs.Io.KnownBytes.{Appends};
-ghost use Rattle.kr_script.specs.Puts.{AppendsFront, HasCause};
+ghost use Rattle.kr_sink.specs.Puts.{AppendsFront, HasCause};
 ghost use Rattle.kr_shell.specs.Endings.{MemoryOrTold, is_output, line_of, ending_line};
 ghost use Rattle.kr_shell.specs.Lines.{HasNoLineFeed, told_line};
 ghost use Rattle.kr_shell.specs.declared.endings.Ending.TheVariants as ending;
 
 use crate::lines::told_line;
-use kr_script::{PrintFault, Sink, print, put_all};
+use kr_sink::{PrintFault, Sink, print, put_all};
 use std::alloc::{AllocError, Global};
 
 /// Why a program ends without its output, or with a prefix of it. Each is told on one line.

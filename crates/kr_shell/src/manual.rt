@@ -1,12 +1,12 @@
 //! What a program says of itself.
 ghost use Rattle.std.specs.Prelude.{◌≡◌, ◌≤◌, ◌↔◌, ◌++◌, [], true, false, Ok, OnOk, OnErr, IfErr};
 ghost use Rattle.std.specs.Io.KnownBytes.{Appends};
-ghost use Rattle.kr_script.specs.Puts.{AppendsFront, HasCause};
+ghost use Rattle.kr_sink.specs.Puts.{AppendsFront, HasCause};
 ghost use Rattle.kr_shell.specs.Manual.{IsTold, answer_of, ending_text};
 
 use crate::endings::{Ending, status_of, tell};
 use crate::questions::Question;
-use kr_script::{PrintFault, Sink, print, put_all};
+use kr_sink::{PrintFault, Sink, print, put_all};
 
 /// The version of the repository, as its file VERSION has it.
 pub const VERSION: &str = "0.9.0";
@@ -63,7 +63,7 @@ impl Manual<'_> {
     }
 
     /// Prints what is told at an ending, and behind it what helps.
-    #[tactic(auto, using(kr_script::proofs::Grows::front_of_more, kr_script::proofs::Grows::front_behind, kr_script::proofs::Grows::appends_more))]
+    #[tactic(auto, using(kr_sink::proofs::Grows::front_of_more, kr_sink::proofs::Grows::front_behind, kr_sink::proofs::Grows::appends_more))]
     fn tell_all<E: Sink>(&self, ending: &Ending, help: &str, err: &mut E) -> Result<(), PrintFault>
         ensures ok { OnOk result (Appends (E.taken err.old) (E.taken err.new)
             (ending_text self.now.name.now self.now.usage.now ending.now ++ help.now)) }

@@ -1,8 +1,8 @@
 //! Shows the run of a script under a table as a page of HTML.
 #![tactic(auto)]
 
-use kr_script::Io;
 use kr_shell::{Disk, words_given};
+use kr_sink::Io;
 use kr_view_program::{MANUAL, execute};
 use std::process::ExitCode;
 

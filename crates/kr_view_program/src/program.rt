@@ -4,7 +4,7 @@ ghost use Rattle.std.specs.Io.KnownBytes.{Appends};
 ghost use Rattle.kr_model.specs.Protocol.{IsLawful};
 ghost use Rattle.kr_model.specs.Covers.{IsCovered};
 ghost use Rattle.kr_model.specs.Safe.{IsSafe};
-ghost use Rattle.kr_script.specs.Puts.{HasCause};
+ghost use Rattle.kr_sink.specs.Puts.{HasCause};
 ghost use Rattle.kr_diagnosis.specs.Finding.{AreLines, AddsLines};
 ghost use Rattle.kr_shell.specs.Endings.{is_output};
 ghost use Rattle.kr_shell.specs.Manual.{IsTold, answer_of, ending_text};
@@ -20,8 +20,9 @@ use crate::words::read_words;
 use kr_diagnosis::{script_at, table_at};
 use kr_picture::picture;
 use kr_protocol::Protocol;
-use kr_script::{Script, Sink, put_all};
+use kr_script::Script;
 use kr_shell::{Ending, Files, VERSION, question_in};
+use kr_sink::{Sink, put_all};
 use std::alloc::Global;
 
 /// Does nothing: a protocol is lawful.

@@ -2,7 +2,8 @@
 
 use super::tables::table_of;
 use kr_protocol::{Kvl, KvlUpdate, Protocol};
-use kr_script::{Script, ScriptFault, read_script, report_run};
+use kr_report::report_run;
+use kr_script::{Script, ScriptFault, read_script};
 use kr_serial::{Ran, Verdict, judge, run_any};
 use std::alloc::{AllocError, Global};
 use std::process::Abort;

@@ -2,7 +2,7 @@
 
 use kr_cases::{FailedCase, Rejected, WhyRejected, check};
 use kr_protocol::{Im, Kvl, KvlUpdate, Protocol, RangeKey};
-use kr_script::report_check;
+use kr_report::report_check;
 use kr_table::bundled::{KVL, KVL_UPDATE};
 use kr_table::{Table, TableFault, WriteFault, read, write};
 use std::alloc::Global;

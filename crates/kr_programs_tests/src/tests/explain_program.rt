@@ -1,7 +1,7 @@
 //! Runs of the program, each by its words and a table, with what it leaves on its two streams.
 use kr_explain_program::execute;
 use kr_program_testing::{Left, Shelf, owned};
-use kr_script::Io;
+use kr_sink::Io;
 use std::alloc::AllocError;
 use std::process::Abort;
 use std::test::Fail;

@@ -1,7 +1,7 @@
 use kr_program::execute;
 use kr_program_testing::{Left, owned};
-use kr_script::Io;
 use kr_shell::{FileFault, Files, first_bytes};
+use kr_sink::Io;
 use kr_table::bundled::{IM, KVL, KVL_UPDATE, RANGE_KEY};
 use std::alloc::{AllocError, Global};
 use std::process::Abort;

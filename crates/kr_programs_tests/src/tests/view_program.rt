@@ -1,6 +1,6 @@
 //! Runs of the program, each by its words, a table and a script, with what it leaves on its two streams.
 use kr_program_testing::{Left, Shelf, owned};
-use kr_script::Io;
+use kr_sink::Io;
 use kr_view_program::execute;
 use std::alloc::AllocError;
 use std::test::Fail;

@@ -2,7 +2,8 @@ mod ample;
 mod named;
 
 use kr_batch::judge_all;
-use kr_script::{read_script, report_verdict};
+use kr_report::report_verdict;
+use kr_script::read_script;
 use kr_testing::Plain;
 use std::alloc::AllocError;
 use std::test::Fail;

@@ -1,9 +1,5 @@
-//! Scripts that are read, and reports and faults that are printed.
-mod ample;
-mod check_reports;
+//! Scripts that are read, their faults, and scripts that are written.
 mod faults;
 mod format_two;
+mod line;
 mod reading;
-mod reports;
-mod sink;
-mod threads_reports;

@@ -1,4 +1,6 @@
-use Rattle.std.specs.Prelude.{string_bytes}
+use Rattle.std.specs.Prelude.{IsTrue, string_bytes}
+use Rattle.kr_shell.specs.Endings.{is_output}
+use Rattle.kr_explain_program.proofs.Caused.{caused}
 use Rattle.kr_explain_program.proofs.Ended.{no_script}
 use Rattle.kr_explain_program.proofs.Written.{script_written}
 use Rattle.kr_explain_program.proofs.explaining.write_script.Goals as goal
@@ -10,3 +12,6 @@ returns-clause-err g c =
 pub returns-in-Some-clause-script : goal.returns-in-Some-clause-script
 returns-in-Some-clause-script g c =
     script_written (g.P.Protocol.table c.args.protocol.now) c.args.number c.in_ok-explanation.explanation c.in_ok-line.field-0 c.in-Some.line c.as_str.result.now (g.W.Sink.taken c.args.out.now) (g.W.Sink.taken c.print.new.out) c.in_ok-explanation.ensures c.in_ok-line.ensures c.in-Some.is c.as_str.ensures.value c.in_ok-print-in-Some.ensures.ok
+
+pub returns-in_err-print-in-Some-clause-cause : goal.returns-in_err-print-in-Some-clause-cause
+returns-in_err-print-in-Some-clause-cause g c = caused c.from_residual-in_err-print-in-Some.result (λ e. IsTrue (is_output e)) _ c.in_err-print-in-Some.ensures.cause

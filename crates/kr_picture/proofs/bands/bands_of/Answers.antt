@@ -7,5 +7,5 @@ use Rattle.kr_picture.proofs.bands.bands_of.Goals as goal
 
 pub loop-scene-preserved : goal.loop-scene-preserved
 loop-scene-preserved g c =
-    let Are : List NumberedStep → Type 0 = λ steps. AreBands steps (string_bytes c.push_band.new.bands) in
-    subst Are (grind (arith, common_steps, c.loop-scene-test.true)) (c.in_ok-push_band.ensures (map step_of (take c.loop-scene.scene-index c.deref-scene-items.result.now)) c.loop-scene.invariant)
+    let Are : List NumberedStep → Type 0 = λ steps. AreBands c.args.setting.now.ids.now steps (string_bytes c.push_band.new.bands) in
+    subst Are (grind (arith, common_steps, c.loop-scene-test.true)) (c.in_ok-push_band.ensures (map step_of (take c.loop-scene.scene-index c.args.scenes.now)) c.loop-scene.invariant)

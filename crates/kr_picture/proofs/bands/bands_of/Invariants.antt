@@ -6,4 +6,4 @@ use Rattle.kr_picture.proofs.bands.bands_of.Given as goal
 
 -- the bands so far are those of the scenes so far
 abbrev pub invariant-loop-scene : goal.invariant-loop-scene
-invariant-loop-scene g l = AreBands (map step_of (take l.scene-index l.scene-items)) (string_bytes l.bands)
+invariant-loop-scene g l = AreBands l.setting.ids.now (map step_of (take l.scene-index l.scenes)) (string_bytes l.bands)

@@ -1,5 +1,5 @@
 use Rattle.std.proofs.Common.{◌≡◌, ◌+◌, ◌<◌, ◌++◌, [], ◌∷◌, map, take, length, get_or, string_bytes, sym, ap, ◌∙◌, arith, append_assoc}
-use Rattle.kr_script.specs.Report.{verdict_text}
+use Rattle.kr_report.specs.Report.{verdict_text}
 use Rattle.kr_program.specs.Judges.{lines, reports_of}
 use Rattle.kr_program.proofs.Reported.{lines_more, lines_all}
 use Rattle.kr_program.proofs.judges.lines_of.Goals as goal

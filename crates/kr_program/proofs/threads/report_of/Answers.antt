@@ -5,7 +5,7 @@ use Rattle.kr_serial.specs.declared.verdict.Verdict.{Verdict}
 use Rattle.kr_serial.specs.declared.verdict.Verdict.TheVariants.{Serial}
 use Rattle.kr_serial.specs.Verdicts.{verdict_of}
 use Rattle.kr_serial.proofs.Wholes.{serial_exactly}
-use Rattle.kr_script.specs.ThreadsReport.{threads_text}
+use Rattle.kr_report.specs.ThreadsReport.{threads_text}
 use Rattle.kr_program.proofs.threads.report_of.Goals as goal
 
 pub returns : goal.returns

@@ -1,6 +1,6 @@
 use Rattle.std.proofs.Common.{◌≡◌, ◌++◌, [], ◌∷◌, ap, subst, ◌∙◌}
 use Rattle.std.specs.Io.KnownBytes.{Appends}
-use Rattle.kr_script.specs.Puts.{AppendsFront}
+use Rattle.kr_sink.specs.Puts.{AppendsFront}
 use Rattle.kr_program.specs.Threads.{threads_line}
 use Rattle.kr_program.proofs.threads.threads_over.Goals as goal
 

@@ -2,7 +2,7 @@
 use super::{SAFE, SHORT_SCAN, leaves};
 use kr_explain_program::execute;
 use kr_program_testing::{Full, Shelf, owned};
-use kr_script::Io;
+use kr_sink::Io;
 use std::process::Abort;
 use std::test::Fail;
 

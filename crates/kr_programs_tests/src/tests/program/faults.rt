@@ -2,7 +2,7 @@
 use super::{PHANTOM, RUN, Row, Texts, each_leaves, leaves};
 use kr_program::execute;
 use kr_program_testing::{Full, owned};
-use kr_script::Io;
+use kr_sink::Io;
 use std::process::Abort;
 use std::sync::Wait;
 use std::test::Fail;

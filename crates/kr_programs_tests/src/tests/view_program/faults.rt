@@ -1,7 +1,7 @@
 //! Faults, and the lines that tell them.
 use super::{ASKS_NOTHING, PHANTOM, SHELF, tells};
 use kr_program_testing::{Full, Shelf, owned};
-use kr_script::Io;
+use kr_sink::Io;
 use kr_view_program::execute;
 use std::test::Fail;
 

@@ -1,7 +1,8 @@
 //! Batches with ample memory, none of which answers out of memory: each count and mix of scripts up to 65, with boundary
 //! keys and numbers.
 use kr_batch::judge_all;
-use kr_script::{Script, read_script, report_verdict};
+use kr_report::report_verdict;
+use kr_script::{Script, read_script};
 use kr_testing::Plain;
 use std::alloc::{AllocError, Global};
 use std::process::Abort;

@@ -1,6 +1,6 @@
 //! Texts that are judged by their names, side by side.
 use kr_batch::{TextFault, Texts, judge_texts};
-use kr_script::report_verdict;
+use kr_report::report_verdict;
 use kr_testing::Plain;
 use std::alloc::{AllocError, Global};
 use std::test::Fail;

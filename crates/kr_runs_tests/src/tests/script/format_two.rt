@@ -1,6 +1,7 @@
 //! Scripts of format 2 from their bytes to the whole report: updates, and changes undone one at a time.
 use kr_protocol::{Kvl, KvlUpdate, Protocol};
-use kr_script::{read_script, report_run};
+use kr_report::report_run;
+use kr_script::read_script;
 use kr_serial::{judge, run_any};
 use kr_testing::Plain;
 use std::alloc::Global;

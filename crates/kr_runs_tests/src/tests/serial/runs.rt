@@ -2,10 +2,10 @@
 ghost use Rattle.kr_model.specs.Map.{IsMap};
 
 use super::telling::{Did, Told, are_programs};
-use super::ways::{Way, ran_by};
+use super::ways::{Way, played_by, ran_by};
 use kr_index::Memory;
 use kr_model::{Event, Op};
-use kr_serial::{Mode, Name, Ran, Reply, Txn, judge};
+use kr_serial::{Mode, Name, Played, Ran, Reply, Txn, judge};
 use kr_testing::Answer;
 use std::alloc::Global;
 use std::process::Abort;
@@ -95,6 +95,15 @@ fn compare(
     Ok(())
 }
 
+/// Compares a run of which no programs were kept with the same run.
+fn compare_played(rt: &impl Abort, run: &Run, ran: &Ran, played: &Played) {
+    let leaves = played.index.as_slice() == ran.index.as_slice()
+        && played.locks.as_slice() == ran.locks.as_slice()
+        && played.unfinished.as_slice() == ran.unfinished.as_slice();
+    let answers = are_answers(played.replies.as_slice(), run.steps);
+    assert!(rt; answers && leaves, "{played:?}");
+}
+
 /// The steps as events.
 fn events_of(alloc: Global, steps: &[Step]) -> Result<Vec<Event>, Memory> {
     let mut events = Vec::new(alloc);
@@ -120,6 +129,8 @@ fn tells_from(
     for way in run.ways {
         let ran = ran_by(alloc, *way, opening, events.as_slice())?;
         compare(rt, alloc, run, opening, &ran)?;
+        let played = played_by(alloc, *way, opening, events.as_slice())?;
+        compare_played(rt, run, &ran, &played);
     }
     Ok(())
 }

@@ -4,7 +4,7 @@ ghost use Rattle.kr_model.specs.Map.{IsMap};
 use kr_index::Memory;
 use kr_model::Event;
 use kr_protocol::{Covered, Im, Kvl, KvlUpdate, RangeKey};
-use kr_serial::{Ran, run, run_any};
+use kr_serial::{Played, Ran, play, run, run_any};
 use kr_testing::Plain;
 use std::alloc::Global;
 
@@ -95,5 +95,25 @@ pub fn ran_by(
         Way::Run(locking) => ran_with(alloc, locking, true, opening, events),
         Way::RunAny(locking) => ran_with(alloc, locking, false, opening, events),
         Way::WithoutLocks => run_any(alloc, &Plain, opening, events),
+    }
+}
+
+/// Runs events under the protocol of a way by `play`, which keeps no programs.
+pub fn played_by(
+    alloc: Global,
+    way: Way,
+    opening: &[(u64, u64)],
+    events: &[Event],
+) -> Result<Played, Memory>
+    requires { IsMap opening.now }
+{
+    match way {
+        Way::Run(locking) | Way::RunAny(locking) => match locking {
+            Locking::KeyValue => play(alloc, &Kvl, opening, events),
+            Locking::KeyValueWithUpdates => play(alloc, &KvlUpdate, opening, events),
+            Locking::IndexSpecific => play(alloc, &Im, opening, events),
+            Locking::RangeKey => play(alloc, &RangeKey, opening, events),
+        },
+        Way::WithoutLocks => play(alloc, &Plain, opening, events),
     }
 }

@@ -1,9 +1,8 @@
-use Rattle.std.proofs.Common.{◌≡◌, ◌∷◌, [], ℕ, Some, sym, subst, ap, ◌∙◌, arith}
+use Rattle.std.proofs.Common.{◌≡◌, ◌∷◌, ℕ, Some, sym, subst, arith}
 use Rattle.json.specs.Json.{after_end_array}
 use Rattle.serde_json.specs.Data.{string, array, item}
 use Rattle.serde_json.specs.View.{items_of}
 use Rattle.kr_script.specs.Json.{whole}
-use Rattle.kr_script.specs.Steps.{items_of_op}
 use Rattle.kr_script.specs.Tokens.{IsNext, word_of, behind_word}
 use Rattle.kr_script.proofs.Documents.{array_next, items_of_step}
 use Rattle.kr_script.proofs.plain.read_event.Goals as goal

@@ -1,9 +1,9 @@
-use Rattle.std.proofs.Common.{◌≡◌, ◌≤◌, ◌++◌, ◌∷◌, [], map, length, Some, sym, subst, ap, ap₂, ◌∙◌, arith}
+use Rattle.std.proofs.Common.{◌≡◌, ◌++◌, ◌∷◌, [], map, Some, sym, subst, ap, ◌∙◌, arith}
 use Rattle.std.proofs.lemmas.List.{map-append}
 use Rattle.json.specs.Json.{after_end_array}
 use Rattle.serde_json.specs.Data.{array}
 use Rattle.serde_json.specs.View.{items_of}
-use Rattle.kr_script.specs.Steps.{event_of, step_of}
+use Rattle.kr_script.specs.Steps.{step_of}
 use Rattle.kr_script.specs.Tokens.{IsNext, AreNext}
 use Rattle.kr_script.proofs.Documents.{array_next, one_more_next, back_further, ReadBack}
 use Rattle.kr_script.proofs.plain.read_events.Goals as goal

@@ -1,4 +1,4 @@
-use Rattle.std.proofs.Common.{◌≡◌, ◌≤◌, ◌∷◌, List, map, length}
+use Rattle.std.proofs.Common.{◌≡◌, ◌≤◌, ◌∷◌, map, length}
 use Rattle.json.specs.Token.{Token}
 use Rattle.kr_script.specs.Steps.{step_of}
 use Rattle.kr_script.specs.Tokens.{AreNext}

@@ -1,10 +1,9 @@
-use Rattle.std.proofs.Common.{◌≡◌, ◌≤◌, ℕ, length, Some, Ok, sym, subst, ap, ◌∙◌, arith}
-use Rattle.json.specs.Token.{Token}
-use Rattle.json.specs.Json.{Json, value}
+use Rattle.std.proofs.Common.{◌≡◌, ◌≤◌, length, Some, Ok, sym, subst, ap, ◌∙◌, arith}
+use Rattle.json.specs.Json.{value}
 use Rattle.serde_json.specs.View.{items_of}
 use Rattle.std.specs.Prelude.{map}
 use Rattle.kr_model.specs.Map.{IsMap}
-use Rattle.kr_script.specs.Report.{pair_data}
+use Rattle.kr_script.specs.Pairs.{pair_data}
 use Rattle.kr_script.specs.Reading.{reading_of}
 use Rattle.kr_script.proofs.Kept.{rising}
 use Rattle.kr_script.proofs.Documents.{document_next, document_reads, pairs_back}

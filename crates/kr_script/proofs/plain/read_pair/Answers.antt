@@ -1,7 +1,7 @@
 use Rattle.std.proofs.Common.{◌≡◌, ◌∷◌, [], Some, sym, subst, arith}
 use Rattle.json.specs.Json.{after_end_array}
 use Rattle.kr_script.specs.Json.{whole}
-use Rattle.kr_script.specs.Report.{pair_data}
+use Rattle.kr_script.specs.Pairs.{pair_data}
 use Rattle.kr_script.specs.Tokens.{IsNext}
 use Rattle.kr_script.proofs.Documents.{array_next}
 use Rattle.kr_script.proofs.plain.read_pair.Goals as goal

@@ -1,8 +1,7 @@
-use Rattle.std.proofs.Common.{◌≡◌, ◌≤◌, ◌++◌, ◌∷◌, [], map, length, Some, None, true, sym, subst, ap, ◌∙◌, arith}
+use Rattle.std.proofs.Common.{◌≡◌, ◌++◌, ◌∷◌, [], map, Some, None, true, sym, subst, ap, ◌∙◌, arith}
 use Rattle.std.proofs.lemmas.List.{map-append}
 use Rattle.json.specs.Json.{after_end_array}
-use Rattle.serde_json.specs.Data.{Data}
-use Rattle.kr_script.specs.Report.{pair_data, pairs_data}
+use Rattle.kr_script.specs.Pairs.{pair_data, pairs_data}
 use Rattle.kr_script.specs.Faults.{is_above}
 use Rattle.kr_script.specs.Tokens.{IsNext, AreNext}
 use Rattle.kr_script.proofs.Documents.{array_next, one_more_next, rises, last_key, rises_further, last_of_more, no_opening_fault}

@@ -1,6 +1,6 @@
-use Rattle.std.proofs.Common.{◌≡◌, ◌≤◌, ◌∷◌, None, true, List, map, length}
+use Rattle.std.proofs.Common.{◌≡◌, ◌≤◌, ◌∷◌, None, true, map, length}
 use Rattle.json.specs.Token.{Token}
-use Rattle.kr_script.specs.Report.{pair_data}
+use Rattle.kr_script.specs.Pairs.{pair_data}
 use Rattle.kr_script.specs.Tokens.{AreNext}
 use Rattle.kr_script.proofs.Documents.{rises, last_key}
 use Rattle.kr_script.proofs.plain.read_pairs.Given as goal

@@ -1,8 +1,16 @@
-use Rattle.std.proofs.Common.{◌≡◌, ◌==◌, ◌<◌, ◌^◌, List, ℕ, ap, sym, subst, false, slice_index, ne_eqb, ◌∙◌}
+use Rattle.std.proofs.Common.{◌≡◌, ◌==◌, ◌<◌, ◌^◌, List, ℕ, ap, sym, subst, false, slice_index, ne_eqb, ◌∙◌, Some}
 use Rattle.std.specs.Option.{SomeIff}
 use Rattle.fast_float.specs.Text.{IsInteger, digits_of, scan}
+use Rattle.serde_json.specs.Data.{unsigned}
+use Rattle.serde_json.specs.Read.{number_of}
 use Rattle.kr_script.proofs.Documents.{whole_of_scan}
+use Rattle.kr_script.proofs.Numbers.{number_of-digits}
 use Rattle.kr_script.proofs.plain.whole_number.Goals as goal
+
+pub returns-in-Some : goal.returns-in-Some
+returns-in-Some c =
+    let digits = c.in-Some.ensures in
+    ap number_of (sym c.as_bytes-bytes.ensures.value) ∙ number_of-digits _ digits.0.0 digits.0.1 ∙ ap (λ n. Some (unsigned n)) (sym digits.1)
 
 pub returns : goal.returns
 returns c =

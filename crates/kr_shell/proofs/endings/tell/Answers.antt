@@ -1,8 +1,8 @@
 use Rattle.std.proofs.Common.{◌≡◌, ℕ, List, [], ◌∷◌, ◌++◌, Option, ap, subst}
 use Rattle.std.specs.Prelude.{codes}
 use Rattle.std.specs.Io.KnownBytes.{Appends}
-use Rattle.kr_script.specs.Puts.{AppendsFront}
-use Rattle.kr_script.proofs.Grows.{appends_more, front_of_more, front_behind}
+use Rattle.kr_sink.specs.Puts.{AppendsFront}
+use Rattle.kr_sink.proofs.Grows.{appends_more, front_of_more, front_behind}
 use Rattle.kr_shell.specs.Endings.{line_of}
 use Rattle.kr_shell.proofs.Fronts.{front_whole}
 use Rattle.kr_shell.proofs.endings.tell.Goals as goal

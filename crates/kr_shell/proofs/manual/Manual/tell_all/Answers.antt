@@ -1,7 +1,7 @@
 use Rattle.std.specs.Prelude.{ℕ, List, Result, Ok, Err, OnErr}
 use Rattle.std.proofs.Common.{subst}
-use Rattle.kr_script.specs.Puts.{AppendsFront}
-use Rattle.kr_script.proofs.Grows.{front_behind}
+use Rattle.kr_sink.specs.Puts.{AppendsFront}
+use Rattle.kr_sink.proofs.Grows.{front_behind}
 use Rattle.kr_shell.specs.Manual.{ending_text}
 use Rattle.kr_shell.proofs.manual.Manual.tell_all.Goals as goal
 

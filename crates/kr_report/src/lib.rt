@@ -1,0 +1,14 @@
+//! The reports of checks, runs, verdicts and runs in several threads, as JSON on one line.
+#![tactic(auto)]
+
+mod check_reports;
+mod replies;
+mod reports;
+mod threaded;
+mod threads_reports;
+mod writing;
+
+pub use check_reports::report_check;
+pub use reports::{report_played, report_run, report_verdict};
+pub use threaded::{Answered, Threaded};
+pub use threads_reports::report_threads;

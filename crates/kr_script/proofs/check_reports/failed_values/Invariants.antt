@@ -1,7 +1,0 @@
-use Rattle.std.proofs.Common.{◌≡◌, take, map}
-use Rattle.serde_json.specs.View.{view}
-use Rattle.kr_script.specs.CheckReport.{failed_data}
-use Rattle.kr_script.proofs.check_reports.failed_values.Given as goal
-
-abbrev pub invariant-loop-case : goal.invariant-loop-case
-invariant-loop-case g l = map view l.list.items ≡ map (failed_data (g.P.Protocol.names l.protocol)) (take l.case-index l.failed)
