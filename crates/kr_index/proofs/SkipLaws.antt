@@ -54,6 +54,14 @@ none_from (p ∷ m) c is q le = elim (two p.0 c) [
   | inr from ↦ absurd (cc (here p m c from, is))
 ]
 
+-- where no key from c on has a value, there is no name
+pub end_from : (m : Map) (c : ℕ) → ((q : ℕ) → c ≤ q → get m q ≡ None) → at m c ≡ End
+end_from [] c absent = refl
+end_from (p ∷ m) c absent = elim (two p.0 c) [
+  | inl lt ↦ past p m c lt ∙ end_from m c (λ q le. sym (other p m q (λ e. absurd (omega arith))) ∙ absent q le)
+  | inr from ↦ absurd (cc (own p m, absent p.0 from))
+]
+
 -- no key below the next name has a value
 pub none_below : (m : Map) (c k : ℕ) → T (is_sorted nat_cmp m) → at m c ≡ Key k → (q : ℕ) → c ≤ q → q < k → get m q ≡ None
 none_below [] c k sorted is q le lt = absurd (cc is)

@@ -11,6 +11,7 @@ mod slots;
 mod sorted;
 mod stretches;
 mod tree;
+mod values;
 mod walks;
 
 use kr_model::Pairs;

@@ -19,12 +19,17 @@ pub struct Stretch {
     pub present: usize,
 }
 
-/// The place of the stretch that a key is in, or `None` where all begin above the key. Found by bisection.
+/// The place of the stretch that a key is in, or `None` where all begin above the key. Found by bisection, and
+/// at once where it is the last one.
 pub fn home(stretches: &[Stretch], key: u64) -> Option<usize>
     requires { IsRising stretches.now }
     ensures place { IfSome result (IsIn stretches.now key) }
     ensures none { IfNone result ((i : ℕ) (d : Stretch) → i < length stretches.now → key < (slice_index_or stretches.now i d).from) }
 {
+    let count = stretches.len();
+    if count > 0 && stretches[count - 1].from <= key {
+        return Some(count - 1);
+    }
     let above = stretches.partition_point(
         |stretch: &Stretch| -> bool
             ensures { result ≡ nat_le stretch.now.from key }

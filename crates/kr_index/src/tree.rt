@@ -2,13 +2,14 @@
 ghost use Rattle.std.specs.Prelude.{◌≡◌, ℕ, ◌+◌, ◌-◌, ◌<◌, ◌^◌, [], None, IfOk, OnOk, OnErr, IsTrue, false, ◌==◌, if◌then◌else◌};
 ghost use Rattle.std.specs.Ordering.{nat_cmp};
 ghost use Rattle.std.specs.FinMap.{find};
-ghost use Rattle.kr_model.specs.Map.{Map, IsMap, get, restore};
+ghost use Rattle.kr_model.specs.Map.{Map, IsMap};
 ghost use Rattle.kr_index.specs.Slots.{pairs_of, pins_of, value_in, IsInOrder};
 ghost use Rattle.kr_index.specs.Stretches.{IsRising, AreMarked};
 
 use crate::slots::Slot;
 use crate::stretches::{Stretch, cut, enter, grow, join, leave, shrink, tally};
-use crate::walks::{first_past, make_room, name_at, settle};
+use crate::values::replace;
+use crate::walks::{first_past, is_past_all, make_room, name_at, settle};
 use crate::{Memory, Ordered};
 use kr_model::{Name, Pairs};
 use std::alloc::{AllocError, Global};
@@ -71,6 +72,9 @@ fn pin_there(slots: &mut BTreeMap<u64, Slot>, key: u64) -> Result<bool, Memory>
     ensures same { IfOk result (λ there. there ≡ false → slots.new.entries ≡ slots.old.entries) }
     ensures err { OnErr result (slots.new.entries ≡ slots.old.entries) }
 {
+    if is_past_all(slots, key) {
+        return Ok(false);
+    }
     if let Some(slot) = slots.get_mut(&key) {
         if slot.pins == u32::MAX {
             return Err(AllocError);
@@ -127,23 +131,6 @@ fn remove(slots: &mut BTreeMap<u64, Slot>, key: u64)
     ensures pins { (q : ℕ) → pins_of slots.new.entries q ≡ (if q == key then 0 else pins_of slots.old.entries q) }
 {
     let _ = slots.remove(&key);
-}
-
-/// Writes the value of a pinned key, or takes it away, and returns the value that it had.
-fn replace(slots: &mut BTreeMap<u64, Slot>, key: u64, value: Option<u64>) -> Option<u64>
-    requires in_order { IsInOrder slots.old.entries }
-    requires pinned { 0 < pins_of slots.old.entries key }
-    ensures was { result ≡ get (pairs_of slots.old.entries) key }
-    ensures in_order { IsInOrder slots.new.entries }
-    ensures map { pairs_of slots.new.entries ≡ restore (pairs_of slots.old.entries) key value }
-    ensures pins { (q : ℕ) → pins_of slots.new.entries q ≡ pins_of slots.old.entries q }
-{
-    if let Some(slot) = slots.get_mut(&key) {
-        let was = slot.value;
-        slot.value = value;
-        return was;
-    }
-    None
 }
 
 /// Counts the value of `key` as taken away. A stretch where none is left is marked as bare.

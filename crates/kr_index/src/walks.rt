@@ -1,5 +1,7 @@
 //! Walks through a tree's slots to the next key that has a value.
-ghost use Rattle.std.specs.Prelude.{◌≡◌, ℕ, ◌≤◌, ◌<◌, ◌+◌, IfSome, IfNone, IsTrue, length, slice_index_or};
+ghost use Rattle.std.specs.Prelude.{◌≡◌, ℕ, ◌≤◌, ◌<◌, ◌+◌, IfSome, IfNone, IsTrue, None, length, slice_index_or};
+ghost use Rattle.std.specs.Ordering.{nat_cmp};
+ghost use Rattle.std.specs.FinMap.{find};
 ghost use Rattle.kr_model.specs.Map.{at, after};
 ghost use Rattle.kr_model.specs.declared.Name.TheVariants.{Key};
 ghost use Rattle.kr_index.specs.Slots.{pairs_of, IsInOrder};
@@ -114,6 +116,16 @@ pub fn name_from(slots: &BTreeMap<u64, Slot>, stretches: &[Stretch], from: u64) 
     }
 }
 
+/// Whether `key` is above each key that has a slot. It takes no search.
+pub fn is_past_all(slots: &BTreeMap<u64, Slot>, key: u64) -> bool
+    ensures { IsTrue result → (q : ℕ) → key ≤ q → find nat_cmp q slots.now.entries ≡ None }
+{
+    match slots.last_key_value() {
+        Some((last, _)) => *last < key,
+        None => false,
+    }
+}
+
 /// The first key from `from` on that has a value. Stretches are looked at only where the first key with a slot has none.
 pub fn name_at(slots: &BTreeMap<u64, Slot>, stretches: &[Stretch], from: u64) -> Name
     requires in_order { IsInOrder slots.now.entries }
@@ -121,6 +133,9 @@ pub fn name_at(slots: &BTreeMap<u64, Slot>, stretches: &[Stretch], from: u64) ->
     requires marked { AreMarked stretches.now (pairs_of slots.now.entries) }
     ensures { result ≡ at (pairs_of slots.now.entries) from }
 {
+    if is_past_all(slots, from) {
+        return Name::End;
+    }
     let mut items = slots.range(from..);
     match items.next() {
         Some((key, slot)) => {

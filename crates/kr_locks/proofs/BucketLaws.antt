@@ -1,5 +1,5 @@
 -- What a release takes away, who conflicts with a request, and the list of all locks.
-use Rattle.std.proofs.Common.{◌≡◌, ℕ, ◌<◌, ◌≤◌, length, get_or, Bool, true, false, cond, not, List, [], ◌∷◌, ◌++◌, Option, Some, None, sym, ap, ◌∙◌, refl, subst, arith, IsTrue, filter, map}
+use Rattle.std.proofs.Common.{◌≡◌, ℕ, ◌<◌, ◌≤◌, length, get_or, Bool, true, false, cond, not, List, [], ◌∷◌, Option, Some, None, sym, ap, ◌∙◌, refl, subst, arith, filter, map}
 use Rattle.std.specs.Prelude.{T, unwrap_or, ◌&&◌, ◌||◌, ◌==◌, ◌≢◌}
 use mathlib.Core.Bool.{false≢true}
 use Rattle.std.specs.List.{list_any}
@@ -7,8 +7,8 @@ use Rattle.std.specs.declared.cmp.Ordering.{Ordering}
 use Rattle.std.specs.declared.cmp.Ordering.TheVariants.{Less, Equal, Greater}
 use Rattle.std.specs.Ordering.{nat_cmp, ordering_then, eq_by_cmp, is_eq, is_lt}
 use Rattle.std.specs.Cmp.{nat_cmp_total, tied_itself}
-use Rattle.std.specs.FinMap.{find, put, is_sorted}
-use Rattle.std.specs.FinMap.Entries.{below_all, by_order, is_sorted-where_key, same_entries, find-where_key}
+use Rattle.std.specs.FinMap.{find, is_sorted}
+use Rattle.std.specs.FinMap.Entries.{below_all, is_sorted-where_key, same_entries, find-where_key}
 use Rattle.std.proofs.lemmas.Bool.Decides.{nat_tests}
 use Rattle.std.proofs.lemmas.List.{get_or_default}
 use Rattle.kr_model.specs.declared.Name.{Name}
@@ -18,7 +18,7 @@ use Rattle.kr_model.specs.Locks.{Locks, Holder, AreWithin, name_cmp, holder_cmp,
 use Rattle.kr_model.proofs.LockLaws.{name_total, name_exact, holder_total, holder_exact, find-release}
 use Rattle.kr_model.proofs.Keep.{same}
 use Rattle.kr_locks.specs.List.{locks_on, lock_conflicts}
-use Rattle.kr_locks.specs.Buckets.{Holders, Names, IsHolders, IsNames, holders_at, with_holders, locks_of, locks_at, holder_conflicts, forget_all}
+use Rattle.kr_locks.specs.Buckets.{Holders, Names, IsHolders, IsNames, holders_at, locks_of, locks_at, holder_conflicts, forget_all}
 use Rattle.kr_locks.proofs.HolderPlaces.{t_holders, mode_at}
 use Rattle.kr_locks.proofs.Conflicts.{conflicting, conflicting_are, converted_within}
 use Rattle.kr_locks.proofs.NameLaws.{find-locks_of, find-forget, sorted_locks, IsLocks-locks_of}
@@ -196,50 +196,3 @@ module _ (p : Protocol) (es : Names) (t : ℕ) (n : Name) (q : ℕ) (hs : Holder
   -- nobody conflicts with it exactly where it has no blockers
   pub free_is : (filter (holder_conflicts p t (p.convert (unwrap_or (find nat_cmp t hs) 0) q)) hs ≡ [] → blockers p (locks_of es) t ((n, q, Commit) ∷ []) ≡ []) × (blockers p (locks_of es) t ((n, q, Commit) ∷ []) ≡ [] → filter (holder_conflicts p t (p.convert (unwrap_or (find nat_cmp t hs) 0) q)) hs ≡ [])
   free_is = (λ e. sym holders_are ∙ ap (λ (us : Holders). map (λ (h : ℕ × ℕ). h.0) us) e, λ e. none_left (filter (holder_conflicts p t (p.convert (unwrap_or (find nat_cmp t hs) 0) q)) hs) (holders_are ∙ e))
-
--- The list of all --
-
-in_front : (k : Holder) (m : ℕ) (ls : Locks) → T (below_all holder_cmp k ls) → put holder_cmp k m ls ≡ (k, m) ∷ ls
-in_front k m [] b = refl
-in_front k m (l ∷ ls) b = ap (λ o. by_order o ((k, m) ∷ l ∷ ls) ((l.0, m) ∷ ls) (l ∷ put holder_cmp k m ls)) (less_of (holder_cmp k l.0) (first _ _ b))
-
-below_put : (x k : Holder) (m : ℕ) (ls : Locks) → T (is_lt (holder_cmp x k)) → T (below_all holder_cmp x ls) → T (below_all holder_cmp x (put holder_cmp k m ls))
-below_put x k m [] lt b = both _ _ lt tt
-below_put x k m (l ∷ ls) lt b = by (holder_cmp k l.0) (below_put x k m ls lt (second _ _ b))
-  where
-    by : (o : Ordering) → T (below_all holder_cmp x (put holder_cmp k m ls)) → T (below_all holder_cmp x (by_order o ((k, m) ∷ l ∷ ls) ((l.0, m) ∷ ls) (l ∷ put holder_cmp k m ls)))
-    by Less r = both _ _ lt b
-    by Equal r = b
-    by Greater r = both _ _ (first _ _ b) r
-
-below_with : (x : Holder) (n : Name) (hs : Holders) (ls : Locks) → name_cmp x.0 n ≡ Less → T (below_all holder_cmp x ls) → T (below_all holder_cmp x (with_holders n hs ls))
-below_with x n [] ls lt b = b
-below_with x n (h ∷ hs) ls lt b = below_put x (n, h.0) h.1 (with_holders n hs ls) (lt_of (holder_cmp x (n, h.0)) (ap (λ o. ordering_then o (nat_cmp x.1 h.0)) lt)) (below_with x n hs ls lt b)
-
-below_locks : (x : Holder) (es : Names) → T (below_all name_cmp x.0 es) → T (below_all holder_cmp x (locks_of es))
-below_locks x [] b = tt
-below_locks x (e ∷ es) b = below_with x e.0 e.1 (locks_of es) (less_of (name_cmp x.0 e.0) (first _ _ b)) (below_locks x es (second _ _ b))
-
-below_joined : (n : Name) (t : ℕ) (hs : Holders) (ls : Locks) → T (below_all nat_cmp t hs) → T (below_all holder_cmp (n, t) ls) → T (below_all holder_cmp (n, t) (locks_at n hs ++ ls))
-below_joined n t [] ls b c = c
-below_joined n t (h ∷ hs) ls b c = both _ _ (lt_of (holder_cmp (n, t) (n, h.0)) (ap (λ o. ordering_then o (nat_cmp t h.0)) (tied_itself name_total n) ∙ less_of (nat_cmp t h.0) (first _ _ b))) (below_joined n t hs ls (second _ _ b) c)
-
-with_is : (n : Name) (hs : Holders) (es : Names) → T (is_sorted nat_cmp hs) → T (below_all name_cmp n es) → with_holders n hs (locks_of es) ≡ locks_at n hs ++ locks_of es
-with_is n [] es s b = refl
-with_is n (h ∷ hs) es s b =
-    ap (put holder_cmp (n, h.0) h.1) (with_is n hs es (second _ _ s) b)
-    ∙ in_front (n, h.0) h.1 (locks_at n hs ++ locks_of es) (below_joined n h.0 hs (locks_of es) (first _ _ s) (below_locks (n, h.0) es b))
-
-t_names : (es : Names) → IsNames es → T (is_sorted name_cmp es)
-t_names es s = subst (λ b. T b) (sym s) tt
-
--- the locks on the first name, then those on the others
-pub first_name : (n : Name) (hs : Holders) (es : Names) → IsNames ((n, hs) ∷ es) → IsHolders hs → locks_of ((n, hs) ∷ es) ≡ locks_at n hs ++ locks_of es
-first_name n hs es s sh = with_is n hs es (t_holders hs sh) (first _ _ (t_names ((n, hs) ∷ es) s))
-
-rest_of : (b : Bool) → T b → IsTrue b
-rest_of true h = refl
-rest_of false h = absurd h
-
-pub other_names : (e : Name × Holders) (es : Names) → IsNames (e ∷ es) → IsNames es
-other_names e es s = rest_of _ (second _ _ (t_names (e ∷ es) s))

@@ -1,14 +1,17 @@
 -- Locks by name: the few holders of each name, and the locks that they make.
-use Rattle.std.specs.Prelude.{◌≡◌, ℕ, ◌<◌, ◌≤◌, Bool, not, ◌&&◌, ◌==◌, List, [], ◌∷◌, filter, map, length, slice_index_or, unwrap_or, IsTrue}
-use Rattle.std.specs.List.{HoldsAt}
+use Rattle.std.specs.Prelude.{◌≡◌, ℕ, ◌<◌, ◌≤◌, Bool, not, ◌&&◌, ◌==◌, List, [], ◌∷◌, filter, map, length, slice_index_or, unwrap_or, IsTrue, Option, Some, None, nat_eq}
+use Rattle.std.specs.List.{HoldsAt, IsDistinct}
+use Rattle.std.specs.Map.{lookup, keys_of}
+use Rattle.std.specs.Option.{option_eq}
 use Rattle.std.specs.List.Sorted.{IsPartitionPoint}
 use Rattle.std.specs.Ordering.{nat_cmp, eq_by_cmp}
 use Rattle.std.specs.Int.{bit_at}
 use Rattle.std.specs.declared.cmp.Ordering.TheVariants.{Less, Equal, Greater}
-use Rattle.std.specs.FinMap.{find, put, is_sorted}
+use Rattle.std.specs.FinMap.{put, is_sorted}
 use Rattle.kr_model.specs.declared.Name.{Name}
+use Rattle.kr_model.specs.declared.Name.TheVariants.{Key, End}
 use Rattle.kr_model.specs.Protocol.{Protocol}
-use Rattle.kr_model.specs.Locks.{Locks, name_cmp, holder_cmp, forget}
+use Rattle.kr_model.specs.Locks.{Locks, holder_cmp, forget}
 
 -- The holders of one name --
 
@@ -42,29 +45,42 @@ holder_conflicts p t m h = not (h.0 == t) && not (p.ok m h.1)
 
 -- All names --
 
--- names, each with its holders
-abbrev pub Names : Type 0
-Names = List (Name × Holders)
+-- a name, as a table has it for a key: the end is `None`
+abbrev pub key_of : Name → Option ℕ
+key_of (Key k) = Some k
+key_of End = None
 
--- the names rise, so each has one list of holders
+abbrev pub name_of : Option ℕ → Name
+name_of (Some k) = Key k
+name_of None = End
+
+-- names in any order, each with its holders
+abbrev pub Names : Type 0
+Names = List (Option ℕ × Holders)
+
+-- each name has one list of holders
 abbrev pub IsNames : Names → Type 0
-IsNames es = IsTrue (is_sorted name_cmp es)
+IsNames es = IsDistinct (option_eq nat_eq) (keys_of es)
 
 -- the holders of a name
 abbrev pub holders_at : Names → Name → Holders
-holders_at es n = unwrap_or (find name_cmp n es) []
+holders_at es n = unwrap_or (lookup (option_eq nat_eq (key_of n)) es) []
 
 -- the locks, and those of the holders of name n
 abbrev pub with_holders : Name → Holders → Locks → Locks
 with_holders n [] ls = ls
 with_holders n (h ∷ hs) ls = put holder_cmp (n, h.0) h.1 (with_holders n hs ls)
 
+-- the locks, and those of the holders of all these names
+abbrev pub with_names : Names → Locks → Locks
+with_names [] ls = ls
+with_names (e ∷ es) ls = with_names es (with_holders (name_of e.0) e.1 ls)
+
 -- all locks
 abbrev pub locks_of : Names → Locks
-locks_of [] = []
-locks_of (e ∷ es) = with_holders e.0 e.1 (locks_of es)
+locks_of es = with_names es []
 
--- the locks of the holders of name n
+-- the locks of the holders of name n, rising
 abbrev pub locks_at : Name → Holders → Locks
 locks_at n hs = map (λ h. ((n, h.0), h.1)) hs
 

@@ -5,27 +5,26 @@ ghost use Rattle.kr_model.specs.Locks.{AreWithin, own, keep};
 ghost use Rattle.kr_locks.specs.Buckets.{IsNames, holders_at, locks_of};
 ghost use Rattle.kr_locks.specs.Noted.{IsNoted, AreNoted, noted};
 
-use crate::bucket::Bucket;
 use crate::names::{
-    all_locks, conflicting, drop_lock, drop_locks, is_free, own_in, store, store_new,
+    Names, all_locks, conflicting, drop_lock, drop_locks, is_free, key_of, own_in, store, store_new,
 };
 use crate::{Holdings, Memory, Mode, Name, Txn};
 use kr_protocol::Protocol;
 use std::alloc::Global;
-use std::collections::BTreeMap;
+use std::collections::HashMap;
 use std::marker::Model;
 
 /// Locks by name: for each name its few holders, and the mask of all their modes; and for each transaction the names that
 /// it was given locks on.
 ///
 /// `own`, `test` and `blockers` look at the holders of the name, and `test` at none of them where the mask shows that no mode
-/// conflicts. `keep` takes a logarithmic number of looks at names. `release` goes over the transaction's own names, and
-/// `copy` over all locks.
+/// conflicts. A name is found by its hash, and `keep` takes a logarithmic number of looks at transactions beside that.
+/// `release` goes over the transaction's own names. `copy` goes over all locks and puts them in order.
 #[derive(Drop)]
 pub struct Buckets {
     alloc: Global,
-    names: BTreeMap<Name, Bucket>,
-    held: BTreeMap<Txn, Vec<Name>>,
+    names: Names,
+    held: HashMap<Txn, Vec<Name>>,
 }
 
 impl Model for Buckets {
@@ -41,7 +40,7 @@ impl Model for Buckets {
 }
 
 /// Notes a name of a transaction that has names, and tells whether it has some.
-fn note_there(held: &mut BTreeMap<Txn, Vec<Name>>, txn: Txn, name: Name) -> Result<bool, Memory>
+fn note_there(held: &mut HashMap<Txn, Vec<Name>>, txn: Txn, name: Name) -> Result<bool, Memory>
     ensures kept { (t : ℕ) (n : Name) → IsNoted held.old t n → IsNoted held.new t n }
     ensures noted { IfOk result (λ there. IsTrue there → IsNoted held.new txn name) }
     ensures absent { IfOk result (λ there. there ≡ false → noted held.new txn ≡ []) }
@@ -56,7 +55,7 @@ fn note_there(held: &mut BTreeMap<Txn, Vec<Name>>, txn: Txn, name: Name) -> Resu
 /// Notes the first name of a transaction.
 fn note_first(
     alloc: Global,
-    held: &mut BTreeMap<Txn, Vec<Name>>,
+    held: &mut HashMap<Txn, Vec<Name>>,
     txn: Txn,
     name: Name,
 ) -> Result<(), Memory>
@@ -73,7 +72,7 @@ fn note_first(
 /// Notes a name of a transaction.
 fn note(
     alloc: Global,
-    held: &mut BTreeMap<Txn, Vec<Name>>,
+    held: &mut HashMap<Txn, Vec<Name>>,
     txn: Txn,
     name: Name,
 ) -> Result<(), Memory>
@@ -90,8 +89,8 @@ fn note(
 /// Notes a name of a transaction that holds no lock on it yet. One that does has noted it, and takes no memory.
 fn note_new(
     alloc: Global,
-    held: &mut BTreeMap<Txn, Vec<Name>>,
-    names: &BTreeMap<Name, Bucket>,
+    held: &mut HashMap<Txn, Vec<Name>>,
+    names: &Names,
     txn: Txn,
     name: Name,
 ) -> Result<(), Memory>
@@ -111,7 +110,7 @@ fn note_new(
 /// Notes a name of a transaction, whose own mode there is given. One that holds a lock there has noted it.
 fn note_unless_held(
     alloc: Global,
-    held: &mut BTreeMap<Txn, Vec<Name>>,
+    held: &mut HashMap<Txn, Vec<Name>>,
     was: Mode,
     txn: Txn,
     name: Name,
@@ -130,8 +129,8 @@ fn note_unless_held(
 /// mode before; `None` where it has none. It takes one look at the names.
 fn raise_there<P: Protocol>(
     alloc: Global,
-    held: &mut BTreeMap<Txn, Vec<Name>>,
-    names: &mut BTreeMap<Name, Bucket>,
+    held: &mut HashMap<Txn, Vec<Name>>,
+    names: &mut Names,
     protocol: &P,
     txn: Txn,
     name: Name,
@@ -149,7 +148,7 @@ fn raise_there<P: Protocol>(
     ensures same { IfOk result (λ there. IfNone there (names.new.entries ≡ names.old.entries)) }
     ensures err { OnErr result (locks_of names.new.entries ≡ locks_of names.old.entries) }
 {
-    if let Some(bucket) = names.get_mut(&name) {
+    if let Some(bucket) = names.get_mut(&key_of(name)) {
         let was = bucket.own(txn);
         let kept = protocol.convert(was, mode);
         note_unless_held(alloc, held, was, txn, name)?;
@@ -162,8 +161,8 @@ fn raise_there<P: Protocol>(
 /// Notes a name that nobody holds a lock on, and gives a transaction its first lock there.
 fn raise_new(
     alloc: Global,
-    held: &mut BTreeMap<Txn, Vec<Name>>,
-    names: &mut BTreeMap<Name, Bucket>,
+    held: &mut HashMap<Txn, Vec<Name>>,
+    names: &mut Names,
     txn: Txn,
     name: Name,
     mode: Mode,
@@ -182,7 +181,7 @@ fn raise_new(
 }
 
 /// The names of a transaction, which are forgotten.
-fn take_noted(held: &mut BTreeMap<Txn, Vec<Name>>, txn: Txn) -> Option<Vec<Name>>
+fn take_noted(held: &mut HashMap<Txn, Vec<Name>>, txn: Txn) -> Option<Vec<Name>>
     ensures some { IfSome result (λ list. list.items ≡ noted held.old txn) }
     ensures none { IfNone result (noted held.old txn ≡ []) }
     ensures kept { (t : ℕ) (n : Name) → t ≢ txn → IsNoted held.old t n → IsNoted held.new t n }
@@ -197,8 +196,8 @@ impl Buckets {
     {
         Buckets {
             alloc,
-            names: BTreeMap::new(alloc),
-            held: BTreeMap::new(alloc),
+            names: HashMap::new(alloc),
+            held: HashMap::new(alloc),
         }
     }
 }

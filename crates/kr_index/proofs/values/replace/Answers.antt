@@ -5,7 +5,7 @@ use Rattle.kr_index.specs.Slots.{pairs_of, pins_of, pins_in, value_in, IsInOrder
 use Rattle.kr_index.proofs.SlotLaws.{in_order-put, pairs-put, pins-put, get-pairs}
 use Rattle.kr_model.proofs.Trees.{lookup_is_find}
 use Rattle.kr_index.proofs.TreeLaws.{written, pins_same}
-use Rattle.kr_index.proofs.tree.replace.Goals as goal
+use Rattle.kr_index.proofs.values.replace.Goals as goal
 
 pub returns-in-Some-clause-was : goal.returns-in-Some-clause-was
 returns-in-Some-clause-was c =
