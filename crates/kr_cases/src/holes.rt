@@ -130,8 +130,9 @@ fn first_at<P: Protocol>(protocol: &P, held: Mode, ask: (Row, Side)) -> Option<R
     }
 }
 
-/// The first requester that a lock in mode `held` lets through, of those that the cover must conflict with.
-fn first_open<P: Protocol>(protocol: &P, cover: Cover, held: Mode) -> Option<Requester>
+/// The first requester that a lock in mode `held` lets through, of those that the cover must conflict with, in the order of
+/// `must_conflict`, by the requester's own modes. `held` is 0, for no lock, to the number of modes. Takes no memory.
+pub fn first_open<P: Protocol>(protocol: &P, cover: Cover, held: Mode) -> Option<Requester>
     requires { held ≤ (P.table protocol.now).count }
     ensures { result ≡ first_open (P.table protocol.now) cover held }
 {

@@ -7,5 +7,5 @@ mod holes;
 mod rules;
 
 pub use checker::{Checked, Rejected, WhyRejected, cases, check};
-pub use holes::must_conflict;
+pub use holes::{first_open, must_conflict};
 pub use kr_model::{FailedCase, Memory};

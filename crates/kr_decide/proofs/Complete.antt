@@ -10,7 +10,7 @@ use Rattle.kr_model.specs.declared.GapUse.{GapUse}
 use Rattle.kr_model.specs.declared.GapUse.TheVariants as gap
 use Rattle.kr_model.specs.declared.LockState.{LockState}
 use Rattle.kr_model.specs.Protocol.{Protocol}
-use Rattle.kr_model.specs.Safe.{free, by_key, by_gap, after, MayAsk, is_blocked, Beside, start, turn, leave, move}
+use Rattle.kr_model.specs.Safe.{free, by_key, by_gap, after, asked, MayAsk, is_blocked, Beside, start, turn, leave, move}
 use Rattle.kr_decide.specs.declared.pair.Pair.{Pair}
 use Rattle.kr_decide.specs.declared.pair.Way.{Way}
 use Rattle.kr_decide.specs.declared.pair.Way.TheVariants as way
@@ -50,32 +50,33 @@ above_alone p pairs a derived i =
 -- Requests and the next name --
 
 -- A request that doesn't go by the next name is the same whatever is there.
-record Plainly (p : Protocol) (r : Row) (s : Side) (x y n : LockState) : Type 0 where
-  asks : MayAsk p r s x n → MayAsk p r s x free
-  blocked : is_blocked p r s x n y ≡ is_blocked p r s x free y
-  comes : after p r s x n ≡ after p r s x free
+pub record Plainly (p : Protocol) (r : Row) (s : Side) (x y n : LockState) : Type 0 where
+  pub asks : MayAsk p r s x n → MayAsk p r s x free
+  pub asked : asked p r s x n ≡ asked p r s x free
+  pub blocked : is_blocked p r s x n y ≡ is_blocked p r s x free y
+  pub comes : after p r s x n ≡ after p r s x free
 
-plainly : (p : Protocol) (r : Row) (s : Side) (x y n : LockState) → goes_by_next r s ≡ false → Plainly p r s x y n
-plainly p row.FetchHit Current x y n e = record { asks = λ a. a; blocked = refl; comes = refl }
-plainly p row.FetchHit Next x y n e = record { asks = λ a. a; blocked = refl; comes = refl }
-plainly p row.FetchMiss Current x y n e = record { asks = λ a. a; blocked = refl; comes = refl }
-plainly p row.FetchMiss Next x y n e = record { asks = λ a. a; blocked = refl; comes = refl }
-plainly p row.ScanKey Current x y n e = record { asks = λ a. a; blocked = refl; comes = refl }
-plainly p row.ScanKey Next x y n e = record { asks = λ a. a; blocked = refl; comes = refl }
-plainly p row.ScanStop Current x y n e = record { asks = λ a. a; blocked = refl; comes = refl }
-plainly p row.ScanStop Next x y n e = record { asks = λ a. a; blocked = refl; comes = refl }
+pub plainly : (p : Protocol) (r : Row) (s : Side) (x y n : LockState) → goes_by_next r s ≡ false → Plainly p r s x y n
+plainly p row.FetchHit Current x y n e = record { asks = λ a. a; asked = refl; blocked = refl; comes = refl }
+plainly p row.FetchHit Next x y n e = record { asks = λ a. a; asked = refl; blocked = refl; comes = refl }
+plainly p row.FetchMiss Current x y n e = record { asks = λ a. a; asked = refl; blocked = refl; comes = refl }
+plainly p row.FetchMiss Next x y n e = record { asks = λ a. a; asked = refl; blocked = refl; comes = refl }
+plainly p row.ScanKey Current x y n e = record { asks = λ a. a; asked = refl; blocked = refl; comes = refl }
+plainly p row.ScanKey Next x y n e = record { asks = λ a. a; asked = refl; blocked = refl; comes = refl }
+plainly p row.ScanStop Current x y n e = record { asks = λ a. a; asked = refl; blocked = refl; comes = refl }
+plainly p row.ScanStop Next x y n e = record { asks = λ a. a; asked = refl; blocked = refl; comes = refl }
 plainly p row.Insert Current x y n e = cc
-plainly p row.Insert Next x y n e = record { asks = λ a. a; blocked = refl; comes = refl }
+plainly p row.Insert Next x y n e = record { asks = λ a. a; asked = refl; blocked = refl; comes = refl }
 plainly p row.Delete Current x y n e = cc
-plainly p row.Delete Next x y n e = record { asks = λ a. a; blocked = refl; comes = refl }
-plainly p row.Update Current x y n e = record { asks = λ a. a; blocked = refl; comes = refl }
-plainly p row.Update Next x y n e = record { asks = λ a. a; blocked = refl; comes = refl }
+plainly p row.Delete Next x y n e = record { asks = λ a. a; asked = refl; blocked = refl; comes = refl }
+plainly p row.Update Current x y n e = record { asks = λ a. a; asked = refl; blocked = refl; comes = refl }
+plainly p row.Update Next x y n e = record { asks = λ a. a; asked = refl; blocked = refl; comes = refl }
 
 -- A lock state on the next name, but for what was done with the key there.
-abbrev parts : ℕ → GapUse → Bool → LockState
+abbrev pub parts : ℕ → GapUse → Bool → LockState
 parts m g d = record { mode = m; key = key.Free; gap = g; deleted = d }
 
-same_parts : (a n : LockState) → IsAlike a n → parts a.mode a.gap a.deleted ≡ parts n.mode n.gap n.deleted
+pub same_parts : (a n : LockState) → IsAlike a n → parts a.mode a.gap a.deleted ≡ parts n.mode n.gap n.deleted
 same_parts a n h = ap (λ m. parts m a.gap a.deleted) h.0 ∙ ap (λ g. parts n.mode g a.deleted) h.1 ∙ ap (λ d. parts n.mode n.gap d) h.2
 
 -- The two requests that go by the next name are the same above a lock state like it.
@@ -91,7 +92,7 @@ by_alike p pairs row.ScanStop s x y a n e h m = cc
 by_alike p pairs row.Update s x y a n e h m = cc
 
 -- It may come to request only above a name that it hasn't deleted.
-not_deleted : (p : Protocol) (r : Row) (s : Side) (x n : LockState) → goes_by_next r s ≡ true → MayAsk p r s x n → n.deleted ≡ false
+pub not_deleted : (p : Protocol) (r : Row) (s : Side) (x n : LockState) → goes_by_next r s ≡ true → MayAsk p r s x n → n.deleted ≡ false
 not_deleted p row.Insert Current x n e may = may.0
 not_deleted p row.Delete Current x n e may = may.1
 not_deleted p row.Insert Next x n e may = cc
@@ -110,7 +111,7 @@ module _ (p : Protocol) (f : Found) (going : IsGoing p f (length f.pairs.items))
       subst (λ (z : LockState). IsFollowed p f.pairs.items f.nexts.items z y) h.own
       (subst (λ (z : LockState). IsFollowed p f.pairs.items f.nexts.items (pair_at f.pairs.items h.place).own z) h.other (going.followed h.place h.within))
 
-  next_of : (n : LockState) → Has f.pairs.items n free → n.deleted ≡ false → HasNext f.nexts.items n
+  pub next_of : (n : LockState) → Has f.pairs.items n free → n.deleted ≡ false → HasNext f.nexts.items n
   next_of n h d = let o = followed_at n free h in o.next refl d
 
   moved : (r : Row) (s : Side) (x y n : LockState) (b : Bool) → goes_by_next r s ≡ b → Has f.pairs.items x y → Has f.pairs.items n free → MovesTo p f.pairs.items x y n r s

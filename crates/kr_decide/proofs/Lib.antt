@@ -4,4 +4,6 @@ pub mod Following
 pub mod Complete
 pub mod Openings
 pub mod Covered
+pub mod Marks
+pub mod Marked
 pub mod Surveyed

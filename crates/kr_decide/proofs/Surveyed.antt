@@ -15,6 +15,8 @@ use Rattle.kr_decide.specs.Pairs.{no_pair, pair_at, IsWay, AreDerived, LetsIn}
 use Rattle.kr_decide.specs.Findings.{IsAbove, IsGoing}
 use Rattle.kr_decide.specs.Opens.{IsHeldBy, OpensAt, OpensFor, AreOpenings, IsHoledIn, AreHeld, AreHoled, IsOpenedAt, NoneOpens}
 use Rattle.kr_decide.specs.Survey.{IsHeld, HasHole, AreHoles, IsHole, of_cover, IsSurvey}
+use Rattle.kr_decide.specs.Met.{IsSound, MarksBelow}
+use Rattle.kr_decide.specs.declared.met.Met.{Met}
 use Rattle.kr_decide.specs.declared.survey.ByCover.{ByCover}
 use Rattle.std.specs.Option.{is_some, IfSome, IfNone}
 use Rattle.std.proofs.lemmas.Bool.{cases_lt}
@@ -23,6 +25,7 @@ use Rattle.kr_decide.proofs.Growing.{way_kept}
 use Rattle.kr_decide.proofs.Following.{pair_read}
 use Rattle.kr_decide.proofs.Covered.{kept_out_for}
 use Rattle.kr_decide.proofs.Complete.{beside_at, above_alone, listed}
+use Rattle.kr_decide.proofs.Marked.{tested_both, asked_both}
 
 -- The first pairs of a list come about as in the whole.
 at_taken : (pairs : List Pair) (n k : ℕ) → k < n → pair_at (take n pairs) k ≡ pair_at pairs k
@@ -197,12 +200,15 @@ hole_unsafe p h i safe =
     cc
 
 -- The survey is right: what is told of the pairs that were found, and the first hole among them.
-pub survey_right : (p : Protocol) (f : Found) (held holed : ByCover) (hole : Option Hole) → IsGoing p f (length f.pairs.items)
+pub survey_right : (p : Protocol) (f : Found) (held holed : ByCover) (met : Met) (hole : Option Hole) → IsGoing p f (length f.pairs.items)
     → ((c : Cover) → AreHeld f.pairs.items c (p.count + 1) (of_cover held c)) → ((c : Cover) → AreHoles p c (p.count + 1) (of_cover holed c))
-    → IfSome hole (IsHole p) → IfNone hole (NoneOpens p f.pairs.items (length f.pairs.items)) → IsSurvey p (record { held = held; holed = holed; hole = hole })
-survey_right p f held holed hole going are_held are_holed some none = record {
+    → IsSound p met → MarksBelow p met f.pairs.items f.nexts.items (length f.pairs.items)
+    → IfSome hole (IsHole p) → IfNone hole (NoneOpens p f.pairs.items (length f.pairs.items)) → IsSurvey p (record { held = held; holed = holed; met = met; hole = hole })
+survey_right p f held holed met hole going are_held are_holed sound marks some none = record {
   held = λ c m. each_held p f going c (of_cover held c) (are_held c) m;
   holes = λ c m. each_holed p f going c (of_cover holed c) (are_holed c) m;
+  tested = tested_both p f going met marks sound;
+  asked = asked_both p f going met marks sound;
   safe = by_hole hole some none;
   hole = some;
 }

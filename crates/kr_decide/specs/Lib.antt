@@ -4,4 +4,5 @@ pub mod Pairs
 pub mod Findings
 pub mod Protects
 pub mod Opens
+pub mod Met
 pub mod Survey

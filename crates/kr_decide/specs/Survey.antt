@@ -17,6 +17,7 @@ use Rattle.kr_decide.specs.declared.safe.WhyRejected.{WhyRejected}
 use Rattle.kr_decide.specs.declared.safe.WhyRejected.TheVariants as cause
 use Rattle.kr_decide.specs.Protects.{protects, keeps_out_for}
 use Rattle.kr_decide.specs.Pairs.{pair_at, AreDerived, LetsIn, IsReachedHole}
+use Rattle.kr_decide.specs.Met.{marked, IsTested, IsAsked}
 
 -- Some transaction can hold this mode on a name, while its lock there has this cover to protect.
 pub record IsHeld (p : Protocol) (c : Cover) (mode : ℕ) : Type 0 where
@@ -67,12 +68,18 @@ of_cover t UpdatedKey = t.updated_key.items
 abbrev pub told : ByCover → Cover → ℕ → Bool
 told t c m = slice_index_or (of_cover t c) m false
 
--- Whether the survey says that the mode can be held with the cover to protect, that it lets in there what it must keep out, and that the protocol is safe.
+-- Whether the survey says that the mode can be held with the cover to protect, that it lets in there what it must keep out, that a request is tested in a mode beside a held one, that one who holds a mode requests another, and that the protocol is safe.
 abbrev pub is_held : Survey → Cover → ℕ → Bool
 is_held s c m = told s.held c m
 
 abbrev pub has_hole : Survey → Cover → ℕ → Bool
 has_hole s c m = told s.holed c m
+
+abbrev pub is_tested : Survey → ℕ → ℕ → Bool
+is_tested s c h = marked s.met.tested.items c h
+
+abbrev pub is_asked : Survey → ℕ → ℕ → Bool
+is_asked s h m = marked s.met.asked.items h m
 
 abbrev pub is_safe : Survey → Bool
 is_safe s = not (is_some s.hole)
@@ -81,6 +88,8 @@ is_safe s = not (is_some s.hole)
 pub record IsSurvey (p : Protocol) (s : Survey) : Type 0 where
   pub held : (c : Cover) (m : ℕ) → is_held s c m ≡ true ↔ IsHeld p c m
   pub holes : (c : Cover) (m : ℕ) → has_hole s c m ≡ true ↔ HasHole p c m
+  pub tested : (c h : ℕ) → is_tested s c h ≡ true ↔ IsTested p c h
+  pub asked : (h m : ℕ) → is_asked s h m ≡ true ↔ IsAsked p h m
   pub safe : is_safe s ≡ true ↔ IsSafe p
   pub hole : IfSome s.hole (IsHole p)
 

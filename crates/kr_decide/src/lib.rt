@@ -6,6 +6,7 @@
 mod absent;
 mod decision;
 mod finding;
+mod met;
 mod moves;
 mod numbers;
 mod opening;

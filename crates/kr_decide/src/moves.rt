@@ -17,7 +17,7 @@ pub const FREE: LockState = LockState {
 };
 
 /// The own mode on the next name that a request goes by.
-fn given(row: Row, side: Side, own: LockState, next: LockState) -> Mode
+pub(crate) fn given(row: Row, side: Side, own: LockState, next: LockState) -> Mode
     ensures { result ≡ safe.given row side own next }
 {
     match (row, side) {

@@ -3,9 +3,10 @@ ghost use Rattle.std.specs.Prelude.{◌≡◌, ◌+◌, ◌≤◌, ◌↔◌, Is
 ghost use Rattle.std.specs.List.{Any};
 ghost use Rattle.kr_decide.specs.Findings.{IsFound, IsGoing};
 ghost use Rattle.kr_decide.specs.Opens.{IsHeldBy, IsHoledIn, AreHeld, AreHoled, IsOpenedAt, NoneOpens};
-ghost use Rattle.kr_decide.specs.Survey.{IsHole, IsSurvey, AreHoles, of_cover, told, is_held, has_hole, is_safe};
+ghost use Rattle.kr_decide.specs.Survey.{IsHole, IsSurvey, AreHoles, of_cover, told, is_held, has_hole, is_tested, is_asked, is_safe};
 
 use crate::finding::Found;
+use crate::met::Met;
 use crate::opening::{Opening, protects};
 use crate::pair::{Hole, Pair};
 use kr_model::{Cover, Memory, Mode};
@@ -18,6 +19,7 @@ use std::alloc::Global;
 pub struct Survey {
     held: ByCover,
     holed: ByCover,
+    met: Met,
     hole: Option<Hole>,
 }
 
@@ -70,8 +72,14 @@ impl Survey {
         let count = protocol.count();
         let held = held(alloc, &found.pairs, count)?;
         let holed = holed(alloc, protocol, &found, count)?;
+        let met = Met::of(alloc, protocol, &found)?;
         let hole = first_hole(protocol, found);
-        Ok(Survey { held, holed, hole })
+        Ok(Survey {
+            held,
+            holed,
+            met,
+            hole,
+        })
     }
 
     /// Whether the protocol is safe: no lock lets in what it has to keep out, and so every run under the protocol is
@@ -96,6 +104,21 @@ impl Survey {
         ensures { result ≡ has_hole self.now cover mode }
     {
         self.holed.tells(cover, mode)
+    }
+
+    /// Whether some schedule may bring a request that is tested in the converted mode beside another transaction's lock in
+    /// the held mode, on the same name.
+    pub fn is_tested(&self, converted: Mode, held: Mode) -> bool
+        ensures { result ≡ is_tested self.now converted held }
+    {
+        self.met.is_tested(converted, held)
+    }
+
+    /// Whether some transaction that holds a mode on a name, 0 for no lock, may come to request another there.
+    pub fn is_asked(&self, held: Mode, asked: Mode) -> bool
+        ensures { result ≡ is_asked self.now held asked }
+    {
+        self.met.is_asked(held, asked)
     }
 
     /// The first hole that was found; or `None` exactly where the protocol is safe.

@@ -3,8 +3,8 @@
 //! Modes of key-value locking: IS is 1, IX 2, S 3, SIX 4, X 5.
 mod ample;
 
-use kr_cases::{FailedCase, Rejected, WhyRejected, cases, check, must_conflict};
-use kr_causes::{Change, Changed};
+use kr_cases::{FailedCase, Rejected, WhyRejected, cases, check, first_open, must_conflict};
+use kr_explain_causes::{Change, Changed};
 use kr_model::{Cover, Mode, Origin, Requester, Row, Rule, Side, Span};
 use kr_protocol::{Covered, Im, Kvl, KvlUpdate, Protocol, RangeKey};
 use std::alloc::Global;
@@ -254,4 +254,27 @@ fn covers_must_conflict(rt: HostRuntime) {
         assert_eq!(rt; must_conflict(&Kvl, *cover), *without, "{cover:?}");
         assert_eq!(rt; must_conflict(&KvlUpdate, *cover), *with, "{cover:?}");
     }
+}
+
+/// An IX lock lets another insert the same key. Of the S locks on a key that was read none lets in a delete of it.
+#[test]
+fn first_that_is_let_in(rt: HostRuntime) {
+    let asks = |row: Row, side: Side| -> Option<Requester> {
+        let (own, own_next) = (0, 0);
+        Some(Requester {
+            row,
+            side,
+            own,
+            own_next,
+        })
+    };
+    assert_eq!(rt;
+        first_open(&Kvl, Cover::ReadGap, 2),
+        asks(Row::Insert, Side::Next)
+    );
+    assert_eq!(rt;
+        first_open(&Kvl, Cover::ReadKey, 0),
+        asks(Row::Delete, Side::Current)
+    );
+    assert_eq!(rt; first_open(&Kvl, Cover::ReadKey, 3), None);
 }

@@ -1,6 +1,6 @@
 //! What is to blame, and what mends it, for tables with one entry changed and for a table that requests nothing.
 use kr_cases::{Rejected, check};
-use kr_causes::{Blame, Change, Changed, causes, mends, own_next};
+use kr_explain_causes::{Blame, Change, Changed, causes, mends, own_next};
 use kr_model::{Cover, FailedCase, Mode, Origin, Requester, Row, Rule, Side, Span};
 use kr_protocol::{Kvl, KvlUpdate, Protocol, RangeKey};
 use kr_table::read;

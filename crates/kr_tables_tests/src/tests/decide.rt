@@ -1,8 +1,8 @@
 //! Decisions on whole protocols, compared with what was worked out by hand.
 //!
 //! Modes of key-value locking: IS is 1, IX 2, S 3, SIX 4, X 5.
-use kr_causes::{Change, Changed};
 use kr_decide::{Decision, Hole, Rejected, Safe, Survey, Way, WhyRejected, decide};
+use kr_explain_causes::{Change, Changed};
 use kr_model::{Cover, GapUse, KeyUse, LockState, Row, Side, Span};
 use kr_protocol::{Im, Kvl, KvlUpdate, Protocol, RangeKey, SafeProtocol};
 use kr_table::read;
@@ -193,5 +193,35 @@ fn surveys(rt: HostRuntime) -> Result<(), Fail> {
         Some(hole) => is_unlocked_delete(&rt, &hole),
         None => panic!(rt; "no hole"),
     }
+    Ok(())
+}
+
+/// The modes tested beside each held one, and those requested by who holds one, as bits: those of mode 0 first.
+fn met(survey: &Survey) -> [[u8; 6]; 2] {
+    let mut met = [[0; 6]; 2];
+    for first in 0..6 {
+        for second in 0..6 {
+            if survey.is_tested(first, second) {
+                met[0][first as usize] |= 1 << second;
+            }
+            if survey.is_asked(first, second) {
+                met[1][first as usize] |= 1 << second;
+            }
+        }
+    }
+    met
+}
+
+/// Nobody requests IS. Who comes to SIX held IX on the key, beside which another may hold S and no more.
+#[test]
+fn surveys_of_two_modes(rt: HostRuntime) -> Result<(), Fail> {
+    let alloc = rt.alloc();
+    let survey = Survey::of(alloc, &Kvl)?;
+    let of_kvl = met(&survey);
+    same!(rt; of_kvl[0], [0, 0, 0b111101, 0b111101, 0b1001, 0b111101]);
+    same!(rt; of_kvl[1], [0b101100, 0, 0b101100, 0b101100, 0b101100, 0b101100]);
+    same!(rt; survey.is_tested(16, 0), false);
+    same!(rt; survey.is_tested(0, 16), false);
+    same!(rt; survey.is_asked(16, 16), false);
     Ok(())
 }

@@ -1,7 +1,7 @@
 //! Which protocols are ordered, compared with what was worked out by hand.
 //!
 //! Modes of key-value locking: IS is 1, IX 2, S 3, SIX 4, X 5.
-use kr_causes::{Change, Changed};
+use kr_explain_causes::{Change, Changed};
 use kr_model::{Row, Side, Span};
 use kr_ordered::{is_at_least, is_ordered};
 use kr_protocol::{Im, Kvl, KvlUpdate, RangeKey};

@@ -10,7 +10,7 @@ returns g c =
     let p = g.P.Protocol.table c.args.protocol.now in
     let held = c.in_ok-held.held in
     let holed = c.in_ok-holed.holed in
-    survey_right p c.in_ok-found.found held holed c.first_hole-hole.result c.in_ok-found.ensures
+    survey_right p c.in_ok-found.found held holed c.in_ok-met.met c.first_hole-hole.result c.in_ok-found.ensures
     (λ k. subst (λ (l : List Pair). AreHeld l k (p.count + 1) (of_cover held k)) c.deref.ensures.value (subst (λ (n : ℕ). AreHeld c.deref.result.now k (n + 1) (of_cover held k)) c.count-count.ensures (c.in_ok-held.ensures k)))
     (λ k. subst (λ (n : ℕ). AreHoles p k (n + 1) (of_cover holed k)) c.count-count.ensures (c.in_ok-holed.ensures k))
-    c.first_hole-hole.ensures.some c.first_hole-hole.ensures.none
+    c.in_ok-met.ensures.sound c.in_ok-met.ensures.marks c.first_hole-hole.ensures.some c.first_hole-hole.ensures.none

@@ -1,0 +1,30 @@
+use Rattle.std.proofs.Common.{◌≡◌, rules, sym, subst}
+use Rattle.kr_model.specs.declared.Side.TheVariants.{Current}
+use Rattle.kr_model.specs.Safe.{free, Beside}
+use Rattle.kr_decide.specs.declared.finding.Above.{Above}
+use Rattle.kr_decide.specs.Findings.{above_at}
+use Rattle.kr_decide.specs.Met.{MarksAt}
+use Rattle.kr_decide.proofs.Following.{above_read}
+use Rattle.kr_decide.proofs.Complete.{above_alone}
+use Rattle.kr_decide.proofs.Marked.{adds_on, one_next_more}
+use Rattle.kr_decide.proofs.met.Met.add_nexts.Goals as goal
+
+pub add_request-requires-clause-alone : goal.add_request-requires-clause-alone
+add_request-requires-clause-alone g c =
+    let p = g.P.Protocol.table c.args.protocol.now in
+    let going = c.requires.going in
+    let found = going.found in
+    let nexts = c.args.found.now.nexts.items in
+    let read : above_at nexts c.loop-at.at ≡ c.index.result.now = above_read nexts c.loop-at.at c.index.result.now (search rules) (search rules) in
+    subst (λ (q : Above). Beside p q.state free) read (above_alone p c.args.found.now.pairs.items (above_at nexts c.loop-at.at) found.derived (going.nexts c.loop-at.at (search rules)))
+
+pub loop-at-preserved : goal.loop-at-preserved
+loop-at-preserved g c =
+    let p = g.P.Protocol.table c.args.protocol.now in
+    let nexts = c.args.found.now.nexts.items in
+    let read : above_at nexts c.loop-at.at ≡ c.index.result.now = above_read nexts c.loop-at.at c.index.result.now (search rules) (search rules) in
+    record {
+      adds = adds_on p _ _ _ c.loop-at.invariant.adds c.add_request.ensures.adds;
+      marks = one_next_more p _ _ nexts c.loop-at.at c.args.row c.args.own c.args.other c.add_request.ensures.adds c.loop-at.invariant.marks
+          (subst (λ (q : Above). MarksAt p c.add_request.new.self c.args.row Current c.args.own c.args.other q.state) (sym read) c.add_request.ensures.marks);
+    }
