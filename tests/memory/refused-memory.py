@@ -1,8 +1,8 @@
 #!/usr/bin/env python3
 """Refuses growths, reads and writes of the programs, one by one, and compares what they then do with what they do
-undisturbed: tests/memory/refused-memory.py [PROGRAM..], of kr, kr_view, kr_explain and kr_hostile, all four where none is named.
+undisturbed: tests/memory/refused-memory.py [PROGRAM..], of kr, kr_view, kr_explain and kr_memory_tests, all four where none is named.
 Needs a C compiler, `cc`, for refuse.c beside it. Build first: any run of ./kr, ./kr_view or ./kr_explain builds that
-program, and `rt test` in crates/kr_hostile its tests.
+program, and `rt test` in crates/kr_memory_tests its tests.
 
 The words are each form of a program's on the shipped tables and scripts; of kr_view and kr_explain, whose answers are long,
 a few. For each of them
@@ -16,7 +16,7 @@ a few. For each of them
             right answer, 'kr: output: cannot be written', status 2
   files     files that are deep, long, empty or no files, each with its fault
 
-and each test of kr_hostile but those of input is run with each of its growths refused, and has to pass. It is run alone,
+and each test of kr_memory_tests but those of input is run with each of its growths refused, and has to pass. It is run alone,
 and a test whose name begins with 'takes_none' has to meet no refusal at all. Prints a line for each of these parts, with
 how many runs there were; status 1 where a run went wrong, each of which is told.
 """
@@ -28,8 +28,8 @@ import tempfile
 from concurrent.futures import ThreadPoolExecutor
 
 TOP = os.path.dirname(os.path.dirname(os.path.dirname(os.path.abspath(__file__))))
-PROGRAMS = sys.argv[1:] or ["kr", "kr_view", "kr_explain", "kr_hostile"]
-TESTS = f"{TOP}/crates/kr_hostile/out/kr_hostile_tests"
+PROGRAMS = sys.argv[1:] or ["kr", "kr_view", "kr_explain", "kr_memory_tests"]
+TESTS = f"{TOP}/crates/kr_memory_tests/out/kr_hostile_tests"
 AT_ONCE = 3
 READER, CLOSED_PIPE = os.pipe()
 os.close(READER)  # before any child is made, which would hold it for a moment
@@ -57,7 +57,8 @@ def all_words():
 
 
 def words_of_view():
-    """A serial run, one that isn't, and a table and a script that are none."""
+    """Two tables, a serial run, one that isn't, and a table and a script that are none."""
+    yield from (["@im"], ["examples/rejected/delete.toml"], ["none.toml"])
     yield ["@kvl", "examples/phantom.json"]
     yield ["examples/rejected/split.toml", "examples/rejected/split.json"]
     yield from (["@kvl", "none.json"], ["none.toml", "examples/phantom.json"], ["@kvl", "examples/rejected/split.toml"])
@@ -231,7 +232,7 @@ def main():
         shim = f"{folder}/refuse.so"
         subprocess.run(["cc", "-shared", "-fPIC", "-O1", "-o", shim, f"{TOP}/tests/memory/refuse.c"], check=True)
         going = []
-        if "kr_hostile" in PROGRAMS:
+        if "kr_memory_tests" in PROGRAMS:
             going += [pool.submit(refuse_tests, tests, shim, test) for test in tests_of()]
         if "kr" in PROGRAMS:
             going.append(pool.submit(read_odd_files, files, folder))

@@ -1,8 +1,8 @@
 //! Checks locking protocols of an index, and replays interleaved transactions under them.
 #![tactic(auto)]
 
-use kr_program::{NAME, execute};
-use kr_shell::{Disk, finish, words_given};
+use kr_cli::{Disk, finish, words_given};
+use kr_cli_kr::{NAME, execute};
 use kr_sink::Io;
 use std::process::ExitCode;
 

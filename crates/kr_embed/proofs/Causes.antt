@@ -4,12 +4,12 @@ use Rattle.std.proofs.Common.{subst}
 use Rattle.std.proofs.lemmas.Option.{slice_get_within, get_or_from_slice_get}
 use Rattle.kr_model.specs.declared.FailedCase.{FailedCase}
 use Rattle.kr_model.specs.Protocol.{Protocol}
-use Rattle.kr_explanation.specs.Explained.{IsExplained, IsTold, GoesWrongWith, Tells, run_at}
-use Rattle.kr_explanation.specs.Told.{IsScriptOf}
-use Rattle.kr_explanation.specs.declared.run.Run.{Run}
-use Rattle.kr_explanation.specs.declared.explanation.Explained.{Explained}
-use Rattle.kr_explanation.specs.declared.explanation.Explanation.{Explanation}
-use Rattle.kr_explanation.specs.declared.explanation.Explanation.TheVariants as told
+use Rattle.kr_explain_core.specs.Explained.{IsExplained, IsTold, GoesWrongWith, Tells, run_at}
+use Rattle.kr_explain_core.specs.Told.{IsScriptOf}
+use Rattle.kr_explain_core.specs.declared.run.Run.{Run}
+use Rattle.kr_explain_core.specs.declared.explanation.Explained.{Explained}
+use Rattle.kr_explain_core.specs.declared.explanation.Explanation.{Explanation}
+use Rattle.kr_explain_core.specs.declared.explanation.Explanation.TheVariants as told
 use Rattle.kr_embed.specs.Explanations.{IsScriptAt}
 
 -- the run of a cause that is told goes wrong

@@ -9,11 +9,11 @@ use Rattle.kr_script.specs.declared.faults.ScriptFault.{ScriptFault}
 use Rattle.kr_script.specs.declared.faults.ScriptFault.TheVariants as of_script
 use Rattle.kr_script.specs.Faults as script
 use Rattle.kr_script.specs.Reading as script_text
-use Rattle.kr_shell.specs.declared.endings.Ending.{Ending}
-use Rattle.kr_shell.specs.declared.endings.Ending.TheVariants as ending
-use Rattle.kr_shell.specs.declared.tables.AnyTable.{AnyTable}
-use Rattle.kr_shell.specs.Endings.{MemoryOrTold}
-use Rattle.kr_shell.specs.Lines.{told_line, table_fault_text, script_fault_text}
+use Rattle.kr_cli.specs.declared.endings.Ending.{Ending}
+use Rattle.kr_cli.specs.declared.endings.Ending.TheVariants as ending
+use Rattle.kr_cli.specs.declared.tables.AnyTable.{AnyTable}
+use Rattle.kr_cli.specs.Endings.{MemoryOrTold}
+use Rattle.kr_cli.specs.Lines.{told_line, table_fault_text, script_fault_text}
 use Rattle.kr_embed.specs.declared.faults.Fault.{Fault}
 use Rattle.kr_embed.specs.declared.faults.Fault.TheVariants.{NoTable, NoScript, Memory}
 use Rattle.kr_embed.specs.Inputs.{IsTable, TellsNoTable, TellsNoScript, ExplainsTable, ExplainsScript, Explains}

@@ -3,13 +3,13 @@ use Rattle.std.specs.Prelude.{◌≡◌, ◌↔◌, ℕ, Bool, List, Option, Som
 use Rattle.kr_model.specs.Protocol.{Protocol}
 use Rattle.kr_model.specs.Safe.{IsSafe}
 use Rattle.kr_wrong.specs.Wrong.{GoesWrong}
-use Rattle.kr_explanation.specs.Explained.{IsExplained, is_safe, run_at}
-use Rattle.kr_explanation.specs.Told.{IsText}
-use Rattle.kr_explanation.specs.Lines.{IsLineOf}
-use Rattle.kr_explanation.specs.declared.explanation.Explanation.{Explanation}
-use Rattle.kr_explanation.specs.declared.run.Run.{Run}
-use Rattle.kr_shell.specs.declared.tables.AnyTable.{AnyTable}
-use Rattle.kr_shell.specs.Tables.{table_of, names_of}
+use Rattle.kr_explain_core.specs.Explained.{IsExplained, is_safe, run_at}
+use Rattle.kr_explain_core.specs.Told.{IsText}
+use Rattle.kr_explain_core.specs.Lines.{IsLineOf}
+use Rattle.kr_explain_core.specs.declared.explanation.Explanation.{Explanation}
+use Rattle.kr_explain_core.specs.declared.run.Run.{Run}
+use Rattle.kr_cli.specs.declared.tables.AnyTable.{AnyTable}
+use Rattle.kr_cli.specs.Tables.{table_of, names_of}
 use Rattle.kr_embed.specs.Inputs.{IsTable}
 
 -- A whole text of an explanation of a table p with these names of its modes, and whether p is safe.

@@ -4,10 +4,10 @@ use Rattle.kr_table.specs.declared.faults.TableFault.{TableFault}
 use Rattle.kr_table.specs.Answer.{table_data}
 use Rattle.kr_table.specs.Reading.{reading}
 use Rattle.kr_script.specs.declared.faults.ScriptFault.{ScriptFault}
-use Rattle.kr_shell.specs.declared.tables.AnyTable.{AnyTable}
-use Rattle.kr_shell.specs.declared.tables.AnyTable.TheVariants.{Kvl, KvlUpdate, Im, RangeKey, Read}
-use Rattle.kr_shell.specs.Lines.{told_line, table_fault_text, script_fault_text}
-use Rattle.kr_shell.specs.Named.{IsTableFault, IsScriptFault}
+use Rattle.kr_cli.specs.declared.tables.AnyTable.{AnyTable}
+use Rattle.kr_cli.specs.declared.tables.AnyTable.TheVariants.{Kvl, KvlUpdate, Im, RangeKey, Read}
+use Rattle.kr_cli.specs.Lines.{told_line, table_fault_text, script_fault_text}
+use Rattle.kr_cli.specs.Named.{IsTableFault, IsScriptFault}
 use Rattle.kr_embed.specs.declared.faults.Fault.{Fault}
 use Rattle.kr_embed.specs.declared.faults.Fault.TheVariants.{NoTable, NoScript, Memory}
 

@@ -11,8 +11,8 @@ use Rattle.kr_script.specs.Script.{Script}
 use Rattle.kr_script.specs.Reading.{reading}
 use Rattle.kr_report.specs.CheckReport.{check_text}
 use Rattle.kr_report.specs.Report.{run_text}
-use Rattle.kr_shell.specs.declared.tables.AnyTable.{AnyTable}
-use Rattle.kr_shell.specs.Tables.{table_of, names_of}
+use Rattle.kr_cli.specs.declared.tables.AnyTable.{AnyTable}
+use Rattle.kr_cli.specs.Tables.{table_of, names_of}
 use Rattle.kr_embed.specs.Inputs.{IsTable}
 
 -- The report of the check of a table: that of all its cases that fail.

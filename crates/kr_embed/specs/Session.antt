@@ -12,8 +12,8 @@ use Rattle.kr_serial.specs.Verdicts.{verdict_of}
 use Rattle.kr_serial.specs.declared.verdict.Verdict.{Verdict}
 use Rattle.kr_script.specs.Script.{Script}
 use Rattle.kr_script.specs.Reading.{reading}
-use Rattle.kr_shell.specs.declared.tables.AnyTable.{AnyTable}
-use Rattle.kr_shell.specs.Tables.{table_of}
+use Rattle.kr_cli.specs.declared.tables.AnyTable.{AnyTable}
+use Rattle.kr_cli.specs.Tables.{table_of}
 use Rattle.kr_embed.specs.Inputs.{IsTable}
 
 -- Its table, its state, the log of the steps so far, the map that it was opened on, and the reply to the last step.

@@ -1,16 +1,16 @@
 //! Checks and decisions of tables from bytes.
 ghost use Rattle.std.specs.Prelude.{◌≡◌, ◌↔◌, IfOk, IfErr, IsTrue, string_bytes};
 ghost use Rattle.kr_model.specs.Covers.{IsCovered};
-ghost use Rattle.kr_shell.specs.Tables.{table_of};
+ghost use Rattle.kr_cli.specs.Tables.{table_of};
 ghost use Rattle.kr_embed.specs.Inputs.{ExplainsTable};
 ghost use Rattle.kr_embed.specs.Reports.{IsChecked, IsDecided, report_of_check};
 
 use crate::faults::Fault;
 use crate::tables::table_in;
 use kr_cases::{Rejected, WhyRejected, check};
+use kr_cli::AnyTable;
 use kr_decide::{Decision, decide};
 use kr_report::report_check;
-use kr_shell::AnyTable;
 use std::alloc::{AllocError, Global};
 
 /// Whether a table is accepted, and the report of its check.

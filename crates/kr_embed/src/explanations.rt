@@ -5,7 +5,7 @@ ghost use Rattle.kr_embed.specs.Inputs.{ExplainsTable};
 
 use crate::faults::Fault;
 use crate::tables::table_in;
-use kr_explanation::explain;
+use kr_explain_core::explain;
 use std::alloc::Global;
 
 /// Whether the table that the bytes are is safe, accepted or not, and the text that says why, as `kr_explain` prints it of a

@@ -4,17 +4,17 @@ ghost use Rattle.kr_model.specs.Difference.{first_difference};
 ghost use Rattle.kr_model.specs.Serial.{AreSerial};
 ghost use Rattle.kr_serial.specs.Verdicts.{verdict_of};
 ghost use Rattle.kr_report.specs.Report.{run_text};
-ghost use Rattle.kr_shell.specs.Tables.{names_of};
+ghost use Rattle.kr_cli.specs.Tables.{names_of};
 ghost use Rattle.kr_embed.specs.Inputs.{Explains};
 ghost use Rattle.kr_embed.specs.Reports.{IsRun, IsSerialScript, report_of_run};
 
 use crate::faults::Fault;
 use crate::scripts::script_in;
 use crate::tables::table_in;
+use kr_cli::AnyTable;
 use kr_report::report_run;
 use kr_script::Script;
 use kr_serial::{Ran, judge, run_any};
-use kr_shell::AnyTable;
 use std::alloc::{AllocError, Global};
 
 /// Whether a run is serializable in commit order, and its report with that verdict.

@@ -4,8 +4,8 @@ ghost use Rattle.kr_script.specs.Reading.{reading};
 ghost use Rattle.kr_embed.specs.Inputs.{ExplainsScript};
 
 use crate::faults::Fault;
+use kr_cli::{Ending, at_fault};
 use kr_script::{Script, read_script};
-use kr_shell::{Ending, at_fault};
 use std::alloc::Global;
 
 /// The script that the bytes are. Else the line that tells their first fault; or a growth was refused.

@@ -12,13 +12,13 @@ use crate::faults::Fault;
 use crate::numbers::{Lock, Pair, locks_of, pairs_of};
 use crate::scripts::script_in;
 use crate::tables::table_in;
+use kr_cli::AnyTable;
 use kr_index::Tree;
 use kr_locks::Buckets;
 use kr_machine::Machine;
 use kr_model::{Memory, Op, Reply, Txn, Txns};
 use kr_report::report_verdict;
 use kr_serial::{Index, Ran, Replies, Triples, judge};
-use kr_shell::AnyTable;
 use std::alloc::Global;
 use std::marker::Model;
 

@@ -3,7 +3,7 @@ ghost use Rattle.std.specs.Prelude.{IfOk, IfErr, IfSome};
 ghost use Rattle.kr_embed.specs.Inputs.{IsTable, ExplainsTable};
 
 use crate::faults::Fault;
-use kr_shell::{AnyTable, Ending, at_table_fault};
+use kr_cli::{AnyTable, Ending, at_table_fault};
 use kr_table::read;
 use std::alloc::Global;
 use std::str;

@@ -5,8 +5,8 @@ use Rattle.std.proofs.lemmas.List.Folds.{list_any_at}
 use Rattle.std.proofs.lemmas.Bool.{eqb-true, eq-eqb, false≢true}
 use Rattle.std.proofs.lemmas.List.Elements.{Contains-get_or, Contains-append_right}
 use Rattle.std.proofs.lemmas.List.{take_more, take_all}
-use Rattle.kr_waits.specs.declared.Waiting.{Waiting}
-use Rattle.kr_waits.specs.Waits.{blockers_of, IsChain, IsCycle}
+use Rattle.kr_deadlock.specs.declared.Waiting.{Waiting}
+use Rattle.kr_deadlock.specs.Waits.{blockers_of, IsChain, IsCycle}
 use Rattle.kr_engine.proofs.Begun.{or_second}
 use Rattle.kr_model.specs.declared.Event.{Event}
 use Rattle.kr_engine.specs.Waits.{blockers_now, IsEntry}

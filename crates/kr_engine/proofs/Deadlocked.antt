@@ -6,9 +6,9 @@ use Rattle.std.proofs.lemmas.Bool.{eqb-true, eq-eqb, false≢true}
 use Rattle.std.proofs.lemmas.List.Folds.{list_any_at}
 use Rattle.std.proofs.lemmas.List.Elements.{Contains-append_cases, Contains-append_right, Contains-get_or}
 use Rattle.std.proofs.lemmas.List.Sorted.{Contains-permutation, IsPermutation-swap_remove}
-use Rattle.kr_waits.specs.declared.Waiting.{Waiting}
+use Rattle.kr_deadlock.specs.declared.Waiting.{Waiting}
 use Rattle.kr_model.specs.declared.Event.{Event}
-use Rattle.kr_waits.specs.Waits.{IsChain, IsCycle}
+use Rattle.kr_deadlock.specs.Waits.{IsChain, IsCycle}
 use Rattle.kr_engine.specs.Waits.{blockers_now, IsEntry, AreDeadlocked, HaveEntries}
 use Rattle.kr_engine.proofs.Ways.{or_second}
 

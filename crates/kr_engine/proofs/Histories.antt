@@ -8,12 +8,12 @@ use Rattle.kr_model.specs.Step.{step}
 use Rattle.kr_model.specs.Run as model
 use Rattle.kr_model.specs.Log.{Log, no_log, logged, log_after}
 use Rattle.kr_model.proofs.LogLaws.{log_of_run, log_after_one}
-use Rattle.kr_places.specs.declared.name.Entry.{Entry}
+use Rattle.kr_history.specs.declared.name.Entry.{Entry}
 use Rattle.kr_model.specs.Map.{IsMap}
 use Rattle.kr_model.specs.Protocol.{IsLawful}
 use Rattle.kr_model.specs.Covers.{IsCovered}
 use Rattle.kr_model.specs.Serial.{IsSerialRun}
-use Rattle.kr_headline.proofs.run.Runs.{runs_are_serial}
+use Rattle.kr_theorem.proofs.run.Runs.{runs_are_serial}
 use Rattle.std.specs.Prelude.{All}
 use Rattle.std.proofs.lemmas.List.Elements.{All-contains}
 use Rattle.kr_engine.specs.declared.numbers.Number.{Number}

@@ -6,7 +6,7 @@ use Rattle.kr_model.specs.declared.Event.{Event}
 use Rattle.kr_model.specs.declared.Op.{Op}
 use Rattle.kr_model.specs.Protocol.{Protocol}
 use Rattle.kr_model.specs.State.{State}
-use Rattle.kr_waits.specs.Waits.{IsChain, IsCycle}
+use Rattle.kr_deadlock.specs.Waits.{IsChain, IsCycle}
 use Rattle.kr_engine.specs.Histories.{event}
 use Rattle.kr_engine.specs.Waits.{in_the_way, blockers_now, Waits, WaitOn, IsWaitCycle}
 

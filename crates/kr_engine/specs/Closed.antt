@@ -5,7 +5,7 @@ use Rattle.kr_model.specs.Protocol.{Protocol}
 use Rattle.kr_model.specs.Map.{Map}
 use Rattle.kr_model.specs.State.{State}
 use Rattle.kr_model.specs.Run.{programs}
-use Rattle.kr_places.specs.declared.name.Entry.{Entry}
+use Rattle.kr_history.specs.declared.name.Entry.{Entry}
 use Rattle.kr_engine.specs.declared.kernel.SeatNote.{SeatNote}
 use Rattle.kr_engine.specs.declared.closing.History.{History}
 use Rattle.kr_engine.specs.Histories.{IsHistory, AreOfOneSeat, IsSerialHistory, entries_of, events_with_replies}

@@ -7,7 +7,7 @@ use Rattle.kr_model.specs.Map.{Map, IsMap}
 use Rattle.kr_model.specs.State.{State, active_of, has_ended}
 use Rattle.kr_model.specs.Step.{is_end}
 use Rattle.kr_model.specs.Log.{Log, no_log, log_after}
-use Rattle.kr_places.specs.declared.name.Entry.{Entry}
+use Rattle.kr_history.specs.declared.name.Entry.{Entry}
 use Rattle.kr_engine.specs.declared.kernel.SeatNote.{SeatNote}
 use Rattle.kr_engine.specs.declared.numbers.Number.{Number}
 use Rattle.kr_engine.specs.Histories.{IsHistory, entries_of, events_with_replies}

@@ -7,7 +7,7 @@ use Rattle.kr_model.specs.declared.Op.{Op}
 use Rattle.kr_model.specs.Protocol.{Protocol}
 use Rattle.kr_model.specs.State.{State}
 use Rattle.kr_model.specs.Step.{step, blockers_in, WaitsFor}
-use Rattle.kr_waits.specs.declared.Waiting.{Waiting}
+use Rattle.kr_deadlock.specs.declared.Waiting.{Waiting}
 use Rattle.kr_engine.specs.Histories.{event}
 use Rattle.kr_engine.specs.declared.faults.EngineFault.{EngineFault}
 use Rattle.kr_engine.specs.declared.faults.EngineFault.TheVariants.{Deadlock}

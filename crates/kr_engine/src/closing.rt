@@ -8,8 +8,8 @@ ghost use Rattle.kr_engine.specs.Closed.{lent, fits, StandsIn, IsClosed};
 
 use crate::kernel::{Core, SeatNote};
 use crate::seat_state::SeatState;
+use kr_history::{EngineName, Entry, Known, PlaceRow, Seen};
 use kr_model::{Mode, Name, Pairs, Programs, Txn, Txns};
-use kr_places::{EngineName, Entry, Known, PlaceRow, Seen};
 use kr_protocol::Covered;
 use std::alloc::{AllocError, Global};
 use std::marker::Model;

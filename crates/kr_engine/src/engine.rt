@@ -1,7 +1,7 @@
 //! One lock over the core.
 ghost use Rattle.std.specs.Prelude.{◌≡◌, ◌≢◌, All, IfOk, None, Err, []};
 ghost use Rattle.kr_model.specs.Map.{IsMap};
-ghost use Rattle.kr_places.specs.Notes.{KnowsNoneFrom};
+ghost use Rattle.kr_history.specs.Notes.{KnowsNoneFrom};
 ghost use Rattle.std.specs.List.Sorted.{IsStrictlyIncreasing};
 ghost use Rattle.kr_engine.specs.declared.closing.CloseFault.TheVariants as close_fault;
 ghost use Rattle.kr_engine.specs.Closed.{IsClosed};
@@ -14,8 +14,8 @@ use crate::queues::{Queues, Woken};
 use crate::seat::Seat;
 use crate::seat_state::SeatState;
 use crate::wakes::Change;
+use kr_history::{EngineName, PlaceRow, Watch};
 use kr_model::Txns;
-use kr_places::{EngineName, PlaceRow, Watch};
 use kr_protocol::Covered;
 use std::alloc::{AllocError, Global};
 use std::sync::{Mutex, Wait};

@@ -18,6 +18,6 @@ pub use closing::{CloseFault, History, Share};
 pub use engine::Engine;
 pub use faults::{EngineFault, Receipt};
 pub use kernel::{Core, SeatNote};
+pub use kr_history::{EngineName, Entry, NewFault, PlaceRow, Watch};
 pub use kr_model::{Event, Mode, Name, Op, Pairs, Programs, Reply, Txn, Txns};
-pub use kr_places::{EngineName, Entry, NewFault, PlaceRow, Watch};
 pub use seat::Seat;

@@ -2,8 +2,8 @@
 ghost use Rattle.std.specs.Prelude.{◌≡◌, ◌+◌, ◌<◌, ◌++◌, ◌∷◌, [], true, false, length, None, Some, OnOk, OnErr, slice_set, is_some};
 ghost use Rattle.kr_engine.specs.Numbers.{begun_by, was_begun, is_begun, ends_kept, number_at, AreDistinct, IsPlace};
 
+use kr_history::Entry;
 use kr_model::Txn;
-use kr_places::Entry;
 use std::alloc::{AllocError, Global};
 use std::collections::BTreeMap;
 use std::marker::Model;

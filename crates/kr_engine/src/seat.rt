@@ -2,7 +2,7 @@
 ghost use Rattle.std.specs.Prelude.{◌≡◌, ◌≢◌, true, false, length, IfOk, IfErr, OnOk, OnErr, Some, None, Err};
 ghost use mathlib.Core.List.{IsPrefix};
 ghost use Rattle.kr_model.specs.Step.{is_end as ends};
-ghost use Rattle.kr_places.specs.Notes.{KnowsAll, KnowsNoneFrom};
+ghost use Rattle.kr_history.specs.Notes.{KnowsAll, KnowsNoneFrom};
 ghost use Rattle.kr_engine.specs.declared.faults.EngineFault.TheVariants as fault;
 ghost use Rattle.kr_engine.specs.Faults.{is_unbegun, is_blocked, is_of_begin, is_of_try, is_of_call};
 ghost use Rattle.kr_engine.specs.Closed.{lent};
@@ -13,8 +13,8 @@ use crate::engine::Engine;
 use crate::faults::{EngineFault, Receipt};
 use crate::seat_state::SeatState;
 use crate::wakes::{Change, change_of};
+use kr_history::{EngineName, Watch};
 use kr_model::{Op, Txn};
-use kr_places::{EngineName, Watch};
 use kr_protocol::Covered;
 use std::alloc::AllocError;
 use std::marker::Model;

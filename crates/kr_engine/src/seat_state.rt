@@ -11,8 +11,8 @@ ghost use Rattle.kr_engine.specs.Seats.{Shows, SeesFault, ToldFault, IsIdle};
 
 use crate::faults::{Attempted, EngineFault};
 use crate::kernel::Core;
+use kr_history::{EngineName, PlaceRow, Seen};
 use kr_model::{Op, Txn};
-use kr_places::{EngineName, PlaceRow, Seen};
 use kr_protocol::Covered;
 use std::marker::Model;
 

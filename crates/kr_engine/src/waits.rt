@@ -6,7 +6,7 @@ ghost use Rattle.kr_model.specs.declared.Refusal.TheVariants as refusal_is;
 ghost use Rattle.kr_model.specs.Step.{blockers_in};
 ghost use Rattle.kr_model.specs.Locks.{add_once};
 ghost use Rattle.std.specs.List.Sorted.{IsStrictlyIncreasing};
-ghost use Rattle.kr_waits.specs.Waits.{blockers_of, IsCycle};
+ghost use Rattle.kr_deadlock.specs.Waits.{blockers_of, IsCycle};
 ghost use Rattle.kr_engine.specs.Faults.{is_of_wait};
 ghost use Rattle.kr_engine.specs.Histories.{event};
 ghost use Rattle.kr_engine.specs.Cores.{without};
@@ -14,13 +14,13 @@ ghost use Rattle.kr_engine.specs.Waits.{in_the_way, blockers_now, IsWaitCycle, T
 
 use crate::faults::EngineFault;
 use crate::kernel::Core;
+use kr_deadlock::{Waiting, find_cycle};
+use kr_history::EngineName;
 use kr_index::Tree;
 use kr_locks::Buckets;
 use kr_machine::Machine;
 use kr_model::{Event, Op, Refusal, Reply, Txn, Txns};
-use kr_places::EngineName;
 use kr_protocol::Covered;
-use kr_waits::{Waiting, find_cycle};
 use std::alloc::{AllocError, Global};
 
 impl<P: Covered, K: EngineName> Core<P, K> {

@@ -1,20 +1,20 @@
 //! Whom a step may let go on, and who may be in a deadlock after it.
 ghost use Rattle.std.specs.Prelude.{◌≡◌, ◌≢◌, ◌==◌, ℕ, List, [], true, All, None, IfOk};
 ghost use Rattle.std.specs.List.{AllZip, Contains, list_any};
-ghost use Rattle.kr_waits.specs.Waits.{IsCycle};
+ghost use Rattle.kr_deadlock.specs.Waits.{IsCycle};
 ghost use Rattle.kr_engine.specs.declared.wakes.Change.TheVariants as change;
 ghost use Rattle.kr_engine.specs.Waits.{in_the_way, blockers_now, IsEntry, AreDeadlocked, HaveEntries};
 ghost use Rattle.kr_engine.specs.Wakes.{FreesNobody, LeavesKeys, BlocksNobody};
 
 use crate::kernel::Core;
 use crate::waits::blockers;
+use kr_deadlock::Waiting;
+use kr_history::EngineName;
 use kr_index::Tree;
 use kr_locks::Buckets;
 use kr_machine::Machine;
 use kr_model::{Event, Reply, Txn};
-use kr_places::EngineName;
 use kr_protocol::Covered;
-use kr_waits::Waiting;
 use std::alloc::{AllocError, Global};
 
 /// What a step changed that those who wait may wait for.

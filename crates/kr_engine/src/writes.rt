@@ -12,11 +12,11 @@ ghost use Rattle.kr_engine.specs.Cores.{freed};
 
 use crate::faults::{EngineFault, fault_of};
 use crate::numbers::Numbers;
+use kr_history::{Entry, Known, PlaceRow};
 use kr_index::Tree;
 use kr_locks::Buckets;
 use kr_machine::Machine;
 use kr_model::{Event, Op, Reply, Txn};
-use kr_places::{Entry, Known, PlaceRow};
 use kr_protocol::Covered;
 use std::alloc::Global;
 

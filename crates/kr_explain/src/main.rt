@@ -2,8 +2,8 @@
 //! harmless, and names changes that mend it.
 #![tactic(auto)]
 
-use kr_explain_program::{MANUAL, execute};
-use kr_shell::{Disk, words_given};
+use kr_cli::{Disk, words_given};
+use kr_cli_explain::{MANUAL, execute};
 use kr_sink::Io;
 use std::process::ExitCode;
 

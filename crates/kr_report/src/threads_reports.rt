@@ -6,7 +6,7 @@ ghost use Rattle.kr_report.specs.ThreadsReport.{answered_data, history_data, cau
 use crate::replies::{write_reply, write_verdict};
 use crate::threaded::{Answered, Threaded};
 use crate::writing::{write_numbers, write_place, write_with_numbers};
-use kr_follows::{StepFault, WhyNotDone};
+use kr_projection::{StepFault, WhyNotDone};
 use kr_script::{separator, write_pairs, write_step};
 use kr_serial::Verdict;
 use std::alloc::{AllocError, Global};

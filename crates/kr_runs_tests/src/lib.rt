@@ -1,4 +1,4 @@
-//! Tests of runs, scripts and reports, from outside: they call what `kr_serial`, `kr_counterexample`, `kr_follows`, `kr_script`,
+//! Tests of runs, scripts and reports, from outside: they call what `kr_serial`, `kr_explain_runs`, `kr_projection`, `kr_script`,
 //! `kr_sink`, `kr_report` and `kr_batch` offer.
 #![tactic(auto)]
 

@@ -29,13 +29,13 @@ fn needs_two(steps: &[Event]) -> bool
     false
 }
 
-fn pair_fits(pair: (u64, u64))
+fn lemma_pair_fits(pair: (u64, u64))
     ensures { PairFits pair }
 {
     let (_key, _value) = pair;
 }
 
-fn op_fits(op: Op)
+fn lemma_op_fits(op: Op)
     ensures { OpFits op }
 {
     match op {
@@ -45,28 +45,28 @@ fn op_fits(op: Op)
     }
 }
 
-fn event_fits(event: Event)
+fn lemma_event_fits(event: Event)
     ensures { EventFits event }
 {
     let _txn = event.txn;
-    op_fits(event.op);
+    lemma_op_fits(event.op);
 }
 
 /// Says of each pair that its numbers fit their type.
-fn pairs_fit(pairs: &[(u64, u64)])
+fn lemma_pairs_fit(pairs: &[(u64, u64)])
     ensures { All PairFits pairs.now }
 {
     for pair in pairs {
-        pair_fits(*pair);
+        lemma_pair_fits(*pair);
     }
 }
 
 /// Says of each step that its numbers fit their types.
-fn steps_fit(steps: &[Event])
+fn lemma_steps_fit(steps: &[Event])
     ensures { All EventFits steps.now }
 {
     for step in steps {
-        event_fits(*step);
+        lemma_event_fits(*step);
     }
 }
 
@@ -102,8 +102,8 @@ pub fn write_script(
     ensures reads { IfOk result (λ line. IsScript (record { opening = opening.now; steps = steps.now })
         → reading (string_bytes line) ≡ Ok (record { opening = opening.now; steps = steps.now })) }
 {
-    pairs_fit(opening);
-    steps_fit(steps);
+    lemma_pairs_fit(opening);
+    lemma_steps_fit(steps);
     let mut out = String::new(alloc);
     out.push_str(r#"{"format":"#)?;
     write_number(&mut out, number_of_format(needs_two(steps)))?;

@@ -8,8 +8,8 @@ use Rattle.kr_model.specs.Safe.{IsSafe}
 use Rattle.kr_model.specs.State.{start}
 use Rattle.kr_model.specs.Run.{Program, run, replies_of, programs}
 use Rattle.kr_model.specs.Serial.{AreSerial, IsSerialRun}
-use Rattle.kr_headline.proofs.safe.AllCases.{covered_is_safe}
-use Rattle.kr_headline.proofs.run.Runs.{safe_runs_are_serial}
+use Rattle.kr_theorem.proofs.safe.AllCases.{covered_is_safe}
+use Rattle.kr_theorem.proofs.run.Runs.{safe_runs_are_serial}
 use Rattle.kr_serial.specs.declared.ran.Ran.{Ran}
 use Rattle.kr_serial.specs.Ran.{IsRanUnder}
 

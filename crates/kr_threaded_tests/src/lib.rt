@@ -1,4 +1,4 @@
-//! Tests of the engine and of scripts in several threads, from outside: they call what `kr_places`, `kr_engine` and
+//! Tests of the engine and of scripts in several threads, from outside: they call what `kr_history`, `kr_engine` and
 //! `kr_threads` offer.
 #![tactic(auto)]
 

@@ -4,7 +4,7 @@ use Rattle.std.proofs.lemmas.Bool.{eqb-true}
 use Rattle.std.proofs.lemmas.List.Elements.{All-weaker, All-append, All-contains, Contains-append_left, Contains-push}
 use Rattle.kr_model.specs.Protocol.{Protocol}
 use Rattle.kr_model.specs.Map.{Map}
-use Rattle.kr_places.specs.declared.name.Entry.{Entry}
+use Rattle.kr_history.specs.declared.name.Entry.{Entry}
 use Rattle.kr_engine.specs.declared.kernel.SeatNote.{SeatNote}
 use Rattle.kr_engine.specs.Histories.{events_with_replies}
 use Rattle.kr_engine.specs.Closed.{Lent, StandsIn}

@@ -9,8 +9,8 @@ use Rattle.kr_model.specs.declared.Reply.TheVariants as reply
 use Rattle.kr_model.specs.Protocol.{Protocol}
 use Rattle.kr_model.specs.Map.{Map}
 use Rattle.kr_model.specs.Step.{step}
-use Rattle.kr_waits.specs.Waits.{IsCycle}
-use Rattle.kr_places.specs.declared.name.Entry.{Entry}
+use Rattle.kr_deadlock.specs.Waits.{IsCycle}
+use Rattle.kr_history.specs.declared.name.Entry.{Entry}
 use Rattle.kr_engine.specs.Histories.{event, events_with_replies}
 use Rattle.kr_engine.specs.Waits.{in_the_way, blockers_now}
 use Rattle.kr_engine.specs.Faults.{is_of_try, is_blocked}
@@ -18,8 +18,8 @@ use Rattle.kr_engine.specs.Seats.{Held, Shows, IsRefused, IsDeadlock, SeesFault,
 use Rattle.kr_engine.specs.declared.faults.Receipt.{Receipt}
 use Rattle.kr_engine.specs.declared.faults.EngineFault.{EngineFault}
 use Rattle.kr_engine.specs.declared.faults.EngineFault.TheVariants as fault
-use Rattle.kr_follows.specs.declared.faults.WhyNotDone.TheVariants.{Deadlock, Refused}
-use Rattle.kr_follows.specs.declared.faults.StepFault.{StepFault}
+use Rattle.kr_projection.specs.declared.faults.WhyNotDone.TheVariants.{Deadlock, Refused}
+use Rattle.kr_projection.specs.declared.faults.StepFault.{StepFault}
 use Rattle.kr_threads.specs.declared.left_out.LeftOut.{LeftOut}
 use Rattle.kr_threads.specs.Placed.{IsPast, IsUpTo}
 use Rattle.kr_threads.specs.Told.{is_blocked_reply, IsCaused, IsToldAt, IsLeftOut, AreTold, IsNext, Working, IsWorker}

@@ -6,9 +6,9 @@ use Rattle.kr_model.specs.Map.{Map}
 use Rattle.kr_model.specs.State.{State}
 use Rattle.kr_model.specs.Serial.{AreSerial}
 use Rattle.kr_model.specs.Run as model
-use Rattle.kr_places.specs.declared.name.Entry.{Entry}
+use Rattle.kr_history.specs.declared.name.Entry.{Entry}
 use Rattle.kr_serial.specs.declared.ran.Ran.{Ran}
-use Rattle.kr_follows.specs.Follows.{Follows}
+use Rattle.kr_projection.specs.Follows.{Follows}
 use Rattle.kr_report.specs.declared.threaded.Answered.{Answered}
 use Rattle.kr_report.specs.declared.threaded.Threaded.{Threaded}
 use Rattle.kr_threads.specs.Told.{IsTold}

@@ -10,16 +10,16 @@ use Rattle.kr_model.specs.Map.{Map}
 use Rattle.kr_model.specs.State.{State}
 use Rattle.kr_model.specs.Step.{step}
 use Rattle.kr_model.specs.Run as model
-use Rattle.kr_waits.specs.Waits.{IsCycle}
+use Rattle.kr_deadlock.specs.Waits.{IsCycle}
 use Rattle.kr_engine.specs.Histories.{event, events_with_replies}
 use Rattle.kr_engine.specs.Waits.{in_the_way, blockers_now}
-use Rattle.kr_places.specs.declared.name.Entry.{Entry}
+use Rattle.kr_history.specs.declared.name.Entry.{Entry}
 use Rattle.kr_engine.specs.Seats.{Held}
 use Rattle.kr_engine.specs.declared.closing.History.{History}
 use Rattle.kr_engine.specs.Closed.{Lent, IsClosed}
-use Rattle.kr_follows.specs.declared.faults.WhyNotDone.{WhyNotDone}
-use Rattle.kr_follows.specs.declared.faults.WhyNotDone.TheVariants.{Deadlock, Refused}
-use Rattle.kr_follows.specs.declared.faults.StepFault.{StepFault}
+use Rattle.kr_projection.specs.declared.faults.WhyNotDone.{WhyNotDone}
+use Rattle.kr_projection.specs.declared.faults.WhyNotDone.TheVariants.{Deadlock, Refused}
+use Rattle.kr_projection.specs.declared.faults.StepFault.{StepFault}
 use Rattle.kr_threads.specs.declared.left_out.LeftOut.{LeftOut}
 use Rattle.kr_threads.specs.Placed.{done_by, missed_before, IsPast, IsUpTo}
 

@@ -1,9 +1,9 @@
 //! Shows the run of a script under a table as a page of HTML.
 #![tactic(auto)]
 
-use kr_shell::{Disk, words_given};
+use kr_cli::{Disk, words_given};
+use kr_cli_view::{MANUAL, execute};
 use kr_sink::Io;
-use kr_view_program::{MANUAL, execute};
 use std::process::ExitCode;
 
 fn main(rt: HostRuntime) -> ExitCode {

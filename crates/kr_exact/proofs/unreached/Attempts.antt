@@ -17,10 +17,10 @@ use Rattle.kr_model.specs.State.{State, Scan, standing}
 use Rattle.kr_model.specs.Step.{Effect, effect, fetched, inserted, deleted, updated, looked, row_read, scan_ended, granted_or_blocked, after_effect, attempted, performed}
 use Rattle.kr_model.proofs.LockLaws.{own-keep_same}
 use Rattle.kr_model.proofs.MapLaws.{IsMap-set, IsMap-without}
-use Rattle.kr_headline.proofs.gaps.Gaps.{has}
-use Rattle.kr_headline.proofs.gaps.Moves.{has_apart, has_here}
-use Rattle.kr_headline.proofs.gaps.Undo.{InsertedIn, inserted_older}
-use Rattle.kr_headline.proofs.safe.Placed.{Stands, at_stands}
+use Rattle.kr_theorem.proofs.gaps.Gaps.{has}
+use Rattle.kr_theorem.proofs.gaps.Moves.{has_apart, has_here}
+use Rattle.kr_theorem.proofs.gaps.Undo.{InsertedIn, inserted_older}
+use Rattle.kr_theorem.proofs.safe.Placed.{Stands, at_stands}
 use Rattle.kr_exact.specs.Unreached.{I, K, X}
 use Rattle.kr_exact.proofs.unreached.Unsafe.{twin, twin_after}
 use Rattle.kr_exact.proofs.unreached.Modes.{above_after, after_above, none_beside}

@@ -12,9 +12,9 @@ use Rattle.kr_model.specs.State.{State}
 use Rattle.kr_model.specs.Step.{Effect, after_effect}
 use Rattle.kr_model.proofs.Guarantees.{In, Conflicts}
 use Rattle.kr_model.proofs.Requests.{request_at}
-use Rattle.kr_headline.proofs.gaps.Undo.{InsertedIn}
-use Rattle.kr_headline.proofs.run.Grants.{granted_at}
-use Rattle.kr_headline.proofs.safe.Placed.{Stands}
+use Rattle.kr_theorem.proofs.gaps.Undo.{InsertedIn}
+use Rattle.kr_theorem.proofs.run.Grants.{granted_at}
+use Rattle.kr_theorem.proofs.safe.Placed.{Stands}
 use Rattle.kr_exact.specs.Unreached.{I, X, only_beside_weak}
 use Rattle.kr_exact.proofs.unreached.Unsafe.{twin, twin_after, twin_lawful}
 use Rattle.kr_exact.proofs.unreached.Modes.{after_within, after_some, after_I, after_above, conflict}

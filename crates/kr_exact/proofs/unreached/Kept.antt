@@ -9,7 +9,7 @@ use Rattle.kr_model.specs.Map.{Map}
 use Rattle.kr_model.specs.Locks.{Locks, Request, own, keep, kept, kept_one}
 use Rattle.kr_model.proofs.Guarantees.{In}
 use Rattle.kr_model.proofs.LockLaws.{own-keep_same, own-keep_other, name_or_not}
-use Rattle.kr_headline.proofs.safe.Placed.{Stands}
+use Rattle.kr_theorem.proofs.safe.Placed.{Stands}
 use Rattle.kr_exact.specs.Unreached.{I, X}
 use Rattle.kr_exact.proofs.unreached.Unsafe.{twin, twin_after}
 

@@ -10,8 +10,8 @@ use Rattle.kr_model.specs.Map.{Map, IsMap}
 use Rattle.kr_model.specs.Locks.{own}
 use Rattle.kr_model.specs.State.{State, Active, start, idle, standing}
 use Rattle.kr_model.proofs.Actives.{find_put_same, find_put_other}
-use Rattle.kr_headline.proofs.gaps.Undo.{InsertedIn}
-use Rattle.kr_headline.proofs.safe.Placed.{Stands}
+use Rattle.kr_theorem.proofs.gaps.Undo.{InsertedIn}
+use Rattle.kr_theorem.proofs.safe.Placed.{Stands}
 use Rattle.kr_exact.specs.Unreached.{I, X}
 
 pub record Reached (s : State) : Type 0 where

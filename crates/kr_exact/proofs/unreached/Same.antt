@@ -22,7 +22,7 @@ use Rattle.kr_model.specs.State.{State, Scan, start, standing}
 use Rattle.kr_model.specs.Step.{Effect, Outcome, fetched, inserted, deleted, updated, looked, granted_or_blocked, attempted, attempted_scan, name_to_look, performed, unless_refused, refusal_of, step}
 use Rattle.kr_model.specs.Run.{Trace, run}
 use Rattle.kr_model.specs.Serial.{IsSerialRun, RunsAreSerial}
-use Rattle.kr_headline.proofs.gaps.Maps.{has_none}
+use Rattle.kr_theorem.proofs.gaps.Maps.{has_none}
 use Rattle.kr_exact.specs.Unreached.{I, K, weak_after, unreached}
 use Rattle.kr_exact.proofs.unreached.Unsafe.{twin, twin_after, twin_runs}
 use Rattle.kr_exact.proofs.unreached.Reached.{Reached, reached_start}

@@ -16,10 +16,10 @@ use Rattle.kr_model.specs.Step.{attempted_scan, name_to_look, ended_with, one_ta
 use Rattle.kr_model.proofs.Actives.{find_filter, find_filter_other, tied}
 use Rattle.kr_model.proofs.LockLaws.{own-release_other, find-release}
 use Rattle.kr_model.proofs.UndoLaws.{IsMap-restore, IsMap-restore_all}
-use Rattle.kr_headline.proofs.gaps.Gaps.{has}
-use Rattle.kr_headline.proofs.gaps.Moves.{back_inserted, undone_inserted}
-use Rattle.kr_headline.proofs.gaps.Undo.{InsertedIn}
-use Rattle.kr_headline.proofs.safe.Placed.{Stands}
+use Rattle.kr_theorem.proofs.gaps.Gaps.{has}
+use Rattle.kr_theorem.proofs.gaps.Moves.{back_inserted, undone_inserted}
+use Rattle.kr_theorem.proofs.gaps.Undo.{InsertedIn}
+use Rattle.kr_theorem.proofs.safe.Placed.{Stands}
 use Rattle.kr_exact.specs.Unreached.{I, X}
 use Rattle.kr_exact.proofs.unreached.Unsafe.{twin}
 use Rattle.kr_exact.proofs.unreached.Modes.{none_beside}

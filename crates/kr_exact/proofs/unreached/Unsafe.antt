@@ -8,7 +8,7 @@ use Rattle.kr_model.specs.Protocol.{Protocol, IsLawful}
 use Rattle.kr_model.specs.Safe.{free, after, start, turn, move, MayBeOnAbsent, Beside, IsSafe}
 use Rattle.kr_model.specs.Serial.{RunsAreSerial}
 use Rattle.kr_model.proofs.Tested.{lawful_by_test}
-use Rattle.kr_headline.proofs.run.Runs.{runs_are_serial}
+use Rattle.kr_theorem.proofs.run.Runs.{runs_are_serial}
 use Rattle.kr_exact.specs.Unreached.{I, X, W, unreached}
 
 pub lawful : IsLawful unreached

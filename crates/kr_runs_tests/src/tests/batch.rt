@@ -4,7 +4,7 @@ mod named;
 use kr_batch::judge_all;
 use kr_report::report_verdict;
 use kr_script::read_script;
-use kr_testing::Plain;
+use kr_test_support::Plain;
 use std::alloc::AllocError;
 use std::test::Fail;
 

@@ -7,7 +7,7 @@ mod conflicts;
 mod shared_exclusive;
 
 use kr_locks::{Buckets, Holdings, List, Memory, Mode, Name, Txn};
-use kr_testing::ScarceLocks;
+use kr_test_support::ScarceLocks;
 use shared_exclusive::{EXCLUSIVE, SHARED, SharedExclusive};
 use std::alloc::Global;
 use std::process::Abort;

@@ -2,7 +2,7 @@ use Rattle.std.proofs.Common.{◌≡◌, [], sym, ◌∙◌, refl, subst}
 use Rattle.std.specs.Prelude.{string_bytes}
 use Rattle.kr_model.specs.Covers.{failed_cases}
 use Rattle.kr_report.specs.CheckReport.{check_text}
-use Rattle.kr_shell.specs.Tables.{table_of, names_of}
+use Rattle.kr_cli.specs.Tables.{table_of, names_of}
 use Rattle.kr_embed.proofs.checks.check_table.Goals as goal
 
 -- An accepted table has no failed case, and the report is that of none.

@@ -1,5 +1,5 @@
 use Rattle.std.specs.Prelude.{option_map, string_bytes}
-use Rattle.kr_shell.specs.Tables.{table_of}
+use Rattle.kr_cli.specs.Tables.{table_of}
 use Rattle.kr_embed.proofs.Causes.{script_found}
 use Rattle.kr_embed.proofs.explanations.script_of_cause.Goals as goal
 

@@ -5,7 +5,7 @@ use Rattle.kr_model.specs.Map.{Map}
 use Rattle.kr_model.specs.State.{start}
 use Rattle.kr_model.specs.Run.{run, programs}
 use Rattle.kr_model.specs.Serial.{AreSerial}
-use Rattle.kr_shell.specs.Tables.{table_of}
+use Rattle.kr_cli.specs.Tables.{table_of}
 use Rattle.kr_embed.proofs.runs.run_script.Goals as goal
 
 -- The run that is judged is that of the script.

@@ -2,8 +2,8 @@ use Rattle.std.proofs.Common.{◌≡◌, ◌==◌, ◌||◌, ◌∙◌, ℕ, Lis
 use Rattle.std.specs.List.{list_any}
 use Rattle.std.specs.Option.{IfSome, IfNone}
 use Rattle.kr_model.specs.declared.Event.{Event}
-use Rattle.kr_waits.specs.Waits.{blockers_of, IsCycle}
-use Rattle.kr_waits.proofs.Cycles.{IsCycle-same}
+use Rattle.kr_deadlock.specs.Waits.{blockers_of, IsCycle}
+use Rattle.kr_deadlock.proofs.Cycles.{IsCycle-same}
 use Rattle.kr_engine.specs.Histories.{event}
 use Rattle.kr_engine.specs.Waits.{blockers_now, in_the_way}
 use Rattle.kr_engine.proofs.Blockers.{no_cycle_without}

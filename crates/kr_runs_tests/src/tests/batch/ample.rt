@@ -3,7 +3,7 @@
 use kr_batch::judge_all;
 use kr_report::report_verdict;
 use kr_script::{Script, read_script};
-use kr_testing::Plain;
+use kr_test_support::Plain;
 use std::alloc::{AllocError, Global};
 use std::process::Abort;
 use std::test::Fail;

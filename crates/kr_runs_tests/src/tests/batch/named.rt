@@ -1,7 +1,7 @@
 //! Texts that are judged by their names, side by side.
 use kr_batch::{TextFault, Texts, judge_texts};
 use kr_report::report_verdict;
-use kr_testing::Plain;
+use kr_test_support::Plain;
 use std::alloc::{AllocError, Global};
 use std::test::Fail;
 use std::thread::Threads;

@@ -1,7 +1,7 @@
 //! Each call with ample memory, again and again: none answers out of memory.
 
 use super::tables::{Table, failed, table_of};
-use kr_counterexample::{Closure, Ending};
+use kr_explain_runs::{Closure, Ending};
 use kr_table::bundled::KVL;
 use std::test::Fail;
 

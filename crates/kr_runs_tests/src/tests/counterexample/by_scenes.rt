@@ -1,7 +1,7 @@
 //! The scripts that scenes give of tables of which `kr_explain` finds none from their failed cases within its effort.
 
 use super::tables::{Table, failed, table_of};
-use kr_counterexample::{Counterexample, Fit, Scenes};
+use kr_explain_runs::{Counterexample, Fit, Scenes};
 use kr_model::Rule;
 use kr_protocol::Protocol;
 use kr_script::read_script;

@@ -5,7 +5,7 @@ ghost use Rattle.std.specs.Prelude.{◌<◌};
 
 use super::entries::{Clause, edits, text_of};
 use super::tables::failed;
-use kr_counterexample::Closure;
+use kr_explain_runs::Closure;
 use kr_model::FailedCase;
 use kr_protocol::{Im, Kvl, KvlUpdate, Protocol, RangeKey};
 use kr_table::read;

@@ -1,7 +1,7 @@
 //! How many failed cases of a table are reached, and how many have a script.
 
 use super::tables::{ASKS_NOTHING, Table, failed, table_of};
-use kr_counterexample::Closure;
+use kr_explain_runs::Closure;
 use kr_table::bundled::{KVL, KVL_UPDATE};
 use std::test::Fail;
 

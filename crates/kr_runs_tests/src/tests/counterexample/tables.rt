@@ -1,7 +1,7 @@
 //! Tables of rows: a bundled table with changes of its text, and the cases of it that fail.
 
 use kr_cases::{WhyRejected, check};
-use kr_counterexample::{Closure, Counterexample};
+use kr_explain_runs::{Closure, Counterexample};
 use kr_model::{FailedCase, Row, Side};
 use kr_protocol::Protocol;
 use kr_script::read_script;

@@ -1,7 +1,7 @@
 //! What is told of a script, at each entrance of tables that request no lock, or few.
 
 use super::tables::{ASKS_NOTHING, Table, failed, table_of};
-use kr_counterexample::{Closure, Counterexample, Ending};
+use kr_explain_runs::{Closure, Counterexample, Ending};
 use kr_model::{FailedCase, Row, Rule, Side, Txn};
 use kr_script::read_script;
 use std::alloc::Global;

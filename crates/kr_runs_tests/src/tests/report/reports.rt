@@ -2,7 +2,7 @@ use kr_model::{Mode, Name, Pairs, Programs, Refusal, Reply, Txn, Txns};
 use kr_report::{report_played, report_run, report_verdict};
 use kr_script::read_script;
 use kr_serial::{Index, Played, Ran, Replies, Triples, Verdict};
-use kr_testing::Plain;
+use kr_test_support::Plain;
 use std::alloc::{AllocError, Global};
 use std::process::Abort;
 use std::test::Fail;

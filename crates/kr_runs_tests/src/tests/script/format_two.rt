@@ -3,7 +3,7 @@ use kr_protocol::{Kvl, KvlUpdate, Protocol};
 use kr_report::report_run;
 use kr_script::read_script;
 use kr_serial::{judge, run_any};
-use kr_testing::Plain;
+use kr_test_support::Plain;
 use std::alloc::Global;
 use std::test::Fail;
 

@@ -6,7 +6,7 @@ use super::ways::{KEY_VALUE, KEY_VALUE_WITH_UPDATES};
 use kr_index::Memory;
 use kr_model::{Op, Refusal};
 use kr_serial::Name;
-use kr_testing::Answer;
+use kr_test_support::Answer;
 
 /// Shared, of key-value locking.
 const S: u8 = 3;

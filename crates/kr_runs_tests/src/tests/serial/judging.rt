@@ -4,7 +4,7 @@ use super::runs::THREE_PAIRS;
 use super::telling::{Did, Told, reply_of};
 use kr_model::{Answers, Op, Program, Programs, Txns};
 use kr_serial::{Index, Ran, Replies, Triples, judge};
-use kr_testing::Answer;
+use kr_test_support::Answer;
 use std::alloc::{AllocError, Global};
 use std::process::Abort;
 

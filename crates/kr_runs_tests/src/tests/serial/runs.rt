@@ -6,7 +6,7 @@ use super::ways::{Way, played_by, ran_by};
 use kr_index::Memory;
 use kr_model::{Event, Op};
 use kr_serial::{Mode, Name, Played, Ran, Reply, Txn, judge};
-use kr_testing::Answer;
+use kr_test_support::Answer;
 use std::alloc::Global;
 use std::process::Abort;
 

@@ -6,7 +6,7 @@ use super::ways::KEY_VALUE;
 use kr_index::Memory;
 use kr_model::Op;
 use kr_serial::Name;
-use kr_testing::Answer;
+use kr_test_support::Answer;
 
 /// Intent exclusive, of key-value locking.
 const IX: u8 = 2;

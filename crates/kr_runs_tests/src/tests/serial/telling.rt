@@ -2,7 +2,7 @@
 
 use kr_model::{Op, Pairs, Program, Reply, Txn};
 use kr_serial::Verdict;
-use kr_testing::Answer;
+use kr_test_support::Answer;
 use std::alloc::{AllocError, Global};
 
 /// The reply that is this answer, where it is one to an operation.

@@ -5,7 +5,7 @@ use kr_index::Memory;
 use kr_model::Event;
 use kr_protocol::{Covered, Im, Kvl, KvlUpdate, RangeKey};
 use kr_serial::{Played, Ran, play, run, run_any};
-use kr_testing::Plain;
+use kr_test_support::Plain;
 use std::alloc::Global;
 
 /// The call that runs events, and the protocol that keeps transactions apart.

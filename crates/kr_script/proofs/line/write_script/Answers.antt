@@ -35,4 +35,4 @@ returns-clause-text c =
 
 pub returns-clause-reads : goal.returns-clause-reads
 returns-clause-reads c =
-    line_reads c.args.opening.now c.args.steps.now (string_bytes c.push_str-4.new.self) c.pairs_fit.ensures c.steps_fit.ensures (IsUtf8-string_bytes c.push_str-4.new.self) (returns-clause-text c)
+    line_reads c.args.opening.now c.args.steps.now (string_bytes c.push_str-4.new.self) c.lemma_pairs_fit.ensures c.lemma_steps_fit.ensures (IsUtf8-string_bytes c.push_str-4.new.self) (returns-clause-text c)

@@ -8,7 +8,7 @@ use kr_locks::Memory;
 use kr_machine::Name;
 use kr_model::{Op, Refusal};
 use kr_protocol::{Im, Kvl, KvlUpdate};
-use kr_testing::Answer;
+use kr_test_support::Answer;
 
 /// Two changes of one key are undone one by one, the newer one first, and all locks are kept until the abort.
 const TWO_CHANGES_BACK: Story = Story {

@@ -6,7 +6,7 @@ use kr_index::Sorted;
 use kr_locks::{List, Memory};
 use kr_machine::Machine;
 use kr_protocol::Protocol;
-use kr_testing::{Countdown, ScarceIndex, ScarceLocks};
+use kr_test_support::{Countdown, ScarceIndex, ScarceLocks};
 use std::alloc::Global;
 
 /// A machine at the plain index and lock table.

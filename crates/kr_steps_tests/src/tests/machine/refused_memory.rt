@@ -10,7 +10,7 @@ use kr_locks::{Holdings, Memory};
 use kr_machine::{Machine, Txn};
 use kr_model::{Op, Refusal, Reply};
 use kr_protocol::{Kvl, KvlUpdate, Protocol};
-use kr_testing::Answer;
+use kr_test_support::Answer;
 use std::alloc::Global;
 use std::process::Abort;
 

@@ -9,7 +9,7 @@ use kr_locks::Memory;
 use kr_machine::Name;
 use kr_model::{Op, Refusal};
 use kr_protocol::{Im, Kvl, RangeKey};
-use kr_testing::Answer;
+use kr_test_support::Answer;
 
 /// A scan of the greatest key alone reads it at its first step, and requests no lock on the end.
 const ENDS_AT_GREATEST_KEY: Story = Story {

@@ -8,7 +8,7 @@ use kr_locks::Memory;
 use kr_machine::Name;
 use kr_model::{Op, Refusal};
 use kr_protocol::{Im, Kvl};
-use kr_testing::Answer;
+use kr_test_support::Answer;
 
 /// A transaction that splits a gap that it has read covers both parts of it.
 const SPLITS_OWN_GAP: Story = Story {

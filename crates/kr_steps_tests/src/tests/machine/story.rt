@@ -3,7 +3,7 @@ ghost use Rattle.kr_model.specs.Map.{IsMap};
 
 use kr_machine::{Mode, Name, Txn};
 use kr_model::Op;
-use kr_testing::Answer;
+use kr_test_support::Answer;
 
 /// What happens on one machine.
 #[derive(Clone, Copy)]

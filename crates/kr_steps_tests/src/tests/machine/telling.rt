@@ -8,7 +8,7 @@ use kr_locks::{Holdings, Memory};
 use kr_machine::{Machine, Mode, Name, Txn};
 use kr_model::{Op, Pairs, Reply, Txns};
 use kr_protocol::Protocol;
-use kr_testing::Answer;
+use kr_test_support::Answer;
 use std::alloc::Global;
 use std::process::Abort;
 

@@ -1,8 +1,8 @@
 //! Many transactions of several workers on a few keys.
 
 use super::{done_by, done_with_updates, next};
-use kr_follows::{StepFault, WhyNotDone};
 use kr_model::{Op, Refusal, Reply};
+use kr_projection::{StepFault, WhyNotDone};
 use kr_report::Answered;
 use kr_serial::judge;
 use kr_threads::Passage;

@@ -1,6 +1,6 @@
 use Rattle.std.proofs.Common.{◌≡◌, ◌+◌, ◌++◌, ◌∷◌, [], List, Some, sym, ap, ◌∙◌, subst, arith, refl}
 use mathlib.Core.List.{IsPrefix}
-use Rattle.kr_places.specs.declared.name.Entry.{Entry}
+use Rattle.kr_history.specs.declared.name.Entry.{Entry}
 use Rattle.kr_engine.specs.Histories.{entries_of, entry, event}
 use Rattle.kr_engine.specs.Seats.{Held}
 use Rattle.kr_engine.proofs.Counts.{entries_of-within}

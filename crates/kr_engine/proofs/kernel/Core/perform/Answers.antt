@@ -5,7 +5,7 @@ use Rattle.kr_model.specs.Protocol.{Protocol}
 use Rattle.kr_model.specs.State.{State}
 use Rattle.kr_engine.specs.declared.kernel.SeatNote.{SeatNote}
 use Rattle.kr_model.specs.Step.{step}
-use Rattle.kr_places.specs.declared.name.Entry.{Entry}
+use Rattle.kr_history.specs.declared.name.Entry.{Entry}
 use Rattle.kr_model.specs.Run.{is_granted}
 use Rattle.kr_model.specs.Log.{no_log, log_after}
 use Rattle.kr_engine.specs.Histories.{IsHistory, entry, event, events_with_replies}

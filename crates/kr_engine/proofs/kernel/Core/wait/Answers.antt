@@ -1,6 +1,6 @@
 use Rattle.std.proofs.Common.{ℕ, List, ◌∷◌, subst}
 use Rattle.std.specs.Option.{IfNone}
-use Rattle.kr_waits.specs.Waits.{IsCycle}
+use Rattle.kr_deadlock.specs.Waits.{IsCycle}
 use Rattle.kr_engine.specs.Histories.{event}
 use Rattle.kr_engine.specs.Waits.{blockers_now, in_the_way}
 use Rattle.kr_engine.proofs.Lists.{some_has, on_ok}

@@ -7,7 +7,7 @@ use super::inputs::{CASES, case};
 use kr_index::Memory;
 use kr_model::Op;
 use kr_serial::Txn;
-use kr_testing::Answer;
+use kr_test_support::Answer;
 use std::alloc::Global;
 use std::process::Abort;
 

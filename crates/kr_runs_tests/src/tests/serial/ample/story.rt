@@ -7,7 +7,7 @@ use super::inputs::{CASES, case};
 use kr_index::Memory;
 use kr_model::{Op, Refusal};
 use kr_serial::Txn;
-use kr_testing::Answer;
+use kr_test_support::Answer;
 
 /// Each of the ways that offers no updates, and the one without locks.
 const WAYS: &[Way] = &[

@@ -1,4 +1,0 @@
-use Rattle.kr_causes.proofs.mend.is_among.Goals as goal
-
-pub returns : goal.returns
-returns c = (λ t. record { some = c.has_same.ensures.0 t }, λ a. c.has_same.ensures.1 a.some)

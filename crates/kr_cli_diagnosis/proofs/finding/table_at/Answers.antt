@@ -1,0 +1,9 @@
+use Rattle.std.specs.Prelude.{[], string_bytes}
+use Rattle.kr_cli_diagnosis.proofs.Helped.{adds_help, adds_lines}
+use Rattle.kr_cli_diagnosis.proofs.finding.table_at.Goals as goal
+
+pub returns-in-Err-clause-lines : goal.returns-in-Err-clause-lines
+returns-in-Err-clause-lines g c = adds_lines c.args.word.now _ _ (adds_help c.args.word.now [] (string_bytes c.args.help.now) (string_bytes c.add.new.help) c.bundled_help.result c.bundled_help.ensures c.add.ensures.ok c.add.ensures.err)
+
+pub returns-clause-lines : goal.returns-clause-lines
+returns-clause-lines g c = adds_lines _ _ _ c.table_in_file.ensures.help

@@ -1,0 +1,18 @@
+//! The names of the bundled tables.
+ghost use Rattle.std.specs.Prelude.{[], IfOk, string_bytes};
+ghost use Rattle.kr_cli_diagnosis.specs.Help.{IsHelp};
+
+use crate::help::Help;
+use std::alloc::{AllocError, Global};
+
+/// The words of the bundled tables.
+pub const BUNDLED: [&str; 4] = ["@kvl", "@kvl-update", "@im", "@range-key"];
+
+/// What helps at a word that begins with `@` and names no bundled table: their names, and the nearest.
+pub fn bundled_help(alloc: Global, word: &str) -> Result<String, AllocError>
+    ensures { IfOk result (λ text. IsHelp word.now [] (string_bytes text)) }
+{
+    let what = "the bundled tables are @kvl, @kvl-update, @im and @range-key";
+    let help = Help::of(alloc, None, what)?.near(alloc, word, &BUNDLED)?;
+    help.print(alloc, word, &[])
+}

@@ -1,0 +1,27 @@
+//! Files that can't be read.
+ghost use Rattle.std.specs.Prelude.{[], IfOk, string_bytes};
+ghost use Rattle.kr_cli_diagnosis.specs.Help.{IsHelp};
+
+use crate::bundled::BUNDLED;
+use crate::help::Help;
+use kr_cli::FileFault;
+use std::alloc::{AllocError, Global};
+
+/// What is said of a fault of a file.
+fn said(fault: FileFault) -> &'static str {
+    match fault {
+        FileFault::Missing => "there is no such file",
+        FileFault::Denied => "the file may not be read: its permissions refuse it",
+        FileFault::Directory => "this is a directory",
+        FileFault::Unreadable => "reading the file failed",
+        FileFault::Memory => "memory ran out",
+    }
+}
+
+/// What helps at a word whose file can't be read: why, and the bundled table whose name is near.
+pub fn file_help(alloc: Global, word: &str, fault: FileFault) -> Result<String, AllocError>
+    ensures help { IfOk result (λ text. IsHelp word.now [] (string_bytes text)) }
+{
+    let help = Help::of(alloc, None, said(fault))?.near(alloc, word, &BUNDLED)?;
+    help.print(alloc, word, &[])
+}

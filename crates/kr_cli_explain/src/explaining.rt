@@ -1,0 +1,60 @@
+//! From a locking protocol to its explanation, or a script of it, on a sink.
+ghost use Rattle.std.specs.Prelude.{◌≡◌, ◌⊎◌, IfOk, IfErr, IsTrue};
+ghost use Rattle.kr_sink.specs.Puts.{HasCause};
+ghost use Rattle.kr_cli.specs.Endings.{is_output};
+ghost use Rattle.kr_cli_explain.specs.Program.{Explains, WritesScript, EndsReport};
+ghost use Rattle.kr_cli_explain.specs.declared.words.Wanted.TheVariants as wanted;
+
+use kr_cli::Ending;
+use kr_explain_core::explain;
+use kr_protocol::Protocol;
+use kr_sink::{Sink, print, put_all};
+use std::alloc::Global;
+
+/// Writes the explanation of a protocol, whose table this word names, and answers whether the table is safe, accepted or not.
+/// Where a growth was refused, nothing is written; where printing fails, a prefix of the text was.
+pub fn write_explanation<P: Protocol, W: Sink>(
+    alloc: Global,
+    protocol: &P,
+    table: &str,
+    out: &mut W,
+) -> Result<bool, Ending>
+    ensures explains { IfOk result (Explains (P.table protocol.now) (P.names protocol.now) (W.taken out.old) (W.taken out.new)) }
+    ensures err { IfErr result (EndsReport (P.table protocol.now) table.now wanted.Explanation) }
+    ensures nothing { IfErr result (λ e. IsTrue (is_output e) ⊎ (out.new ≡ out.old)) }
+    ensures cause { IfErr result (λ e. IsTrue (is_output e) → HasCause (W.failures out.old) (W.failures out.new)) }
+{
+    let explanation = explain(alloc, protocol)?;
+    let text = explanation.text(alloc, protocol, table)?;
+    put_all(out, text.as_bytes())?;
+    Ok(explanation.is_safe())
+}
+
+/// Writes the script of the cause of this number, from 1, of a protocol, whose table this word names, and a line feed. Where
+/// there is no such cause, or no run of it is known, the ending tells that, and nothing is written; nor is it where a growth
+/// was refused.
+#[tactic(auto, using(crate::proofs::Written::script_written))]
+pub fn write_script<P: Protocol, W: Sink>(
+    alloc: Global,
+    protocol: &P,
+    table: &str,
+    number: usize,
+    out: &mut W,
+) -> Result<(), Ending>
+    ensures script { IfOk result (λ _. WritesScript (P.table protocol.now) number (W.taken out.old) (W.taken out.new)) }
+    ensures err { IfErr result (EndsReport (P.table protocol.now) table.now (wanted.Script number)) }
+    ensures nothing { IfErr result (λ e. IsTrue (is_output e) ⊎ (out.new ≡ out.old)) }
+    ensures cause { IfErr result (λ e. IsTrue (is_output e) → HasCause (W.failures out.old) (W.failures out.new)) }
+{
+    let explanation = explain(alloc, protocol)?;
+    match explanation.script(alloc, number)? {
+        Some(line) => {
+            print(out, line.as_str())?;
+            Ok(())
+        }
+        None => {
+            let what = format!(in alloc; "no script {number}")?;
+            Err(Ending::told(alloc, table, what.as_str()))
+        }
+    }
+}

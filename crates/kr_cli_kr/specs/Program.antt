@@ -1,0 +1,79 @@
+-- What the program writes of the task that words ask for, under the table and of the scripts that they name, and why it ends without that. What files may give is a relation of words to bytes, or to none.
+use Rattle.std.specs.Prelude.{◌≡◌, ℕ, Bool, true, false, List, Option, ◌↔◌, ◌⊎◌, IsTrue, All, map, string_bytes}
+use Rattle.std.specs.Io.KnownBytes.{Appends}
+use Rattle.kr_model.specs.Protocol.{Protocol, IsLawful}
+use Rattle.kr_model.specs.Covers.{IsCovered}
+use Rattle.kr_script.specs.Script.{Script}
+use Rattle.kr_cli.specs.declared.endings.Ending.{Ending}
+use Rattle.kr_cli.specs.declared.endings.Ending.TheVariants.{NotUnderstood, Memory, Place, Output, Told}
+use Rattle.kr_cli.specs.declared.tables.AnyTable.{AnyTable}
+use Rattle.kr_cli.specs.Files.{MayBeScript}
+use Rattle.kr_cli.specs.Named.{NamesTable, TellsNoTable, NamesScript, TellsNoScript}
+use Rattle.kr_cli.specs.Tables.{table_of, names_of}
+use Rattle.kr_batch.specs.Names.{AreNamed, IsFirst}
+use Rattle.kr_cli_kr.specs.Runs.{report_line, IsSerialScript}
+use Rattle.kr_cli_kr.specs.Checks.{check_line}
+use Rattle.kr_cli_kr.specs.Judges.{judge_lines}
+use Rattle.kr_cli_kr.specs.Threads.{threads_line}
+use Rattle.kr_cli_kr.specs.Words.{AreWords}
+use Rattle.kr_report.specs.declared.threaded.Threaded.{Threaded}
+use Rattle.kr_threads.specs.Threaded.{IsThreaded}
+use Rattle.kr_cli_kr.specs.declared.tasks.Task.{Task}
+use Rattle.kr_cli_kr.specs.declared.tasks.Task.TheVariants.{Check, Run, Judge, Threads}
+
+-- Under a covered table the whole report was written of a run by several threads of the script that a word names, and the answer is that it is serializable; under another the report of the check, and the answer is that it is rejected.
+abbrev pub ThreadsReported : (List ℕ → Option (List ℕ) → Type 0) → Protocol → List (List ℕ) → List ℕ → Option (List ℕ) → Option (List ℕ) → Bool → Type 0
+ThreadsReported may_give p names word old new well =
+    ((well ≡ true) × (IsCovered p × ((s : Script) × (NamesScript may_give word s × ((d : Threaded) × (IsThreaded p s.opening s.steps d × Appends old new (threads_line d)))))))
+    ⊎ ((well ≡ false) × ((IsCovered p → ⊥) × Appends old new (check_line p names)))
+
+-- The whole report of a task was written, of the scripts that its words name, and the answer is whether the table is accepted, or each run is serializable.
+abbrev pub Reports : (List ℕ → Option (List ℕ) → Type 0) → Protocol → List (List ℕ) → Task → Option (List ℕ) → Option (List ℕ) → Bool → Type 0
+Reports may_give p names Check old new well = Appends old new (check_line p names) × (IsTrue well ↔ IsCovered p)
+Reports may_give p names (Run word) old new well =
+    (s : Script) × (NamesScript may_give word.now s × (Appends old new (report_line p names s) × (IsTrue well ↔ IsSerialScript p s)))
+Reports may_give p names (Judge words) old new well = (ss : List Script) × (AreNamed (MayBeScript may_give) (map (λ w. w.now) words.items) ss
+    × (Appends old new (judge_lines p (map (λ w. w.now) words.items) ss) × (IsTrue well ↔ All (IsSerialScript p) ss)))
+Reports may_give p names (Threads word workers) old new well = ThreadsReported may_give p names word.now old new well
+
+-- The whole report of the task that these words ask for was written, under the lawful table that one of them names.
+pub record Answers (may_give : List ℕ → Option (List ℕ) → Type 0) (words : List (List ℕ)) (old new : Option (List ℕ)) (well : Bool) : Type 0 where
+  pub table : List ℕ
+  pub task : Task
+  pub named : AnyTable
+  pub ask : AreWords words table task
+  pub names : NamesTable may_give table named
+  pub lawful : IsLawful (table_of named)
+  pub reports : Reports may_give (table_of named) (names_of named) task old new well
+
+-- A task ends without its report, or with a prefix of it: for memory, a place or output, or with a line that is told of a word, of which this holds.
+abbrev pub Unreported : (List ℕ → Type 0) → Ending → Type 0
+Unreported P NotUnderstood = ⊥
+Unreported P Memory = Unit {0}
+Unreported P Place = Unit {0}
+Unreported P Output = Unit {0}
+Unreported P (Told line) = P (string_bytes line)
+
+-- The line tells why the first of the words that names no script names none.
+abbrev pub TellsFirst : (List ℕ → Option (List ℕ) → Type 0) → List (List ℕ) → List ℕ → Type 0
+TellsFirst may_give words line = (place : ℕ) × IsFirst (MayBeScript may_give) words place (λ word. TellsNoScript may_give word line)
+
+-- The line tells why a word of a task names no script; of several, it is the first.
+abbrev pub TellsTask : (List ℕ → Option (List ℕ) → Type 0) → Task → List ℕ → Type 0
+TellsTask may_give Check = λ line. ⊥
+TellsTask may_give (Run word) = TellsNoScript may_give word.now
+TellsTask may_give (Judge words) = TellsFirst may_give (map (λ w. w.now) words.items)
+TellsTask may_give (Threads word workers) = TellsNoScript may_give word.now
+
+-- The line tells why the word of a table names none; or why a word of a task names no script, where that of the table names one.
+abbrev pub TellsWord : (List ℕ → Option (List ℕ) → Type 0) → List ℕ → Task → List ℕ → Type 0
+TellsWord may_give table task line =
+    TellsNoTable may_give table line ⊎ ((t : AnyTable) × (NamesTable may_give table t × TellsTask may_give task line))
+
+-- Why the program ends without the report that these words ask for, or with a prefix of it. A line is told of a word of a task that they ask for.
+abbrev pub Ends : (List ℕ → Option (List ℕ) → Type 0) → List (List ℕ) → Ending → Type 0
+Ends may_give words NotUnderstood = Unit {0}
+Ends may_give words Memory = Unit {0}
+Ends may_give words Place = Unit {0}
+Ends may_give words Output = Unit {0}
+Ends may_give words (Told line) = (table : List ℕ) × ((task : Task) × (AreWords words table task × TellsWord may_give table task (string_bytes line)))

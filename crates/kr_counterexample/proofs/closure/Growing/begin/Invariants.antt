@@ -1,6 +1,0 @@
-use Rattle.std.specs.Prelude.{◌≡◌}
-use Rattle.kr_counterexample.proofs.closure.Growing.begin.Given as goal
-
--- the table stays
-abbrev pub invariant-loop-p : goal.invariant-loop-p
-invariant-loop-p g l = l.self.protocol.now ≡ l.fn.self.protocol.now

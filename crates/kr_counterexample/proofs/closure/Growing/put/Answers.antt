@@ -1,7 +1,0 @@
-use Rattle.kr_counterexample.proofs.Reaching.{put_behind}
-use Rattle.kr_counterexample.proofs.closure.Growing.put.Goals as goal
-
--- the script of the new state leads to it
-pub invariant_of-self-then-branch-clause-are_reached : goal.invariant_of-self-then-branch-clause-are_reached
-invariant_of-self-then-branch-clause-are_reached g c =
-    put_behind (g.P.Protocol.table c.args.self.now.protocol.now) _ c.args.self.now.reached.items c.push.new.self.items c.args.reached c.args.self.now.are_reached (c.in_ok-is_reached.ensures c.if-branch.true) c.push.ensures.items

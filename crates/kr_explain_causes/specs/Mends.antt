@@ -1,0 +1,86 @@
+-- Changes that mend failed cases.
+use Rattle.std.specs.Prelude.{◌≡◌, ◌≢◌, ◌≤◌, ◌⊎◌, [], ◌++◌, List, true, All, length}
+use Rattle.std.specs.List.{Any}
+use Rattle.kr_model.specs.declared.FailedCase.{FailedCase}
+use Rattle.kr_model.specs.Protocol.{Protocol}
+use Rattle.kr_model.specs.Covers.{failed_cases, IsCovered}
+use Rattle.kr_model.specs.Safe.{IsSafe}
+use Rattle.kr_explain_causes.specs.declared.blame.Blame.{Blame}
+use Rattle.kr_explain_causes.specs.declared.blame.Blame.TheVariants.{Place, Request, Conversion, Pair}
+use Rattle.kr_explain_causes.specs.declared.change.Change.{Change}
+use Rattle.kr_explain_causes.specs.declared.change.Change.TheVariants.{Ask, Convert, Apart}
+use Rattle.kr_explain_causes.specs.declared.mend.Mend.{Mend}
+use Rattle.kr_explain_causes.specs.declared.mend.Verdict.{Verdict}
+use Rattle.kr_explain_causes.specs.declared.mend.Verdict.TheVariants.{Accepted, Safe, Mended, Neither}
+use Rattle.kr_explain_causes.specs.Changes.{changed, is_change, with_mode}
+
+-- Two failures are of one case: whatever its mode is, and the place that is left open.
+pub record IsSameCase (f g : FailedCase) : Type 0 where
+  pub case : f.case ≡ g.case
+  pub cover : f.cover ≡ g.cover
+  pub from : f.from ≡ g.from
+
+-- A failure is of one of the cases.
+pub record IsAmong (f : FailedCase) (cases : List FailedCase) : Type 0 where
+  pub some : Any (IsSameCase f) cases
+
+-- Of the cases that fail after a change, none is among those that it has to mend, and each had failed before.
+pub record AreMended (cases failed after : List FailedCase) : Type 0 where
+  pub mended : All (λ f. IsAmong f cases → ⊥) after
+  pub no_other : All (λ f. IsAmong f failed) after
+
+-- The change is one of p's, and with it the table is accepted.
+pub record Accepts (p : Protocol) (c : Change) : Type 0 where
+  pub change : is_change p c ≡ true
+  pub covered : IsCovered (changed p c)
+
+-- The change is one of p's, and with it the table isn't accepted, but safe.
+pub record MakesSafe (p : Protocol) (c : Change) : Type 0 where
+  pub change : is_change p c ≡ true
+  pub refused : failed_cases (changed p c) ≢ []
+  pub safe : IsSafe (changed p c)
+
+-- The change is one of p's, and with it the table isn't accepted, but the cases hold, and no case fails that held.
+pub record Mends (p : Protocol) (cases failed : List FailedCase) (c : Change) : Type 0 where
+  pub change : is_change p c ≡ true
+  pub refused : failed_cases (changed p c) ≢ []
+  pub mended : AreMended cases failed (failed_cases (changed p c))
+
+-- The change is of the entry that is to blame.
+abbrev pub IsOf : Blame → Change → Type 0
+IsOf (Place row side) (Ask r s own_next mode span) = (r ≡ row) × (s ≡ side)
+IsOf (Request row side asked) (Ask r s own_next mode span) = (r ≡ row) × (s ≡ side)
+IsOf (Conversion held requested) (Convert h q mode) = (h ≡ held) × (q ≡ requested)
+IsOf (Pair requested held) (Apart q h) = (q ≡ requested) × (h ≡ held)
+IsOf _ _ = ⊥
+
+-- Two changes differ in their mode alone.
+abbrev pub AreAlike : Change → Change → Type 0
+AreAlike c d = with_mode 0 c ≡ with_mode 0 d
+
+-- All changes that are named.
+abbrev pub changes_of : Mend → List Change
+changes_of m = m.accepted.items ++ (m.safe.items ++ m.mended.items)
+
+-- The changes that are told mend.
+pub record AreMends (p : Protocol) (cases failed : List FailedCase) (m : Mend) : Type 0 where
+  pub accepted : All (Accepts p) m.accepted.items
+  pub safe : All (MakesSafe p) m.safe.items
+  pub mended : All (Mends p cases failed) m.mended.items
+
+-- The changes that are named are of one entry, which is to blame.
+pub record AreOfOneEntry (blame : Blame) (m : Mend) : Type 0 where
+  -- those that only mend are named where there are no others
+  pub last : (m.mended.items ≡ []) ⊎ ((m.accepted.items ≡ []) × (m.safe.items ≡ []))
+  -- each is of the entry that is to blame, and any two of them differ in their mode alone
+  pub of_blamed : All (IsOf blame) (changes_of m)
+  pub alike : All (λ c. All (AreAlike c) (changes_of m)) (changes_of m)
+  -- there are at most 15
+  pub few : length (changes_of m) ≤ 15
+
+-- What is said of a change.
+abbrev pub Tells : Protocol → List FailedCase → List FailedCase → Change → Verdict → Type 0
+Tells p cases failed c Accepted = Accepts p c
+Tells p cases failed c Safe = MakesSafe p c
+Tells p cases failed c Mended = Mends p cases failed c
+Tells p cases failed c Neither = Unit {0}

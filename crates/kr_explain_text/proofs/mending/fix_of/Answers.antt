@@ -1,0 +1,14 @@
+use Rattle.std.proofs.Common.{ℕ, List, Bool, subst, sym, ap, ◌∙◌, ◌++◌, codes, string_bytes}
+use Rattle.kr_explain_text.specs.Lines.{IsParagraph}
+use Rattle.kr_explain_text.specs.Edits.{IsEdit, fix_words, modes_of}
+use Rattle.kr_explain_text.proofs.mending.fix_of.Goals as goal
+
+pub returns : goal.returns
+returns g c =
+    let P : List ℕ → Type 0 = λ w. IsParagraph 3 3 w (string_bytes c.in_ok-text.text) in
+    let words = λ (e : List ℕ). fix_words c.args.head.now e c.args.then.now in
+    record {
+      edit = string_bytes c.in_ok-edit.edit;
+      is_edit = c.in_ok-edit.ensures;
+      paragraph = subst P (c.as_str-2.ensures.value ∙ c.in_ok-words.ensures ∙ ap words c.as_str.ensures.value) c.in_ok-text.ensures;
+    }

@@ -1,0 +1,163 @@
+//! Changes as edits of a table's file.
+ghost use Rattle.std.specs.Prelude.{◌≡◌, IfOk, string_bytes};
+ghost use Rattle.kr_explain_text.specs.Edits.{IsEdit, apart_words, convert_words, modes_of, request_words};
+
+use crate::answers::{asked, converted, name_of};
+use crate::lists::{modes_chosen, modes_listed};
+use crate::words::{row_word, side_word, span_word};
+use kr_cases::Memory;
+use kr_explain_causes::Change;
+use kr_model::{Mode, Row, Side, Span};
+use kr_protocol::Protocol;
+use std::alloc::Global;
+
+/// Changes that differ in their mode alone, of which this is one, as one edit.
+pub fn edit_words<P: Protocol>(
+    alloc: Global,
+    protocol: &P,
+    first: Change,
+    changes: &[Change],
+) -> Result<String, Memory>
+    ensures { IfOk result (λ text. IsEdit (P.names protocol.now) first (modes_of changes.now) (string_bytes text)) }
+{
+    let modes = modes_of(alloc, changes)?;
+    match first {
+        Change::Ask {
+            row,
+            side,
+            own_next,
+            mode: _,
+            span,
+        } => {
+            let owns = owns_words(alloc, protocol, row, side, own_next, &modes, span)?;
+            let request = request_words(alloc, protocol, row, side, &modes, span)?;
+            format!(in alloc; "{request}{owns}")
+        }
+        Change::Convert {
+            held,
+            requested,
+            mode: _,
+        } => convert_words(alloc, protocol, held, requested, &modes),
+        Change::Apart { requested, held } => apart_words(alloc, protocol, requested, held),
+    }
+}
+
+/// The modes of the changes, in their order.
+fn modes_of(alloc: Global, changes: &[Change]) -> Result<Vec<Mode>, Memory>
+    ensures { IfOk result (λ modes. modes.items ≡ modes_of changes.now) }
+{
+    changes
+        .iter()
+        .filter_map(|change| change.mode())
+        .collect(alloc)
+}
+
+/// An edit of what a row requests.
+#[tactic(auto, unfolding(crate::specs::Edits::request_words))]
+fn request_words<P: Protocol>(
+    alloc: Global,
+    protocol: &P,
+    row: Row,
+    side: Side,
+    modes: &[Mode],
+    span: Span,
+) -> Result<String, Memory>
+    ensures { IfOk result (λ text. string_bytes text ≡ request_words (P.names protocol.now) row side modes.now span) }
+{
+    let row = row_word(row);
+    let side = side_word(side);
+    let modes = modes_listed(alloc, protocol, modes)?;
+    let span = span_word(span);
+    format!(in alloc; "in [rules.{row}], {side}: request {modes} for {span} duration")
+}
+
+/// An edit of a conversion.
+#[tactic(auto, unfolding(crate::specs::Edits::convert_words))]
+fn convert_words<P: Protocol>(
+    alloc: Global,
+    protocol: &P,
+    held: Mode,
+    requested: Mode,
+    modes: &[Mode],
+) -> Result<String, Memory>
+    ensures { IfOk result (λ text. string_bytes text ≡ convert_words (P.names protocol.now) held requested modes.now) }
+{
+    let held = name_of(protocol, held);
+    let requested = name_of(protocol, requested);
+    let made = modes_chosen(alloc, protocol, modes, true)?;
+    format!(in alloc; "in [convert], {held}: {requested} = {made}")
+}
+
+/// An edit of the compatible modes.
+#[tactic(auto, unfolding(crate::specs::Edits::apart_words))]
+fn apart_words<P: Protocol>(
+    alloc: Global,
+    protocol: &P,
+    requested: Mode,
+    held: Mode,
+) -> Result<String, Memory>
+    ensures { IfOk result (λ text. string_bytes text ≡ apart_words (P.names protocol.now) requested held) }
+{
+    let requested = name_of(protocol, requested);
+    let held = name_of(protocol, held);
+    format!(in alloc; "in [compatible], {requested}: remove {held}")
+}
+
+/// For which own modes on the next key a request changes; nothing where it is for all, or makes no difference for the others.
+fn owns_words<P: Protocol>(
+    alloc: Global,
+    protocol: &P,
+    row: Row,
+    side: Side,
+    own_next: Option<u16>,
+    modes: &[Mode],
+    span: Span,
+) -> Result<String, Memory> {
+    let Some(changed) = own_next else {
+        return Ok(String::new(alloc));
+    };
+    let mut owns = Vec::new(alloc);
+    let mut is_for_all = true;
+    for own in 0..=protocol.count() {
+        if changed >> own & 1 == 1 {
+            owns.push(own)?;
+        } else if !modes.iter().all(|mode| is_same_request(protocol, row, side, own, *mode, span)) {
+            is_for_all = false;
+        }
+    }
+    if is_for_all {
+        return Ok(String::new(alloc));
+    }
+    let owns = modes_listed(alloc, protocol, &owns)?;
+    format!(in alloc; " where the own mode on the next key is {owns}")
+}
+
+/// Whether a request of this mode and duration, in place of what a row requests with this own mode on the next key, is tested
+/// and held in the same modes.
+fn is_same_request<P: Protocol>(
+    protocol: &P,
+    row: Row,
+    side: Side,
+    own_next: Mode,
+    mode: Mode,
+    span: Span,
+) -> bool {
+    match asked(protocol, row, side, own_next) {
+        None => false,
+        Some(old) if old == (mode, span) => true,
+        Some((old, old_span)) => {
+            let tested = converted(protocol, own_next, mode);
+            side == Side::Next
+                && converted(protocol, own_next, old) == tested
+                && held_after(own_next, tested, old_span) == held_after(own_next, tested, span)
+        }
+    }
+}
+
+/// The mode that is held after a request that was tested in a mode.
+fn held_after(own: Mode, tested: Mode, span: Span) -> Mode {
+    match span {
+        Span::Instant => own,
+        Span::Commit => tested,
+    }
+}

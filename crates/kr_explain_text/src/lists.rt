@@ -1,0 +1,116 @@
+//! Lists of words, with commas and a last word between.
+ghost use Rattle.std.specs.Prelude.{◌≡◌, ◌++◌, IfOk, OnOk, false, string_bytes};
+ghost use Rattle.kr_explain_text.specs.Lists.{item_words, mode_word, modes_listed};
+
+use crate::answers::name_of;
+use kr_cases::Memory;
+use kr_model::Mode;
+use kr_protocol::Protocol;
+use std::alloc::Global;
+
+/// The items with commas between, and before the last one `last` in place of the comma.
+pub fn listed(alloc: Global, items: &[&str], last: &str) -> Result<String, Memory> {
+    let mut out = String::new(alloc);
+    let mut left = items.len();
+    for item in items {
+        if left < items.len() {
+            if left == 1 {
+                write!(out, " {last} ")?;
+            } else {
+                out.push_str(", ")?;
+            }
+        }
+        out.push_str(item)?;
+        left = left.saturating_sub(1);
+    }
+    Ok(out)
+}
+
+/// Writes an item of a choice, which may be the first and the last.
+fn write_item(out: &mut String, item: &str, is_first: bool, is_last: bool) -> Result<(), Memory>
+    ensures { OnOk result (string_bytes out.new ≡ string_bytes out.old ++ item_words is_first is_last item.now) }
+{
+    let between = if is_first {
+        ""
+    } else if is_last {
+        " or "
+    } else {
+        ", "
+    };
+    out.push_str(between)?;
+    out.push_str(item)
+}
+
+/// The name of a mode, in quotes or not.
+fn mode_word<P: Protocol>(
+    alloc: Global,
+    protocol: &P,
+    mode: Mode,
+    is_quoted: bool,
+) -> Result<String, Memory>
+    ensures { IfOk result (λ text. string_bytes text ≡ mode_word (P.names protocol.now) is_quoted mode) }
+{
+    let name = name_of(protocol, mode);
+    if is_quoted {
+        format!(in alloc; "\"{name}\"")
+    } else {
+        String::from_str(alloc, name)
+    }
+}
+
+/// The names of modes, in quotes or not, as a choice.
+pub fn modes_chosen<P: Protocol>(
+    alloc: Global,
+    protocol: &P,
+    modes: &[Mode],
+    is_quoted: bool,
+) -> Result<String, Memory>
+    ensures { IfOk result (λ text. string_bytes text ≡ modes_listed (P.names protocol.now) is_quoted modes.now) }
+{
+    let mut out = String::new(alloc);
+    for (at, mode) in modes.iter().enumerate() {
+        let word = mode_word(alloc, protocol, *mode, is_quoted)?;
+        let is_last = at + 1 == modes.len();
+        write_item(&mut out, word.as_str(), at == 0, is_last)?;
+    }
+    Ok(out)
+}
+
+/// The names of modes, as a choice.
+pub fn modes_listed<P: Protocol>(
+    alloc: Global,
+    protocol: &P,
+    modes: &[Mode],
+) -> Result<String, Memory>
+    ensures { IfOk result (λ text. string_bytes text ≡ modes_listed (P.names protocol.now) false modes.now) }
+{
+    modes_chosen(alloc, protocol, modes, false)
+}
+
+/// The names of modes that are held, as a choice, or that no lock is.
+pub fn held_listed<P: Protocol>(
+    alloc: Global,
+    protocol: &P,
+    modes: &[Mode],
+) -> Result<String, Memory> {
+    let mut names = Vec::new(alloc);
+    for mode in modes {
+        names.push(if *mode == 0 {
+            "no lock"
+        } else {
+            name_of(protocol, *mode)
+        })?;
+    }
+    listed(alloc, &names, "or")
+}
+
+/// Puts a word behind the others, unless it is there.
+pub fn put_once<'a>(words: &mut Vec<&'a str>, word: &'a str) -> Result<(), Memory> {
+    for other in words.iter() {
+        if *other == word {
+            return Ok(());
+        }
+    }
+    words.push(word)?;
+    Ok(())
+}

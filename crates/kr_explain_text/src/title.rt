@@ -1,0 +1,191 @@
+//! The title of a cause: what is to blame, and the groups of its cases.
+ghost use Rattle.std.specs.Prelude.{◌≡◌, ◌++◌, ◌==◌, ◌&&◌, IfOk, OnOk, count_by, string_bytes};
+ghost use Rattle.kr_explain_text.specs.Lines.{Adds};
+ghost use Rattle.kr_explain_text.specs.Titles.{IsTitle, blame_words, cases_word, count_of, counts_of, group_behind, groups_of, place_words, request_words, title_words};
+ghost use Rattle.kr_explain_causes.specs.declared.blame.Blame.TheVariants as blame;
+
+use crate::answers::{asked, converted, name_of};
+use crate::words::{row_word, rule_code, rule_number, side_words};
+use crate::wrap::{INDENT, write_paragraph};
+use kr_cases::Memory;
+use kr_explain_causes::{Blame, Cause};
+use kr_model::{FailedCase, Mode, Row, Rule, Side, Span};
+use kr_protocol::Protocol;
+use std::alloc::Global;
+
+/// The groups of cases, in their order.
+const RULES: [Rule; 9] = [
+    Rule::Conversion,
+    Rule::FetchHit,
+    Rule::FetchMiss,
+    Rule::ScanKey,
+    Rule::ScanStop,
+    Rule::Insert,
+    Rule::Split,
+    Rule::Delete,
+    Rule::Update,
+];
+
+/// Writes the title of the cause of this number, from 1, behind an empty line. The only fault is that a growth was refused.
+pub fn write_title<P: Protocol>(
+    alloc: Global,
+    protocol: &P,
+    out: &mut String,
+    number: usize,
+    cause: &Cause,
+) -> Result<(), Memory>
+    ensures { OnOk result (Adds (IsTitle (P.table protocol.now) (P.names protocol.now) number cause.now) (string_bytes out.old) (string_bytes out.new)) }
+{
+    let title = title(alloc, protocol, number, cause)?;
+    out.push_str("\n")?;
+    write_paragraph(out, title.as_str(), 0, INDENT)
+}
+
+/// The title of the cause of this number, from 1.
+fn title<P: Protocol>(
+    alloc: Global,
+    protocol: &P,
+    number: usize,
+    cause: &Cause,
+) -> Result<String, Memory>
+    ensures { IfOk result (λ text. string_bytes text ≡ title_words (P.table protocol.now) (P.names protocol.now) number cause.now) }
+{
+    let blame = blame_sentence(alloc, protocol, cause.blame)?;
+    let groups = groups(alloc, cause.cases.as_slice())?;
+    format!(in alloc; "{number}. {blame} [{groups}]")
+}
+
+/// How many of the cases are of a group.
+fn count_of(cases: &[FailedCase], rule: Rule) -> usize
+    ensures { result ≡ count_of cases.now rule }
+{
+    let number = rule_number(rule);
+    cases
+        .iter()
+        .filter(|case| rule_number(case.case) == number)
+        .count()
+}
+
+/// A group of so many cases, behind a comma unless it is the first; nothing where there are none.
+fn group(alloc: Global, is_first: bool, rule: Rule, count: usize) -> Result<String, Memory>
+    ensures { IfOk result (λ text. string_bytes text ≡ group_behind is_first rule count) }
+{
+    if count == 0 {
+        return Ok(String::new(alloc));
+    }
+    let code = rule_code(rule);
+    if is_first {
+        format!(in alloc; "{code}: {count}")
+    } else {
+        format!(in alloc; ", {code}: {count}")
+    }
+}
+
+/// Whether no group is written yet, behind one of so many cases.
+fn is_none_yet(is_first: bool, count: usize) -> bool
+    ensures { result ≡ (is_first && (count == 0)) }
+{
+    is_first && count == 0
+}
+
+/// The word for so many cases, behind a space.
+fn cases_word(count: usize) -> &'static str
+    ensures { result.now ≡ cases_word count }
+{
+    if count == 1 { " case" } else { " cases" }
+}
+
+/// How many of the cases are of each group, with their word.
+#[tactic(auto, unfolding(crate::specs::Titles::groups_of))]
+fn groups(alloc: Global, cases: &[FailedCase]) -> Result<String, Memory>
+    ensures { IfOk result (λ text. string_bytes text ≡ groups_of cases.now) }
+{
+    let counts = counts(alloc, cases)?;
+    let word = cases_word(cases.len());
+    format!(in alloc; "{counts}{word}")
+}
+
+/// How many of the cases are of each group.
+fn counts(alloc: Global, cases: &[FailedCase]) -> Result<String, Memory>
+    ensures { IfOk result (λ text. string_bytes text ≡ counts_of cases.now) }
+{
+    let mut out = String::new(alloc);
+    let mut is_first = true;
+    for rule in RULES {
+        let count = count_of(cases, rule);
+        let group = group(alloc, is_first, rule, count)?;
+        out.push_str(group.as_str())?;
+        is_first = is_none_yet(is_first, count);
+    }
+    Ok(out)
+}
+
+/// What is to blame.
+fn blame_sentence<P: Protocol>(alloc: Global, protocol: &P, blame: Blame) -> Result<String, Memory>
+    ensures { IfOk result (λ text. string_bytes text ≡ blame_words (P.table protocol.now) (P.names protocol.now) blame) }
+{
+    match blame {
+        Blame::Place { row, side } => place_sentence(alloc, protocol, row, side),
+        Blame::Request { row, side, asked } => {
+            request_sentence(alloc, protocol, row, side, asked)
+        }
+        Blame::Conversion { held, requested } => {
+            let made = name_of(protocol, converted(protocol, held, requested));
+            let held = name_of(protocol, held);
+            let requested = name_of(protocol, requested);
+            format!(in alloc;
+                "{held} held and {requested} requested convert to {made}, a weaker mode."
+            )
+        }
+        Blame::Pair { requested, held } => {
+            let held = name_of(protocol, held);
+            let requested = name_of(protocol, requested);
+            format!(in alloc; "Requested {requested} is compatible with held {held}.")
+        }
+    }
+}
+
+/// A request that conflicts with no lock.
+fn place_sentence<P: Protocol>(
+    alloc: Global,
+    protocol: &P,
+    row: Row,
+    side: Side,
+) -> Result<String, Memory>
+    ensures { IfOk result (λ text. string_bytes text ≡ blame_words (P.table protocol.now) (P.names protocol.now) (blame.Place row side)) }
+{
+    let mode = asked(protocol, row, side, 0);
+    let row = row_word(row);
+    let side = side_words(side);
+    match mode {
+        None => format!(in alloc; "`{row}` requests no lock on {side}."),
+        Some((mode, _)) => {
+            let mode = name_of(protocol, mode);
+            format!(in alloc; "`{row}` requests {mode} on {side}, which conflicts with no mode.")
+        }
+    }
+}
+
+/// A request that is too weak, or whose lock is released too early.
+fn request_sentence<P: Protocol>(
+    alloc: Global,
+    protocol: &P,
+    row: Row,
+    side: Side,
+    asked: Option<(Mode, Span)>,
+) -> Result<String, Memory>
+    ensures { IfOk result (λ text. string_bytes text ≡ request_words (P.names protocol.now) row side asked) }
+{
+    let row = row_word(row);
+    let side = side_words(side);
+    match asked {
+        None => format!(in alloc; "`{row}` requests no lock on {side}."),
+        Some((_, Span::Instant)) => {
+            format!(in alloc; "`{row}` releases its lock on {side} too early.")
+        }
+        Some((mode, Span::Commit)) => {
+            let mode = name_of(protocol, mode);
+            format!(in alloc; "`{row}` requests too weak a lock on {side}: {mode}.")
+        }
+    }
+}

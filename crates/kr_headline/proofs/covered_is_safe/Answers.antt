@@ -1,5 +1,0 @@
-use Rattle.kr_headline.proofs.safe.AllCases.{covered_is_safe}
-use Rattle.kr_headline.proofs.covered_is_safe.Goals as goal
-
-pub returns : goal.returns
-returns c = covered_is_safe

@@ -1,5 +1,0 @@
-use Rattle.kr_headline.proofs.run.Needed.{each_rule_is_needed}
-use Rattle.kr_headline.proofs.each_rule_is_needed.Goals as goal
-
-pub returns : goal.returns
-returns c = each_rule_is_needed

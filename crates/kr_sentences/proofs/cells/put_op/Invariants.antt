@@ -1,7 +1,0 @@
--- the transactions so far have their cells
-use Rattle.std.proofs.Common.{◌≡◌, ◌++◌, map, take}
-use Rattle.kr_sentences.specs.Steps.{op_cell, texts}
-use Rattle.kr_sentences.proofs.cells.put_op.Given as goal
-
-abbrev pub invariant-loop-txn : goal.invariant-loop-txn
-invariant-loop-txn l = texts l.cells.items ≡ texts l.initial.cells.items ++ map (op_cell l.event) (take l.txn-index l.txns)

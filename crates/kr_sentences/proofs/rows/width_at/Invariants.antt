@@ -1,8 +1,0 @@
--- the greatest length so far, and of the rows that are left, is that of all
-use Rattle.std.proofs.Common.{◌≡◌, drop}
-use Rattle.kr_sentences.specs.Steps.{rows_of, width_at}
-use Rattle.kr_sentences.proofs.Rowed.{widest_of}
-use Rattle.kr_sentences.proofs.rows.width_at.Given as goal
-
-abbrev pub invariant-loop-at : goal.invariant-loop-at
-invariant-loop-at l = widest_of l.column l.widest (rows_of (drop l.at l.rows)) ≡ width_at (rows_of l.rows) l.column

@@ -1,0 +1,163 @@
+//! The steps of a run that are drawn, with the scene of each.
+ghost use Rattle.std.specs.Prelude.{◌≡◌, ℕ, ◌+◌, ◌<◌, ◌^◌, None, IfOk, OnOk, length, map};
+ghost use Rattle.std.specs.List.{enumerate_from};
+ghost use Rattle.kr_model.specs.Map.{IsMap};
+ghost use Rattle.kr_model.specs.Step.{step};
+ghost use Rattle.kr_model.specs.Run.{run};
+ghost use Rattle.kr_view_scenes.specs.Scenes.{step_of, drawn_steps};
+
+use crate::asked::Scans;
+use crate::columns::{Columns, keys_that_may_return};
+use crate::run::STEPS_DRAWN;
+use crate::scene::{Scene, Standing};
+use kr_index::{Ordered, Tree};
+use kr_locks::{Buckets, Holdings, Memory};
+use kr_machine::Machine;
+use kr_model::{Event, Refusal, Reply};
+use kr_protocol::Protocol;
+use kr_serial::replay;
+use std::alloc::{AllocError, Global};
+
+/// The steps of a run that are drawn, and the columns of their keys.
+#[derive(Debug, Drop)]
+pub struct Drawn {
+    pub columns: Columns,
+    /// A scene for each of the steps, in order.
+    pub scenes: Vec<Scene>,
+}
+
+/// Does these steps under a protocol, from an opening map whose keys rise strictly, and answers the scenes of the last
+/// `STEPS_DRAWN`: their numbers, events and replies are those of the run. `Memory` where a growth is refused, and nothing
+/// else goes wrong.
+pub fn scenes_of<P: Protocol>(
+    alloc: Global,
+    protocol: &P,
+    opening: &[(u64, u64)],
+    steps: &[Event],
+) -> Result<Drawn, Memory>
+    requires { IsMap opening.now }
+    ensures { IfOk result (λ drawn. map step_of drawn.scenes.items ≡ drawn_steps (P.table protocol.now) opening.now steps.now) }
+{
+    let (earlier, drawn) = steps.split_at(steps.len().saturating_sub(STEPS_DRAWN));
+    let index = Tree::from_pairs(alloc, opening)?;
+    let mut machine = Machine::new(alloc, protocol, index, Buckets::new(alloc));
+    let replies = replay(alloc, &mut machine, earlier)?;
+    let mut scans = scans_behind(alloc, earlier, replies.as_slice())?;
+    let columns = columns_at(alloc, &machine, earlier, replies.as_slice(), drawn)?;
+    let scenes = scenes_behind(
+        alloc,
+        protocol,
+        &mut machine,
+        earlier.len(),
+        drawn,
+        &columns,
+        &mut scans,
+    )?;
+    Ok(Drawn { columns, scenes })
+}
+
+/// The scans that are in progress behind steps with these replies.
+fn scans_behind(alloc: Global, steps: &[Event], replies: &[Reply]) -> Result<Scans, Memory> {
+    let mut scans = Scans::new(alloc);
+    for (event, reply) in steps.iter().zip(replies.iter()) {
+        scans.note(*event, reply)?;
+    }
+    Ok(scans)
+}
+
+/// The columns of steps that come next on a machine, behind earlier ones with these replies.
+fn columns_at<P: Protocol, I: Ordered, L: Holdings>(
+    alloc: Global,
+    machine: &Machine<P, I, L>,
+    earlier: &[Event],
+    replies: &[Reply],
+    next: &[Event],
+) -> Result<Columns, Memory>
+    requires { machine.now.pending ≡ None }
+{
+    let pairs = machine.index()?;
+    let locks = machine.locks()?;
+    let back = keys_that_may_return(alloc, earlier, replies)?;
+    Columns::new(
+        alloc,
+        pairs.as_slice(),
+        locks.as_slice(),
+        next,
+        back.as_slice(),
+    )
+}
+
+/// Does steps on a machine that has done so many before them, and answers the scene of each.
+fn scenes_behind<P: Protocol, I: Ordered, L: Holdings>(
+    alloc: Global,
+    protocol: &P,
+    machine: &mut Machine<&P, I, L>,
+    done: usize,
+    steps: &[Event],
+    columns: &Columns,
+    scans: &mut Scans,
+) -> Result<Vec<Scene>, Memory>
+    requires at_rest { machine.old.pending ≡ None }
+    requires numbers { done + length steps.now < 2 ^ 64 }
+    ensures { IfOk result (λ scenes. map step_of scenes.items
+        ≡ enumerate_from (done + 1) (run (P.table machine.old.protocol.now) machine.old.state steps.now).history) }
+{
+    let mut number = done as u64;
+    let mut scenes = Vec::new(alloc);
+    for event in steps {
+        number += 1;
+        let scene = scene_of(alloc, protocol, machine, number, *event, columns, scans)?;
+        scenes.push(scene)?;
+    }
+    Ok(scenes)
+}
+
+/// Does a step on the machine, and answers its scene.
+fn scene_of<P: Protocol, I: Ordered, L: Holdings>(
+    alloc: Global,
+    protocol: &P,
+    machine: &mut Machine<&P, I, L>,
+    number: u64,
+    event: Event,
+    columns: &Columns,
+    scans: &mut Scans,
+) -> Result<Scene, Memory>
+    requires { machine.old.pending ≡ None }
+    ensures at_rest { machine.new.pending ≡ None }
+    ensures protocol { machine.new.protocol ≡ machine.old.protocol }
+    ensures state { OnOk result (machine.new.state ≡ (step (P.table machine.old.protocol.now) machine.old.state event.txn event.op).1) }
+    ensures scene { IfOk result (λ scene. step_of scene
+        ≡ (number, (event, (step (P.table machine.old.protocol.now) machine.old.state event.txn event.op).0))) }
+{
+    let before = machine.index()?;
+    let reply = machine.step(event.txn, event.op);
+    if matches!(reply, Reply::Refused(Refusal::Memory)) {
+        return Err(AllocError);
+    }
+    let after = machine.index()?;
+    let locks = machine.locks()?;
+    let asked = match &reply {
+        Reply::Blocked(_) => scans.asked(
+            alloc,
+            protocol,
+            after.as_slice(),
+            locks.as_slice(),
+            event,
+        )?,
+        _ => Vec::new(alloc),
+    };
+    scans.note(event, &reply)?;
+    let standing = Standing {
+        before: before.as_slice(),
+        after: after.as_slice(),
+        locks: locks.as_slice(),
+    };
+    Scene::new(
+        alloc,
+        protocol,
+        columns,
+        (number, event, reply),
+        standing,
+        asked,
+    )
+}
