@@ -1,0 +1,97 @@
+-- What the program writes of a table or of a script's run, what it answers, and why it ends without a page.
+use Rattle.std.specs.Prelude.{◌≡◌, ◌⊎◌, ℕ, Bool, List, [], ◌∷◌, Option, Some, ◌↔◌, IsTrue, string_bytes}
+use Rattle.std.specs.Io.KnownBytes.{Appends}
+use Rattle.kr_model.specs.Protocol.{Protocol, IsLawful}
+use Rattle.kr_model.specs.State.{start}
+use Rattle.kr_model.specs.Run.{run, programs}
+use Rattle.kr_model.specs.Safe.{IsSafe}
+use Rattle.kr_model.specs.Serial.{AreSerial}
+use Rattle.kr_script.specs.Script.{Script}
+use Rattle.kr_cli.specs.declared.endings.Ending.{Ending}
+use Rattle.kr_cli.specs.declared.endings.Ending.TheVariants.{NotUnderstood, Memory, Place, Output, Told}
+use Rattle.kr_cli.specs.declared.tables.AnyTable.{AnyTable}
+use Rattle.kr_cli.specs.Files.{MayBeScript}
+use Rattle.kr_cli.specs.Named.{NamesTable, TellsNoTable, NamesScript, TellsNoScript}
+use Rattle.kr_cli.specs.Tables.{names_of, table_of}
+use Rattle.kr_cli_diagnosis.specs.Repeated.{HasNoMemberTwice}
+use Rattle.kr_view_scenes.specs.Scenes.{NumberedStep, drawn_steps}
+use Rattle.kr_view_run.specs.Page.{IsPage}
+use Rattle.kr_view_table.specs.Page.{IsTablePage}
+use Rattle.kr_cli_view.specs.Words.{AskNothing, IsAsked, words_of}
+use Rattle.kr_cli_view.specs.declared.words.Asked.{Asked}
+use Rattle.kr_cli_view.specs.declared.words.Asked.TheVariants as asked
+
+-- The transactions that commit in a script's run under a protocol are serializable.
+abbrev pub IsSerialScript : Protocol → Script → Type 0
+IsSerialScript p s = AreSerial s.opening (programs (run p (start s.opening) s.steps).history)
+
+-- The steps that a page draws of a script's run under a protocol, each with its number, its event and its reply.
+abbrev pub drawn_of_script : Protocol → Script → List NumberedStep
+drawn_of_script p s = drawn_steps p s.opening s.steps
+
+-- The page of a script's run under a table was written, under a name of the table, with the verdict on that run and a band for each of its steps that are drawn.
+abbrev pub ShowsRun : AnyTable → Script → List ℕ → Option (List ℕ) → Option (List ℕ) → Bool → Type 0
+ShowsRun t s name old new serial =
+    (page : List ℕ) × (IsPage name (drawn_of_script (table_of t) s) serial page × (Appends old new page × (IsTrue serial ↔ IsSerialScript (table_of t) s)))
+
+-- The page was written of the run of the script that one word names, under the lawful table that the other names.
+abbrev pub Shows : (List ℕ → Option (List ℕ) → Type 0) → List ℕ → List ℕ → Option (List ℕ) → Option (List ℕ) → Bool → Type 0
+Shows may_give table script old new serial =
+    (t : AnyTable) × (NamesTable may_give table t × (IsLawful (table_of t) × ((s : Script) × (NamesScript may_give script s × ShowsRun t s table old new serial))))
+
+-- The page was written of the lawful table that a word names, and the answer is whether the table is safe.
+pub record ShowsTable (may_give : List ℕ → Option (List ℕ) → Type 0) (table : List ℕ) (old new : Option (List ℕ)) (safe : Bool) : Type 0 where
+  pub named : AnyTable
+  pub page : List ℕ
+  pub names : NamesTable may_give table named
+  pub lawful : IsLawful (table_of named)
+  -- the page says that the table is accepted, safe or rejected exactly where it is
+  pub is_page : IsTablePage (table_of named) (names_of named) table page
+  pub is_so : IsTrue safe ↔ IsSafe (table_of named)
+  pub written : Appends old new page
+
+-- The page of what is asked was written.
+abbrev pub ShowsPage : (List ℕ → Option (List ℕ) → Type 0) → Asked → Option (List ℕ) → Option (List ℕ) → Bool → Type 0
+ShowsPage may_give (asked.Table table) old new well = ShowsTable may_give table.now old new well
+ShowsPage may_give (asked.Run table script) old new well = Shows may_give table.now script.now old new well
+
+-- The page that the words ask for was written.
+pub record ShowsAsked (may_give : List ℕ → Option (List ℕ) → Type 0) (words : List (List ℕ)) (old new : Option (List ℕ)) (well : Bool) : Type 0 where
+  pub asked : Asked
+  pub words_are : words ≡ words_of asked
+  pub is_asked : IsAsked asked
+  pub shows : ShowsPage may_give asked old new well
+
+-- No script that the word may name has an object with two members of one name.
+abbrev pub NamesNoMemberTwice : (List ℕ → Option (List ℕ) → Type 0) → List ℕ → Type 0
+NamesNoMemberTwice may_give script = (bytes : List ℕ) → MayBeScript may_give script (Some bytes) → HasNoMemberTwice bytes
+
+-- The same of the word of a script, if the words have one.
+abbrev pub NameNoMemberTwice : (List ℕ → Option (List ℕ) → Type 0) → List (List ℕ) → Type 0
+NameNoMemberTwice may_give words = (table script : List ℕ) → words ≡ table ∷ script ∷ [] → NamesNoMemberTwice may_give script
+
+-- The line tells why the word of a table names none; or why the word of a script does, where that of the table names one.
+abbrev pub TellsWord : (List ℕ → Option (List ℕ) → Type 0) → List ℕ → List ℕ → List ℕ → Type 0
+TellsWord may_give table script line =
+    TellsNoTable may_give table line ⊎ ((t : AnyTable) × (NamesTable may_give table t × TellsNoScript may_give script line))
+
+-- Why there is no page, or a prefix of it: out of memory, or printing failed; or a line tells why.
+abbrev pub EndsSo : (List ℕ → Type 0) → Ending → Type 0
+EndsSo Tells NotUnderstood = ⊥
+EndsSo Tells Memory = Unit {0}
+EndsSo Tells Place = ⊥
+EndsSo Tells Output = Unit {0}
+EndsSo Tells (Told line) = Tells (string_bytes line)
+
+-- The line tells why there is no page of what is asked.
+abbrev pub TellsAsked : (List ℕ → Option (List ℕ) → Type 0) → Asked → List ℕ → Type 0
+TellsAsked may_give (asked.Table table) line = TellsNoTable may_give table.now line
+TellsAsked may_give (asked.Run table script) line = TellsWord may_give table.now script.now line
+
+-- Why the program ends without a page, or with a prefix of it.
+abbrev pub Explains : (List ℕ → Option (List ℕ) → Type 0) → List (List ℕ) → Ending → Type 0
+Explains may_give words NotUnderstood = AskNothing words
+Explains may_give words Memory = Unit {0}
+Explains may_give words Place = ⊥
+Explains may_give words Output = Unit {0}
+Explains may_give words (Told line) = (asked : Asked) × ((words ≡ words_of asked) × (IsAsked asked × TellsAsked may_give asked (string_bytes line)))

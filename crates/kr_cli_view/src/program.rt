@@ -1,0 +1,227 @@
+//! The program over its words, files and streams.
+ghost use Rattle.std.specs.Prelude.{◌≡◌, ◌⊎◌, ◌↔◌, ◌≤◌, ◌++◌, ℕ, List, true, false, Ok, Err, IfOk, IfErr, OnOk, IsTrue, map, string_bytes};
+ghost use Rattle.std.specs.Io.KnownBytes.{Appends};
+ghost use Rattle.kr_model.specs.Protocol.{IsLawful};
+ghost use Rattle.kr_model.specs.Covers.{IsCovered};
+ghost use Rattle.kr_model.specs.Safe.{IsSafe};
+ghost use Rattle.kr_sink.specs.Puts.{HasCause};
+ghost use Rattle.kr_cli_diagnosis.specs.Finding.{AreLines, AddsLines};
+ghost use Rattle.kr_cli.specs.Endings.{is_output};
+ghost use Rattle.kr_cli.specs.Manual.{IsTold, answer_of, ending_text};
+ghost use Rattle.kr_cli.specs.Named.{TellsNoTable};
+ghost use Rattle.kr_cli.specs.Questions.{IsQuestion, IsNoQuestion};
+ghost use Rattle.kr_cli.specs.declared.endings.Ending.{Ending};
+ghost use Rattle.kr_cli.specs.declared.endings.Ending.TheVariants as ending;
+ghost use Rattle.kr_cli.specs.declared.questions.Question.{Question};
+ghost use Rattle.kr_view_run.specs.Page.{IsPage};
+ghost use Rattle.kr_view_table.specs.Page.{IsTablePage};
+ghost use Rattle.kr_cli_view.specs.Words.{AskNothing, AskNoPage};
+ghost use Rattle.kr_cli_view.specs.Program.{EndsSo, Explains, IsSerialScript, NameNoMemberTwice, NamesNoMemberTwice, Shows, ShowsAsked, ShowsTable, TellsWord, drawn_of_script};
+
+use crate::manual::{MANUAL, NAME, USAGE, WORDS};
+use crate::words::{Asked, read_words};
+use kr_cli::{Ending, Files, VERSION, question_in};
+use kr_cli_diagnosis::{script_at, table_at};
+use kr_protocol::Protocol;
+use kr_script::Script;
+use kr_sink::{Sink, put_all};
+use kr_view_run::picture;
+use kr_view_table::table_page;
+use std::alloc::Global;
+
+/// Does nothing: a protocol is lawful.
+fn are_laws_kept<P: Protocol>(protocol: &P)
+    ensures { IsLawful (P.table protocol.now) }
+{
+    let _ = protocol;
+}
+
+/// Writes the page of a script's run under a protocol, whose table this word names, and answers whether the run is
+/// serializable in commit order; under a safe protocol it is, and so under a covered one. Where a growth was refused,
+/// nothing is written; where printing fails, a prefix of the page was.
+pub fn write_page<P: Protocol, W: Sink>(
+    alloc: Global,
+    protocol: &P,
+    table: &str,
+    script: &Script,
+    out: &mut W,
+) -> Result<bool, Ending>
+    ensures page { IfOk result (λ serial. (page : List ℕ)
+        × (IsPage table.now (drawn_of_script (P.table protocol.now) script.now) serial page
+        × Appends (W.taken out.old) (W.taken out.new) page)) }
+    ensures serial { IfOk result (λ serial. IsTrue serial ↔ IsSerialScript (P.table protocol.now) script.now) }
+    ensures safe { IsSafe (P.table protocol.now) → IfOk result (λ serial. IsTrue serial) }
+    ensures covered { IsCovered (P.table protocol.now) → IfOk result (λ serial. IsTrue serial) }
+    ensures err { IfErr result (λ e. (e ≡ ending.Memory) ⊎ (e ≡ ending.Output)) }
+    ensures nothing { IfErr result (λ e. IsTrue (is_output e) ⊎ (out.new ≡ out.old)) }
+    ensures cause { IfErr result (λ e. IsTrue (is_output e) → HasCause (W.failures out.old) (W.failures out.new)) }
+{
+    let (page, is_serial) = picture(alloc, protocol, table, script)?;
+    put_all(out, page.as_bytes())?;
+    Ok(is_serial)
+}
+
+/// Writes the page of a protocol, whose table this word names, and answers whether the table is safe, accepted or not. Where a
+/// growth was refused, nothing is written; where printing fails, a prefix of the page was.
+pub fn write_table_page<P: Protocol, W: Sink>(
+    alloc: Global,
+    protocol: &P,
+    table: &str,
+    out: &mut W,
+) -> Result<bool, Ending>
+    ensures page { IfOk result (λ safe. (page : List ℕ)
+        × (IsTablePage (P.table protocol.now) (P.names protocol.now) table.now page
+        × Appends (W.taken out.old) (W.taken out.new) page)) }
+    ensures safe { IfOk result (λ safe. IsTrue safe ↔ IsSafe (P.table protocol.now)) }
+    ensures err { IfErr result (λ e. (e ≡ ending.Memory) ⊎ (e ≡ ending.Output)) }
+    ensures nothing { IfErr result (λ e. IsTrue (is_output e) ⊎ (out.new ≡ out.old)) }
+    ensures cause { IfErr result (λ e. IsTrue (is_output e) → HasCause (W.failures out.old) (W.failures out.new)) }
+{
+    let (page, is_safe) = table_page(alloc, protocol, table)?;
+    put_all(out, page.as_bytes())?;
+    Ok(is_safe)
+}
+
+/// Writes the page of the table that a word names, and answers whether the table is safe. Where the word names none, `help`
+/// gets what helps.
+fn view_table<R: std::rt::Files + AllocGlobal, F: Files, W: Sink>(
+    rt: &R,
+    word: &str,
+    files: &F,
+    out: &mut W,
+    help: &mut String,
+) -> Result<bool, Ending>
+    ensures shows { IfOk result (ShowsTable (F.may_give files.now) word.now (W.taken out.old) (W.taken out.new)) }
+    ensures err { IfErr result (EndsSo (TellsNoTable (F.may_give files.now) word.now)) }
+    ensures cause { IfErr result (λ e. IsTrue (is_output e) → HasCause (W.failures out.old) (W.failures out.new)) }
+    ensures nothing { IfErr result (λ e. IsTrue (is_output e) ⊎ (out.new ≡ out.old)) }
+    ensures help { AddsLines (string_bytes help.old) (string_bytes help.new) }
+    ensures unhelped { OnOk result (help.new ≡ help.old) }
+{
+    let table = table_at(rt, word, files, help)?;
+    are_laws_kept(&table);
+    write_table_page(rt.alloc(), &table, word, out)
+}
+
+/// Writes the page of the run of the script that a word names under the table that another names, and answers whether the run
+/// is serializable. `help` gets what helps where they name no table or no script, and a warning of each member that the script
+/// has twice.
+fn view_run<R: std::rt::Files + AllocGlobal, F: Files, W: Sink>(
+    rt: &R,
+    words: (&str, &str),
+    files: &F,
+    out: &mut W,
+    help: &mut String,
+) -> Result<bool, Ending>
+    ensures shows { IfOk result (Shows (F.may_give files.now) words.entry.0.now words.entry.1.now (W.taken out.old) (W.taken out.new)) }
+    ensures err { IfErr result (EndsSo (TellsWord (F.may_give files.now) words.entry.0.now words.entry.1.now)) }
+    ensures cause { IfErr result (λ e. IsTrue (is_output e) → HasCause (W.failures out.old) (W.failures out.new)) }
+    ensures nothing { IfErr result (λ e. IsTrue (is_output e) ⊎ (out.new ≡ out.old)) }
+    ensures help { AddsLines (string_bytes help.old) (string_bytes help.new) }
+    ensures unwarned { NamesNoMemberTwice (F.may_give files.now) words.entry.1.now
+        → OnOk result (string_bytes help.new ≡ string_bytes help.old) }
+{
+    let (word, script) = words;
+    let table = table_at(rt, word, files, help)?;
+    let script = script_at(rt, script, files, help)?;
+    are_laws_kept(&table);
+    write_page(rt.alloc(), &table, word, &script, out)
+}
+
+/// Writes the page that the words ask for, and answers whether the table is safe that they name, or the run serializable. `help`
+/// gets what helps where a word names no table or no script, and a warning of each member that the script has twice.
+fn view<R: std::rt::Files + AllocGlobal, F: Files, W: Sink>(
+    rt: &R,
+    words: &[String],
+    files: &F,
+    out: &mut W,
+    help: &mut String,
+) -> Result<bool, Ending>
+    ensures shows { IfOk result (ShowsAsked (F.may_give files.now) (map string_bytes words.now) (W.taken out.old) (W.taken out.new)) }
+    ensures err { IfErr result (λ e. IsNoQuestion (map string_bytes words.now)
+        → Explains (F.may_give files.now) (map string_bytes words.now) e) }
+    ensures unknown { AskNoPage (map string_bytes words.now)
+        → (result ≡ Err ending.NotUnderstood) × ((out.new ≡ out.old) × (help.new ≡ help.old)) }
+    ensures cause { IfErr result (λ e. IsTrue (is_output e) → HasCause (W.failures out.old) (W.failures out.new)) }
+    ensures nothing { IfErr result (λ e. IsTrue (is_output e) ⊎ (out.new ≡ out.old)) }
+    ensures help { AddsLines (string_bytes help.old) (string_bytes help.new) }
+    ensures unwarned { NameNoMemberTwice (F.may_give files.now) (map string_bytes words.now)
+        → OnOk result (string_bytes help.new ≡ string_bytes help.old) }
+{
+    let asked = read_words(words)?;
+    match asked {
+        Asked::Table(table) => view_table(rt, table, files, out, help),
+        Asked::Run(table, script) => view_run(rt, (table, script), files, out, help),
+    }
+}
+
+/// Does what the words ask, of the program, of a table or of a run, and answers whether the table that they name is safe, or
+/// the run serializable. `help` gets what helps, and warnings.
+fn answered<R: std::rt::Files + AllocGlobal, F: Files, W: Sink>(
+    rt: &R,
+    words: &[String],
+    files: &F,
+    out: &mut W,
+    help: &mut String,
+) -> Result<bool, Ending>
+    ensures question { (q : Question) → IsQuestion (map string_bytes words.now) q
+        → ((result ≡ Ok true) × Appends (W.taken out.old) (W.taken out.new) (answer_of NAME.now USAGE.now WORDS.now VERSION.now q))
+        ⊎ ((result ≡ Err ending.Output) × HasCause (W.failures out.old) (W.failures out.new)) }
+    ensures shows { IsNoQuestion (map string_bytes words.now)
+        → IfOk result (ShowsAsked (F.may_give files.now) (map string_bytes words.now) (W.taken out.old) (W.taken out.new)) }
+    ensures err { IfErr result (Explains (F.may_give files.now) (map string_bytes words.now)) }
+    ensures unknown { AskNothing (map string_bytes words.now)
+        → (result ≡ Err ending.NotUnderstood) × ((out.new ≡ out.old) × (help.new ≡ help.old)) }
+    ensures cause { IfErr result (λ e. IsTrue (is_output e) → HasCause (W.failures out.old) (W.failures out.new)) }
+    ensures nothing { IfErr result (λ e. IsTrue (is_output e) ⊎ (out.new ≡ out.old)) }
+    ensures help { AddsLines (string_bytes help.old) (string_bytes help.new) }
+    ensures unwarned { NameNoMemberTwice (F.may_give files.now) (map string_bytes words.now)
+        → OnOk result (string_bytes help.new ≡ string_bytes help.old) }
+{
+    match question_in(words) {
+        Some(question) => {
+            MANUAL.answer(question, out)?;
+            Ok(true)
+        }
+        None => view(rt, words, files, out, help),
+    }
+}
+
+/// Runs the program on words without its own name, and answers its status: 0 where the table that the only word names is safe,
+/// accepted or not, or the run is serializable; 1 where it isn't; and 2 where it told a fault on `err`. At 0 and 1 the whole
+/// page is written on `out`, of that table, or of the run of the script that the second word names under the table that the
+/// first names, and on `err` at most a warning of each member that the script has
+/// twice, and nothing where none is twice; at a fault of words, files, tables, scripts or memory nothing is written on `out`.
+/// Words that ask for help or the version are answered on `out` with 0. Behind the line of words that aren't understood `err`
+/// has the usage.
+pub fn execute<R: std::rt::Files + AllocGlobal, F: Files, W: Sink, E: Sink>(
+    rt: &R,
+    words: &[String],
+    files: &F,
+    out: &mut W,
+    err: &mut E,
+) -> u8
+    ensures within { result ≤ 2 }
+    ensures question { (q : Question) → IsQuestion (map string_bytes words.now) q
+        → ((result ≡ 0) × Appends (W.taken out.old) (W.taken out.new) (answer_of NAME.now USAGE.now WORDS.now VERSION.now q))
+        ⊎ ((result ≡ 2) × HasCause (W.failures out.old) (W.failures out.new)) }
+    ensures well { IsNoQuestion (map string_bytes words.now) → result ≡ 0
+        → ShowsAsked (F.may_give files.now) (map string_bytes words.now) (W.taken out.old) (W.taken out.new) true }
+    ensures not_well { result ≡ 1 → ShowsAsked (F.may_give files.now) (map string_bytes words.now) (W.taken out.old) (W.taken out.new) false }
+    ensures unknown { AskNothing (map string_bytes words.now) → (result ≡ 2) × ((out.new ≡ out.old)
+        × IsTold (E.taken err.old) (E.taken err.new) (E.failures err.old) (E.failures err.new)
+        (ending_text NAME.now USAGE.now ending.NotUnderstood)) }
+    ensures told { result ≡ 2 → (help : List ℕ) × (AreLines help × ((e : Ending)
+        × (Explains (F.may_give files.now) (map string_bytes words.now) e
+        × IsTold (E.taken err.old) (E.taken err.new) (E.failures err.old) (E.failures err.new)
+        (ending_text NAME.now USAGE.now e ++ help)))) }
+    ensures warned { (result ≡ 2) ⊎ ((help : List ℕ) × (AreLines help
+        × IsTold (E.taken err.old) (E.taken err.new) (E.failures err.old) (E.failures err.new) help)) }
+    ensures silent { NameNoMemberTwice (F.may_give files.now) (map string_bytes words.now)
+        → (err.new ≡ err.old) ⊎ (result ≡ 2) }
+    ensures fault { result ≡ 2 → HasCause (W.failures out.old) (W.failures out.new) ⊎ (out.new ≡ out.old) }
+{
+    let mut help = String::new(rt.alloc());
+    let done = answered(rt, words, files, out, &mut help);
+    MANUAL.finish(&done, help.as_str(), err)
+}

@@ -1,0 +1,5 @@
+pub mod Pieces
+pub mod Badged
+pub mod Blocks
+pub mod Whole
+pub mod Put

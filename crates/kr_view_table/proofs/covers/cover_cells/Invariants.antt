@@ -1,0 +1,10 @@
+-- the cells of the covers so far
+use Rattle.std.proofs.Common.{◌≡◌, take, string_bytes}
+use Rattle.std.specs.List.{flat_map}
+use Rattle.kr_cases.specs.Holes.{first_open}
+use Rattle.kr_model.specs.Covers.{all_covers}
+use Rattle.kr_view_table.specs.Covers.{cover_cell}
+use Rattle.kr_view_table.proofs.covers.cover_cells.Given as goal
+
+abbrev pub invariant-loop-cover : goal.invariant-loop-cover
+invariant-loop-cover g l = string_bytes l.out ≡ flat_map (λ c. cover_cell (g.P.Protocol.names l.protocol) (first_open (g.P.Protocol.table l.protocol) c l.mode)) (take l.cover-index (all_covers (g.P.Protocol.table l.protocol)))

@@ -1,0 +1,38 @@
+-- Which causes blame an entry of a table, and the badges that say so.
+use Rattle.std.specs.Prelude.{ℕ, Bool, true, false, ◌==◌, ◌&&◌, ◌+◌, List, [], ◌∷◌, ◌++◌, Option, Some, None, codes, decimal, if◌then◌else◌}
+use Rattle.kr_model.specs.declared.Span.{Span}
+use Rattle.kr_model.specs.declared.Span.TheVariants.{Instant, Commit}
+use Rattle.kr_explain_causes.specs.Changes.{is_place}
+use Rattle.kr_explain_causes.specs.declared.blame.Blame.{Blame}
+use Rattle.kr_explain_causes.specs.declared.blame.Blame.TheVariants as blame
+use Rattle.kr_explain_core.specs.declared.explanation.Explained.{Explained}
+use Rattle.kr_view_table.specs.declared.badges.Entry.{Entry}
+use Rattle.kr_view_table.specs.declared.badges.Entry.TheVariants as entry
+
+-- Two requests are the same.
+abbrev pub is_same_request : Option (ℕ × Span) → Option (ℕ × Span) → Bool
+is_same_request None None = true
+is_same_request (Some (m, Instant)) (Some (n, Instant)) = m == n
+is_same_request (Some (m, Commit)) (Some (n, Commit)) = m == n
+is_same_request _ _ = false
+
+-- An entry is to blame. A place is to blame for each request there.
+abbrev pub blames : Blame → Entry → Bool
+blames (blame.Pair requested held) (entry.Pair q h) = (requested == q) && (held == h)
+blames (blame.Conversion held requested) (entry.Conversion h q) = (held == h) && (requested == q)
+blames (blame.Place row side) (entry.Request r s asked) = is_place row side r s
+blames (blame.Request row side asked) (entry.Request r s request) = is_place row side r s && is_same_request asked request
+blames _ _ = false
+
+-- The badge of the cause of a number: the number, as a link to the cause.
+abbrev pub badge : ℕ → List ℕ
+badge n = codes "<a href=\"#s" ++ (decimal n ++ (codes "\">" ++ (decimal n ++ codes "</a>")))
+
+-- The badge of the cause of a number at an entry that it blames.
+abbrev pub badge_at : Entry → ℕ → Blame → List ℕ
+badge_at e n b = if blames b e then badge n else []
+
+-- The badges at an entry of the causes that blame it, in their order. Their numbers are from n on.
+abbrev pub badges : Entry → ℕ → List Explained → List ℕ
+badges e n [] = []
+badges e n (x ∷ xs) = badge_at e n x.cause.blame ++ badges e (n + 1) xs

@@ -1,0 +1,16 @@
+//! A protocol table as a page of HTML that stands alone: its verdict, its matrices and rules, what its modes protect, and
+//! what is to blame where cases fail.
+#![tactic(auto)]
+
+mod badges;
+mod causes;
+mod covers;
+mod frame;
+mod matrices;
+mod page;
+mod rules;
+mod schedule;
+mod told;
+
+pub use kr_model::Memory;
+pub use page::table_page;
