@@ -1,21 +1,33 @@
 #!/usr/bin/env python3
-"""Runs rows of input and output over the built programs: run.py [--write] FILE.rows ..
+"""Runs rows of input and output over the built programs: run.py [--write] [--by-rattle] FILE.rows ..
 
-A row is what a call of a program prints for some files. Each of its lines is a word, a colon and a text:
+A row is what calls of the programs print for some files. Each of its lines is a word, a colon and a text. First its name, then
+the files of the folder in which the programs run:
 
     row     its name, which begins the row
-    file    NAME = TEXT: a file in the folder where the program runs, with the escapes of JSON strings; \\xHH is a byte
-    edit    NAME of FILE: OLD => NEW: a file as FILE of the repository is, with OLD, which stands there once, changed to NEW;
-            more edits of the same NAME follow one another
+    file    NAME = TEXT: a file, with the escapes of JSON strings; \\xHH is a byte
+    text    NAME = TEXT: TEXT and a line feed at the end of a file, or as one
     long    NAME COUNT TEXT: TEXT, COUNT times, at the end of a file, or as one
-    call    the program, kr, kr_explain or kr_view, and its words; WORDS < NAME reads standard input from a file. A blank
-            stands before each word, also before an empty one. A row may have several calls, and each prints the same
-    status  the status that is expected
-    out     a line that is expected on standard output, or `out: ..` for any text
-    err     a line that is expected on standard error
+    copy    NAME of FILE: a file as FILE of the repository is
+    edit    NAME of FILE: OLD => NEW: the same, with OLD, which stands there once, changed to NEW
+    cut     NAME of FILE: TEXT: the same up to TEXT, which stands there once
 
-Lines that begin with # and empty lines are skipped. A call may take 20 seconds and 1 GB of memory. --write puts what the
-programs print in the place of what was expected. Status 1 where a row differs.
+More edits and cuts of the same NAME follow one another. Then calls, and below them what each of them prints. Further calls may
+follow, with what they print:
+
+    call    the program, kr, kr_explain or kr_view, and its words; WORDS < NAME reads standard input from a file. A blank
+            stands before each word, also before an empty one
+    status  the status
+    out     a line of standard output, or `out: ..` for any text
+    begins  what standard output begins with, with escapes; there is then no out
+    ends    what it ends with
+    has     a text that stands in it
+    times   COUNT TEXT: TEXT stands COUNT times in it
+    err     a line of standard error
+
+Lines that begin with # say something of the row below. An empty line ends a row. A call may take 20 seconds and 1 GB of memory.
+--write puts what the programs print in the place of what was expected, but for begins, ends, has and times. Status 1 where
+something differs.
 """
 import os
 import re
@@ -26,6 +38,10 @@ import tempfile
 
 TOP = os.path.dirname(os.path.dirname(os.path.dirname(os.path.abspath(__file__))))
 MEMORY = 1 << 30
+BUILT = ".by-rattle" if "--by-rattle" in sys.argv else ""
+FILES = ("file", "text", "long", "copy", "edit", "cut")
+PARTS = ("begins", "ends", "has", "times")
+EXPECTED = ("status", "out", "err") + PARTS
 
 
 def unescaped(text):
@@ -41,37 +57,64 @@ def unescaped(text):
     )
 
 
-def rows_of(path):
-    """The rows of a file: each a list of a line's number, word and text."""
-    rows = []
+def blocks_of(path):
+    """The blocks of a file, which empty lines end: each a list of a line's number, word and text; # is the word of a remark."""
+    blocks = [[]]
     for number, line in enumerate(open(path, encoding="utf-8"), 1):
         line = line.rstrip("\n")
-        if not line or line.startswith("#"):
+        if not line:
+            blocks.append([])
             continue
-        word, _, text = line.partition(":")
+        word, _, text = ("#", "", line[1:]) if line.startswith("#") else line.partition(":")
         text = text[1:] if text.startswith(" ") else text
-        if word == "row":
-            rows.append([])
-        rows[-1].append((number, word, text))
-    return rows
+        if word not in ("#", "row", "call") + FILES + EXPECTED:
+            sys.exit(f"{path}:{number}: there is no word {word}")
+        blocks[-1].append((number, word, text))
+    return [it for it in blocks if it]
+
+
+def groups_of(row):
+    """The calls of a row, with what each of them is expected to print."""
+    groups = []
+    for line in row:
+        if line[1] == "call":
+            if not groups or groups[-1][1]:
+                groups.append(([], []))
+            groups[-1][0].append(line)
+        elif line[1] in EXPECTED and not groups:
+            sys.exit(f"line {line[0]}: no call stands above it")
+        elif line[1] in EXPECTED:
+            groups[-1][1].append(line)
+    return groups
+
+
+def only_place(text, old, said):
+    """Where a text stands in another, once."""
+    if text.count(old) != 1:
+        sys.exit(f"{said}: the text stands there {text.count(old)} times")
+    return text.index(old)
 
 
 def put(folder, word, text):
     """Makes the file that a line of a row says."""
-    if word == "file":
+    if word in ("file", "text"):
         name, _, content = text.partition(" = ")
-        content = unescaped(content)
+        content = unescaped(content) + (b"\n" if word == "text" else b"")
     elif word == "long":
         name, count, content = text.split(" ", 2)
         content = unescaped(content) * int(count)
     else:
-        name, source, old, new = re.fullmatch(r"(\S+) of (\S+): (.*) => (.*)", text).groups()
-        made = os.path.join(folder, name)
+        name, source, change = re.fullmatch(r"(\S+) of ([^\s:]+)(?:: (.*))?", text).groups()
+    made = os.path.join(os.fsencode(folder), unescaped(name))
+    if word in ("copy", "edit", "cut"):
         content = open(made if os.path.exists(made) else os.path.join(TOP, source), "rb").read()
-        if content.count(unescaped(old)) != 1:
-            sys.exit(f"{text}: the old text stands there {content.count(unescaped(old))} times")
-        content = content.replace(unescaped(old), unescaped(new))
-    with open(os.path.join(folder, name), "ab" if word == "long" else "wb") as file:
+    if word == "cut":
+        content = content[: only_place(content, unescaped(change), text)]
+    elif word == "edit":
+        old, new = map(unescaped, re.fullmatch(r"(.*) => (.*)", change).groups())
+        at = only_place(content, old, text)
+        content = content[:at] + new + content[at + len(old) :]
+    with open(made, "ab" if word in ("text", "long") else "wb") as file:
         file.write(content)
 
 
@@ -81,7 +124,7 @@ def call(folder, words):
     program, *words = words.split(" ")
     words = [unescaped(it) for it in words]
     result = subprocess.run(
-        [f"{TOP}/crates/{program}/out/{program}", *words],
+        [f"{TOP}/crates/{program}/out/{program}{BUILT}", *words],
         cwd=folder,
         stdin=open(os.path.join(folder, given), "rb") if given else subprocess.DEVNULL,
         capture_output=True,
@@ -91,45 +134,70 @@ def call(folder, words):
     return result.stdout.decode("utf-8", "replace"), result.stderr.decode("utf-8", "replace"), result.returncode
 
 
-def differs(row, printed):
-    """Whether what was printed isn't what a row expects."""
+def has_part(out, word, text):
+    """Whether standard output is as a line of these words says."""
+    count, text = text.split(" ", 1) if word == "times" else ("", text)
+    text = unescaped(text).decode()
+    held = {"begins": out.startswith(text), "ends": out.endswith(text), "has": text in out, "times": str(out.count(text)) == count}
+    return held[word]
+
+
+def differs(expected, printed):
+    """Whether what was printed isn't what is expected."""
     out, err, status = printed
-    wanted = {it: "".join(f"{text}\n" for _, word, text in row if word == it) for it in ("out", "err")}
+    wanted = {it: "".join(f"{text}\n" for _, word, text in expected if word == it) for it in ("out", "err")}
+    parts = [has_part(out, word, text) for _, word, text in expected if word in PARTS]
     return (
-        wanted["out"] not in (out, "..\n")
+        not (all(parts) and (wanted["out"] in (out, "..\n") or parts and not wanted["out"]))
         or wanted["err"] != err
-        or [str(status)] != [text for _, word, text in row if word == "status"]
+        or [str(status)] != [text for _, word, text in expected if word == "status"]
     )
 
 
+def written(expected, printed):
+    """The lines that say what was printed."""
+    kept = [f"{word}: {text}" for _, word, text in expected if word in PARTS or (word, text) == ("out", "..")]
+    out, err = ([f"{word}:{it and ' '}{it}" for it in text.split("\n")[:-1]] for word, text in zip(("out", "err"), printed))
+    return [f"status: {printed[2]}", *(kept or out), *err]
+
+
+def hold(path, row):
+    """Runs a row: how many calls there were, how many of them differ, and the row's lines with what was printed."""
+    lines = [f"#{text and ' '}{text}" if word == "#" else f"{word}: {text}" for _, word, text in row if word in ("#", "row") + FILES]
+    words = [word for _, word, _ in row]
+    if set(words) != {"#"} and (words.count("row") != 1 or "call" not in words):
+        sys.exit(f"{path}:{row[0][0]}: a row has one name, and calls")
+    name = next((text for _, word, text in row if word == "row"), "")
+    count = wrong = 0
+    with tempfile.TemporaryDirectory() as folder:
+        for _, word, text in row:
+            if word in FILES:
+                put(folder, word, text)
+        for calls, expected in groups_of(row):
+            lines += [f"call: {text}" for _, _, text in calls]
+            printed = [call(folder, text) for _, _, text in calls]
+            lines += written(expected, printed[0])
+            count += len(calls)
+            for (number, _, text), it in zip(calls, printed):
+                if differs(expected, it):
+                    wrong += 1
+                    print(f"{path}:{number}: {name}: {text}: status {it[2]}\n{it[0]}{it[1]}", end="")
+    return count, wrong, lines
+
+
 def main():
-    files = [it for it in sys.argv[1:] if it != "--write"]
+    files = [it for it in sys.argv[1:] if not it.startswith("--")]
     count = wrong = 0
     for path in files:
         texts = []
-        for row in rows_of(path):
-            with tempfile.TemporaryDirectory() as folder:
-                for _, word, text in row:
-                    if word in ("file", "edit", "long"):
-                        put(folder, word, text)
-                calls = [(number, text, call(folder, text)) for number, word, text in row if word == "call"]
-            count += len(calls)
-            for number, words, printed in calls:
-                if differs(row, printed):
-                    wrong += 1
-                    print(f"{path}:{number}: {row[0][2]}: {words}: status {printed[2]}\n{printed[0]}{printed[1]}", end="")
-            printed = calls[0][2]
-            kept = [f"{word}: {text}" for _, word, text in row if word not in ("out", "err", "status")]
-            any_out = any(word == "out" and text == ".." for _, word, text in row)
-            kept += [f"status: {printed[2]}"]
-            kept += ["out: .."] if any_out else [f"out: {it}" for it in printed[0].splitlines()]
-            kept += [f"err: {it}" for it in printed[1].splitlines()]
-            texts.append("\n".join(kept))
+        for row in blocks_of(path):
+            calls, differing, lines = hold(path, row)
+            count, wrong = count + calls, wrong + differing
+            texts.append("\n".join(lines))
         if "--write" in sys.argv:
-            head = "".join(it for it in open(path, encoding="utf-8") if it.startswith("#"))
             with open(path, "w", encoding="utf-8") as file:
-                file.write(head + "\n" + "\n\n".join(texts) + "\n")
-    print(f"rows: {count - wrong} of {count} calls are as expected")
+                file.write("\n\n".join(texts) + "\n")
+    print(f"rows{BUILT}: {count - wrong} of {count} calls are as expected")
     sys.exit(1 if wrong else 0)
 
 

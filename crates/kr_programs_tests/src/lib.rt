@@ -1,5 +1,5 @@
-//! Tests of the programs and of what they print, from outside: they call what `kr_shell`, `kr_diagnosis`, `kr_program`,
-//! `kr_picture`, `kr_view_program`, `kr_explanation` and `kr_explain_program` offer.
+//! Tests of the programs and of what they print, from outside: they call what `kr_cli`, `kr_cli_diagnosis`, `kr_cli_kr`,
+//! `kr_view_run`, `kr_cli_view`, `kr_explain_core` and `kr_cli_explain` offer.
 #![tactic(auto)]
 
 #[cfg(test)]

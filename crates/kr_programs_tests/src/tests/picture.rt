@@ -1,4 +1,3 @@
 //! Pages of runs, and escaped texts.
 mod escapes;
-mod limits;
 mod runs;

@@ -1,8 +1,8 @@
-use kr_program::execute;
-use kr_program_testing::{Left, owned};
-use kr_shell::{FileFault, Files, first_bytes};
+//! Calls of the program, each kind once, with what it leaves on its two streams; `tests/rows` has all that it prints.
+use kr_cli::{FileFault, Files, first_bytes};
+use kr_cli_kr::execute;
+use kr_cli_test_support::{Left, owned};
 use kr_sink::Io;
-use kr_table::bundled::{IM, KVL, KVL_UPDATE, RANGE_KEY};
 use std::alloc::{AllocError, Global};
 use std::process::Abort;
 use std::sync::Wait;
@@ -10,18 +10,12 @@ use std::test::Fail;
 use std::thread::Threads;
 
 mod ample;
-mod asymmetric;
 mod checks;
 mod covered;
-mod deletes;
 mod faults;
-mod inserts;
 mod pairs;
-mod scans;
-mod stories;
-mod tables;
+mod scripts;
 mod threads;
-mod updates;
 mod verdicts;
 mod words;
 
@@ -67,86 +61,13 @@ const SPLIT: &str =
 const PLAIN: &str =
     "format = 1\nmodes = [\"A\"]\ncompatible = { A = [] }\nconvert = { A = { A = \"A\" } }\nrules = {}\n";
 
-/// A change of a table's text.
-#[derive(Clone, Copy)]
-enum Change<'a> {
-    /// The first part, which stands there once, is replaced by the second.
-    Put(&'a str, &'a str),
-    /// The text ends before this part.
-    Cut(&'a str),
-}
-
-/// A text of a table after changes.
-#[derive(Clone, Copy)]
-struct Table<'a> {
-    text: &'a str,
-    changes: &'a [Change<'a>],
-}
-
-/// Where no word names a table's file.
-const NO_TABLE: Table = Table {
-    text: "",
-    changes: &[],
-};
-
-/// The table that requests nothing.
-const PLAIN_TABLE: Table = Table {
-    text: PLAIN,
-    ..NO_TABLE
-};
-
-/// The file of key-value locking.
-const KVL_TABLE: Table = Table {
-    text: KVL,
-    ..NO_TABLE
-};
-
-/// The file of key-value locking with updates.
-const KVL_UPDATE_TABLE: Table = Table {
-    text: KVL_UPDATE,
-    ..NO_TABLE
-};
-
-/// The file of index-specific locking.
-const IM_TABLE: Table = Table {
-    text: IM,
-    ..NO_TABLE
-};
-
-/// The file of key-range locking by parts.
-const RANGE_KEY_TABLE: Table = Table {
-    text: RANGE_KEY,
-    ..NO_TABLE
-};
-
-fn changed(alloc: Global, text: &str, change: Change) -> Result<String, Fail> {
-    match change {
-        Change::Put(old, new) => {
-            let (before, after) = text.split_once(old).ok_or("no such part")?;
-            Ok(format!(in alloc; "{before}{new}{after}")?)
-        }
-        Change::Cut(part) => {
-            let (before, _) = text.split_once(part).ok_or("no such part")?;
-            Ok(String::from_str(alloc, before)?)
-        }
-    }
-}
-
-fn table_text(alloc: Global, table: Table) -> Result<String, Fail> {
-    let mut text = String::from_str(alloc, table.text)?;
-    for change in table.changes {
-        text = changed(alloc, text.as_str(), *change)?;
-    }
-    Ok(text)
-}
-
 /// A run of the program: its words, its files, its status, and the lines that it leaves on its two streams, without the line
 /// feed that ends the last of them.
 #[derive(Clone, Copy)]
 struct Row<'a> {
     name: &'a str,
     words: &'a [&'a str],
-    table: Table<'a>,
+    table: &'a str,
     script: &'a str,
     status: u8,
     out: &'a str,
@@ -157,17 +78,11 @@ struct Row<'a> {
 const RUN: Row = Row {
     name: "",
     words: &["run", "@kvl", "s"],
-    table: NO_TABLE,
+    table: "",
     script: "",
     status: 0,
     out: "",
     err: "",
-};
-
-/// A run of the script under the table in the file.
-const RUN_TABLE: Row = Row {
-    words: &["run", "table", "s"],
-    ..RUN
 };
 
 /// What the program leaves, called with these words.
@@ -207,9 +122,8 @@ where
     R::Dir: Send + Sync,
 {
     let alloc = rt.alloc();
-    let table = table_text(alloc, row.table)?;
     let files = Texts {
-        table: table.as_str(),
+        table: row.table,
         script: row.script,
     };
     let ran = run_program(rt, row.words, &files)?;

@@ -1,11 +1,10 @@
 //! Words on a shelf of one file, and what is had for them.
-use kr_script::{ScriptFault, read_script};
-use kr_shell::{
+use kr_cli::{
     AnyTable, Ending, FileFault, at_fault, finish, first_bytes, is_plain, read_file, script_at,
     table_at, unreadable, whole,
 };
+use kr_script::{ScriptFault, read_script};
 use kr_sink::Io;
-use kr_table::TableFault;
 use std::alloc::{AllocError, Global};
 use std::process::Abort;
 use std::test::Fail;

@@ -1,6 +1,6 @@
 //! Escaped texts.
 
-use kr_picture::escape;
+use kr_view_run::escape;
 use std::test::Fail;
 
 /// Texts, each with how it stands in a page.

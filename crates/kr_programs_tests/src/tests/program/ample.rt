@@ -1,6 +1,6 @@
 //! Runs and verdicts with ample memory, none of which runs out of memory: scripts at boundary keys, values and numbers,
 //! under a table that requests nothing and under key-value locking, without updates and with them.
-use super::{Change, NO_TABLE, PLAIN_TABLE, RUN, Row, Table, leaves};
+use super::{PLAIN, RUN, Row, leaves};
 use std::alloc::{AllocError, Global};
 use std::process::Abort;
 use std::sync::Wait;
@@ -14,10 +14,8 @@ const KEYS: [u64; 4] = [0, 7, 1 << 63, u64::MAX];
 const TXNS: [u32; 3] = [0, 7, u32::MAX];
 
 /// The table that requests nothing, in format 2: it offers updates.
-const PLAIN_UPDATE_TABLE: Table = Table {
-    changes: &[Change::Put("format = 1", "format = 2")],
-    ..PLAIN_TABLE
-};
+const PLAIN_UPDATE: &str =
+    "format = 2\nmodes = [\"A\"]\ncompatible = { A = [] }\nconvert = { A = { A = \"A\" } }\nrules = {}\n";
 
 /// A fetch of a key, which another transaction then deletes, and commits first. Without locks the answer isn't the one of the
 /// commit order; under key-value locking the delete is blocked.
@@ -60,14 +58,14 @@ fn numbered(alloc: Global, text: &str, numbers: Numbers) -> Result<String, Alloc
 /// Runs and verdicts, at numbers that letters stand for.
 #[rattlefmt::skip]
 const ROWS: &[Row] = &[
-    Row { name: "run, no locks",                         words: &["run", "table", "s"],         table: PLAIN_TABLE,        script: FETCH_AND_DELETE, status: 1, out: r#"{"index":[],"locks":[],"replies":[["found",V],["deleted",V],["committed"],["committed"]],"unfinished":[],"verdict":["not-serial",T,1,["found",V],["none"]]}"#, ..RUN },
-    Row { name: "judge, no locks",                       words: &["judge", "table", "s"],       table: PLAIN_TABLE,        script: FETCH_AND_DELETE, status: 1, out: r#"{"script":"s","verdict":["not-serial",T,1,["found",V],["none"]]}"#, ..RUN },
-    Row { name: "run, key-value locking",                words: &["run", "@kvl", "s"],          table: NO_TABLE,           script: FETCH_AND_DELETE, status: 0, out: r#"{"index":[[K,V]],"locks":[],"replies":[["found",V],["blocked",[T]],["committed"],["committed"]],"unfinished":[],"verdict":["serial"]}"#, ..RUN },
-    Row { name: "judge, key-value locking",              words: &["judge", "@kvl", "s"],        table: NO_TABLE,           script: FETCH_AND_DELETE, status: 0, out: r#"{"script":"s","verdict":["serial"]}"#, ..RUN },
-    Row { name: "run, no locks, of updates",             words: &["run", "table", "s"],         table: PLAIN_UPDATE_TABLE, script: UPDATE_AND_BACK,  status: 1, out: r#"{"index":[[K,V]],"locks":[],"replies":[["updated",V],["found",O],["undone",0],["committed"],["aborted"]],"unfinished":[],"verdict":["not-serial",8,1,["found",O],["found",V]]}"#, ..RUN },
-    Row { name: "judge, no locks, of updates",           words: &["judge", "table", "s"],       table: PLAIN_UPDATE_TABLE, script: UPDATE_AND_BACK,  status: 1, out: r#"{"script":"s","verdict":["not-serial",8,1,["found",O],["found",V]]}"#, ..RUN },
-    Row { name: "run, key-value locking with updates",   words: &["run", "@kvl-update", "s"],   table: NO_TABLE,           script: UPDATE_AND_BACK,  status: 0, out: r#"{"index":[[K,V]],"locks":[],"replies":[["updated",V],["blocked",[T]],["undone",0],["committed"],["aborted"]],"unfinished":[],"verdict":["serial"]}"#, ..RUN },
-    Row { name: "judge, key-value locking with updates", words: &["judge", "@kvl-update", "s"], table: NO_TABLE,           script: UPDATE_AND_BACK,  status: 0, out: r#"{"script":"s","verdict":["serial"]}"#, ..RUN },
+    Row { name: "run, no locks",                         words: &["run", "table", "s"],         table: PLAIN,        script: FETCH_AND_DELETE, status: 1, out: r#"{"index":[],"locks":[],"replies":[["found",V],["deleted",V],["committed"],["committed"]],"unfinished":[],"verdict":["not-serial",T,1,["found",V],["none"]]}"#, ..RUN },
+    Row { name: "judge, no locks",                       words: &["judge", "table", "s"],       table: PLAIN,        script: FETCH_AND_DELETE, status: 1, out: r#"{"script":"s","verdict":["not-serial",T,1,["found",V],["none"]]}"#, ..RUN },
+    Row { name: "run, key-value locking",                words: &["run", "@kvl", "s"],          table: "",           script: FETCH_AND_DELETE, status: 0, out: r#"{"index":[[K,V]],"locks":[],"replies":[["found",V],["blocked",[T]],["committed"],["committed"]],"unfinished":[],"verdict":["serial"]}"#, ..RUN },
+    Row { name: "judge, key-value locking",              words: &["judge", "@kvl", "s"],        table: "",           script: FETCH_AND_DELETE, status: 0, out: r#"{"script":"s","verdict":["serial"]}"#, ..RUN },
+    Row { name: "run, no locks, of updates",             words: &["run", "table", "s"],         table: PLAIN_UPDATE, script: UPDATE_AND_BACK,  status: 1, out: r#"{"index":[[K,V]],"locks":[],"replies":[["updated",V],["found",O],["undone",0],["committed"],["aborted"]],"unfinished":[],"verdict":["not-serial",8,1,["found",O],["found",V]]}"#, ..RUN },
+    Row { name: "judge, no locks, of updates",           words: &["judge", "table", "s"],       table: PLAIN_UPDATE, script: UPDATE_AND_BACK,  status: 1, out: r#"{"script":"s","verdict":["not-serial",8,1,["found",O],["found",V]]}"#, ..RUN },
+    Row { name: "run, key-value locking with updates",   words: &["run", "@kvl-update", "s"],   table: "",           script: UPDATE_AND_BACK,  status: 0, out: r#"{"index":[[K,V]],"locks":[],"replies":[["updated",V],["blocked",[T]],["undone",0],["committed"],["aborted"]],"unfinished":[],"verdict":["serial"]}"#, ..RUN },
+    Row { name: "judge, key-value locking with updates", words: &["judge", "@kvl-update", "s"], table: "",           script: UPDATE_AND_BACK,  status: 0, out: r#"{"script":"s","verdict":["serial"]}"#, ..RUN },
 ];
 
 /// Runs the program as a row says, with the numbers in the place of the letters.

@@ -1,4 +1,5 @@
 //! Runs under covered protocols, which are serializable: each bundled table as a type, and as a file that was checked.
+use super::scripts::{SCRIPTS, full, full_after_one};
 use kr_cases::check;
 use kr_protocol::{Covered, Im, Kvl, KvlUpdate, RangeKey};
 use kr_script::{Script, read_script};
@@ -33,7 +34,7 @@ fn is_serial_checked<R: AllocGlobal + Abort>(
 }
 
 /// Runs the text of a script under each bundled table, as a type and from its file.
-pub fn serial_under_each<R: AllocGlobal + Abort>(rt: &R, script: &str) -> Result<(), Fail> {
+fn serial_under_each<R: AllocGlobal + Abort>(rt: &R, script: &str) -> Result<(), Fail> {
     let script = read_script(rt.alloc(), script.as_bytes()).map_err(|_| "no script")?;
     is_serial(rt, &Kvl, &script)?;
     is_serial(rt, &KvlUpdate, &script)?;
@@ -43,4 +44,15 @@ pub fn serial_under_each<R: AllocGlobal + Abort>(rt: &R, script: &str) -> Result
         is_serial_checked(rt, table, &script)?;
     }
     Ok(())
+}
+
+#[test]
+fn the_worked_scripts_are_serial(rt: HostRuntime) -> Result<(), Fail> {
+    for script in SCRIPTS {
+        serial_under_each(&rt, *script)?;
+    }
+    let script = full(rt.alloc())?;
+    serial_under_each(&rt, script.as_str())?;
+    let script = full_after_one(rt.alloc())?;
+    serial_under_each(&rt, script.as_str())
 }

@@ -1,6 +1,7 @@
 //! A script gives the same replies at each index with each lock table.
 ghost use Rattle.std.specs.Prelude.{◌≡◌, ℕ, []};
 
+use super::scripts::{SCRIPTS, full, full_after_one};
 use kr_index::{Ordered, Sorted, Tree};
 use kr_locks::{Buckets, Holdings, List};
 use kr_machine::Machine;
@@ -53,10 +54,21 @@ fn agrees<R: AllocGlobal + Abort, P: Protocol>(
 }
 
 /// Compares the replies under each bundled table.
-pub fn agree_under_each<R: AllocGlobal + Abort>(rt: &R, script: &str) -> Result<(), Fail> {
+fn agree_under_each<R: AllocGlobal + Abort>(rt: &R, script: &str) -> Result<(), Fail> {
     let script = read_script(rt.alloc(), script.as_bytes()).map_err(|_| "no script")?;
     agrees(rt, &Kvl, &script)?;
     agrees(rt, &KvlUpdate, &script)?;
     agrees(rt, &Im, &script)?;
     agrees(rt, &RangeKey, &script)
+}
+
+#[test]
+fn the_worked_scripts_have_the_same_replies(rt: HostRuntime) -> Result<(), Fail> {
+    for script in SCRIPTS {
+        agree_under_each(&rt, *script)?;
+    }
+    let script = full(rt.alloc())?;
+    agree_under_each(&rt, script.as_str())?;
+    let script = full_after_one(rt.alloc())?;
+    agree_under_each(&rt, script.as_str())
 }

@@ -1,22 +1,15 @@
 //! The lines that tell why a word names no table or no script.
 use super::{
-    Ending, ScriptFault, TableFault, at_fault, read_script, script_at, table_at, tells, unreadable,
-    whole,
+    Ending, ScriptFault, at_fault, read_script, script_at, table_at, tells, unreadable, whole,
 };
-use kr_program_testing::Shelf;
-use std::alloc::{AllocError, Global};
-use std::process::Abort;
+use kr_cli_test_support::Shelf;
 use std::test::Fail;
 
 /// Words for which nothing is had, with the line.
 const WORDS: &[(&str, &str)] = &[
     ("none", "none: cannot be read"),
-    ("kvl", "kvl: cannot be read"),
     ("@file", "@file: cannot be read"),
-    ("@", "@: cannot be read"),
     ("", ": cannot be read"),
-    ("a\nb", "a\\u{a}b: cannot be read"),
-    ("\u{1b}[1m", "\\u{1b}[1m: cannot be read"),
     (
         "\u{7f}\u{9f}\u{a0}é",
         "\\u{7f}\\u{9f}\u{a0}é: cannot be read",
@@ -59,107 +52,45 @@ fn other_endings(rt: HostRuntime) -> Result<(), Fail> {
     Ok(())
 }
 
-/// Texts that are no table, with the line.
-const TABLES: &[(&str, &str)] = &[
-    ("[", "fault 2 NotToml"),
-    ("format = 3", "fault 3 Format"),
-    ("", "fault 4 Field at format"),
-    ("format = 1\n\"a\\nb\" = 1", "fault 4 Field at a\\u{a}b"),
-    (
-        "format = 1\nmodes = []\ncompatible = {}\nconvert = {}\nrules = {}",
-        "fault 5 ModeCount",
-    ),
-    (
-        "format = 1\nmodes = [\"A\", \"A\"]\ncompatible = {}\nconvert = {}\nrules = {}",
-        "fault 6 ModeName at 1",
-    ),
-    (
-        "format = 1\nmodes = [\"A\"]\ncompatible = {}\nconvert = {}\nrules = {}",
-        "fault 7 Compatible at compatible.A",
-    ),
-    (
-        "format = 1\nmodes = [\"A\"]\ncompatible = { A = [] }\nconvert = {}\nrules = {}",
-        "fault 8 Convert at convert.A.A",
-    ),
-    (
-        "format = 1\nmodes = [\"A\"]\ncompatible = { A = [] }\nconvert = { A = { A = \"A\" } }\nrules = { x = {} }",
-        "fault 9 Rule at rules.x",
-    ),
-    (
-        "format = 1\nmodes = [\"A\"]\ncompatible = { A = [] }\nconvert = { A = { A = \"A\" } }\nrules = { fetch-hit = { current = [{ own = [\"A\"], mode = \"A\", span = \"commit\" }] } }",
-        "fault 10 OwnNotAllowed at rules.fetch-hit.current.0",
-    ),
-];
+/// A text that is no table, and the line that tells so, but for control characters as the fault itself shows.
+const NO_TABLE: (&str, &str) = ("format = 1\n\"a\\nb\" = 1", "fault 4 Field at a\\u{a}b");
 
-/// Compares the line that tells of a text as a table, and what the fault itself shows, but for control characters.
-fn tells_of_table(
-    rt: &impl Abort,
-    alloc: Global,
-    fault: TableFault,
-    told: &str,
-) -> Result<(), AllocError> {
+#[test]
+fn no_table(rt: HostRuntime) -> Result<(), Fail> {
+    let alloc = rt.alloc();
+    let (text, told) = NO_TABLE;
+    let files = [("file", text)];
+    let ending = table_at(&rt, "file", &Shelf(files.as_slice()))
+        .err()
+        .ok_or("a table")?;
+    let line = format!(in alloc; "file: {told}")?;
+    tells(&rt, alloc, ending, line.as_str())?;
+    let fault = kr_table::read(alloc, text.as_bytes()).err().ok_or("read")?;
     let shown = format!(in alloc; "{fault}")?;
     let shown = shown.as_str().replace(alloc, "\n", "\\u{a}")?;
     assert_eq!(rt; shown.as_str(), told);
     Ok(())
 }
 
+/// A text that is no script, and the line that tells so, which the fault itself shows.
+const NO_SCRIPT: (&str, &str) = (
+    r#"{"format":1,"opening":[[5,1],[5,2]],"steps":[]}"#,
+    "fault 5 Opening at 1",
+);
+
 #[test]
-fn no_tables(rt: HostRuntime) -> Result<(), Fail> {
+fn no_script(rt: HostRuntime) -> Result<(), Fail> {
     let alloc = rt.alloc();
-    for (text, told) in TABLES {
-        let files = [("file", *text)];
-        let ending = table_at(&rt, "file", &Shelf(files.as_slice()))
-            .err()
-            .ok_or("a table")?;
-        let line = format!(in alloc; "file: {told}")?;
-        tells(&rt, alloc, ending, line.as_str())?;
-        let fault = kr_table::read(alloc, text.as_bytes()).err().ok_or("read")?;
-        tells_of_table(&rt, alloc, fault, *told)?;
-    }
-    Ok(())
-}
-
-/// Texts that are no script, with the line.
-const SCRIPTS: &[(&str, &str)] = &[
-    ("", "fault 2 NotJson"),
-    (r#"{"format":3}"#, "fault 3 Format"),
-    ("[]", "fault 4 Field at "),
-    (r#"{"format":1}"#, "fault 4 Field at opening"),
-    (
-        r#"{"format":1,"opening":[[5,1],[5,2]],"steps":[]}"#,
-        "fault 5 Opening at 1",
-    ),
-    (
-        r#"{"format":1,"opening":[],"steps":[[1,"gone"]]}"#,
-        "fault 6 Step at 0",
-    ),
-];
-
-/// Compares the line that tells of a text as a script, and what the fault itself shows.
-fn tells_of_script<R: std::rt::Files + AllocGlobal + Abort>(
-    rt: &R,
-    text: &str,
-    told: &str,
-) -> Result<(), Fail> {
-    let alloc = rt.alloc();
+    let (text, told) = NO_SCRIPT;
     let files = [("file", text)];
-    let ending = script_at(rt, "file", &Shelf(files.as_slice()))
+    let ending = script_at(&rt, "file", &Shelf(files.as_slice()))
         .err()
         .ok_or("a script")?;
     let line = format!(in alloc; "file: {told}")?;
-    tells(rt, alloc, ending, line.as_str())?;
+    tells(&rt, alloc, ending, line.as_str())?;
     let fault = read_script(alloc, text.as_bytes()).err().ok_or("read")?;
     let shown = format!(in alloc; "{fault}")?;
     assert_eq!(rt; shown.as_str(), told);
-    Ok(())
-}
-
-#[test]
-fn no_scripts(rt: HostRuntime) -> Result<(), Fail> {
-    for (text, told) in SCRIPTS {
-        tells_of_script(&rt, *text, *told)?;
-    }
     Ok(())
 }
 

@@ -3,7 +3,7 @@ use super::{
     AnyTable, FileFault, SCRIPT, TABLE, first_bytes, read_file, read_script, script_at, table_at,
     whole,
 };
-use kr_program_testing::Shelf;
+use kr_cli_test_support::Shelf;
 use kr_protocol::Protocol;
 use std::io::repeat;
 use std::test::Fail;
