@@ -1,11 +1,11 @@
 //! All failed cases of a protocol.
 ghost use Rattle.std.specs.Prelude.{◌≡◌, ◌≢◌, ◌≤◌, ◌++◌, [], None, OnOk, OnErr, IfOk, IfSome};
 ghost use Rattle.std.specs.Option.{option_to_list};
-ghost use Rattle.kr_model.specs.Covers.{case, all_rules, mode_after, failure, failed_cases};
+ghost use Rattle.kr_model.specs.Covers.{case, all_rules, failure, failed_cases};
 ghost use Rattle.kr_cases.specs.Holes.{first_open, AreHoles};
 
 use crate::holes::{Holes, holes_of};
-use kr_model::{Cover, FailedCase, Mode, Origin, Requester, Row, Rule, Side, Span};
+use kr_model::{Cover, FailedCase, Mode, Origin, Requester, Rule};
 use kr_protocol::Protocol;
 use std::alloc::{AllocError, Global};
 
@@ -59,20 +59,6 @@ impl<P: Protocol> Finder<'_, P> {
             Cover::InsertedKey => self.holes.inserted_key[mode as usize],
             Cover::DeletedGap => self.holes.deleted_gap[mode as usize],
             Cover::UpdatedKey => self.holes.updated_key[mode as usize],
-        }
-    }
-
-    /// The mode of one who held `own` on a name, after what a row requests there was granted.
-    pub(crate) fn mode_after(&self, own: Mode, row: Row, side: Side, own_next: Mode) -> Mode
-        requires own { own ≤ (P.table self.now.protocol.now).count }
-        requires own_next { own_next ≤ (P.table self.now.protocol.now).count }
-        ensures mode { result ≡ mode_after (P.table self.now.protocol.now) own
-            ((P.table self.now.protocol.now).ask row side own_next) }
-        ensures in_range { result ≤ (P.table self.now.protocol.now).count }
-    {
-        match self.protocol.ask(row, side, own_next) {
-            Some((mode, Span::Commit)) => self.protocol.convert(own, mode),
-            _ => own,
         }
     }
 

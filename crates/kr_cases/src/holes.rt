@@ -6,7 +6,7 @@ ghost use Rattle.kr_model.specs.Firsts.{first};
 ghost use Rattle.kr_cases.specs.Holes.{first_open, AreFirst, AreHoles};
 
 use kr_model::{Cover, Mode, Requester, Row, Side};
-use kr_protocol::Protocol;
+use kr_protocol::{Protocol, is_open};
 
 /// What a lock that has the cover must conflict with, in order: no other transaction may be granted it. What an update asks
 /// for is there exactly where the protocol offers updates.
@@ -50,19 +50,6 @@ pub fn must_conflict<P: Protocol>(protocol: &P, cover: Cover) -> &'static [(Row,
             (Row::Update, Side::Current),
         ],
         Cover::UpdatedKey => &[],
-    }
-}
-
-/// Whether a lock in mode `held` lets the requester through: it requests nothing, or the converted mode is compatible.
-fn is_open<P: Protocol>(protocol: &P, held: Mode, requester: Requester) -> bool
-    requires held { held ≤ (P.table protocol.now).count }
-    requires own { requester.own ≤ (P.table protocol.now).count }
-    requires own_next { requester.own_next ≤ (P.table protocol.now).count }
-    ensures { result ≡ is_open (P.table protocol.now) held requester }
-{
-    match protocol.ask(requester.row, requester.side, requester.own_next) {
-        Some((mode, _)) => protocol.ok(protocol.convert(requester.own, mode), held),
-        None => true,
     }
 }
 

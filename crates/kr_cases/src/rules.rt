@@ -10,7 +10,7 @@ ghost use Rattle.kr_cases.specs.Cases.{failures};
 
 use crate::finder::Finder;
 use kr_model::{Cover, FailedCase, Mode, Origin, Row, Rule, Side};
-use kr_protocol::Protocol;
+use kr_protocol::{Protocol, mode_after};
 use std::alloc::AllocError;
 
 /// The covers that a protocol has to serve, in order.
@@ -98,7 +98,7 @@ impl<P: Protocol> Finder<'_, P> {
             (row_cover (P.table self.now.protocol.now) rule row side cover) ≢ []) }
     {
         for own in 0..self.protocol.count() + 1 {
-            let mode = self.mode_after(own, row, side, 0);
+            let mode = mode_after(self.protocol, own, row, side, 0);
             self.test(failed, rule, cover, Origin::Own(own), None, mode)?;
         }
         Ok(())
@@ -141,7 +141,7 @@ impl<P: Protocol> Finder<'_, P> {
             (inserts_at (P.table self.now.protocol.now) rule cover given own_next) ≢ []) }
     {
         for own in 0..self.protocol.count() + 1 {
-            let mode = self.mode_after(own, Row::Insert, Side::Current, own_next);
+            let mode = mode_after(self.protocol, own, Row::Insert, Side::Current, own_next);
             let from = Origin::Insert { own_next, own };
             self.test(failed, rule, cover, from, given, mode)?;
         }
@@ -195,7 +195,7 @@ impl<P: Protocol> Finder<'_, P> {
             (cases_of (P.table self.now.protocol.now) rule.Delete) ≢ []) }
     {
         for own_next in 0..self.protocol.count() + 1 {
-            let mode = self.mode_after(own_next, Row::Delete, Side::Next, own_next);
+            let mode = mode_after(self.protocol, own_next, Row::Delete, Side::Next, own_next);
             let from = Origin::Own(own_next);
             self.test(failed, Rule::Delete, Cover::DeletedGap, from, None, mode)?;
         }

@@ -5,8 +5,8 @@ ghost use Rattle.kr_model.specs.Safe as safe;
 ghost use Rattle.kr_model.specs.Safe.{MayAsk, MayInsert, MayBeside, IsIdle, MayBeOnAbsent};
 
 use crate::absent::may_be_on_absent;
-use kr_model::{GapUse, KeyUse, LockState, Mode, Row, Side, Span};
-use kr_protocol::Protocol;
+use kr_model::{GapUse, KeyUse, LockState, Mode, Row, Side};
+use kr_protocol::{Protocol, mode_after};
 
 /// What a transaction has on a name where it has requested nothing.
 pub const FREE: LockState = LockState {
@@ -87,28 +87,10 @@ pub fn after<P: Protocol>(
     ensures { result ≡ safe.after (P.table protocol.now) row side own next }
 {
     LockState {
-        mode: mode_after(protocol, row, side, own, next),
+        mode: mode_after(protocol, own.mode, row, side, given(row, side, own, next)),
         key: key_after(row, side, own.key),
         gap: gap_after(row, side, own.gap, next.gap),
         deleted: is_deleting(row, side),
-    }
-}
-
-/// The mode then.
-fn mode_after<P: Protocol>(
-    protocol: &P,
-    row: Row,
-    side: Side,
-    own: LockState,
-    next: LockState,
-) -> Mode
-    requires own { own.mode ≤ (P.table protocol.now).count }
-    requires next { next.mode ≤ (P.table protocol.now).count }
-    ensures { result ≡ mode_after (P.table protocol.now) own.mode (safe.asked (P.table protocol.now) row side own next) }
-{
-    match protocol.ask(row, side, given(row, side, own, next)) {
-        Some((mode, Span::Commit)) => protocol.convert(own.mode, mode),
-        _ => own.mode,
     }
 }
 

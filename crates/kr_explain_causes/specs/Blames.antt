@@ -12,6 +12,7 @@ use Rattle.kr_model.specs.declared.Side.TheVariants.{Current, Next}
 use Rattle.kr_model.specs.declared.Span.{Span}
 use Rattle.kr_model.specs.declared.Span.TheVariants.{Instant, Commit}
 use Rattle.kr_model.specs.Protocol.{Protocol, IsMode}
+use Rattle.kr_protocol.specs.Asking as asking
 use Rattle.kr_model.specs.Covers.{Ask, must_conflict, requester, is_open}
 use Rattle.kr_explain_causes.specs.declared.blame.Blame.{Blame}
 use Rattle.kr_explain_causes.specs.declared.blame.Blame.TheVariants.{Place, Request, Conversion, Pair}
@@ -31,7 +32,7 @@ taken_at rule.Update = (row.Update, Current)
 
 -- What p requests at a row and a side, with the own mode o on the next name; nothing where o is no mode.
 abbrev pub asked_at : Protocol → Ask → ℕ → Option (ℕ × Span)
-asked_at p (r, s) o = if nat_le o p.count then p.ask r s o else None
+asked_at p (r, s) o = asking.asked_at p r s o
 
 -- The mode of one who holds h and requests q; where h is no mode, it holds none.
 abbrev pub converted : Protocol → ℕ → ℕ → ℕ

@@ -2,7 +2,7 @@
 ghost use Rattle.std.specs.Prelude.{◌≡◌, ◌≤◌, ◌↔◌, ℕ, None, Some, IfSome, IsTrue, All};
 ghost use Rattle.std.specs.List.{Any};
 ghost use Rattle.kr_model.specs.declared.FailedCase.{FailedCase};
-ghost use Rattle.kr_explain_causes.specs.Blames.{IsBlamed, IsVoid, asked_at, conversion_by, converted, hole_request, taken_at};
+ghost use Rattle.kr_explain_causes.specs.Blames.{IsBlamed, IsVoid, conversion_by, converted, hole_request, taken_at};
 ghost use Rattle.kr_explain_causes.specs.Causes.{own_next};
 ghost use Rattle.kr_explain_causes.specs.Shares.{AreReasons, Names};
 ghost use Rattle.kr_explain_causes.specs.declared.blame.Blame.TheVariants.{Conversion, Pair};
@@ -10,7 +10,7 @@ ghost use Rattle.kr_explain_causes.specs.declared.blame.Blame.TheVariants.{Conve
 use crate::blame::Blame;
 use kr_cases::must_conflict;
 use kr_model::{Cover, FailedCase, Mode, Origin, Requester, Row, Rule, Side, Span};
-use kr_protocol::Protocol;
+use kr_protocol::{Protocol, asked};
 
 /// What may be to blame for a failed case.
 #[derive(Clone, Copy, Debug, PartialEq, Eq)]
@@ -54,21 +54,6 @@ fn is_blame(reason: &Option<Blame>, blame: Blame) -> bool
         Some(reason) => *reason == blame,
         None => false,
     }
-}
-
-/// What a row requests at a side, and nothing where `own_next` is no mode.
-pub(crate) fn asked<P: Protocol>(
-    protocol: &P,
-    row: Row,
-    side: Side,
-    own_next: Mode,
-) -> Option<(Mode, Span)>
-    ensures { result ≡ asked_at (P.table protocol.now) (row, side) own_next }
-{
-    if own_next > protocol.count() {
-        return None;
-    }
-    protocol.ask(row, side, own_next)
 }
 
 /// Whether a request is compatible with a lock, both of them modes or 0.

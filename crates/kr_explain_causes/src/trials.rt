@@ -5,10 +5,10 @@ ghost use Rattle.kr_explain_causes.specs.Mends.{IsOf};
 use crate::blame::Blame;
 use crate::cause::Cause;
 use crate::change::Change;
-use crate::reasons::{asked, own_next};
+use crate::reasons::own_next;
 use kr_cases::Memory;
 use kr_model::{FailedCase, Mode, Row, Side, Span};
-use kr_protocol::Protocol;
+use kr_protocol::{Protocol, asked};
 use std::alloc::Global;
 
 /// The own modes on the next name with which the locks of the cases were taken, each as a bit; or `None` where these are

@@ -5,7 +5,7 @@ use Rattle.std.specs.Fmt.{decimal}
 use Rattle.std.proofs.lemmas.List.{append-nil, drop_more, drop_all}
 use Rattle.kr_model.specs.declared.FailedCase.{FailedCase}
 use Rattle.kr_model.specs.declared.Rule.{Rule}
-use Rattle.kr_explain_text.specs.Words.{rule_code}
+use Rattle.kr_model.specs.Words.{rule_code}
 use Rattle.kr_explain_text.specs.Titles.{behind_commas, with_commas, count_of, group_of, group_behind, all_groups, counts_of}
 
 -- the groups that are written from here on

@@ -11,7 +11,7 @@ use Rattle.kr_explain_causes.specs.declared.mend.Mend.{Mend}
 use Rattle.kr_explain_causes.specs.Changes.{mode_of}
 use Rattle.kr_explain_text.specs.Lines.{IsParagraph}
 use Rattle.kr_explain_text.specs.Lists.{modes_listed}
-use Rattle.kr_explain_text.specs.Words.{row_word, side_word, span_word}
+use Rattle.kr_model.specs.Words.{row_word, side_word, span_word}
 
 -- The modes of the changes, in their order.
 abbrev pub modes_of : List Change → List ℕ

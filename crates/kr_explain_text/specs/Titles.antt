@@ -14,7 +14,9 @@ use Rattle.kr_explain_causes.specs.declared.blame.Blame.{Blame}
 use Rattle.kr_explain_causes.specs.declared.blame.Blame.TheVariants as blame
 use Rattle.kr_explain_causes.specs.declared.cause.Cause.{Cause}
 use Rattle.kr_explain_text.specs.Lines.{IsParagraph}
-use Rattle.kr_explain_text.specs.Words.{row_word, side_words, rule_code, rule_number, asked_at, converted_at}
+use Rattle.kr_model.specs.Words.{row_word, rule_code, rule_number}
+use Rattle.kr_protocol.specs.Asking.{asked_at, converted_at}
+use Rattle.kr_explain_text.specs.Words.{side_words}
 
 -- Texts, each behind a comma and a blank.
 abbrev pub behind_commas : List (List ℕ) → List ℕ

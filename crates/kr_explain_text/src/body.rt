@@ -1,15 +1,14 @@
 //! The sentences under the title of a cause: what its lock must protect, what is wrong with it, and which request is then
 //! granted.
 
-use crate::answers::name_of;
 use crate::granted::granted_sentence;
 use crate::lists::{listed, modes_listed, put_once};
-use crate::words::{cover_words, deed_words, row_word, rule_step, side_words};
+use crate::words::{cover_words, deed_words, rule_step, side_words};
 use crate::wrap::{INDENT, write_paragraph};
 use kr_cases::Memory;
 use kr_explain_causes::{Blame, Cause, must_conflict, own_next};
-use kr_model::{Cover, FailedCase, Mode, Origin, Row, Rule, Side, Span};
-use kr_protocol::Protocol;
+use kr_model::{Cover, FailedCase, Mode, Origin, Row, Rule, Side, Span, row_word};
+use kr_protocol::{Protocol, name_or_empty};
 use std::alloc::Global;
 
 /// The covers, in their order.
@@ -91,7 +90,7 @@ fn pair_sentence<P: Protocol>(
     cases: &[FailedCase],
     held: Mode,
 ) -> Result<String, Memory> {
-    let held = name_of(protocol, held);
+    let held = name_or_empty(protocol, held);
     let covers = protected(alloc, cases, "and")?;
     let steps = steps_of(alloc, cases)?;
     format!(in alloc; "After {steps} a transaction that holds {held} must protect {covers}.")
@@ -166,7 +165,7 @@ fn put_request_sentences<P: Protocol>(
     let owns = owns_words(alloc, protocol, cases, row)?;
     match asked {
         Some((mode, Span::Instant)) => {
-            let mode = name_of(protocol, mode);
+            let mode = name_or_empty(protocol, mode);
             let held = held_words(alloc, protocol, cases)?;
             let owns = if row == Row::Delete {
                 ""
@@ -178,7 +177,7 @@ fn put_request_sentences<P: Protocol>(
             )?)?;
         }
         Some((mode, Span::Commit)) if !owns.is_empty() => {
-            let mode = name_of(protocol, mode);
+            let mode = name_or_empty(protocol, mode);
             out.push(format!(in alloc; "It requests only {mode} on {side}{owns}.")?)?;
         }
         None if !owns.is_empty() => {

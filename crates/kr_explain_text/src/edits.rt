@@ -2,13 +2,11 @@
 ghost use Rattle.std.specs.Prelude.{◌≡◌, IfOk, string_bytes};
 ghost use Rattle.kr_explain_text.specs.Edits.{IsEdit, apart_words, convert_words, modes_of, request_words};
 
-use crate::answers::{asked, converted, name_of};
 use crate::lists::{modes_chosen, modes_listed};
-use crate::words::{row_word, side_word, span_word};
 use kr_cases::Memory;
 use kr_explain_causes::Change;
-use kr_model::{Mode, Row, Side, Span};
-use kr_protocol::Protocol;
+use kr_model::{Mode, Row, Side, Span, row_word, side_word, span_word};
+use kr_protocol::{Protocol, asked, converted, name_or_empty};
 use std::alloc::Global;
 
 /// Changes that differ in their mode alone, of which this is one, as one edit.
@@ -82,8 +80,8 @@ fn convert_words<P: Protocol>(
 ) -> Result<String, Memory>
     ensures { IfOk result (λ text. string_bytes text ≡ convert_words (P.names protocol.now) held requested modes.now) }
 {
-    let held = name_of(protocol, held);
-    let requested = name_of(protocol, requested);
+    let held = name_or_empty(protocol, held);
+    let requested = name_or_empty(protocol, requested);
     let made = modes_chosen(alloc, protocol, modes, true)?;
     format!(in alloc; "in [convert], {held}: {requested} = {made}")
 }
@@ -98,8 +96,8 @@ fn apart_words<P: Protocol>(
 ) -> Result<String, Memory>
     ensures { IfOk result (λ text. string_bytes text ≡ apart_words (P.names protocol.now) requested held) }
 {
-    let requested = name_of(protocol, requested);
-    let held = name_of(protocol, held);
+    let requested = name_or_empty(protocol, requested);
+    let held = name_or_empty(protocol, held);
     format!(in alloc; "in [compatible], {requested}: remove {held}")
 }
 

@@ -1,10 +1,9 @@
 //! The sentence that says which request is granted beside the mode of a case: its first open place.
 
-use crate::answers::{asked, converted, name_of};
-use crate::words::{deed_words, row_word, side_words};
+use crate::words::{deed_words, side_words};
 use kr_cases::Memory;
-use kr_model::{FailedCase, Mode};
-use kr_protocol::Protocol;
+use kr_model::{FailedCase, Mode, row_word};
+use kr_protocol::{Protocol, asked, converted, name_or_empty};
 use std::alloc::Global;
 
 /// Which request is granted to another transaction beside the mode of a case, and what that one can do then, or could.
@@ -23,15 +22,15 @@ pub fn granted_sentence<P: Protocol>(
             "`{row}` requests no lock on {side}: another transaction {can} {deed}."
         );
     };
-    let request = name_of(protocol, mode);
+    let request = name_or_empty(protocol, mode);
     if place.own == 0 {
         let held = held_words(alloc, protocol, case.mode)?;
         return format!(in alloc;
             "{held} the {request} that `{row}` requests on {side}: another transaction {can} {deed}."
         );
     }
-    let own = name_of(protocol, place.own);
-    let made = name_of(protocol, converted(protocol, place.own, mode));
+    let own = name_or_empty(protocol, place.own);
+    let made = name_or_empty(protocol, converted(protocol, place.own, mode));
     let held = conflict_words(alloc, protocol, case.mode)?;
     format!(in alloc;
         "Where another transaction itself holds {own} there, the {request} that `{row}` requests on {side} converts to {made}, which does not conflict with {held}: it {can} {deed}."
@@ -43,7 +42,7 @@ fn held_words<P: Protocol>(alloc: Global, protocol: &P, held: Mode) -> Result<St
     if held == 0 {
         String::from_str(alloc, "No held lock conflicts with")
     } else {
-        let held = name_of(protocol, held);
+        let held = name_or_empty(protocol, held);
         format!(in alloc; "Held {held} does not conflict with")
     }
 }
@@ -53,7 +52,7 @@ fn conflict_words<P: Protocol>(alloc: Global, protocol: &P, held: Mode) -> Resul
     if held == 0 {
         String::from_str(alloc, "any held lock")
     } else {
-        let held = name_of(protocol, held);
+        let held = name_or_empty(protocol, held);
         format!(in alloc; "held {held}")
     }
 }

@@ -1,12 +1,11 @@
 //! Why a cause is harmless.
 
-use crate::answers::name_of;
 use crate::body::protected;
 use crate::lists::{held_listed, listed};
 use crate::wrap::{INDENT, write_paragraph};
 use kr_cases::Memory;
 use kr_model::{FailedCase, Mode};
-use kr_protocol::Protocol;
+use kr_protocol::{Protocol, name_or_empty};
 use std::alloc::Global;
 
 /// Modes that have the same to protect in some cases.
@@ -72,7 +71,7 @@ fn never_let_in<P: Protocol>(
             "a transaction can hold no lock where it must protect {covers}, but no schedule leads another transaction to a request there that has to be blocked."
         );
     }
-    let mode = name_of(protocol, case.mode);
+    let mode = name_or_empty(protocol, case.mode);
     format!(in alloc;
         "a transaction can hold {mode} where it must protect {covers}, but no schedule leads another transaction to a request there that {mode} has to block and does not."
     )

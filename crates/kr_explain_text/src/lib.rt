@@ -2,7 +2,6 @@
 #![tactic(auto)]
 
 mod anomalies;
-mod answers;
 mod body;
 mod cells;
 mod edits;
@@ -24,7 +23,6 @@ mod words;
 mod wrap;
 
 pub use anomalies::anomaly;
-pub use answers::name_of;
 pub use body::write_body;
 pub use harmless::{write_never_held, write_never_let_in};
 pub use kr_cases::Memory;
@@ -33,4 +31,4 @@ pub use mending::write_mend;
 pub use runs::{Tries, run_end, run_head, write_case, write_no_run, write_run};
 pub use title::write_title;
 pub use whole::{causes_words, write_command};
-pub use words::{cover_words, deed_words, row_word};
+pub use words::{cover_words, deed_words};

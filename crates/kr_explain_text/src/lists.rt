@@ -2,10 +2,9 @@
 ghost use Rattle.std.specs.Prelude.{◌≡◌, ◌++◌, IfOk, OnOk, false, string_bytes};
 ghost use Rattle.kr_explain_text.specs.Lists.{item_words, mode_word, modes_listed};
 
-use crate::answers::name_of;
 use kr_cases::Memory;
 use kr_model::Mode;
-use kr_protocol::Protocol;
+use kr_protocol::{Protocol, name_or_empty};
 use std::alloc::Global;
 
 /// The items with commas between, and before the last one `last` in place of the comma.
@@ -50,7 +49,7 @@ fn mode_word<P: Protocol>(
 ) -> Result<String, Memory>
     ensures { IfOk result (λ text. string_bytes text ≡ mode_word (P.names protocol.now) is_quoted mode) }
 {
-    let name = name_of(protocol, mode);
+    let name = name_or_empty(protocol, mode);
     if is_quoted {
         format!(in alloc; "\"{name}\"")
     } else {
@@ -98,7 +97,7 @@ pub fn held_listed<P: Protocol>(
         names.push(if *mode == 0 {
             "no lock"
         } else {
-            name_of(protocol, *mode)
+            name_or_empty(protocol, *mode)
         })?;
     }
     listed(alloc, &names, "or")

@@ -2,11 +2,10 @@
 ghost use Rattle.std.specs.Prelude.{◌≡◌, ◌++◌, IfOk, OnOk, string_bytes};
 ghost use Rattle.kr_explain_text.specs.Spoken.{holder_words, is_same, lead_words, locks_words};
 
-use crate::answers::name_of;
 use crate::spoken::lock_name;
 use kr_cases::Memory;
 use kr_model::{Mode, Name, Txn};
-use kr_protocol::Protocol;
+use kr_protocol::{Protocol, name_or_empty};
 use std::alloc::Global;
 
 /// Whether two names are one.
@@ -51,7 +50,7 @@ fn write_holder<P: Protocol>(
     ensures { OnOk result (string_bytes out.new ≡ string_bytes out.old ++ holder_words (P.names protocol.now) lock) }
 {
     let ((_, txn), mode) = lock;
-    let mode = name_of(protocol, mode);
+    let mode = name_or_empty(protocol, mode);
     write!(out, "T{txn} {mode}")
 }
 

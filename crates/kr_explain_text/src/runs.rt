@@ -8,11 +8,10 @@ use crate::seen::seen;
 use crate::spoken::{origin_text, pairs_text};
 use crate::steps::write_steps;
 use crate::verdict::write_verdict;
-use crate::words::{cover_code, rule_code};
 use crate::wrap::{INDENT, write_paragraph};
 use kr_cases::Memory;
 use kr_explain_runs::Counterexample;
-use kr_model::FailedCase;
+use kr_model::{FailedCase, cover_code, rule_code};
 use kr_protocol::Protocol;
 use std::alloc::Global;
 

@@ -2,10 +2,9 @@
 ghost use Rattle.std.specs.Prelude.{◌≡◌, IfOk, string_bytes};
 ghost use Rattle.kr_explain_text.specs.Spoken.{name_words, op_words, reply_words, rows_words};
 
-use crate::answers::name_of;
 use kr_cases::Memory;
 use kr_model::{FailedCase, Mode, Name, Op, Origin, Reply, Txn};
-use kr_protocol::Protocol;
+use kr_protocol::{Protocol, name_or_empty};
 use std::alloc::Global;
 
 /// An operation, by its word and its numbers.
@@ -103,17 +102,17 @@ pub fn origin_text<P: Protocol>(
 ) -> Result<String, Memory> {
     match case.from {
         Origin::Own(own) => {
-            let own = name_of(protocol, own);
+            let own = name_or_empty(protocol, own);
             format!(in alloc; "own mode {own}")
         }
         Origin::Conversion { held, asked } => {
-            let held = name_of(protocol, held);
-            let requested = name_of(protocol, asked);
+            let held = name_or_empty(protocol, held);
+            let requested = name_or_empty(protocol, asked);
             format!(in alloc; "{held} held and {requested} requested")
         }
         Origin::Insert { own_next, own } => {
-            let own_next = name_of(protocol, own_next);
-            let own = name_of(protocol, own);
+            let own_next = name_or_empty(protocol, own_next);
+            let own = name_or_empty(protocol, own);
             format!(in alloc; "own modes {own_next} on the next key and {own} on the key")
         }
     }

@@ -4,13 +4,12 @@ ghost use Rattle.kr_explain_text.specs.Lines.{Adds};
 ghost use Rattle.kr_explain_text.specs.Titles.{IsTitle, blame_words, cases_word, count_of, counts_of, group_behind, groups_of, place_words, request_words, title_words};
 ghost use Rattle.kr_explain_causes.specs.declared.blame.Blame.TheVariants as blame;
 
-use crate::answers::{asked, converted, name_of};
-use crate::words::{row_word, rule_code, rule_number, side_words};
+use crate::words::side_words;
 use crate::wrap::{INDENT, write_paragraph};
 use kr_cases::Memory;
 use kr_explain_causes::{Blame, Cause};
-use kr_model::{FailedCase, Mode, Row, Rule, Side, Span};
-use kr_protocol::Protocol;
+use kr_model::{FailedCase, Mode, Row, Rule, Side, Span, row_word, rule_code, rule_number};
+use kr_protocol::{Protocol, asked, converted, name_or_empty};
 use std::alloc::Global;
 
 /// The groups of cases, in their order.
@@ -130,16 +129,16 @@ fn blame_sentence<P: Protocol>(alloc: Global, protocol: &P, blame: Blame) -> Res
             request_sentence(alloc, protocol, row, side, asked)
         }
         Blame::Conversion { held, requested } => {
-            let made = name_of(protocol, converted(protocol, held, requested));
-            let held = name_of(protocol, held);
-            let requested = name_of(protocol, requested);
+            let made = name_or_empty(protocol, converted(protocol, held, requested));
+            let held = name_or_empty(protocol, held);
+            let requested = name_or_empty(protocol, requested);
             format!(in alloc;
                 "{held} held and {requested} requested convert to {made}, a weaker mode."
             )
         }
         Blame::Pair { requested, held } => {
-            let held = name_of(protocol, held);
-            let requested = name_of(protocol, requested);
+            let held = name_or_empty(protocol, held);
+            let requested = name_or_empty(protocol, requested);
             format!(in alloc; "Requested {requested} is compatible with held {held}.")
         }
     }
@@ -160,7 +159,7 @@ fn place_sentence<P: Protocol>(
     match mode {
         None => format!(in alloc; "`{row}` requests no lock on {side}."),
         Some((mode, _)) => {
-            let mode = name_of(protocol, mode);
+            let mode = name_or_empty(protocol, mode);
             format!(in alloc; "`{row}` requests {mode} on {side}, which conflicts with no mode.")
         }
     }
@@ -184,7 +183,7 @@ fn request_sentence<P: Protocol>(
             format!(in alloc; "`{row}` releases its lock on {side} too early.")
         }
         Some((mode, Span::Commit)) => {
-            let mode = name_of(protocol, mode);
+            let mode = name_or_empty(protocol, mode);
             format!(in alloc; "`{row}` requests too weak a lock on {side}: {mode}.")
         }
     }

@@ -2,6 +2,7 @@
 use Rattle.std.specs.Prelude.{◌≡◌, ℕ, true, false, List, [], ◌∷◌, Option, Some, None, length, map, filter, refl, slice_get, ◌==◌, if◌then◌else◌}
 use Rattle.std.proofs.Common.{◌∙◌, ap}
 use Rattle.kr_model.specs.Protocol.{Protocol}
+use Rattle.kr_model.specs.Words.{rule_number}
 use Rattle.kr_model.specs.Covers.{Ask, requester, cases, failed_cases, serves, modes, all_rules, all_covers, case_count, IsCovered}
 use Rattle.kr_model.specs.declared.Row.{Row}
 use Rattle.kr_model.specs.declared.Row.TheVariants as row
@@ -31,18 +32,6 @@ failed r c from mode ask own own_next = record { case = r; cover = c; from = fro
 -- The first failed case.
 abbrev pub first_failed : Protocol → Option FailedCase
 first_failed p = slice_get (failed_cases p) 0
-
--- The place of a rule in the order of the checker, from 1.
-abbrev pub rule_number : Rule → ℕ
-rule_number rule.Conversion = 1
-rule_number rule.FetchHit = 2
-rule_number rule.FetchMiss = 3
-rule_number rule.ScanKey = 4
-rule_number rule.ScanStop = 5
-rule_number rule.Insert = 6
-rule_number rule.Split = 7
-rule_number rule.Delete = 8
-rule_number rule.Update = 9
 
 -- The place of a cover in the order of the checker, from 1.
 abbrev pub cover_number : Cover → ℕ

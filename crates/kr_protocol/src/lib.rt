@@ -2,6 +2,7 @@
 //! come with the checker.
 #![tactic(auto)]
 
+mod asking;
 mod im;
 mod kvl;
 mod kvl_update;
@@ -10,6 +11,7 @@ mod protocol;
 mod range_key;
 mod request;
 
+pub use asking::{asked, converted, is_open, mode_after, name_or_empty};
 pub use im::Im;
 pub use kr_model::{Mode, Row, Side, Span};
 pub use kvl::Kvl;

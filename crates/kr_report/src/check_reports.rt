@@ -1,82 +1,30 @@
 //! The report of a check, as JSON on one line.
 ghost use Rattle.std.specs.Prelude.{◌≡◌, IfOk, string_bytes};
 ghost use Rattle.serde_json.specs.View.{view};
-ghost use Rattle.kr_report.specs.CheckReport.{rule_name, cover_name, row_name, side_name, from_data, place_data, failed_data, failed_list, check_data, check_text};
+ghost use Rattle.kr_report.specs.CheckReport.{from_data, place_data, failed_data, failed_list, check_data, check_text};
 
-use crate::reports::mode_name;
 use kr_cases::{FailedCase, cases};
-use kr_model::{Cover, Origin, Requester, Row, Rule, Side};
-use kr_protocol::Protocol;
+use kr_model::{Origin, Requester, cover_code, row_word, rule_code, side_word};
+use kr_protocol::{Protocol, name_or_empty};
 use serde_json::{Value, json};
 use std::alloc::{AllocError, Global};
-
-fn rule_name(rule: Rule) -> &'static str
-    ensures { result.now ≡ rule_name rule }
-{
-    match rule {
-        Rule::Conversion => "G1",
-        Rule::FetchHit => "G2",
-        Rule::FetchMiss => "G3",
-        Rule::ScanKey => "G4",
-        Rule::ScanStop => "G5",
-        Rule::Insert => "G6",
-        Rule::Split => "G7",
-        Rule::Delete => "G8",
-        Rule::Update => "G9",
-    }
-}
-
-fn cover_name(cover: Cover) -> &'static str
-    ensures { result.now ≡ cover_name cover }
-{
-    match cover {
-        Cover::ReadKey => "RK",
-        Cover::ReadGap => "RG",
-        Cover::InsertedKey => "IK",
-        Cover::DeletedGap => "DG",
-        Cover::UpdatedKey => "UK",
-    }
-}
-
-fn row_name(row: Row) -> &'static str
-    ensures { result.now ≡ row_name row }
-{
-    match row {
-        Row::FetchHit => "fetch-hit",
-        Row::FetchMiss => "fetch-miss",
-        Row::ScanKey => "scan-key",
-        Row::ScanStop => "scan-stop",
-        Row::Insert => "insert",
-        Row::Delete => "delete",
-        Row::Update => "update",
-    }
-}
-
-fn side_name(side: Side) -> &'static str
-    ensures { result.now ≡ side_name side }
-{
-    match side {
-        Side::Current => "current",
-        Side::Next => "next",
-    }
-}
 
 fn from_value<P: Protocol>(alloc: Global, protocol: &P, from: Origin) -> Result<Value, AllocError>
     ensures { IfOk result (λ v. view v ≡ from_data (P.names protocol.now) from) }
 {
     match from {
         Origin::Own(own) => {
-            let own = mode_name(protocol, own);
+            let own = name_or_empty(protocol, own);
             json!(in alloc; [own])
         }
         Origin::Conversion { held, asked } => {
-            let held = mode_name(protocol, held);
-            let asked = mode_name(protocol, asked);
+            let held = name_or_empty(protocol, held);
+            let asked = name_or_empty(protocol, asked);
             json!(in alloc; [held, asked])
         }
         Origin::Insert { own_next, own } => {
-            let own_next = mode_name(protocol, own_next);
-            let own = mode_name(protocol, own);
+            let own_next = name_or_empty(protocol, own_next);
+            let own = name_or_empty(protocol, own);
             json!(in alloc; [own_next, own])
         }
     }
@@ -89,10 +37,10 @@ fn place_value<P: Protocol>(
 ) -> Result<Value, AllocError>
     ensures { IfOk result (λ v. view v ≡ place_data (P.names protocol.now) place) }
 {
-    let row = row_name(place.row);
-    let side = side_name(place.side);
-    let own = mode_name(protocol, place.own);
-    let own_next = mode_name(protocol, place.own_next);
+    let row = row_word(place.row);
+    let side = side_word(place.side);
+    let own = name_or_empty(protocol, place.own);
+    let own_next = name_or_empty(protocol, place.own_next);
     json!(in alloc; [row, side, own, own_next])
 }
 
@@ -103,10 +51,10 @@ fn failed_value<P: Protocol>(
 ) -> Result<Value, AllocError>
     ensures { IfOk result (λ v. view v ≡ failed_data (P.names protocol.now) failed) }
 {
-    let case = rule_name(failed.case);
-    let cover = cover_name(failed.cover);
+    let case = rule_code(failed.case);
+    let cover = cover_code(failed.cover);
     let from = from_value(alloc, protocol, failed.from)?;
-    let mode = mode_name(protocol, failed.mode);
+    let mode = name_or_empty(protocol, failed.mode);
     let open = place_value(alloc, protocol, failed.hole)?;
     json!(in alloc; {"case": case, "cover": cover, "from": from, "mode": mode, "open": open})
 }

@@ -7,11 +7,11 @@ use crate::drawing::write_drawing;
 use crate::frame::BAND_END;
 use kr_locks::Memory;
 use kr_model::Span;
-use kr_protocol::Protocol;
+use kr_protocol::{Protocol, name_or_empty};
 use kr_view_html::{Html, Mark, Part};
 use kr_view_scenes::{
-    Asked, Columns, Difference, Layout, Scene, kind_of, mode_name, write_name, write_numbers,
-    write_op, write_reply,
+    Asked, Columns, Difference, Layout, Scene, kind_of, write_name, write_numbers, write_op,
+    write_reply,
 };
 use std::alloc::Global;
 
@@ -107,7 +107,7 @@ fn write_request<P: Protocol>(protocol: &P, request: &Asked, out: &mut Html) -> 
     out.put(&[
         Part::Mark(Mark::Paragraph),
         Part::Text("Asked for "),
-        Part::Text(mode_name(protocol, request.mode)),
+        Part::Text(name_or_empty(protocol, request.mode)),
         Part::Text(" on "),
     ])?;
     write_name(out, request.name)?;

@@ -5,7 +5,7 @@ use crate::columns::Columns;
 use crate::scene::KeyState;
 use kr_locks::Memory;
 use kr_model::{Mode, Name, Txn};
-use kr_protocol::Protocol;
+use kr_protocol::{Protocol, name_or_empty};
 use std::alloc::Global;
 
 /// How many classes of colours there are.
@@ -57,15 +57,6 @@ pub enum BarKind {
     Conflicting,
     /// A request that wasn't granted.
     Asked,
-}
-
-/// The name of a mode; a number beyond the modes has none.
-pub fn mode_name<P: Protocol>(protocol: &P, mode: Mode) -> &str {
-    if mode <= protocol.count() {
-        protocol.name(mode)
-    } else {
-        ""
-    }
 }
 
 /// The class of a transaction's colour.
@@ -134,7 +125,7 @@ pub fn push_held<P: Protocol>(
                 line: line_of(*txn, false, reach),
                 column,
                 reach,
-                mode: String::from_str(alloc, mode_name(protocol, *mode))?,
+                mode: String::from_str(alloc, name_or_empty(protocol, *mode))?,
                 kind,
             })?;
         }
@@ -172,7 +163,7 @@ pub fn push_asked<P: Protocol>(
                 line: line_of(txn, is_second, reach),
                 column,
                 reach,
-                mode: String::from_str(alloc, mode_name(protocol, request.mode))?,
+                mode: String::from_str(alloc, name_or_empty(protocol, request.mode))?,
                 kind: BarKind::Asked,
             })?;
         }

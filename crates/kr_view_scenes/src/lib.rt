@@ -14,7 +14,7 @@ mod summary;
 mod words;
 
 pub use asked::{Asked, Scans};
-pub use bar::{Bar, BarKind, BarLine, colour_of, mode_name};
+pub use bar::{Bar, BarKind, BarLine, colour_of};
 pub use columns::Columns;
 pub use commits::write_commits;
 pub use kr_locks::Memory;

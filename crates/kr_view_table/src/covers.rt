@@ -6,9 +6,9 @@ ghost use Rattle.kr_view_table.specs.declared.covers.TheConstants.{COVERS, OPEN}
 ghost use Rattle.kr_view_table.specs.Covers.{cover_cell, cover_head, covers_words, holding, mode_row};
 
 use kr_cases::first_open;
-use kr_explain_text::{cover_words, deed_words, name_of};
+use kr_explain_text::{cover_words, deed_words};
 use kr_model::{Cover, Memory, Mode, Requester};
-use kr_protocol::Protocol;
+use kr_protocol::{Protocol, name_or_empty};
 use kr_view_html::escape;
 use std::alloc::Global;
 
@@ -100,7 +100,7 @@ fn mode_row<P: Protocol>(alloc: Global, protocol: &P, mode: Mode) -> Result<Stri
     requires { mode ≤ (P.table protocol.now).count }
     ensures { IfOk result (λ text. string_bytes text ≡ mode_row (P.table protocol.now) (P.names protocol.now) mode) }
 {
-    let name = escape(alloc, name_of(protocol, mode))?;
+    let name = escape(alloc, name_or_empty(protocol, mode))?;
     let cells = cover_cells(alloc, protocol, mode)?;
     format!(in alloc; "<tr class=\"mode\"><th scope=\"row\">{name}</th>{cells}</tr>\n")
 }
@@ -151,6 +151,6 @@ fn holding<P: Protocol>(alloc: Global, protocol: &P, own: Mode) -> Result<String
     if own == 0 {
         return Ok(String::new(alloc));
     }
-    let name = escape(alloc, name_of(protocol, own))?;
+    let name = escape(alloc, name_or_empty(protocol, own))?;
     format!(in alloc; ", holding {name}")
 }

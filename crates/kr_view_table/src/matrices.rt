@@ -6,9 +6,8 @@ ghost use Rattle.kr_view_table.specs.Matrices.{cell_words, converted_cell, head_
 use crate::badges::{Entry, badges};
 use crate::told::{causes_of, is_apart, is_unasked};
 use kr_explain_core::Explanation;
-use kr_explain_text::name_of;
 use kr_model::{Memory, Mode};
-use kr_protocol::Protocol;
+use kr_protocol::{Protocol, name_or_empty};
 use kr_view_html::escape;
 use std::alloc::Global;
 
@@ -85,7 +84,7 @@ fn heads<P: Protocol>(alloc: Global, protocol: &P) -> Result<String, Memory>
 fn head_cell<P: Protocol>(alloc: Global, protocol: &P, mode: Mode) -> Result<String, Memory>
     ensures { IfOk result (λ text. string_bytes text ≡ head_cell (P.names protocol.now) mode) }
 {
-    let name = escape(alloc, name_of(protocol, mode))?;
+    let name = escape(alloc, name_or_empty(protocol, mode))?;
     format!(in alloc; "<th scope=\"col\">{name}</th>")
 }
 
@@ -117,7 +116,7 @@ fn row<P: Protocol>(
     requires { mode ≤ (P.table protocol.now).count }
     ensures { IfOk result (λ text. string_bytes text ≡ row_words (P.table protocol.now) (P.names protocol.now) explanation.now which mode) }
 {
-    let name = escape(alloc, name_of(protocol, mode))?;
+    let name = escape(alloc, name_or_empty(protocol, mode))?;
     let cells = cells(alloc, protocol, explanation, which, mode)?;
     format!(in alloc; "<tr><th scope=\"row\">{name}</th>{cells}</tr>\n")
 }
@@ -166,7 +165,10 @@ fn cell<P: Protocol>(
             format!(in alloc; "{mark}{badges}</td>")
         }
         Matrix::Converted => {
-            let name = escape(alloc, name_of(protocol, protocol.convert(row, column)))?;
+            let name = escape(
+                alloc,
+                name_or_empty(protocol, protocol.convert(row, column)),
+            )?;
             let entry = Entry::Conversion {
                 held: row,
                 requested: column,

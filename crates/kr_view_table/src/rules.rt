@@ -7,9 +7,9 @@ ghost use Rattle.kr_view_table.specs.Rules.{clause_at, clause_words, is_first, m
 
 use crate::badges::{Entry, badges, is_same_request};
 use kr_explain_core::Explained;
-use kr_explain_text::{modes_listed, name_of, row_word};
-use kr_model::{Memory, Mode, Row, Side, Span};
-use kr_protocol::Protocol;
+use kr_explain_text::modes_listed;
+use kr_model::{Memory, Mode, Row, Side, Span, row_word};
+use kr_protocol::{Protocol, name_or_empty};
 use kr_view_html::escape;
 use std::alloc::Global;
 
@@ -221,11 +221,11 @@ fn request<P: Protocol>(
     match asked {
         None => String::from_str(alloc, "no lock"),
         Some((mode, Span::Instant)) => {
-            let name = escape(alloc, name_of(protocol, mode))?;
+            let name = escape(alloc, name_or_empty(protocol, mode))?;
             format!(in alloc; "<b>{name}</b> at an instant")
         }
         Some((mode, Span::Commit)) => {
-            let name = escape(alloc, name_of(protocol, mode))?;
+            let name = escape(alloc, name_or_empty(protocol, mode))?;
             format!(in alloc; "<b>{name}</b> to commit")
         }
     }

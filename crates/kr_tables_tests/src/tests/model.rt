@@ -1,6 +1,7 @@
 use kr_model::{
     Answers, Cover, Event, FailedCase, Name, Op, Origin, Pairs, Program, Programs, Refusal, Reply,
-    Requester, Row, Rule, Side, Step, Txns,
+    Requester, Row, Rule, Side, Span, Step, Txns, cover_code, row_word, rule_code, rule_number,
+    side_word, span_word,
 };
 use std::alloc::{AllocError, Global};
 
@@ -178,4 +179,24 @@ fn replies_are_copied_whole(rt: HostRuntime) -> Result<(), AllocError> {
     assert!(rt; matches!(Reply::Updated(2).try_copy(rt.alloc())?, Reply::Updated(2)));
     assert!(rt; matches!(Reply::Undone(3).try_copy(rt.alloc())?, Reply::Undone(3)));
     Ok(())
+}
+
+#[test]
+fn words_are_those_of_tables_and_reports(rt: HostRuntime) {
+    assert_eq!(rt; row_word(Row::FetchHit), "fetch-hit");
+    assert_eq!(rt; row_word(Row::FetchMiss), "fetch-miss");
+    assert_eq!(rt; row_word(Row::ScanKey), "scan-key");
+    assert_eq!(rt; row_word(Row::ScanStop), "scan-stop");
+    assert_eq!(rt; row_word(Row::Insert), "insert");
+    assert_eq!(rt; row_word(Row::Delete), "delete");
+    assert_eq!(rt; row_word(Row::Update), "update");
+    assert_eq!(rt; side_word(Side::Current), "current");
+    assert_eq!(rt; side_word(Side::Next), "next");
+    assert_eq!(rt; span_word(Span::Instant), "instant");
+    assert_eq!(rt; span_word(Span::Commit), "commit");
+    assert_eq!(rt; rule_code(Rule::Conversion), "G1");
+    assert_eq!(rt; rule_code(Rule::Update), "G9");
+    assert_eq!(rt; rule_number(Rule::Split), 7);
+    assert_eq!(rt; cover_code(Cover::ReadKey), "RK");
+    assert_eq!(rt; cover_code(Cover::UpdatedKey), "UK");
 }

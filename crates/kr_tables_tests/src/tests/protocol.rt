@@ -5,10 +5,21 @@ ghost use Rattle.kr_model.specs.Covers.{IsCovered};
 mod drawings;
 
 use drawings::{Drawing, IM, KVL, KVL_UPDATE, RANGE_KEY};
-use kr_protocol::{Covered, Im, Kvl, KvlUpdate, Mode, Protocol, RangeKey, Row, Side, Span};
+use kr_model::Requester;
+use kr_protocol::{
+    Covered, Im, Kvl, KvlUpdate, Mode, Protocol, RangeKey, Row, Side, Span, asked, converted,
+    is_open, mode_after, name_or_empty,
+};
 use std::alloc::{AllocError, Global};
 use std::process::Abort;
 use std::test::Fail;
+
+/// Modes of `Kvl`.
+const IX: Mode = 2;
+
+const S: Mode = 3;
+
+const SIX: Mode = 4;
 
 /// A line for each mode requested, from none on: `+` where it is compatible with the mode held.
 fn drawn_compatibility<P: Protocol>(alloc: Global, protocol: &P) -> Result<String, AllocError> {
@@ -157,4 +168,40 @@ fn updates_are_offered_by_one(rt: HostRuntime) -> Result<(), Fail> {
     assert!(rt; !Im.updates());
     assert!(rt; !RangeKey.updates());
     Ok(())
+}
+
+#[test]
+fn numbers_that_are_no_modes_ask_nothing(rt: HostRuntime) {
+    assert_eq!(rt; name_or_empty(&Kvl, 0), "none");
+    assert_eq!(rt; name_or_empty(&Kvl, 5), "X");
+    assert_eq!(rt; name_or_empty(&Kvl, 6), "");
+    assert!(rt; asked(&Kvl, Row::Insert, Side::Next, 0) == Some((IX, Span::Instant)));
+    assert!(rt; asked(&Kvl, Row::Insert, Side::Next, 6).is_none());
+    assert_eq!(rt; converted(&Kvl, IX, S), SIX);
+    assert_eq!(rt; converted(&Kvl, IX, 6), 0);
+    assert_eq!(rt; converted(&Kvl, 6, S), 0);
+}
+
+#[test]
+fn requests_for_an_instant_are_not_kept(rt: HostRuntime) {
+    assert_eq!(rt; mode_after(&Kvl, S, Row::Insert, Side::Next, S), S);
+    assert_eq!(rt; mode_after(&Kvl, IX, Row::FetchHit, Side::Current, 0), SIX);
+    assert_eq!(rt; mode_after(&Kvl, IX, Row::FetchHit, Side::Next, 0), IX);
+}
+
+#[test]
+fn a_lock_lets_through_what_it_does_not_conflict_with(rt: HostRuntime) {
+    let requester = Requester {
+        row: Row::FetchHit,
+        side: Side::Current,
+        own: 0,
+        own_next: 0,
+    };
+    assert!(rt; is_open(&Kvl, S, requester));
+    assert!(rt; !is_open(&Kvl, IX, requester));
+    let own = Requester {
+        own: IX,
+        ..requester
+    };
+    assert!(rt; !is_open(&Kvl, S, own));
 }

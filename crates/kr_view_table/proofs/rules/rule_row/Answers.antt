@@ -1,6 +1,6 @@
 use Rattle.std.specs.Prelude.{◌++◌, string_bytes, codes}
 use Rattle.kr_model.specs.declared.Side.TheVariants.{Current, Next}
-use Rattle.kr_explain_text.specs.Words.{row_word}
+use Rattle.kr_model.specs.Words.{row_word}
 use Rattle.kr_view_table.specs.Rules.{meaning, rule_row, side_cell}
 use Rattle.kr_view_table.proofs.Put.{same_text, four}
 use Rattle.kr_view_table.proofs.rules.rule_row.Goals as goal

@@ -1,0 +1,87 @@
+//! The words and codes of rows, sides, durations, groups of cases and covers, as tables and reports have them.
+ghost use Rattle.std.specs.Prelude.{◌≡◌};
+ghost use Rattle.kr_model.specs.Words.{row_word, side_word, span_word, rule_code, rule_number, cover_code};
+
+use crate::{Cover, Row, Rule, Side, Span};
+
+/// A row, as tables name it.
+pub fn row_word(row: Row) -> &'static str
+    ensures { result.now ≡ row_word row }
+{
+    match row {
+        Row::FetchHit => "fetch-hit",
+        Row::FetchMiss => "fetch-miss",
+        Row::ScanKey => "scan-key",
+        Row::ScanStop => "scan-stop",
+        Row::Insert => "insert",
+        Row::Delete => "delete",
+        Row::Update => "update",
+    }
+}
+
+/// A side, as tables name it.
+pub fn side_word(side: Side) -> &'static str
+    ensures { result.now ≡ side_word side }
+{
+    match side {
+        Side::Current => "current",
+        Side::Next => "next",
+    }
+}
+
+/// A duration, as tables name it.
+pub fn span_word(span: Span) -> &'static str
+    ensures { result.now ≡ span_word span }
+{
+    match span {
+        Span::Instant => "instant",
+        Span::Commit => "commit",
+    }
+}
+
+/// The code of a group of cases.
+pub fn rule_code(rule: Rule) -> &'static str
+    ensures { result.now ≡ rule_code rule }
+{
+    match rule {
+        Rule::Conversion => "G1",
+        Rule::FetchHit => "G2",
+        Rule::FetchMiss => "G3",
+        Rule::ScanKey => "G4",
+        Rule::ScanStop => "G5",
+        Rule::Insert => "G6",
+        Rule::Split => "G7",
+        Rule::Delete => "G8",
+        Rule::Update => "G9",
+    }
+}
+
+/// The number of a group of cases.
+pub fn rule_number(rule: Rule) -> u8
+    ensures { result ≡ rule_number rule }
+{
+    match rule {
+        Rule::Conversion => 1,
+        Rule::FetchHit => 2,
+        Rule::FetchMiss => 3,
+        Rule::ScanKey => 4,
+        Rule::ScanStop => 5,
+        Rule::Insert => 6,
+        Rule::Split => 7,
+        Rule::Delete => 8,
+        Rule::Update => 9,
+    }
+}
+
+/// The code of a cover.
+pub fn cover_code(cover: Cover) -> &'static str
+    ensures { result.now ≡ cover_code cover }
+{
+    match cover {
+        Cover::ReadKey => "RK",
+        Cover::ReadGap => "RG",
+        Cover::InsertedKey => "IK",
+        Cover::DeletedGap => "DG",
+        Cover::UpdatedKey => "UK",
+    }
+}
