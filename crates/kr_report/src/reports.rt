@@ -1,26 +1,14 @@
 //! The reports of runs and of verdicts, as JSON on one line.
 ghost use Rattle.std.specs.Prelude.{◌≡◌, IfOk, string_bytes};
-ghost use Rattle.kr_model.specs.ModeNames.{name_of};
 ghost use Rattle.kr_report.specs.Report.{run_text, verdict_text};
 
 use crate::replies::{write_replies, write_verdict};
-use crate::writing::{quoted, write_locks, write_numbers};
+use crate::writing::write_locks;
 use kr_model::{Mode, Name, Reply, Txn};
 use kr_protocol::Protocol;
-use kr_script::write_pairs;
+use kr_script::{quoted, write_numbers, write_pairs};
 use kr_serial::{Played, Ran, Verdict};
 use std::alloc::{AllocError, Global};
-
-/// The name of a mode; a number beyond the modes has none, which is the empty text.
-pub fn mode_name<P: Protocol>(protocol: &P, mode: Mode) -> &str
-    ensures { result.now ≡ name_of (P.names protocol.now) mode }
-{
-    if mode <= protocol.count() {
-        protocol.name(mode)
-    } else {
-        ""
-    }
-}
 
 /// The report of a run with the verdict on it: compact JSON on one line, with no line feed. Its members are the index and
 /// the locks at the end of the run, the replies, the transactions that are unfinished, and the verdict as it is given. The

@@ -3,11 +3,13 @@ ghost use Rattle.std.specs.Prelude.{◌≡◌, ◌++◌, IfOk, OnOk, string_byte
 ghost use Rattle.serde_json.specs.Written.{compact_text};
 ghost use Rattle.kr_report.specs.ThreadsReport.{answered_data, history_data, cause_data, fault_data, faults_data, threads_text};
 
-use crate::replies::{write_reply, write_verdict};
+use crate::replies::write_verdict;
 use crate::threaded::{Answered, Threaded};
-use crate::writing::{write_numbers, write_place, write_with_numbers};
+use crate::writing::write_place;
 use kr_projection::{StepFault, WhyNotDone};
-use kr_script::{separator, write_pairs, write_step};
+use kr_script::{
+    separator, write_numbers, write_pairs, write_reply, write_step, write_with_numbers,
+};
 use kr_serial::Verdict;
 use std::alloc::{AllocError, Global};
 

@@ -1,61 +1,12 @@
-//! Numbers of transactions, names and locks, each written behind what a text has.
-ghost use Rattle.std.specs.Prelude.{◌≡◌, ◌++◌, ◌∷◌, [], codes, decimal, IfOk, OnOk, string_bytes};
-ghost use Rattle.serde_json.specs.Data.{string};
+//! Locks and places, each written behind what a text has.
+ghost use Rattle.std.specs.Prelude.{◌≡◌, ◌++◌, ◌∷◌, [], decimal, OnOk, string_bytes};
 ghost use Rattle.serde_json.specs.Written.{compact_text};
-ghost use Rattle.kr_model.specs.ModeNames.{name_of};
-ghost use Rattle.kr_report.specs.Report.{numbers_data, name_data, locks_data};
+ghost use Rattle.kr_report.specs.Report.{name_data, locks_data};
 
-use crate::reports::mode_name;
 use kr_model::{Mode, Name, Txn};
-use kr_protocol::Protocol;
-use kr_script::{separator, write_number};
-use serde_json::Value;
+use kr_protocol::{Protocol, name_or_empty};
+use kr_script::{quoted, separator, write_name, write_number};
 use std::alloc::{AllocError, Global};
-
-/// Writes an array of transactions' numbers.
-pub fn write_numbers(out: &mut String, numbers: &[Txn]) -> Result<(), AllocError>
-    ensures { OnOk result (string_bytes out.new ≡ string_bytes out.old ++ compact_text (numbers_data numbers.now)) }
-{
-    out.push_str("[")?;
-    let mut later = false;
-    for number in numbers {
-        out.push_str(separator(later))?;
-        write_number(out, u64::from(*number))?;
-        later = true;
-    }
-    out.push_str("]")
-}
-
-/// Writes a prefix of an array, an array of transactions' numbers and the closing bracket.
-pub fn write_with_numbers(
-    out: &mut String,
-    beginning: &str,
-    numbers: &[Txn],
-) -> Result<(), AllocError>
-    ensures { OnOk result (string_bytes out.new
-        ≡ string_bytes out.old ++ (beginning.now ++ (compact_text (numbers_data numbers.now) ++ codes "]"))) }
-{
-    out.push_str(beginning)?;
-    write_numbers(out, numbers)?;
-    out.push_str("]")
-}
-
-#[tactic(auto, unfolding(serde_json::proofs::OnLiterals::serde_json_on_literals))]
-fn write_name(out: &mut String, name: Name) -> Result<(), AllocError>
-    ensures { OnOk result (string_bytes out.new ≡ string_bytes out.old ++ compact_text (name_data name)) }
-{
-    match name {
-        Name::Key(key) => write_number(out, key),
-        Name::End => out.push_str(r#""End""#),
-    }
-}
-
-/// A text in quotes, with escapes where JSON wants them.
-pub fn quoted(alloc: Global, text: &str) -> Result<String, AllocError>
-    ensures { IfOk result (λ written. string_bytes written ≡ compact_text (string text.now)) }
-{
-    Value::try_from_str(alloc, text)?.to_string(alloc)
-}
 
 /// Writes a lock whose mode has this name in quotes.
 fn write_lock(out: &mut String, lock: (Name, Txn), mode: &str) -> Result<(), AllocError>
@@ -85,11 +36,11 @@ pub fn write_locks<P: Protocol>(
     let mut later = false;
     // Neighbours mostly have the same mode, so its name is quoted where the mode changes.
     let mut named = 0;
-    let mut name = quoted(alloc, mode_name(protocol, named))?;
+    let mut name = quoted(alloc, name_or_empty(protocol, named))?;
     for (lock, mode) in locks {
         if *mode != named {
             named = *mode;
-            name = quoted(alloc, mode_name(protocol, named))?;
+            name = quoted(alloc, name_or_empty(protocol, named))?;
         }
         out.push_str(separator(later))?;
         write_lock(out, *lock, name.as_str())?;

@@ -2,6 +2,7 @@ pub mod Json
 pub mod Pairs
 pub mod Script
 pub mod Steps
+pub mod Replies
 pub mod Faults
 pub mod Reading
 pub mod Line

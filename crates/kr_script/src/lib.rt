@@ -1,4 +1,5 @@
-//! Scripts of transactions' steps: read from JSON, and written as a line that reads back.
+//! Scripts of transactions' steps: read from JSON, and written as a line that reads back; and replies, written as reports have
+//! them.
 #![tactic(auto)]
 
 mod faults;
@@ -6,13 +7,16 @@ mod line;
 mod parts;
 mod plain;
 mod reading;
+mod replies;
 mod script;
 mod steps;
 mod writing;
 
 pub use faults::ScriptFault;
 pub use line::write_script;
-pub use reading::{MAX_ELEMENTS, read_script};
+pub use parts::{length_of, number_at, word_at};
+pub use reading::{MAX_ELEMENTS, pair_of, pairs_of, read_script};
+pub use replies::{quoted, write_name, write_numbers, write_reply, write_with_numbers};
 pub use script::Script;
-pub use steps::one_step_for_each_event;
+pub use steps::{event_of, one_step_for_each_event};
 pub use writing::{separator, write_number, write_pairs, write_step, write_with_number};

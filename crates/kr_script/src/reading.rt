@@ -92,7 +92,8 @@ fn test_size(alloc: Global, list: &[Value], name: &str) -> Result<(), ScriptFaul
     Ok(())
 }
 
-fn pair_of(value: &Value) -> Option<(u64, u64)>
+/// The key and the value that an array of just these two whole numbers has.
+pub fn pair_of(value: &Value) -> Option<(u64, u64)>
     ensures { result ≡ fault.pair_of (view value.now) }
 {
     if length_of(value)? == 2 {
@@ -111,7 +112,9 @@ pub fn is_above(key: u64, before: Option<u64>) -> bool
     }
 }
 
-fn pairs_of(alloc: Global, list: &[Value]) -> Result<Vec<(u64, u64)>, ScriptFault>
+/// The pairs that the elements of an opening are, whose keys rise; or the fault of the first element that is no pair or whose
+/// key isn't above the one before it, or that a growth was refused.
+pub fn pairs_of(alloc: Global, list: &[Value]) -> Result<Vec<(u64, u64)>, ScriptFault>
     ensures { MatchResult result
         (λ v. (opening_faults 0 None (items_view list.now) ≡ []) × (v.items ≡ spec.pairs_of (items_view list.now)))
         (λ e. Tells e (opening_faults 0 None (items_view list.now))) }

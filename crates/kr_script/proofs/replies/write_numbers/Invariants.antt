@@ -2,8 +2,8 @@ use Rattle.std.proofs.Common.{◌≡◌, ◌++◌, drop, map, string_bytes}
 use Rattle.serde_json.specs.View.{items_of}
 use Rattle.serde_json.specs.Written.{items_text, compact_text}
 use Rattle.kr_script.specs.Json.{whole}
-use Rattle.kr_report.specs.Report.{numbers_data}
-use Rattle.kr_report.proofs.writing.write_numbers.Given as goal
+use Rattle.kr_script.specs.Replies.{numbers_data}
+use Rattle.kr_script.proofs.replies.write_numbers.Given as goal
 
 -- what is written, then the text of the rest, is the whole
 abbrev pub invariant-loop-number : goal.invariant-loop-number
