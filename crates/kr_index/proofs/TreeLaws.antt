@@ -14,10 +14,11 @@ use Rattle.std.proofs.Common.{sym, ◌∙◌, ap, subst, arith}
 use Rattle.kr_model.specs.declared.Name.{Name}
 use Rattle.kr_model.specs.declared.Name.TheVariants.{Key, End}
 use Rattle.kr_model.specs.Map.{Map, get, at, after}
+use Rattle.kr_model.proofs.MapLaws.{key_tie, keys_apart}
 use Rattle.kr_model.proofs.Trees.{lookup_is_find, written_is_put}
 use Rattle.kr_index.specs.declared.slots.Slot.{Slot}
-use Rattle.kr_index.specs.Slots.{Entries, pairs_of, with_value, least, IsInOrder}
-use Rattle.kr_index.proofs.SlotLaws.{t_in_order, t_of, first, second, pairs_are_map}
+use Rattle.kr_index.specs.Slots.{Entries, pairs_of, with_value, value_in, least, IsInOrder}
+use Rattle.kr_index.proofs.SlotLaws.{get-pairs, t_in_order, t_of, first, second, pairs_are_map}
 
 -- a slot that is written where the key has one is put
 pub written : (es fs : Entries) (k : ℕ) (o w : Slot) → IsInOrder es → Some o ≡ lookup (is_at (nat_cmp k)) es → fs ≡ set_value (is_at (nat_cmp k)) es w → fs ≡ put nat_cmp k w es
@@ -106,6 +107,32 @@ at_first es rest c k s is has = sym (at_from es c ∙ ap (λ l. least (pairs_of 
 pub at_end : (es : Entries) (c : ℕ) → from c es ≡ [] → End ≡ at (pairs_of es) c
 at_end es c is = sym (at_from es c ∙ ap (λ l. least (pairs_of l)) is)
 
+passes : (es rest : Entries) (c k : ℕ) (s : Slot) → from c es ≡ (k, s) ∷ rest → (is_le (nat_cmp c k) && true) ≡ true
+passes [] rest c k s is = absurd (cc)
+passes (e ∷ es) rest c k s is = by (is_le (nat_cmp c e.0) && true) refl is (passes es rest c k s)
+  where
+    by : (b : Bool) → (is_le (nat_cmp c e.0) && true) ≡ b → cond b (e ∷ from c es) (from c es) ≡ (k, s) ∷ rest → (from c es ≡ (k, s) ∷ rest → (is_le (nat_cmp c k) && true) ≡ true) → (is_le (nat_cmp c k) && true) ≡ true
+    by true t is more = let same : e ≡ (k, s) = cc in subst (λ (x : ℕ × Slot). (is_le (nat_cmp c x.0) && true) ≡ true) same t
+    by false t is more = more is
+
+first_found : (es rest : Entries) (c k : ℕ) (s : Slot) → from c es ≡ (k, s) ∷ rest → find nat_cmp k es ≡ Some s
+first_found [] rest c k s is = absurd (cc)
+first_found (e ∷ es) rest c k s is = by (is_le (nat_cmp c e.0) && true) refl is (passes (e ∷ es) rest c k s is) (first_found es rest c k s)
+  where
+    own : find nat_cmp e.0 (e ∷ es) ≡ Some e.1
+    own = ap (λ b. cond b (Some e.1) (find nat_cmp e.0 es)) (key_tie e.0)
+
+    differ : (x y : ℕ) → (is_le (nat_cmp c x) && true) ≡ false → (is_le (nat_cmp c y) && true) ≡ true → y ≡ x → ⊥
+    differ x y p q e = grind (arith, nat_tests)
+
+    by : (b : Bool) → (is_le (nat_cmp c e.0) && true) ≡ b → cond b (e ∷ from c es) (from c es) ≡ (k, s) ∷ rest → (is_le (nat_cmp c k) && true) ≡ true → (from c es ≡ (k, s) ∷ rest → find nat_cmp k es ≡ Some s) → find nat_cmp k (e ∷ es) ≡ Some s
+    by true t is le more = let same : e ≡ (k, s) = cc in subst (λ (x : ℕ × Slot). find nat_cmp x.0 (e ∷ es) ≡ Some x.1) same own
+    by false t is le more = ap (λ b. cond b (Some e.1) (find nat_cmp k es)) (keys_apart k e.0 (differ e.0 k t le)) ∙ more is
+
+-- the first key from c on has the value of its slot
+pub first_value : (es rest : Entries) (c k : ℕ) (s : Slot) → IsInOrder es → from c es ≡ (k, s) ∷ rest → get (pairs_of es) k ≡ s.value
+first_value es rest c k s h is = get-pairs es k h ∙ ap value_in (first_found es rest c k s is)
+
 -- What the name at a key says of the key --
 
 abbrev pub is_key : ℕ → Name → Bool
@@ -140,3 +167,14 @@ present_at (e ∷ m) k h = by (nat_cmp k e.0) refl (nat_le k e.0) refl (present_
 -- the same of the pairs of entries in order, by the name that was found
 pub present_in : (es : Entries) (k : ℕ) (n : Name) → IsInOrder es → n ≡ at (pairs_of es) k → is_key k n ≡ is_some (get (pairs_of es) k)
 present_in es k n h e = ap (is_key k) e ∙ present_at (pairs_of es) k (t_of _ (pairs_are_map es h))
+
+-- the least key from c on is present
+pub least_present : (m : Map) (c k : ℕ) → at m c ≡ Key k → is_some (get m k) ≡ true
+least_present [] c k is = absurd (cc)
+least_present (e ∷ m) c k is = by (nat_le c e.0) refl is (eq_by_cmp nat_cmp k e.0) refl (least_present m c k)
+  where
+    by : (b : Bool) → nat_le c e.0 ≡ b → cond b (Key e.0) (at m c) ≡ Key k → (t : Bool) → eq_by_cmp nat_cmp k e.0 ≡ t → (at m c ≡ Key k → is_some (get m k) ≡ true) → is_some (cond t (Some e.1) (get m k)) ≡ true
+    by true l is true q more = refl
+    by true l is false q more = let same : e.0 ≡ k = cc in absurd (cc (key_tie k, q, ap (λ x. eq_by_cmp nat_cmp k x) same))
+    by false l is true q more = refl
+    by false l is false q more = more is

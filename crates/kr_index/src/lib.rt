@@ -4,9 +4,11 @@
 //! A caller that has to finish what it began pins the key first, while it may still give up.
 #![tactic(auto)]
 
-ghost use Rattle.std.specs.Prelude.{◌≡◌, ℕ, ◌+◌, ◌-◌, ◌<◌, ◌==◌, if◌then◌else◌, is_some, OnOk, OnErr, IfOk};
+ghost use Rattle.std.specs.Prelude.{◌≡◌, ℕ, ◌+◌, ◌-◌, ◌<◌, ◌==◌, if◌then◌else◌, is_some, Some, IfSome, IfNone, OnOk, OnErr, IfOk};
+ghost use Rattle.kr_model.specs.declared.Name.TheVariants.{Key, End};
 ghost use Rattle.kr_model.specs.Map.{Map, IsMap, get, set, without, at, after};
 
+mod firsts;
 mod slots;
 mod sorted;
 mod stretches;
@@ -48,6 +50,39 @@ pub trait Ordered: Drop {
         ensures { result ≡ (is_some (get (map self.now) key), at (map self.now) key) }
     {
         (self.get(key).is_some(), self.at(key))
+    }
+
+    /// The least present key not below `from`, with its value, or `None` if there is none.
+    fn pair_from(&self, from: u64) -> Option<(u64, u64)>
+        ensures none { IfNone result (at (map self.now) from ≡ End) }
+        ensures name { IfSome result (λ p. at (map self.now) from ≡ Key p.0) }
+        ensures value { IfSome result (λ p. get (map self.now) p.0 ≡ Some p.1) }
+    {
+        match self.at(from) {
+            Name::Key(key) => match self.get(key) {
+                Some(value) => Some((key, value)),
+                None => unreachable!(),
+            },
+            Name::End => None,
+        }
+    }
+
+    /// The least present key above `key`, with its value, or `None` if there is none.
+    fn pair_after(&self, key: u64) -> Option<(u64, u64)>
+        ensures none { IfNone result (after (map self.now) key ≡ End) }
+        ensures name { IfSome result (λ p. after (map self.now) key ≡ Key p.0) }
+        ensures value { IfSome result (λ p. get (map self.now) p.0 ≡ Some p.1) }
+    {
+        match key.checked_add(1) {
+            Some(past) => self.pair_from(past),
+            None => match self.after(key) {
+                Name::Key(next) => match self.get(next) {
+                    Some(value) => Some((next, value)),
+                    None => unreachable!(),
+                },
+                Name::End => None,
+            },
+        }
     }
 
     /// Adds a pin to `key`, which may be present or absent. No value changes.

@@ -6,6 +6,7 @@ ghost use Rattle.kr_model.specs.Map.{Map, IsMap};
 ghost use Rattle.kr_index.specs.Slots.{pairs_of, pins_of, value_in, IsInOrder};
 ghost use Rattle.kr_index.specs.Stretches.{IsRising, AreMarked};
 
+use crate::firsts::{pair_from, value_at};
 use crate::slots::Slot;
 use crate::stretches::{Stretch, cut, enter, grow, join, leave, shrink, tally};
 use crate::values::replace;
@@ -198,10 +199,7 @@ impl Ordered for Tree {
     ghost pins = { λ t k. pins_of t.slots.entries k };
 
     fn get(&self, key: u64) -> Option<u64> {
-        match self.slots.get(&key) {
-            Some(slot) => slot.value,
-            None => None,
-        }
+        value_at(&self.slots, key)
     }
 
     fn at(&self, from: u64) -> Name {
@@ -221,6 +219,10 @@ impl Ordered for Tree {
             Name::Key(found) => (found == key, name),
             Name::End => (false, name),
         }
+    }
+
+    fn pair_from(&self, from: u64) -> Option<(u64, u64)> {
+        pair_from(&self.slots, &self.stretches, from)
     }
 
     #[tactic(auto, using(crate::proofs::SlotLaws::pairs_are_map))]

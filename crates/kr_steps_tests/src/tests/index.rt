@@ -84,6 +84,18 @@ fn looks<O: Ordered>(rt: &impl Abort, alloc: Global, index: &O) -> Result<(), Fa
         same!(rt; index.after(key), name, key);
     }
 
+    for (from, pair) in [(0, Some((2, 20))), (5, Some((5, 50))), (10, None)] {
+        same!(rt; index.pair_from(from), pair, from);
+    }
+    for (key, pair) in [
+        (0, Some((2, 20))),
+        (5, Some((9, 90))),
+        (9, None),
+        (u64::MAX, None),
+    ] {
+        same!(rt; index.pair_after(key), pair, key);
+    }
+
     let pairs = index.copy(alloc)?;
     same!(rt; pairs.as_slice(), [(2, 20), (5, 50), (9, 90)].as_slice());
     Ok(())
@@ -102,6 +114,7 @@ fn writes<O: Ordered>(rt: &impl Abort, alloc: Global, index: &mut O) -> Result<(
     same!(rt; index.get(7), Some(70));
     same!(rt; index.at(6), Name::Key(7));
     same!(rt; index.after(7), Name::Key(9));
+    same!(rt; index.pair_after(5), Some((7, 70)));
 
     index.unpin(7);
     index.put(7, 71);
@@ -125,6 +138,7 @@ fn takes<O: Ordered>(rt: &impl Abort, alloc: Global, index: &mut O) -> Result<()
     same!(rt; index.get(5), None);
     same!(rt; index.at(3), Name::Key(7));
     same!(rt; index.after(2), Name::Key(7));
+    same!(rt; index.pair_from(5), Some((7, 71)));
 
     index.unpin(5);
     let pairs = index.copy(alloc)?;
