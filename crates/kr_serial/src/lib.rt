@@ -21,3 +21,4 @@ pub use ran::{Ran, Replies, Triples};
 pub use runs::run_any;
 pub use steps::replay;
 pub use verdict::Verdict;
+pub use whole::{answer, follow, map_of};

@@ -6,3 +6,4 @@ mod runs;
 mod splitting;
 mod telling;
 mod ways;
+mod whole;
