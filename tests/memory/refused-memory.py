@@ -9,7 +9,7 @@ a few. For each of them
 
   memory    the k-th growth is refused, and then again with all after it, for k counted up until a run meets no refusal;
             beyond 400 by one in a hundred. Each run ends with the right answer, or with 'kr: out of memory', say, status 2
-            and nothing on standard output
+            and nothing on standard output; at a fault the help behind its line may be cut
   reads     the k-th read and all after it fail: a file that cannot be read, so told, or the fault that comes before it
   writes    the k-th write to standard output and all after it fail, or take nothing, and one byte moves at a time; standard
             output is full (/dev/full), a closed pipe, or closed. Right where all was taken; else a prefix of the
@@ -47,6 +47,11 @@ def fault(words, what):
 
 def out_of_memory(words):
     return 2, b"", fault(words, "out of memory")
+
+
+def is_fault(ended, right):
+    """Whether a run ended at the fault of an undisturbed one, with all of the help behind its line, or a part of it."""
+    return right[0] == 2 and ended[:2] == (2, b"") and ended[2].endswith(b"\n") and right[2].startswith(ended[2])
 
 
 def all_words():
@@ -131,7 +136,8 @@ def refuse_memory(part, shim, words, right):
         k = 1
         while True:
             ended, was_refused = run(command(words), shim, **{kind: k})
-            part.count(ended in ([right, wanting] if was_refused else [right]), words, f"{kind}={k}", ended)
+            is_right = ended == right or (was_refused and (ended == wanting or is_fault(ended, right)))
+            part.count(is_right, words, f"{kind}={k}", ended)
             if not was_refused:
                 break
             part.note("out of memory" if ended == wanting else "right all the same")
@@ -139,10 +145,11 @@ def refuse_memory(part, shim, words, right):
 
 
 def fail_reads(part, shim, words, right):
-    unread = [(2, b"", fault(words, f"{word}: cannot be read")) for word in words[1:]]
+    unread = [fault(words, f"{word}: cannot be read") for word in words[1:]]
     for k in range(1, 100_000):
         ended, was_refused = run(command(words), shim, READ=k)
-        is_right = ended in unread or (right[0] == 2 and ended == right) if was_refused else ended == right
+        is_unread = ended[:2] == (2, b"") and any(ended[2].startswith(it) for it in unread)
+        is_right = ended == right or (was_refused and (is_unread or is_fault(ended, right)))
         part.count(is_right, words, f"READ={k}", ended)
         if not was_refused:
             break
