@@ -1,0 +1,15 @@
+pub mod ScanSteps
+pub mod ScanLaws
+pub mod StepLaws
+pub mod StepReplies
+pub mod LineLaws
+pub mod ConformLaws
+pub mod LockTables
+pub mod ToldLaws
+pub mod WholeLaws
+pub mod TaleLaws
+pub mod TaleSteps
+pub mod TaleRuns
+pub mod TaleLines
+pub mod TraceLaws
+pub mod WaitLaws

@@ -1,0 +1,68 @@
+-- The held locks that conflict with a step, and those who wait ahead of it.
+use Rattle.std.specs.Prelude.{ℕ, Bool, not, ◌&&◌, ◌==◌, List, [], Option, Some, None, map, filter}
+use Rattle.std.specs.List.{flat_map}
+use Rattle.std.specs.Ordering.{eq_by_cmp}
+use Rattle.kr_model.specs.declared.Step.{Step}
+use Rattle.kr_model.specs.Covers.{is_empty}
+use Rattle.kr_model.specs.Protocol.{Protocol}
+use Rattle.kr_model.specs.Map.{Map}
+use Rattle.kr_model.specs.Locks.{Locks, Lock, Request, name_cmp, name_locked, holder_of, mode_held, name_asked, mode_asked, own}
+use Rattle.kr_model.specs.Plan.{plan_of, requests}
+use Rattle.kr_model.specs.State.{standing}
+use Rattle.kr_machine.specs.Pending.{attempt_of}
+use Rattle.kr_trace_observed.specs.declared.deviation.Conflict.{Conflict}
+use Rattle.kr_trace_follow.specs.Lines.{Attempt}
+use Rattle.kr_trace_follow.specs.declared.conflict.Tested.{Tested}
+
+-- Requests --
+
+-- A request of t with the converted mode in which it is tested.
+abbrev pub tested_by : Protocol → Locks → ℕ → Request → Tested
+tested_by p h t r = record { txn = t; name = name_asked r; asked = mode_asked r; tested = p.convert (own h t (name_asked r)) (mode_asked r) }
+
+-- What t requests by what it attempts, if it attempts anything.
+abbrev pub requests_by : Protocol → Map → Locks → ℕ → Option Step → List Request
+requests_by p m h t None = []
+requests_by p m h t (Some a) = requests (plan_of p m h t a)
+
+-- The requests of a step of t, that on the current name and then that on the next.
+abbrev pub tests_of : Protocol → ℕ → Attempt → List Tested
+tests_of p t a =
+    let s = a.before in
+    map (tested_by p s.locks t) (requests_by p s.map s.locks t (attempt_of s.map (standing s t).scan a.op))
+
+-- Conflicts --
+
+-- Whether a lock conflicts with a request: it is another transaction's on the name, and isn't compatible with the converted mode.
+abbrev pub is_in_the_way : Protocol → Tested → Lock → Bool
+is_in_the_way p q l = eq_by_cmp name_cmp (name_locked l) q.name && (not (holder_of l == q.txn) && not (p.ok q.tested (mode_held l)))
+
+-- A lock with the mode that is requested and the converted mode in which that is tested.
+abbrev pub conflict : Tested → Lock → Conflict
+conflict q l = record { name = name_locked l; holder = holder_of l; held = mode_held l; asked = q.asked; tested = q.tested }
+
+-- Those of the locks that conflict with a request.
+abbrev pub conflicts_with : Protocol → Locks → Tested → List Conflict
+conflicts_with p h q = map (conflict q) (filter (is_in_the_way p q) h)
+
+-- Those of the locks that conflict with a step of t: those that conflict with its request on the current name, then those with that on the next.
+abbrev pub conflicts_among : Protocol → Locks → ℕ → Attempt → List Conflict
+conflicts_among p h t a = flat_map (conflicts_with p h) (tests_of p t a)
+
+-- The held locks that conflict with a step of t.
+abbrev pub conflicts_of : Protocol → ℕ → Attempt → List Conflict
+conflicts_of p t a = let s = a.before in conflicts_among p s.locks t a
+
+-- Those who wait --
+
+-- A request that waits, as the lock that it waits for.
+abbrev pub wanted : Tested → Lock
+wanted q = ((q.name, q.txn), q.tested)
+
+-- Those who wait ahead of a step of t: they wait for a lock that conflicts with a request of the step.
+abbrev pub ahead_of : Protocol → Locks → ℕ → Attempt → List ℕ
+ahead_of p waiting t a = map (λ c. c.holder) (conflicts_among p waiting t a)
+
+-- Whether somebody waits ahead of a step of t.
+abbrev pub is_behind : Protocol → Locks → ℕ → Attempt → Bool
+is_behind p waiting t a = not (is_empty (ahead_of p waiting t a))

@@ -1,0 +1,13 @@
+pub mod Conflicts
+pub mod Conforms
+pub mod Deviates
+pub mod Followers
+pub mod Following
+pub mod Judged
+pub mod Lines
+pub mod Programs
+pub mod Scans
+pub mod Steps
+pub mod Told
+pub mod Waits
+pub mod Whole

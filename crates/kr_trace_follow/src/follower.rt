@@ -1,0 +1,136 @@
+//! A table's state beside what an engine logged.
+ghost use Rattle.std.specs.Prelude.{◌≡◌, None, IfOk, OnOk, OnErr, true, false};
+ghost use Rattle.kr_model.specs.Map.{IsMap};
+ghost use Rattle.kr_trace_follow.specs.Following.{counted};
+
+use crate::conflict::Lock;
+use crate::lines::deviation_of;
+use crate::scans::Progress;
+use kr_index::{Memory, Tree};
+use kr_locks::Buckets;
+use kr_machine::Stepper;
+use kr_model::Event;
+use kr_protocol::Protocol;
+use kr_trace_observed::{Deviation, Observed};
+use std::alloc::{AllocError, Global};
+use std::marker::Model;
+
+/// A table's state beside what an engine logged, up to the first line that differs.
+///
+/// It keeps no line: the index, the locks, what is waited for, the active transactions, and the numbers of those that
+/// have ended.
+#[derive(Drop)]
+pub struct Follower<'a, P: Protocol> {
+    /// The table.
+    protocol: &'a P,
+    /// The state under it.
+    stepper: Stepper<&'a P, Tree, Buckets>,
+    /// How far the scans in progress are.
+    scans: Vec<Progress>,
+    /// The locks that are waited for.
+    waiting: Vec<Lock>,
+    /// How many lines were queued.
+    queued: u64,
+    /// The deviation of the first line that deviates.
+    found: Option<Deviation>,
+    /// Whether it was given up, for want of memory.
+    lost: bool,
+}
+
+impl<'a, P: Protocol> Model for Follower<'a, P> {
+    ghost use Rattle.kr_trace_follow.specs.Following.{Follows};
+    ghost use Rattle.kr_trace_follow.specs.Followers.{IsFollower};
+
+    ghost Value = { Follows P };
+
+    ghost view = { λ f. record { protocol = f.protocol.now; following = record { at = record { state = f.stepper.state; waiting = f.waiting.items; queued = f.queued }; found = f.found }; lost = f.lost } };
+
+    ghost invariant = { λ f. IsFollower (P.table f.protocol.now) (P.table f.stepper.protocol.now) f.stepper.pending f.stepper.state f.scans.items f.waiting.items f.lost };
+}
+
+impl<'a, P: Protocol> Follower<'a, P> {
+    ghost use Rattle.kr_trace_follow.specs.Following.{begun, next};
+
+    /// Follows a trace from an opening map whose keys rise strictly. The only fault is `Memory`.
+    pub fn new(
+        alloc: Global,
+        protocol: &'a P,
+        opening: &[(u64, u64)],
+    ) -> Result<Follower<'a, P>, Memory>
+        requires { IsMap opening.now }
+        ensures { IfOk result (λ f. f ≡ record { protocol = protocol.now; following = begun opening.now; lost = false }) }
+    {
+        let index = Tree::from_pairs(alloc, opening)?;
+        Ok(Follower {
+            protocol,
+            stepper: Stepper::new(alloc, protocol, index, Buckets::new(alloc)),
+            scans: Vec::new(alloc),
+            waiting: Vec::new(alloc),
+            queued: 0,
+            found: None,
+            lost: false,
+        })
+    }
+
+    /// Follows one more line, the event with the reply that was observed: `None` where this line and all before it are
+    /// what the table answers, and else the first line that isn't, and how it differs. Behind that line none is followed.
+    ///
+    /// A line `blocked` that the table grants is no deviation where it waits behind others: another transaction's latest
+    /// line is blocked, and what it requests there conflicts with a request of this one. Such a line is queued: its step
+    /// isn't done. The number is told with a deviation, and means nothing else. After `Memory` the follower is given up,
+    /// and answers `Memory` from then on.
+    pub fn line(
+        &mut self,
+        number: u64,
+        event: Event,
+        observed: &Observed,
+    ) -> Result<Option<Deviation>, Memory>
+        ensures found { IfOk result (λ d. d ≡ (next (P.table self.old.protocol) self.old.following (record { number = number; event = event; observed = observed.now })).found) }
+        ensures followed { OnOk result (self.new.following ≡ next (P.table self.old.protocol) self.old.following (record { number = number; event = event; observed = observed.now })) }
+        ensures protocol { self.new.protocol ≡ self.old.protocol }
+        ensures works { OnOk result (self.old.lost ≡ false) }
+        ensures lost { OnErr result (self.new.lost ≡ true) }
+    {
+        if self.lost {
+            return Err(AllocError);
+        }
+        self.lost = true;
+        if self.found.is_none() {
+            let (found, queued) = deviation_of(
+                self.protocol,
+                &mut self.stepper,
+                &mut self.scans,
+                &mut self.waiting,
+                number,
+                event,
+                observed,
+            )?;
+            self.found = found;
+            self.queued = counted(self.queued, queued);
+        }
+        let alloc = self.stepper.alloc();
+        let found = match &self.found {
+            Some(found) => Some(found.try_copy(alloc)?),
+            None => None,
+        };
+        self.lost = false;
+        Ok(found)
+    }
+
+    /// How many lines so far were queued; from 2 ^ 64 - 1 on it counts no further.
+    pub fn queued(&self) -> u64
+        ensures { result ≡ (let at = (self.now.following).at in at.queued) }
+    {
+        self.queued
+    }
+}
+
+/// The count with one line more that is queued, or none.
+fn counted(count: u64, is_queued: bool) -> u64
+    ensures { result ≡ counted count is_queued }
+{
+    if is_queued {
+        return count.saturating_add(1);
+    }
+    count
+}

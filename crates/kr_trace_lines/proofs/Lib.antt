@@ -1,0 +1,5 @@
+pub mod Each
+pub mod Distinct
+pub mod Texts
+pub mod Values
+pub mod StepReads

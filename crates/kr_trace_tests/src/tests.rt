@@ -1,0 +1,5 @@
+mod follow;
+mod judge;
+mod lines;
+mod observed;
+mod told;
