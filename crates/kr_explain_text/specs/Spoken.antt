@@ -46,6 +46,27 @@ reply_words (reply.Undone left) = codes "undone " ++ decimal left
 reply_words (reply.Blocked us) = codes "blocked"
 reply_words (reply.Refused r) = codes "refused"
 
+-- A key and its value, and such a pair behind a comma.
+abbrev pub pair_words : ℕ × ℕ → List ℕ
+pair_words e = decimal e.0 ++ (codes ":" ++ decimal e.1)
+
+abbrev pub pair_behind : ℕ × ℕ → List ℕ
+pair_behind e = codes ", " ++ pair_words e
+
+-- Pairs of a key and its value, with commas between.
+abbrev pub pairs_words : List (ℕ × ℕ) → List ℕ
+pairs_words [] = []
+pairs_words (e ∷ es) = pair_words e ++ flat_map pair_behind es
+
+-- A transaction behind a comma.
+abbrev pub txn_behind : ℕ → List ℕ
+txn_behind t = codes ", T" ++ decimal t
+
+-- Transactions in an order, with commas between.
+abbrev pub txns_words : List ℕ → List ℕ
+txns_words [] = []
+txns_words (t ∷ ts) = codes "T" ++ (decimal t ++ flat_map txn_behind ts)
+
 -- A lock name: the key, or the end.
 abbrev pub name_words : Name → List ℕ
 name_words (name.Key k) = decimal k

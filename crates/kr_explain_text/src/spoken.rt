@@ -1,6 +1,6 @@
 //! Operations, answers and modes that a case is taken at, as the text has them.
 ghost use Rattle.std.specs.Prelude.{◌≡◌, IfOk, string_bytes};
-ghost use Rattle.kr_explain_text.specs.Spoken.{name_words, op_words, reply_words, rows_words};
+ghost use Rattle.kr_explain_text.specs.Spoken.{name_words, op_words, pairs_words, reply_words, rows_words, txns_words};
 
 use kr_cases::Memory;
 use kr_model::{FailedCase, Mode, Name, Op, Origin, Reply, Txn};
@@ -47,7 +47,7 @@ pub fn answer_text(alloc: Global, reply: &Reply) -> Result<String, Memory>
 }
 
 /// The rows of a scan.
-fn rows_text(alloc: Global, rows: &[(u64, u64)]) -> Result<String, Memory>
+pub fn rows_text(alloc: Global, rows: &[(u64, u64)]) -> Result<String, Memory>
     ensures { IfOk result (λ text. string_bytes text ≡ rows_words rows.now) }
 {
     if rows.is_empty() {
@@ -61,25 +61,29 @@ fn rows_text(alloc: Global, rows: &[(u64, u64)]) -> Result<String, Memory>
 }
 
 /// Pairs of a key and its value, with commas between.
-pub fn pairs_text(alloc: Global, pairs: &[(u64, u64)]) -> Result<String, Memory> {
-    let mut out = String::new(alloc);
-    for (key, value) in pairs {
-        if !out.is_empty() {
-            out.push_str(", ")?;
-        }
-        write!(out, "{key}:{value}")?;
+pub fn pairs_text(alloc: Global, pairs: &[(u64, u64)]) -> Result<String, Memory>
+    ensures { IfOk result (λ text. string_bytes text ≡ pairs_words pairs.now) }
+{
+    let Some(((key, value), others)) = pairs.split_first() else {
+        return Ok(String::new(alloc));
+    };
+    let mut out = format!(in alloc; "{key}:{value}")?;
+    for (key, value) in others {
+        write!(out, ", {key}:{value}")?;
     }
     Ok(out)
 }
 
-/// Transactions in an order.
-pub fn txns_text(alloc: Global, txns: &[Txn]) -> Result<String, Memory> {
-    let mut out = String::new(alloc);
-    for txn in txns {
-        if !out.is_empty() {
-            out.push_str(", ")?;
-        }
-        write!(out, "T{txn}")?;
+/// Transactions in an order, with commas between.
+pub fn txns_text(alloc: Global, txns: &[Txn]) -> Result<String, Memory>
+    ensures { IfOk result (λ text. string_bytes text ≡ txns_words txns.now) }
+{
+    let Some((txn, others)) = txns.split_first() else {
+        return Ok(String::new(alloc));
+    };
+    let mut out = format!(in alloc; "T{txn}")?;
+    for other in others {
+        write!(out, ", T{other}")?;
     }
     Ok(out)
 }
