@@ -16,7 +16,7 @@ use Rattle.kr_trace_observed.specs.declared.observed.Observed.TheVariants as obs
 use Rattle.kr_trace_observed.specs.Fits.{fits}
 use Rattle.kr_trace_follow.specs.Conflicts.{conflicts_of, ahead_of}
 use Rattle.kr_trace_follow.specs.Conforms.{AllFit}
-use Rattle.kr_trace_follow.specs.Deviates.{kind_where_granted, kind_of, kind_at, deviation_at, is_queued}
+use Rattle.kr_trace_follow.specs.Deviates.{kind_where_granted, kind_of, since_left, kind_at, deviation_at, is_queued}
 use Rattle.kr_trace_follow.specs.Following.{Point, Following, point_after, or_later, deviation, point_left, steps_in, after_lines}
 use Rattle.kr_trace_follow.specs.Lines.{Line}
 use Rattle.kr_trace_follow.specs.Steps.{first_op, more_steps, queue_for, attempt_at, last_of, steps_of, outcome_of}
@@ -87,10 +87,10 @@ no_kind n None h = refl
 pub all_fit : (p : Protocol) (at : Point) (lines : List Line) → deviation p at lines ≡ None → AllFit p at lines
 all_fit p at [] h = tt
 all_fit p at (l ∷ ls) h =
-    let both = or_first (deviation_at p at.waiting at.state l) (deviation p (point_after p at l) ls) h in
+    let both = or_first (deviation_at p at.since at.waiting at.state l) (deviation p (point_after p at l) ls) h in
     let last = last_of p at.waiting at.state l in (
-      λ q. kind_fits (conflicts_of p l.event.txn last) (ahead_of p (queue_for l.observed at.waiting) l.event.txn last) (outcome_of p at.waiting at.state l).0 l.observed
-          (no_kind l.number (kind_at p at.waiting at.state l) both.0) q,
+      λ q. kind_fits (conflicts_of p (since_left p at.since at.waiting at.state l) l.event.txn last) (ahead_of p (queue_for l.observed at.waiting) l.event.txn last) (outcome_of p at.waiting at.state l).0 l.observed
+          (no_kind l.number (kind_at p at.since at.waiting at.state l) both.0) q,
       all_fit p (point_after p at l) ls both.1,
     )
 
@@ -107,7 +107,7 @@ found_by p at l ls None h = h
 
 pub found_first : (p : Protocol) (at : Point) (lines : List Line) → (let f = after_lines p (record { at = at; found = None }) lines in f.found) ≡ deviation p at lines
 found_first p at [] = refl
-found_first p at (l ∷ ls) = found_by p at l ls (deviation_at p at.waiting at.state l) (found_first p (point_after p at l) ls)
+found_first p at (l ∷ ls) = found_by p at l ls (deviation_at p at.since at.waiting at.state l) (found_first p (point_after p at l) ls)
 
 followed_by : (p : Protocol) (at : Point) (l : Line) (ls : List Line) (x : Option Deviation) → x ≡ None → (let f = after_lines p (record { at = point_after p at l; found = None }) ls in f.at) ≡ point_left p (point_after p at l) ls
     → (let f = after_lines p (record { at = point_after p at l; found = x }) ls in f.at) ≡ point_left p (point_after p at l) ls
@@ -117,5 +117,5 @@ followed_by p at l ls None e h = h
 pub followed_all : (p : Protocol) (at : Point) (lines : List Line) → deviation p at lines ≡ None → (let f = after_lines p (record { at = at; found = None }) lines in f.at) ≡ point_left p at lines
 followed_all p at [] h = refl
 followed_all p at (l ∷ ls) h =
-    let both = or_first (deviation_at p at.waiting at.state l) (deviation p (point_after p at l) ls) h in
-    followed_by p at l ls (deviation_at p at.waiting at.state l) both.0 (followed_all p (point_after p at l) ls both.1)
+    let both = or_first (deviation_at p at.since at.waiting at.state l) (deviation p (point_after p at l) ls) h in
+    followed_by p at l ls (deviation_at p at.since at.waiting at.state l) both.0 (followed_all p (point_after p at l) ls both.1)

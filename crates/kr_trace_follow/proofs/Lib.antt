@@ -1,11 +1,15 @@
 pub mod ScanSteps
 pub mod ScanLaws
+pub mod Notes
+pub mod LockSteps
+pub mod SinceLaws
+pub mod AttemptLaws
 pub mod StepLaws
+pub mod HeldLaws
 pub mod StepReplies
 pub mod LineLaws
 pub mod ConformLaws
-pub mod LockTables
-pub mod ToldLaws
+pub mod GivenLaws
 pub mod WholeLaws
 pub mod TaleLaws
 pub mod TaleSteps

@@ -1,4 +1,4 @@
--- What was told of the transactions of a run beside its log.
+-- What lines say of the transactions of a run beside its log.
 use Rattle.std.specs.Prelude.{◌≡◌, ℕ, true, false, not, ◌==◌, cond, List, [], ◌∷◌, ◌++◌, Some, None, unwrap_or, filter, refl, ◌⊎◌}
 use Rattle.std.specs.Ordering.{nat_cmp}
 use Rattle.std.specs.FinMap.{find}
@@ -20,30 +20,30 @@ use Rattle.kr_model.proofs.LogSteps.{logged_silent}
 use Rattle.kr_trace_observed.specs.declared.observed.Observed.{Observed}
 use Rattle.kr_trace_observed.specs.declared.observed.Observed.TheVariants as observed
 use Rattle.kr_trace_observed.specs.Fits.{fits}
-use Rattle.kr_trace_follow.specs.Programs.{Tale, Tales, untold, tale_after, with_tale, tales_after}
-use Rattle.kr_trace_follow.specs.Told.{Told}
+use Rattle.kr_trace_follow.specs.Programs.{Tale, Tales, no_tale, tale_after, with_tale, tales_after}
+use Rattle.kr_trace_follow.specs.Given.{Given}
 use Rattle.kr_trace_follow.proofs.ScanSteps.{GoesOn, Leaves, step_leaves}
-use Rattle.kr_trace_follow.proofs.TaleLaws.{AreTold, IsTale, tale_at}
+use Rattle.kr_trace_follow.proofs.TaleLaws.{AreGiven, IsTale, tale_at}
 use Rattle.kr_trace_follow.proofs.StepReplies.{rests, is_plain, adds_plain}
 use Rattle.kr_trace_follow.proofs.TaleSteps.{IsSaid, plain_tale, passed_tale}
 
 -- Tales beside a log --
 
--- What is told of each transaction that doesn't roll back is what it did.
+-- What lines say of each transaction that doesn't roll back is what it did.
 abbrev pub AreTales : State → Log → (ℕ → Tale) → Type 0
 AreTales s lg f = (u : ℕ) → is_rolling s u ≡ false → IsTale (standing s u).scan (operations_so_far lg u) (f u)
 
 -- So are the programs that have committed.
-abbrev pub AreProgramsTold : List Program → List (List Told) → Type 0
-AreProgramsTold [] [] = Unit {0}
-AreProgramsTold (q ∷ qs) (y ∷ ys) = AreTold q.operations y × AreProgramsTold qs ys
-AreProgramsTold _ _ = ⊥
+abbrev pub AreProgramsGiven : List Program → List (List Given) → Type 0
+AreProgramsGiven [] [] = Unit {0}
+AreProgramsGiven (q ∷ qs) (y ∷ ys) = AreGiven q.operations y × AreProgramsGiven qs ys
+AreProgramsGiven _ _ = ⊥
 
-pub record IsToldOf (s : State) (lg : Log) (w : Tales) : Type 0 where
+pub record IsGivenOf (s : State) (lg : Log) (w : Tales) : Type 0 where
   pub tales : AreTales s lg w.of
-  pub committed : AreProgramsTold lg.committed w.committed
+  pub committed : AreProgramsGiven lg.committed w.committed
 
-one_program_more : (qs : List Program) (ys : List (List Told)) (q : Program) (y : List Told) → AreProgramsTold qs ys → AreTold q.operations y → AreProgramsTold (qs ++ q ∷ []) (ys ++ y ∷ [])
+one_program_more : (qs : List Program) (ys : List (List Given)) (q : Program) (y : List Given) → AreProgramsGiven qs ys → AreGiven q.operations y → AreProgramsGiven (qs ++ q ∷ []) (ys ++ y ∷ [])
 one_program_more [] [] q y h g = (g, tt)
 one_program_more [] (z ∷ ys) q y h g = absurd h
 one_program_more (r ∷ qs) [] q y h g = absurd h
@@ -79,7 +79,7 @@ granted_tales s new lg f g t o a k are other here u r =
         (ap (λ z. unwrap_or z []) (find_put_other lg.unfinished t u (with_step (operations_so_far lg t) o a) d)) (other u d) are r
 
 -- After one that ends t.
-ended_tales : (s new : State) (lg : Log) (f g : ℕ → Tale) (t : ℕ) (o : Op) (a : Reply) (qs : List Program) → IsEnd s t o a new → AreTales s lg f → ((u : ℕ) → (u ≡ t → ⊥) → g u ≡ f u) → g t ≡ untold
+ended_tales : (s new : State) (lg : Log) (f g : ℕ → Tale) (t : ℕ) (o : Op) (a : Reply) (qs : List Program) → IsEnd s t o a new → AreTales s lg f → ((u : ℕ) → (u ≡ t → ⊥) → g u ≡ f u) → g t ≡ no_tale
     → AreTales new (end_logged lg t qs) g
 ended_tales s new lg f g t o a qs k are other none u r = by (cases_eq u t)
   where
@@ -106,109 +106,109 @@ back_tales s new lg f t o a k are u r = by (cases_eq u t)
         absurd (let rolls : is_rolling new u ≡ true = ap (λ z. (unwrap_or z idle).rolling) now ∙ k.rolls in cc)
     by (inr d) = kept_tale s new lg lg f f u (ap (find nat_cmp u) k.active ∙ find_put_other s.active t u k.standing d) refl refl are r
 
--- What is told after a step --
+-- What lines say after a step --
 
-told_plain : (w : Tales) (t : ℕ) (said : Op) (a : Reply) (b : Observed) → is_plain a ≡ true → fits a b ≡ true → tales_after w t said b ≡ record { of = with_tale w.of t (tale_after (w.of t) said b); committed = w.committed }
-told_plain w t said reply.Committed observed.Committed g f = absurd (cc)
-told_plain w t said _ observed.Committed g f = absurd (cc)
-told_plain w t said reply.Aborted observed.Aborted g f = absurd (cc)
-told_plain w t said _ observed.Aborted g f = absurd (cc)
-told_plain w t said (reply.Blocked us) (observed.Blocked named) g f = absurd (cc)
-told_plain w t said _ (observed.Blocked named) g f = absurd (cc)
-told_plain w t said (reply.Undone n) (observed.Undone m) g f = absurd (cc)
-told_plain w t said _ (observed.Undone m) g f = absurd (cc)
-told_plain w t said a _ g f = refl
+given_plain : (w : Tales) (t : ℕ) (said : Op) (a : Reply) (b : Observed) → is_plain a ≡ true → fits a b ≡ true → tales_after w t said b ≡ record { of = with_tale w.of t (tale_after (w.of t) said b); committed = w.committed }
+given_plain w t said reply.Committed observed.Committed g f = absurd (cc)
+given_plain w t said _ observed.Committed g f = absurd (cc)
+given_plain w t said reply.Aborted observed.Aborted g f = absurd (cc)
+given_plain w t said _ observed.Aborted g f = absurd (cc)
+given_plain w t said (reply.Blocked us) (observed.Blocked named) g f = absurd (cc)
+given_plain w t said _ (observed.Blocked named) g f = absurd (cc)
+given_plain w t said (reply.Undone n) (observed.Undone m) g f = absurd (cc)
+given_plain w t said _ (observed.Undone m) g f = absurd (cc)
+given_plain w t said a _ g f = refl
 
-told_silent : (w : Tales) (t : ℕ) (said : Op) (a : Reply) (b : Observed) → is_granted a ≡ false → fits a b ≡ true → tales_after w t said b ≡ w
-told_silent w t said (reply.Blocked us) (observed.Blocked named) g f = refl
-told_silent w t said (reply.Blocked us) _ g f = absurd (cc)
-told_silent w t said (reply.Refused r) _ g f = absurd (cc)
-told_silent w t said _ b g f = absurd (cc)
+given_silent : (w : Tales) (t : ℕ) (said : Op) (a : Reply) (b : Observed) → is_granted a ≡ false → fits a b ≡ true → tales_after w t said b ≡ w
+given_silent w t said (reply.Blocked us) (observed.Blocked named) g f = refl
+given_silent w t said (reply.Blocked us) _ g f = absurd (cc)
+given_silent w t said (reply.Refused r) _ g f = absurd (cc)
+given_silent w t said _ b g f = absurd (cc)
 
-told_committed : (b : Observed) → fits reply.Committed b ≡ true → b ≡ observed.Committed
-told_committed observed.Committed f = refl
-told_committed _ f = absurd (cc)
+given_committed : (b : Observed) → fits reply.Committed b ≡ true → b ≡ observed.Committed
+given_committed observed.Committed f = refl
+given_committed _ f = absurd (cc)
 
-told_aborted : (b : Observed) → fits reply.Aborted b ≡ true → b ≡ observed.Aborted
-told_aborted observed.Aborted f = refl
-told_aborted _ f = absurd (cc)
+given_aborted : (b : Observed) → fits reply.Aborted b ≡ true → b ≡ observed.Aborted
+given_aborted observed.Aborted f = refl
+given_aborted _ f = absurd (cc)
 
-told_undone : (w : Tales) (t : ℕ) (said : Op) (n : ℕ) (b : Observed) → fits (reply.Undone n) b ≡ true → tales_after w t said b ≡ w
-told_undone w t said n (observed.Undone m) f = refl
-told_undone w t said n _ f = absurd (cc)
+given_undone : (w : Tales) (t : ℕ) (said : Op) (n : ℕ) (b : Observed) → fits (reply.Undone n) b ≡ true → tales_after w t said b ≡ w
+given_undone w t said n (observed.Undone m) f = refl
+given_undone w t said n _ f = absurd (cc)
 
--- A step whose reply was told.
+-- A step whose reply was given.
 module _ (p : Protocol) (s : State) (lg : Log) (w : Tales) (t : ℕ) (said o : Op) (a : Reply) (new : State) (b : Observed)
-    (is : ◌≡◌ {A = Outcome} (a, new) (step p s t o)) (k : IsToldOf s lg w) (say : IsSaid said o (standing s t).scan) (f : fits a b ≡ true) where
-  told_granted : IsGranted s t o a new → IsToldOf new (logged lg (event t o, a)) (tales_after w t said b)
-  told_granted g =
+    (is : ◌≡◌ {A = Outcome} (a, new) (step p s t o)) (k : IsGivenOf s lg w) (say : IsSaid said o (standing s t).scan) (f : fits a b ≡ true) where
+  given_granted : IsGranted s t o a new → IsGivenOf new (logged lg (event t o, a)) (tales_after w t said b)
+  given_granted g =
       let plain = adds_plain t o a g.adds.logs in
       let here = plain_tale p s t said (operations_so_far lg t) (w.of t) b o a new is plain say f (k.tales t g.unrolled) in
       let x = tale_after (w.of t) said b in
-      subst (λ z. IsToldOf new (logged lg (event t o, a)) z) (sym (told_plain w t said a b plain f)) record {
+      subst (λ z. IsGivenOf new (logged lg (event t o, a)) z) (sym (given_plain w t said a b plain f)) record {
         tales = granted_tales s new lg w.of (with_tale w.of t x) t o a g k.tales (λ u d. with_other w.of t u x d)
             (subst (λ z. IsTale (standing new t).scan (with_step (operations_so_far lg t) o a) z) (sym (with_same w.of t x)) here);
-        committed = subst (λ z. AreProgramsTold z w.committed) (sym (ap (λ (z : Log). z.committed) (g.adds.logs lg t))) k.committed;
+        committed = subst (λ z. AreProgramsGiven z w.committed) (sym (ap (λ (z : Log). z.committed) (g.adds.logs lg t))) k.committed;
       }
 
-  told_ended : IsEnd s t o a new → IsToldOf new (logged lg (event t o, a)) (tales_after w t said b)
-  told_ended g = by g.kept
+  given_ended : IsEnd s t o a new → IsGivenOf new (logged lg (event t o, a)) (tales_after w t said b)
+  given_ended g = by g.kept
     where
       rest : o ≡ op.Commit → a ≡ reply.Committed → (standing s t).scan ≡ None
       rest e c = rests p s t o (ap is_granted (sym (ap (λ (d : Outcome). d.0) is)) ∙ ap is_granted c) (ap goes_on e)
 
-      by : ((o ≡ op.Commit) × (a ≡ reply.Committed) × (is_rolling s t ≡ false)) ⊎ (a ≡ reply.Aborted) → IsToldOf new (logged lg (event t o, a)) (tales_after w t said b)
+      by : ((o ≡ op.Commit) × (a ≡ reply.Committed) × (is_rolling s t ≡ false)) ⊎ (a ≡ reply.Aborted) → IsGivenOf new (logged lg (event t o, a)) (tales_after w t said b)
       by (inl h) =
           let q : Program = record { txn = t; operations = operations_so_far lg t } in
-          let told_is = told_committed b (sym (ap (λ z. fits z b) h.1) ∙ f) in
-          subst (λ z. IsToldOf new (logged lg (event t o, z)) (tales_after w t said b)) (sym h.1)
-          (subst (λ z. IsToldOf new (logged lg (event t o, reply.Committed)) (tales_after w t said z)) (sym told_is) record {
-            tales = ended_tales s new lg w.of (with_tale w.of t untold) t o a (lg.committed ++ q ∷ []) g k.tales (λ u d. with_other w.of t u untold d) (with_same w.of t untold);
+          let given_is = given_committed b (sym (ap (λ z. fits z b) h.1) ∙ f) in
+          subst (λ z. IsGivenOf new (logged lg (event t o, z)) (tales_after w t said b)) (sym h.1)
+          (subst (λ z. IsGivenOf new (logged lg (event t o, reply.Committed)) (tales_after w t said z)) (sym given_is) record {
+            tales = ended_tales s new lg w.of (with_tale w.of t no_tale) t o a (lg.committed ++ q ∷ []) g k.tales (λ u d. with_other w.of t u no_tale d) (with_same w.of t no_tale);
             committed = one_program_more lg.committed w.committed q (w.of t).done k.committed
                 (tale_at (standing s t).scan None (operations_so_far lg t) (w.of t) (rest h.0 h.1) (k.tales t h.2)).0;
           })
       by (inr h) =
-          let told_is = told_aborted b (sym (ap (λ z. fits z b) h) ∙ f) in
-          subst (λ z. IsToldOf new (logged lg (event t o, z)) (tales_after w t said b)) (sym h)
-          (subst (λ z. IsToldOf new (logged lg (event t o, reply.Aborted)) (tales_after w t said z)) (sym told_is) record {
-            tales = ended_tales s new lg w.of (with_tale w.of t untold) t o a lg.committed g k.tales (λ u d. with_other w.of t u untold d) (with_same w.of t untold);
+          let given_is = given_aborted b (sym (ap (λ z. fits z b) h) ∙ f) in
+          subst (λ z. IsGivenOf new (logged lg (event t o, z)) (tales_after w t said b)) (sym h)
+          (subst (λ z. IsGivenOf new (logged lg (event t o, reply.Aborted)) (tales_after w t said z)) (sym given_is) record {
+            tales = ended_tales s new lg w.of (with_tale w.of t no_tale) t o a lg.committed g k.tales (λ u d. with_other w.of t u no_tale d) (with_same w.of t no_tale);
             committed = k.committed;
           })
 
-  pub step_told : IsToldOf new (logged lg (event t o, a)) (tales_after w t said b)
-  step_told = by (kind_of p s t o a new (inl is))
+  pub step_given : IsGivenOf new (logged lg (event t o, a)) (tales_after w t said b)
+  step_given = by (kind_of p s t o a new (inl is))
     where
-      by : Kind s t o a new → IsToldOf new (logged lg (event t o, a)) (tales_after w t said b)
+      by : Kind s t o a new → IsGivenOf new (logged lg (event t o, a)) (tales_after w t said b)
       by (inl g) =
-          subst (λ z. IsToldOf z (logged lg (event t o, a)) (tales_after w t said b)) (sym g.0)
-          (subst (λ z. IsToldOf s z (tales_after w t said b)) (sym (logged_silent lg (event t o) a g.1))
-          (subst (λ z. IsToldOf s lg z) (sym (told_silent w t said a b g.1 f)) k))
-      by (inr (inl g)) = told_granted g
-      by (inr (inr (inl g))) = told_ended g
+          subst (λ z. IsGivenOf z (logged lg (event t o, a)) (tales_after w t said b)) (sym g.0)
+          (subst (λ z. IsGivenOf s z (tales_after w t said b)) (sym (logged_silent lg (event t o) a g.1))
+          (subst (λ z. IsGivenOf s lg z) (sym (given_silent w t said a b g.1 f)) k))
+      by (inr (inl g)) = given_granted g
+      by (inr (inr (inl g))) = given_ended g
       by (inr (inr (inr g))) =
-          subst (λ z. IsToldOf new (logged lg (event t o, z)) (tales_after w t said b)) (sym g.undone)
-          (subst (λ z. IsToldOf new lg z) (sym (told_undone w t said g.left b (sym (ap (λ z. fits z b) g.undone) ∙ f))) record {
+          subst (λ z. IsGivenOf new (logged lg (event t o, z)) (tales_after w t said b)) (sym g.undone)
+          (subst (λ z. IsGivenOf new lg z) (sym (given_undone w t said g.left b (sym (ap (λ z. fits z b) g.undone) ∙ f))) record {
             tales = back_tales s new lg w.of t o a g k.tales;
             committed = k.committed;
           })
 
--- A scan that goes on, of which nothing is told.
-pub passed_told : (p : Protocol) (s : State) (lg : Log) (w : Tales) (t : ℕ) (o : Op) (n : ℕ) (new : State) → ◌≡◌ {A = Outcome} (reply.Going n, new) (step p s t o) → IsToldOf s lg w
-    → IsToldOf new (logged lg (event t o, reply.Going n)) w
-passed_told p s lg w t o n new is k = by (kind_of p s t o (reply.Going n) new (inl is))
+-- A scan that goes on, of which lines say nothing.
+pub passed_given : (p : Protocol) (s : State) (lg : Log) (w : Tales) (t : ℕ) (o : Op) (n : ℕ) (new : State) → ◌≡◌ {A = Outcome} (reply.Going n, new) (step p s t o) → IsGivenOf s lg w
+    → IsGivenOf new (logged lg (event t o, reply.Going n)) w
+passed_given p s lg w t o n new is k = by (kind_of p s t o (reply.Going n) new (inl is))
   where
     left : GoesOn (standing s t).scan o n (standing new t).scan
     left = subst (λ (d : Outcome). Leaves s t o d.0 d.1) (sym is) (step_leaves p s t o)
 
-    by : Kind s t o (reply.Going n) new → IsToldOf new (logged lg (event t o, reply.Going n)) w
+    by : Kind s t o (reply.Going n) new → IsGivenOf new (logged lg (event t o, reply.Going n)) w
     by (inl g) = absurd (let no : true ≡ false = g.1 in cc)
     by (inr (inl g)) = record {
       tales = granted_tales s new lg w.of w.of t o (reply.Going n) g k.tales (λ u d. refl) (passed_tale p s t o n new (operations_so_far lg t) (w.of t) is left (k.tales t g.unrolled));
-      committed = subst (λ z. AreProgramsTold z w.committed) (sym (ap (λ (z : Log). z.committed) (g.adds.logs lg t))) k.committed;
+      committed = subst (λ z. AreProgramsGiven z w.committed) (sym (ap (λ (z : Log). z.committed) (g.adds.logs lg t))) k.committed;
     }
     by (inr (inr (inl g))) = ended g.kept
       where
-        ended : ((o ≡ op.Commit) × (reply.Going n ≡ reply.Committed) × (is_rolling s t ≡ false)) ⊎ (reply.Going n ≡ reply.Aborted) → IsToldOf new (logged lg (event t o, reply.Going n)) w
+        ended : ((o ≡ op.Commit) × (reply.Going n ≡ reply.Committed) × (is_rolling s t ≡ false)) ⊎ (reply.Going n ≡ reply.Aborted) → IsGivenOf new (logged lg (event t o, reply.Going n)) w
         ended (inl h) = absurd (let never : reply.Going n ≡ reply.Committed = h.1 in cc)
         ended (inr h) = absurd (cc)
     by (inr (inr (inr g))) = absurd (let no : reply.Going n ≡ reply.Undone g.left = g.undone in cc)

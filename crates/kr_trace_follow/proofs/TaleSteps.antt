@@ -1,4 +1,4 @@
--- What a step of t does to what was told of it.
+-- What a step of t does to what lines say of it.
 use Rattle.std.specs.Prelude.{◌≡◌, ℕ, Bool, true, false, List, [], ◌∷◌, ◌++◌, Option, Some, None, unwrap_or, refl, ◌⊎◌}
 use Rattle.std.proofs.Common.{sym, ◌∙◌, ap, ap₂, subst, inl, inr}
 use Rattle.kr_model.specs.declared.Op.{Op}
@@ -13,10 +13,10 @@ use Rattle.kr_model.specs.Step.{Outcome, step, refusal_of, goes_on}
 use Rattle.kr_trace_observed.specs.declared.observed.Observed.{Observed}
 use Rattle.kr_trace_observed.specs.declared.observed.Observed.TheVariants as observed
 use Rattle.kr_trace_observed.specs.Fits.{fits}
-use Rattle.kr_trace_follow.specs.Programs.{Tale, told, scan_told, tale_after}
+use Rattle.kr_trace_follow.specs.Programs.{Tale, given, scan_given, tale_after}
 use Rattle.kr_trace_follow.specs.Steps.{is_going}
 use Rattle.kr_trace_follow.proofs.ScanSteps.{HasRange, GoesOn, Leaves, step_leaves}
-use Rattle.kr_trace_follow.proofs.TaleLaws.{IsTale, IsScanTold, tale_at, tale_more, scan_begun, scan_gone, scan_ended as ended_told, scan_ended_untold, range_told}
+use Rattle.kr_trace_follow.proofs.TaleLaws.{IsTale, IsScanGiven, tale_at, tale_more, scan_begun, scan_gone, scan_ended as ended_given, scan_ended_no_tale, range_given}
 use Rattle.kr_trace_follow.proofs.StepReplies.{rests, goes, is_plain, plain_granted, abort_plain, back_plain, IsScanReply, go_replies}
 
 -- Where no scan is in progress after a step --
@@ -53,7 +53,7 @@ ended_after s t o (reply.Deleted v) new stops g left = left
 ended_after s t o reply.Absent new stops g left = left
 ended_after s t o (reply.Updated v) new stops g left = left
 
--- What is told --
+-- What lines say --
 
 -- The step is what the line says, or goes on with the scan that the line says.
 abbrev pub IsSaid : Op → Op → Option Scan → Type 0
@@ -63,16 +63,16 @@ said_same : (said o : Op) (was : Option Scan) → (o ≡ op.Go → ⊥) → IsSa
 said_same said o was goes (inl e) = e
 said_same said o was goes (inr h) = absurd (goes h.0)
 
-going_told : (k : ℕ) (b : Observed) → fits (reply.Going k) b ≡ true → (j : ℕ) × (b ≡ observed.Going j)
-going_told k (observed.Going j) f = (j, refl)
-going_told k _ f = absurd (cc)
+going_given : (k : ℕ) (b : Observed) → fits (reply.Going k) b ≡ true → (j : ℕ) × (b ≡ observed.Going j)
+going_given k (observed.Going j) f = (j, refl)
+going_given k _ f = absurd (cc)
 
-scan_done : (x : Tale) (lo hi : ℕ) (a : Reply) (b : Observed) → is_going a ≡ false → fits a b ≡ true → tale_after x (op.Scan lo hi) b ≡ told x (op.Scan lo hi, b)
+scan_done : (x : Tale) (lo hi : ℕ) (a : Reply) (b : Observed) → is_going a ≡ false → fits a b ≡ true → tale_after x (op.Scan lo hi) b ≡ given x (op.Scan lo hi, b)
 scan_done x lo hi (reply.Going j) (observed.Going k) g f = absurd (cc)
 scan_done x lo hi _ (observed.Going k) g f = absurd (cc)
 scan_done x lo hi a _ g f = refl
 
-go_done : (x : Tale) (a : Reply) (b : Observed) → is_going a ≡ false → fits a b ≡ true → tale_after x op.Go b ≡ scan_told x x.scan b
+go_done : (x : Tale) (a : Reply) (b : Observed) → is_going a ≡ false → fits a b ≡ true → tale_after x op.Go b ≡ scan_given x x.scan b
 go_done x (reply.Going j) (observed.Going k) g f = absurd (cc)
 go_done x _ (observed.Going k) g f = absurd (cc)
 go_done x a _ g f = refl
@@ -84,7 +84,7 @@ some_scan was b c e f = ap (λ o. unwrap_or o b) (sym e ∙ f)
 module _ (p : Protocol) (s : State) (t : ℕ) (said : Op) (os : List Answered) (x : Tale) (b : Observed) where
   -- One that is no scan.
   other_tale : (o : Op) (a : Reply) (new : State) → ◌≡◌ {A = Outcome} (a, new) (step p s t o) → ((c : Scan) → HasRange (standing s t).scan o c → ⊥) → goes_on o ≡ false → (o ≡ op.Go → ⊥)
-      → tale_after x o b ≡ told x (o, b) → is_plain a ≡ true → IsSaid said o (standing s t).scan → fits a b ≡ true → IsTale (standing s t).scan os x
+      → tale_after x o b ≡ given x (o, b) → is_plain a ≡ true → IsSaid said o (standing s t).scan → fits a b ≡ true → IsTale (standing s t).scan os x
       → IsTale (standing new t).scan (os ++ (o, a) ∷ []) (tale_after x said b)
   other_tale o a new is ranges e go tells g say f k =
       let left : Leaves s t o a new = subst (λ (d : Outcome). Leaves s t o d.0 d.1) (sym is) (step_leaves p s t o) in
@@ -94,8 +94,8 @@ module _ (p : Protocol) (s : State) (t : ℕ) (said : Op) (os : List Answered) (
 
   begun_tale : (lo hi j k : ℕ) (new : State) → (standing s t).scan ≡ None → said ≡ op.Scan lo hi → b ≡ observed.Going j → GoesOn (standing s t).scan (op.Scan lo hi) k (standing new t).scan
       → IsTale (standing s t).scan os x → IsTale (standing new t).scan (os ++ (op.Scan lo hi, reply.Going k) ∷ []) (tale_after x said b)
-  begun_tale lo hi j k new was say told_is g h =
-      subst (λ z. IsTale (standing new t).scan (os ++ (op.Scan lo hi, reply.Going k) ∷ []) z) (sym (ap₂ (λ u v. tale_after x u v) say told_is))
+  begun_tale lo hi j k new was say given_is g h =
+      subst (λ z. IsTale (standing new t).scan (os ++ (op.Scan lo hi, reply.Going k) ∷ []) z) (sym (ap₂ (λ u v. tale_after x u v) say given_is))
       (scan_begun (standing s t).scan (standing new t).scan os x lo hi (reply.Going k) g.scan (Some (lo, hi)) was g.is g.range.0 g.range.1 (inr refl) h)
 
   -- A scan that begins.
@@ -104,8 +104,8 @@ module _ (p : Protocol) (s : State) (t : ℕ) (said : Op) (os : List Answered) (
   scan_tale lo hi (reply.Going k) new true e is g say f h =
       let left : Leaves s t (op.Scan lo hi) (reply.Going k) new = subst (λ (d : Outcome). Leaves s t (op.Scan lo hi) d.0 d.1) (sym is) (step_leaves p s t (op.Scan lo hi)) in
       let was = rests p s t (op.Scan lo hi) (ap is_granted (sym (ap (λ (d : Outcome). d.0) is))) refl in
-      let told_is = going_told k b f in
-      begun_tale lo hi told_is.0 k new was (said_same said (op.Scan lo hi) (standing s t).scan (λ d. cc) say) told_is.1 left h
+      let given_is = going_given k b f in
+      begun_tale lo hi given_is.0 k new was (said_same said (op.Scan lo hi) (standing s t).scan (λ d. cc) say) given_is.1 left h
   scan_tale lo hi _ new true e is g say f h = absurd (cc)
   scan_tale lo hi a new false e is g say f h =
       let left : Leaves s t (op.Scan lo hi) a new = subst (λ (d : Outcome). Leaves s t (op.Scan lo hi) d.0 d.1) (sym is) (step_leaves p s t (op.Scan lo hi)) in
@@ -117,14 +117,14 @@ module _ (p : Protocol) (s : State) (t : ℕ) (said : Op) (os : List Answered) (
   -- A scan that goes on.
   gone_tale : (j k : ℕ) (new : State) → IsSaid said op.Go (standing s t).scan → b ≡ observed.Going j → GoesOn (standing s t).scan op.Go k (standing new t).scan
       → IsTale (standing s t).scan os x → IsTale (standing new t).scan os (tale_after x said b)
-  gone_tale j k new (inl say) told_is g h =
+  gone_tale j k new (inl say) given_is g h =
       let r = g.range in
-      subst (λ z. IsTale (standing new t).scan os z) (sym (ap₂ (λ u v. tale_after x u v) say told_is))
+      subst (λ z. IsTale (standing new t).scan os z) (sym (ap₂ (λ u v. tale_after x u v) say given_is))
       (scan_gone (standing s t).scan (standing new t).scan os x r.0 g.scan x.scan r.1.0 g.is r.1.1.0 r.1.1.1 (inl refl) h)
-  gone_tale j k new (inr say) told_is g h =
+  gone_tale j k new (inr say) given_is g h =
       let r = g.range in
       let same : r.0 ≡ say.1.0 = some_scan (standing s t).scan r.0 say.1.0 r.1.0 say.1.1.0 in
-      subst (λ z. IsTale (standing new t).scan os z) (sym (ap₂ (λ u v. tale_after x u v) (say.1.1.1 ∙ sym (ap (λ (c : Scan). op.Scan c.lo c.hi) same)) told_is))
+      subst (λ z. IsTale (standing new t).scan os z) (sym (ap₂ (λ u v. tale_after x u v) (say.1.1.1 ∙ sym (ap (λ (c : Scan). op.Scan c.lo c.hi) same)) given_is))
       (scan_gone (standing s t).scan (standing new t).scan os x r.0 g.scan (Some (r.0.lo, r.0.hi)) r.1.0 g.is r.1.1.0 r.1.1.1 (inr refl) h)
 
   -- A scan that ends.
@@ -132,26 +132,26 @@ module _ (p : Protocol) (s : State) (t : ℕ) (said : Op) (os : List Answered) (
       → IsTale (standing s t).scan os x → IsTale (standing new t).scan (with_step os op.Go (reply.Rows rows)) (tale_after x said b)
   ended_tale rows new c was now (inl say) f h =
       subst (λ z. IsTale (standing new t).scan (with_step os op.Go (reply.Rows rows)) z) (sym (ap (λ z. tale_after x z b) say ∙ go_done x (reply.Rows rows) b refl f))
-      (by (range_told (standing s t).scan os x c was h))
+      (by (range_given (standing s t).scan os x c was h))
     where
-      by : IsScanTold c x.scan → IsTale (standing new t).scan (with_step os op.Go (reply.Rows rows)) (scan_told x x.scan b)
+      by : IsScanGiven c x.scan → IsTale (standing new t).scan (with_step os op.Go (reply.Rows rows)) (scan_given x x.scan b)
       by (inl none) =
-          subst (λ z. IsTale (standing new t).scan (with_step os op.Go (reply.Rows rows)) (scan_told x z b)) (sym none)
-          (scan_ended_untold (standing s t).scan (standing new t).scan os x c (reply.Rows rows) was now none h)
+          subst (λ z. IsTale (standing new t).scan (with_step os op.Go (reply.Rows rows)) (scan_given x z b)) (sym none)
+          (scan_ended_no_tale (standing s t).scan (standing new t).scan os x c (reply.Rows rows) was now none h)
       by (inr is) =
-          subst (λ z. IsTale (standing new t).scan (with_step os op.Go (reply.Rows rows)) (scan_told x z b)) (sym is)
-          (ended_told (standing s t).scan (standing new t).scan os x c c.lo c.hi (reply.Rows rows) b was now refl refl f h)
+          subst (λ z. IsTale (standing new t).scan (with_step os op.Go (reply.Rows rows)) (scan_given x z b)) (sym is)
+          (ended_given (standing s t).scan (standing new t).scan os x c c.lo c.hi (reply.Rows rows) b was now refl refl f h)
   ended_tale rows new c was now (inr say) f h =
       let d = say.1.0 in
       subst (λ z. IsTale (standing new t).scan (with_step os op.Go (reply.Rows rows)) z) (sym (ap (λ z. tale_after x z b) say.1.1.1 ∙ scan_done x d.lo d.hi (reply.Rows rows) b refl f))
-      (ended_told (standing s t).scan (standing new t).scan os x d d.lo d.hi (reply.Rows rows) b say.1.1.0 now refl refl f h)
+      (ended_given (standing s t).scan (standing new t).scan os x d d.lo d.hi (reply.Rows rows) b say.1.1.0 now refl refl f h)
 
   go_tale : (a : Reply) (new : State) → ◌≡◌ {A = Outcome} (a, new) (step p s t op.Go) → IsScanReply a → is_plain a ≡ true
       → IsSaid said op.Go (standing s t).scan → fits a b ≡ true → IsTale (standing s t).scan os x → IsTale (standing new t).scan (with_step os op.Go a) (tale_after x said b)
   go_tale (reply.Going k) new is r g say f h =
       let left : Leaves s t op.Go (reply.Going k) new = subst (λ (d : Outcome). Leaves s t op.Go d.0 d.1) (sym is) (step_leaves p s t op.Go) in
-      let told_is = going_told k b f in
-      gone_tale told_is.0 k new say told_is.1 left h
+      let given_is = going_given k b f in
+      gone_tale given_is.0 k new say given_is.1 left h
   go_tale (reply.Rows rows) new is r g say f h =
       let left : Leaves s t op.Go (reply.Rows rows) new = subst (λ (d : Outcome). Leaves s t op.Go d.0 d.1) (sym is) (step_leaves p s t op.Go) in
       let was = goes p s t (ap is_granted (sym (ap (λ (d : Outcome). d.0) is))) in
@@ -174,7 +174,7 @@ module _ (p : Protocol) (s : State) (t : ℕ) (said : Op) (os : List Answered) (
   plain_tale op.Abort a new is g say f h = absurd (let never : is_plain a ≡ false = ap (λ (d : Outcome). is_plain d.0) is ∙ abort_plain p s t in cc)
   plain_tale op.Back a new is g say f h = absurd (let never : is_plain a ≡ false = ap (λ (d : Outcome). is_plain d.0) is ∙ back_plain p s t in cc)
 
--- A scan that goes on and of which nothing is told.
+-- A scan that goes on and of which lines say nothing.
 pub passed_tale : (p : Protocol) (s : State) (t : ℕ) (o : Op) (k : ℕ) (new : State) (os : List Answered) (x : Tale) → ◌≡◌ {A = Outcome} (reply.Going k, new) (step p s t o) → GoesOn (standing s t).scan o k (standing new t).scan
     → IsTale (standing s t).scan os x → IsTale (standing new t).scan (with_step os o (reply.Going k)) x
 passed_tale p s t (op.Scan lo hi) k new os x is g h =

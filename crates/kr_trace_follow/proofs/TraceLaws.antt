@@ -1,4 +1,4 @@
--- Lines that don't deviate are those of a run that is serializable in commit order, as they were told.
+-- Lines that don't deviate are those of a run that is serializable in commit order, as they were given.
 use Rattle.std.specs.Prelude.{◌≡◌, List, None}
 use Rattle.kr_model.specs.Protocol.{Protocol, IsLawful}
 use Rattle.kr_model.specs.Covers.{IsCovered}
@@ -9,21 +9,21 @@ use Rattle.kr_serial.proofs.SerialRuns.{safe_programs}
 use Rattle.kr_trace_follow.specs.Conforms.{IsSerialTrace}
 use Rattle.kr_trace_follow.specs.Following.{at_start, deviation, steps_in}
 use Rattle.kr_trace_follow.specs.Lines.{Line}
-use Rattle.kr_trace_follow.specs.Programs.{told_programs}
+use Rattle.kr_trace_follow.specs.Programs.{given_programs}
 use Rattle.kr_trace_follow.proofs.ConformLaws.{lines_ran, all_fit}
-use Rattle.kr_trace_follow.proofs.TaleLines.{told_serial}
-use Rattle.kr_trace_follow.proofs.ToldLaws.{none_differs}
+use Rattle.kr_trace_follow.proofs.TaleLines.{given_serial}
+use Rattle.kr_trace_follow.proofs.GivenLaws.{none_differs}
 
 pub safe_trace : (p : Protocol) → IsLawful p → IsSafe p → (opening : Map) → IsMap opening → (lines : List Line) → deviation p (at_start opening) lines ≡ None → IsSerialTrace p opening lines
 safe_trace p laws safe opening sorted lines none =
     let serial = safe_programs p laws safe opening (steps_in p (at_start opening) lines) sorted in
-    let told = told_serial p opening lines none serial in
+    let given = given_serial p opening lines none serial in
     record {
       fit = all_fit p (at_start opening) lines none;
       state = lines_ran p (at_start opening) lines;
       serial = serial;
-      told = told;
-      judged = none_differs opening (told_programs lines) told;
+      given = given;
+      judged = none_differs opening (given_programs lines) given;
     }
 
 pub covered_trace : (p : Protocol) → IsLawful p → IsCovered p → (opening : Map) → IsMap opening → (lines : List Line) → deviation p (at_start opening) lines ≡ None → IsSerialTrace p opening lines

@@ -1,4 +1,4 @@
--- Programs of which each answer was told whole.
+-- Programs of which each answer was given whole.
 use Rattle.std.specs.Prelude.{◌≡◌, ℕ, List, [], ◌∷◌, Some, refl}
 use Rattle.std.proofs.Common.{sym, ◌∙◌, ap, subst}
 use Rattle.kr_model.specs.declared.Reply.{Reply}
@@ -11,8 +11,8 @@ use Rattle.kr_model.proofs.SerialLaws.{reply_of_test, reply_same}
 use Rattle.kr_trace_observed.specs.declared.observed.Observed.{Observed}
 use Rattle.kr_trace_observed.specs.declared.observed.Observed.TheVariants as observed
 use Rattle.kr_trace_observed.specs.Fits.{fits}
-use Rattle.kr_trace_follow.specs.Told.{Told, AreAnsweredWhereTold}
-use Rattle.kr_trace_follow.specs.Whole.{IsToldWhole, AreToldWhole}
+use Rattle.kr_trace_follow.specs.Given.{Given, AreAnsweredWhereGiven}
+use Rattle.kr_trace_follow.specs.Whole.{IsGivenWhole, AreGivenWhole}
 
 found_fits : (v : ℕ) (w : Reply) → fits w (observed.Found v) ≡ same_reply w (reply.Found v)
 found_fits v (reply.Found w) = refl
@@ -62,8 +62,8 @@ aborted_fits : (w : Reply) → fits w observed.Aborted ≡ same_reply w reply.Ab
 aborted_fits reply.Aborted = refl
 aborted_fits _ = refl
 
--- What was told whole fits exactly the reply that it is.
-whole_fits : (a : Reply) (o : Observed) (w : Reply) → IsToldWhole a o → fits w o ≡ same_reply w a
+-- What was given whole fits exactly the reply that it is.
+whole_fits : (a : Reply) (o : Observed) (w : Reply) → IsGivenWhole a o → fits w o ≡ same_reply w a
 whole_fits (reply.Found v) o w h = ap (λ x. fits w x) h ∙ found_fits v w
 whole_fits reply.None o w h = ap (λ x. fits w x) h ∙ none_fits w
 whole_fits (reply.Going k) o w h = ap (λ x. fits w x) h ∙ going_fits k w
@@ -79,20 +79,20 @@ whole_fits reply.Aborted o w h = ap (λ x. fits w x) h ∙ aborted_fits w
 whole_fits (reply.Blocked us) o w h = absurd h
 whole_fits (reply.Refused r) o w h = absurd h
 
-pub told_whole : (m : Map) (os : List Answered) (ts : List Told) → AreToldWhole os ts → AreAnswered m os → AreAnsweredWhereTold m ts
-told_whole m [] [] same h = tt
-told_whole m [] (t ∷ ts) same h = absurd same
-told_whole m (x ∷ os) [] same h = absurd same
-told_whole m ((o, a) ∷ os) ((p, b) ∷ ts) same h = (
+pub given_whole : (m : Map) (os : List Answered) (ts : List Given) → AreGivenWhole os ts → AreAnswered m os → AreAnsweredWhereGiven m ts
+given_whole m [] [] same h = tt
+given_whole m [] (t ∷ ts) same h = absurd same
+given_whole m (x ∷ os) [] same h = absurd same
+given_whole m ((o, a) ∷ os) ((p, b) ∷ ts) same h = (
   ap (λ q. fits (whole m q).0 b) same.0 ∙ ap (λ w. fits w b) (sym h.0) ∙ whole_fits a b a same.1.0 ∙ reply_same a,
-  subst (λ q. AreAnsweredWhereTold (whole m q).1 ts) (sym same.0) (told_whole (whole m o).1 os ts same.1.1 h.1),
+  subst (λ q. AreAnsweredWhereGiven (whole m q).1 ts) (sym same.0) (given_whole (whole m o).1 os ts same.1.1 h.1),
 )
 
-pub whole_told : (m : Map) (os : List Answered) (ts : List Told) → AreToldWhole os ts → AreAnsweredWhereTold m ts → AreAnswered m os
-whole_told m [] [] same h = tt
-whole_told m [] (t ∷ ts) same h = absurd same
-whole_told m (x ∷ os) [] same h = absurd same
-whole_told m ((o, a) ∷ os) ((p, b) ∷ ts) same h = (
+pub whole_given : (m : Map) (os : List Answered) (ts : List Given) → AreGivenWhole os ts → AreAnsweredWhereGiven m ts → AreAnswered m os
+whole_given m [] [] same h = tt
+whole_given m [] (t ∷ ts) same h = absurd same
+whole_given m (x ∷ os) [] same h = absurd same
+whole_given m ((o, a) ∷ os) ((p, b) ∷ ts) same h = (
   sym (reply_of_test (whole m o).0 a (sym (whole_fits a b (whole m o).0 same.1.0) ∙ ap (λ q. fits (whole m q).0 b) (sym same.0) ∙ h.0)),
-  whole_told (whole m o).1 os ts same.1.1 (subst (λ q. AreAnsweredWhereTold (whole m q).1 ts) same.0 h.1),
+  whole_given (whole m o).1 os ts same.1.1 (subst (λ q. AreAnsweredWhereGiven (whole m q).1 ts) same.0 h.1),
 )

@@ -12,6 +12,7 @@ use Rattle.kr_model.specs.State.{standing}
 use Rattle.kr_machine.specs.Pending.{attempt_of}
 use Rattle.kr_trace_observed.specs.declared.deviation.Conflict.{Conflict}
 use Rattle.kr_trace_follow.specs.Lines.{Attempt}
+use Rattle.kr_trace_follow.specs.Since.{Since}
 use Rattle.kr_trace_follow.specs.declared.conflict.Tested.{Tested}
 
 -- Requests --
@@ -37,21 +38,28 @@ tests_of p t a =
 abbrev pub is_in_the_way : Protocol → Tested → Lock → Bool
 is_in_the_way p q l = eq_by_cmp name_cmp (name_locked l) q.name && (not (holder_of l == q.txn) && not (p.ok q.tested (mode_held l)))
 
--- A lock with the mode that is requested and the converted mode in which that is tested.
-abbrev pub conflict : Tested → Lock → Conflict
-conflict q l = record { name = name_locked l; holder = holder_of l; held = mode_held l; asked = q.asked; tested = q.tested }
-
 -- Those of the locks that conflict with a request.
-abbrev pub conflicts_with : Protocol → Locks → Tested → List Conflict
-conflicts_with p h q = map (conflict q) (filter (is_in_the_way p q) h)
+abbrev pub in_the_way : Protocol → Locks → Tested → Locks
+in_the_way p h q = filter (is_in_the_way p q) h
 
--- Those of the locks that conflict with a step of t: those that conflict with its request on the current name, then those with that on the next.
-abbrev pub conflicts_among : Protocol → Locks → ℕ → Attempt → List Conflict
-conflicts_among p h t a = flat_map (conflicts_with p h) (tests_of p t a)
+-- A lock with the line since which it is held, the mode that is requested and the converted mode in which that is tested.
+abbrev pub conflict : Since → Tested → Lock → Conflict
+conflict since q l = record {
+  name = name_locked l;
+  holder = holder_of l;
+  held = mode_held l;
+  since = since (holder_of l) (name_locked l);
+  asked = q.asked;
+  tested = q.tested;
+}
 
--- The held locks that conflict with a step of t.
-abbrev pub conflicts_of : Protocol → ℕ → Attempt → List Conflict
-conflicts_of p t a = let s = a.before in conflicts_among p s.locks t a
+-- Those of the held locks that conflict with a request.
+abbrev pub conflicts_with : Protocol → Since → Locks → Tested → List Conflict
+conflicts_with p since h q = map (conflict since q) (in_the_way p h q)
+
+-- The held locks that conflict with a step of t: those that conflict with its request on the current name, then those with that on the next.
+abbrev pub conflicts_of : Protocol → Since → ℕ → Attempt → List Conflict
+conflicts_of p since t a = let s = a.before in flat_map (conflicts_with p since s.locks) (tests_of p t a)
 
 -- Those who wait --
 
@@ -59,9 +67,13 @@ conflicts_of p t a = let s = a.before in conflicts_among p s.locks t a
 abbrev pub wanted : Tested → Lock
 wanted q = ((q.name, q.txn), q.tested)
 
+-- Those who wait for a lock that conflicts with a request.
+abbrev pub waits_ahead : Protocol → Locks → Tested → List ℕ
+waits_ahead p waiting q = map holder_of (in_the_way p waiting q)
+
 -- Those who wait ahead of a step of t: they wait for a lock that conflicts with a request of the step.
 abbrev pub ahead_of : Protocol → Locks → ℕ → Attempt → List ℕ
-ahead_of p waiting t a = map (λ c. c.holder) (conflicts_among p waiting t a)
+ahead_of p waiting t a = flat_map (waits_ahead p waiting) (tests_of p t a)
 
 -- Whether somebody waits ahead of a step of t.
 abbrev pub is_behind : Protocol → Locks → ℕ → Attempt → Bool

@@ -1,11 +1,11 @@
 -- How a line of a trace differs from what the table answers.
-use Rattle.std.specs.Prelude.{ℕ, Bool, false, not, ◌==◌, ◌&&◌, List, [], ◌∷◌, Option, Some, None, filter, if◌then◌else◌, option_map}
+use Rattle.std.specs.Prelude.{ℕ, Bool, not, ◌==◌, ◌&&◌, List, [], ◌∷◌, Option, Some, None, filter, if◌then◌else◌, option_map}
 use Rattle.std.specs.List.{list_any}
 use Rattle.kr_model.specs.declared.Reply.{Reply}
 use Rattle.kr_model.specs.declared.Reply.TheVariants as reply
 use Rattle.kr_model.specs.Covers.{is_empty}
 use Rattle.kr_model.specs.Protocol.{Protocol}
-use Rattle.kr_model.specs.Locks.{Locks}
+use Rattle.kr_model.specs.Locks.{Locks, Holder}
 use Rattle.kr_model.specs.Run.{is_granted}
 use Rattle.kr_model.specs.State.{State}
 use Rattle.kr_trace_observed.specs.declared.deviation.Conflict.{Conflict}
@@ -17,7 +17,8 @@ use Rattle.kr_trace_observed.specs.declared.observed.Observed.TheVariants as obs
 use Rattle.kr_trace_observed.specs.Fits.{fits}
 use Rattle.kr_trace_follow.specs.Conflicts.{conflicts_of, ahead_of}
 use Rattle.kr_trace_follow.specs.Lines.{Line}
-use Rattle.kr_trace_follow.specs.Steps.{queue_for, last_of, outcome_of}
+use Rattle.kr_trace_follow.specs.Since.{Since, since_along, line_of}
+use Rattle.kr_trace_follow.specs.Steps.{queue_for, last_of, steps_of, outcome_of}
 
 -- The transactions that are named as blockers, and neither are blockers nor wait ahead.
 abbrev pub misnamed : List ℕ → List ℕ → List ℕ → List ℕ
@@ -49,16 +50,20 @@ kind_of conflicts ahead (reply.Blocked blockers) o = kind_where_blocked conflict
 kind_of conflicts ahead (reply.Refused r) o = Some (kind.Refused r)
 kind_of conflicts ahead r o = kind_where_granted r ahead o
 
--- How a line differs from what the table answers in this state, if it does; these locks are waited for.
-abbrev pub kind_at : Protocol → Locks → State → Line → Option DeviationKind
-kind_at p waiting s l =
+-- The lines since which locks are held after a line: its steps are those of that line. It leaves the locks of other transactions than its own.
+abbrev pub since_left : Protocol → List (Holder × ℕ) → Locks → State → Line → Since
+since_left p since waiting s l = since_along p l.number s (steps_of p waiting s l) (line_of since)
+
+-- How a line differs from what the table answers in this state, if it does; locks are held since these lines, and these locks are waited for.
+abbrev pub kind_at : Protocol → List (Holder × ℕ) → Locks → State → Line → Option DeviationKind
+kind_at p since waiting s l =
     let last = last_of p waiting s l in
     let done = outcome_of p waiting s l in
-    kind_of (conflicts_of p l.event.txn last) (ahead_of p (queue_for l.observed waiting) l.event.txn last) done.0 l.observed
+    kind_of (conflicts_of p (since_left p since waiting s l) l.event.txn last) (ahead_of p (queue_for l.observed waiting) l.event.txn last) done.0 l.observed
 
 -- The deviation of a line, if it deviates.
-abbrev pub deviation_at : Protocol → Locks → State → Line → Option Deviation
-deviation_at p waiting s l = option_map (λ k. record { line = l.number; kind = k }) (kind_at p waiting s l)
+abbrev pub deviation_at : Protocol → List (Holder × ℕ) → Locks → State → Line → Option Deviation
+deviation_at p since waiting s l = option_map (λ k. record { line = l.number; kind = k }) (kind_at p since waiting s l)
 
 -- Whether a step waits behind others alone: the table grants it.
 abbrev pub is_queued : List ℕ → Reply → Bool

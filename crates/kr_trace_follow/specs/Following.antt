@@ -3,25 +3,27 @@ use Rattle.std.specs.Prelude.{ℕ, ◌+◌, ◌-◌, ◌^◌, Bool, List, [], �
 use Rattle.kr_model.specs.declared.Event.{Event}
 use Rattle.kr_model.specs.Protocol.{Protocol}
 use Rattle.kr_model.specs.Map.{Map}
-use Rattle.kr_model.specs.Locks.{Locks}
+use Rattle.kr_model.specs.Locks.{Locks, Holder}
 use Rattle.kr_model.specs.State.{State, start}
 use Rattle.kr_trace_observed.specs.declared.deviation.Deviation.{Deviation}
-use Rattle.kr_trace_follow.specs.Deviates.{deviation_at, is_queued_at}
+use Rattle.kr_trace_follow.specs.Deviates.{since_left, deviation_at, is_queued_at}
 use Rattle.kr_trace_follow.specs.Lines.{Line}
+use Rattle.kr_trace_follow.specs.Since.{lines_of}
 use Rattle.kr_trace_follow.specs.Steps.{attempt_at, last_of, steps_of, outcome_of}
 use Rattle.kr_trace_follow.specs.Waits.{waiting_after}
 
 -- Where lines have led --
 
--- The state under the table, the locks that are waited for, and how many lines were queued.
+-- The state under the table, the holders of locks with the lines since which they hold them, the locks that are waited for, and how many lines were queued.
 pub record Point : Type 0 where
   pub state : State
+  pub since : List (Holder × ℕ)
   pub waiting : Locks
   pub queued : ℕ
 
 -- Before any line.
 abbrev pub at_start : Map → Point
-at_start opening = record { state = start opening; waiting = []; queued = 0 }
+at_start opening = record { state = start opening; since = []; waiting = []; queued = 0 }
 
 -- One line more is queued, or none; the count stays at its greatest number.
 abbrev pub counted : ℕ → Bool → ℕ
@@ -34,6 +36,7 @@ point_after p at l =
     let last = last_of p at.waiting at.state l in
     record {
       state = done.1;
+      since = let s = done.1 in lines_of s.locks (since_left p at.since at.waiting at.state l);
       waiting = waiting_after p at.waiting l.event.txn (attempt_at done.1 last.op) l.observed;
       queued = counted at.queued (is_queued_at p at.waiting at.state l);
     }
@@ -48,7 +51,7 @@ or_later None later = later
 -- The deviation of the first of the lines that deviates, where they are followed one after another.
 abbrev pub deviation : Protocol → Point → List Line → Option Deviation
 deviation p at [] = None
-deviation p at (l ∷ ls) = or_later (deviation_at p at.waiting at.state l) (deviation p (point_after p at l) ls)
+deviation p at (l ∷ ls) = or_later (deviation_at p at.since at.waiting at.state l) (deviation p (point_after p at l) ls)
 
 -- Where all the lines lead.
 abbrev pub point_left : Protocol → Point → List Line → Point
@@ -74,7 +77,7 @@ begun opening = record { at = at_start opening; found = None }
 -- A line is followed where none before it deviates.
 abbrev pub followed : Protocol → Option Deviation → Following → Line → Following
 followed p (Some d) f l = f
-followed p None f l = record { at = point_after p f.at l; found = let at = f.at in deviation_at p at.waiting at.state l }
+followed p None f l = record { at = point_after p f.at l; found = let at = f.at in deviation_at p at.since at.waiting at.state l }
 
 -- One more line.
 abbrev pub next : Protocol → Following → Line → Following

@@ -1,7 +1,7 @@
 -- How far committed programs have been judged.
 use Rattle.std.specs.Prelude.{Bool, false, List}
 use Rattle.kr_model.specs.Map.{Map}
-use Rattle.kr_trace_follow.specs.Told.{Told, map_after}
+use Rattle.kr_trace_follow.specs.Given.{Given, map_after}
 
 -- The map that the programs so far leave, run whole, and whether judging was given up, for want of memory.
 pub record Judged : Type 0 where
@@ -13,5 +13,5 @@ abbrev pub unjudged : Map → Judged
 unjudged opening = record { map = opening; lost = false }
 
 -- One more program.
-abbrev pub judged : Judged → List Told → Judged
+abbrev pub judged : Judged → List Given → Judged
 judged j program = record { map = map_after j.map program; lost = j.lost }

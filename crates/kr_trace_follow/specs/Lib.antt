@@ -7,7 +7,8 @@ pub mod Judged
 pub mod Lines
 pub mod Programs
 pub mod Scans
+pub mod Since
 pub mod Steps
-pub mod Told
+pub mod Given
 pub mod Waits
 pub mod Whole

@@ -1,54 +1,54 @@
--- The programs of committed transactions, put together from lines as they were told.
+-- The programs of committed transactions, put together from lines as they were given.
 use Rattle.std.specs.Prelude.{ℕ, ◌==◌, List, [], ◌∷◌, ◌++◌, Option, Some, None, if◌then◌else◌}
 use Rattle.kr_model.specs.declared.Op.{Op}
 use Rattle.kr_model.specs.declared.Op.TheVariants as op
 use Rattle.kr_trace_observed.specs.declared.observed.Observed.{Observed}
 use Rattle.kr_trace_observed.specs.declared.observed.Observed.TheVariants as observed
 use Rattle.kr_trace_follow.specs.Lines.{Line}
-use Rattle.kr_trace_follow.specs.Told.{Told}
+use Rattle.kr_trace_follow.specs.Given.{Given}
 
--- What a transaction was told to have done so far: its operations with their answers, and the range of its scan in progress, if there is one.
+-- What lines say that a transaction has done so far: its operations with their answers, and the range of its scan in progress, if there is one.
 pub record Tale : Type 0 where
-  pub done : List Told
+  pub done : List Given
   pub scan : Option (ℕ × ℕ)
 
 -- Nothing.
-abbrev pub untold : Tale
-untold = record { done = []; scan = None }
+abbrev pub no_tale : Tale
+no_tale = record { done = []; scan = None }
 
 -- One more operation with its answer.
-abbrev pub told : Tale → Told → Tale
-told x y = record { done = x.done ++ y ∷ []; scan = None }
+abbrev pub given : Tale → Given → Tale
+given x y = record { done = x.done ++ y ∷ []; scan = None }
 
 -- The scan in progress, if there is one, has ended with this answer.
-abbrev pub scan_told : Tale → Option (ℕ × ℕ) → Observed → Tale
-scan_told x None a = x
-scan_told x (Some (lo, hi)) a = told x (op.Scan lo hi, a)
+abbrev pub scan_given : Tale → Option (ℕ × ℕ) → Observed → Tale
+scan_given x None a = x
+scan_given x (Some (lo, hi)) a = given x (op.Scan lo hi, a)
 
 -- One more step that was granted. A scan is one operation, whose answer is the rows that it ends with.
 abbrev pub tale_after : Tale → Op → Observed → Tale
 tale_after x (op.Scan lo hi) (observed.Going k) = record { done = x.done; scan = Some (lo, hi) }
 tale_after x op.Go (observed.Going k) = x
-tale_after x op.Go a = scan_told x x.scan a
-tale_after x o a = told x (o, a)
+tale_after x op.Go a = scan_given x x.scan a
+tale_after x o a = given x (o, a)
 
--- What each transaction was told to have done so far, and the programs that have committed, in commit order.
+-- What lines say that each transaction has done so far, and the programs that have committed, in commit order.
 pub record Tales : Type 0 where
   pub of : ℕ → Tale
-  pub committed : List (List Told)
+  pub committed : List (List Given)
 
--- No line was told.
+-- No line was given.
 abbrev pub no_tales : Tales
-no_tales = record { of = λ t. untold; committed = [] }
+no_tales = record { of = λ t. no_tale; committed = [] }
 
 -- The tales with this one of t.
 abbrev pub with_tale : (ℕ → Tale) → ℕ → Tale → ℕ → Tale
 with_tale f t x u = if u == t then x else f u
 
--- After a step of t with this reply: one that is blocked tells nothing, nor does a change undone, since its transaction never commits.
+-- After a step of t with this reply: one that is blocked says nothing, nor does a change undone, since its transaction never commits.
 abbrev pub tales_after : Tales → ℕ → Op → Observed → Tales
-tales_after w t o observed.Committed = record { of = with_tale w.of t untold; committed = w.committed ++ (let x = w.of t in x.done) ∷ [] }
-tales_after w t o observed.Aborted = record { of = with_tale w.of t untold; committed = w.committed }
+tales_after w t o observed.Committed = record { of = with_tale w.of t no_tale; committed = w.committed ++ (let x = w.of t in x.done) ∷ [] }
+tales_after w t o observed.Aborted = record { of = with_tale w.of t no_tale; committed = w.committed }
 tales_after w t o (observed.Blocked named) = w
 tales_after w t o (observed.Undone n) = w
 tales_after w t o a = record { of = with_tale w.of t (tale_after (w.of t) o a); committed = w.committed }
@@ -58,6 +58,6 @@ abbrev pub tales_of : Tales → List Line → Tales
 tales_of w [] = w
 tales_of w (l ∷ ls) = tales_of (tales_after w l.event.txn l.event.op l.observed) ls
 
--- The programs that have committed, in commit order, as they were told.
-abbrev pub told_programs : List Line → List (List Told)
-told_programs lines = let w = tales_of no_tales lines in w.committed
+-- The programs that have committed, in commit order, as they were given.
+abbrev pub given_programs : List Line → List (List Given)
+given_programs lines = let w = tales_of no_tales lines in w.committed

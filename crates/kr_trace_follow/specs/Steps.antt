@@ -1,5 +1,5 @@
 -- The steps that a line stands for.
-use Rattle.std.specs.Prelude.{ℕ, zero, suc, ◌-◌, Bool, true, false, not, ◌&&◌, ◌==◌, List, [], ◌∷◌, Option, Some, None, if◌then◌else◌}
+use Rattle.std.specs.Prelude.{ℕ, zero, suc, ◌-◌, Bool, true, false, not, ◌&&◌, ◌==◌, List, [], ◌∷◌, Option, Some, if◌then◌else◌}
 use Rattle.kr_model.specs.declared.Event.{Event}
 use Rattle.kr_model.specs.declared.Op.{Op}
 use Rattle.kr_model.specs.declared.Op.TheVariants as op
@@ -30,7 +30,7 @@ is_same_scan _ _ = false
 abbrev pub first_op : State → Line → Op
 first_op s l = if is_same_scan (standing s l.event.txn).scan (taken l.event.op l.observed) then op.Go else taken l.event.op l.observed
 
--- How many steps a line may take after its first. A scan that is told as a whole, by its rows or as blocked on its way, takes its steps up to the first that doesn't go on; there are no more keys than this below its upper end.
+-- How many steps a line may take after its first. A scan that is given as a whole, by its rows or as blocked on its way, takes its steps up to the first that doesn't go on; there are no more keys than this below its upper end.
 abbrev pub more_steps : Op → Observed → ℕ
 more_steps (op.Scan lo hi) (observed.Rows rows) = hi - lo
 more_steps (op.Scan lo hi) (observed.Blocked named) = hi - lo

@@ -1,5 +1,5 @@
 -- The locks that are waited for: of each transaction whose latest line is blocked, those that its step requests.
-use Rattle.std.specs.Prelude.{ℕ, List, [], ◌++◌, map}
+use Rattle.std.specs.Prelude.{ℕ, [], ◌++◌, map}
 use Rattle.kr_model.specs.Protocol.{Protocol}
 use Rattle.kr_model.specs.Locks.{Locks, release}
 use Rattle.kr_trace_observed.specs.declared.observed.Observed.{Observed}

@@ -1,24 +1,30 @@
 //! A table's state beside what an engine logged.
-ghost use Rattle.std.specs.Prelude.{◌≡◌, None, IfOk, OnOk, OnErr, true, false};
+ghost use Rattle.std.specs.Prelude.{◌≡◌, ◌≤◌, All, None, IfOk, OnOk, OnErr, true, false};
 ghost use Rattle.kr_model.specs.Map.{IsMap};
-ghost use Rattle.kr_trace_follow.specs.Following.{counted};
+ghost use Rattle.kr_model.specs.WellFormed.{IsState};
+ghost use Rattle.kr_trace_follow.specs.Followers.{shown};
+ghost use Rattle.kr_trace_follow.specs.Following.{counted, next};
+ghost use Rattle.kr_trace_follow.specs.Scans.{AreNoted};
+ghost use Rattle.kr_trace_follow.specs.Since.{IsSince, last_noted};
 
 use crate::conflict::Lock;
 use crate::lines::deviation_of;
 use crate::scans::Progress;
-use kr_index::{Memory, Tree};
-use kr_locks::Buckets;
+use crate::since::Notes;
+use kr_index::{Memory, Ordered, Tree};
+use kr_locks::{Buckets, Holdings};
 use kr_machine::Stepper;
 use kr_model::Event;
 use kr_protocol::Protocol;
 use kr_trace_observed::{Deviation, Observed};
 use std::alloc::{AllocError, Global};
+use std::collections::BTreeMap;
 use std::marker::Model;
 
 /// A table's state beside what an engine logged, up to the first line that differs.
 ///
-/// It keeps no line: the index, the locks, what is waited for, the active transactions, and the numbers of those that
-/// have ended.
+/// It keeps no line: the index, the locks, since which lines they are held, what is waited for, the active transactions,
+/// and the numbers of those that have ended.
 #[derive(Drop)]
 pub struct Follower<'a, P: Protocol> {
     /// The table.
@@ -27,6 +33,8 @@ pub struct Follower<'a, P: Protocol> {
     stepper: Stepper<&'a P, Tree, Buckets>,
     /// How far the scans in progress are.
     scans: Vec<Progress>,
+    /// The lines since which locks are held.
+    notes: Notes,
     /// The locks that are waited for.
     waiting: Vec<Lock>,
     /// How many lines were queued.
@@ -39,13 +47,13 @@ pub struct Follower<'a, P: Protocol> {
 
 impl<'a, P: Protocol> Model for Follower<'a, P> {
     ghost use Rattle.kr_trace_follow.specs.Following.{Follows};
-    ghost use Rattle.kr_trace_follow.specs.Followers.{IsFollower};
+    ghost use Rattle.kr_trace_follow.specs.Followers.{IsFollower, shown};
 
     ghost Value = { Follows P };
 
-    ghost view = { λ f. record { protocol = f.protocol.now; following = record { at = record { state = f.stepper.state; waiting = f.waiting.items; queued = f.queued }; found = f.found }; lost = f.lost } };
+    ghost view = { λ f. record { protocol = f.protocol.now; following = shown f.stepper.state f.notes f.waiting.items f.queued f.found; lost = f.lost } };
 
-    ghost invariant = { λ f. IsFollower (P.table f.protocol.now) (P.table f.stepper.protocol.now) f.stepper.pending f.stepper.state f.scans.items f.waiting.items f.lost };
+    ghost invariant = { λ f. IsFollower (P.table f.protocol.now) (P.table f.stepper.protocol.now) f.stepper.pending f.stepper.state f.scans.items f.notes f.waiting.items f.lost };
 }
 
 impl<'a, P: Protocol> Follower<'a, P> {
@@ -65,6 +73,7 @@ impl<'a, P: Protocol> Follower<'a, P> {
             protocol,
             stepper: Stepper::new(alloc, protocol, index, Buckets::new(alloc)),
             scans: Vec::new(alloc),
+            notes: BTreeMap::new(alloc),
             waiting: Vec::new(alloc),
             queued: 0,
             found: None,
@@ -77,7 +86,7 @@ impl<'a, P: Protocol> Follower<'a, P> {
     ///
     /// A line `blocked` that the table grants is no deviation where it waits behind others: another transaction's latest
     /// line is blocked, and what it requests there conflicts with a request of this one. Such a line is queued: its step
-    /// isn't done. The number is told with a deviation, and means nothing else. After `Memory` the follower is given up,
+    /// isn't done. The number is given with a deviation, and means nothing else. After `Memory` the follower is given up,
     /// and answers `Memory` from then on.
     pub fn line(
         &mut self,
@@ -95,24 +104,19 @@ impl<'a, P: Protocol> Follower<'a, P> {
             return Err(AllocError);
         }
         self.lost = true;
-        if self.found.is_none() {
-            let (found, queued) = deviation_of(
-                self.protocol,
-                &mut self.stepper,
-                &mut self.scans,
-                &mut self.waiting,
-                number,
-                event,
-                observed,
-            )?;
-            self.found = found;
-            self.queued = counted(self.queued, queued);
-        }
-        let alloc = self.stepper.alloc();
-        let found = match &self.found {
-            Some(found) => Some(found.try_copy(alloc)?),
-            None => None,
-        };
+        follow(
+            self.protocol,
+            &mut self.stepper,
+            &mut self.scans,
+            &mut self.notes,
+            &mut self.waiting,
+            &mut self.queued,
+            &mut self.found,
+            number,
+            event,
+            observed,
+        )?;
+        let found = copy_of(self.stepper.alloc(), &self.found)?;
         self.lost = false;
         Ok(found)
     }
@@ -122,6 +126,55 @@ impl<'a, P: Protocol> Follower<'a, P> {
         ensures { result ≡ (let at = (self.now.following).at in at.queued) }
     {
         self.queued
+    }
+}
+
+/// Follows a line, unless one before it deviates. Then it notes whether it is queued, and whether it deviates.
+fn follow<P: Protocol, Q: Protocol, I: Ordered, L: Holdings>(
+    protocol: &P,
+    stepper: &mut Stepper<Q, I, L>,
+    scans: &mut Vec<Progress>,
+    notes: &mut Notes,
+    waiting: &mut Vec<Lock>,
+    count: &mut u64,
+    found: &mut Option<Deviation>,
+    number: u64,
+    event: Event,
+    observed: &Observed,
+) -> Result<(), Memory>
+    requires at_rest { stepper.old.pending ≡ None }
+    requires same { Q.table stepper.old.protocol ≡ P.table protocol.now }
+    requires well_formed { IsState (P.table protocol.now) stepper.old.state }
+    requires noted { AreNoted stepper.old.state scans.old.items }
+    requires since { IsSince stepper.old.state.locks (last_noted notes.old) }
+    requires modes { All (λ l. l.1 ≤ (P.table protocol.now).count) waiting.old.items }
+    ensures at_rest { stepper.new.pending ≡ None }
+    ensures protocol { stepper.new.protocol ≡ stepper.old.protocol }
+    ensures well_formed { IsState (P.table protocol.now) stepper.new.state }
+    ensures noted { OnOk result (AreNoted stepper.new.state scans.new.items) }
+    ensures since { OnOk result (IsSince stepper.new.state.locks (last_noted notes.new)) }
+    ensures modes { OnOk result (All (λ l. l.1 ≤ (P.table protocol.now).count) waiting.new.items) }
+    ensures followed { OnOk result (shown stepper.new.state notes.new waiting.new.items count.new found.new
+        ≡ next (P.table protocol.now) (shown stepper.old.state notes.old waiting.old.items count.old found.old) (record { number = number; event = event; observed = observed.now })) }
+{
+    if found.is_some() {
+        return Ok(());
+    }
+    let (deviation, queued) = deviation_of(
+        protocol, stepper, scans, notes, waiting, number, event, observed,
+    )?;
+    *found = deviation;
+    *count = counted(*count, queued);
+    Ok(())
+}
+
+/// A copy of what was found.
+fn copy_of(alloc: Global, found: &Option<Deviation>) -> Result<Option<Deviation>, Memory>
+    ensures { IfOk result (λ copy. copy ≡ found.now) }
+{
+    match found {
+        Some(deviation) => Ok(Some(deviation.try_copy(alloc)?)),
+        None => Ok(None),
     }
 }
 

@@ -1,7 +1,7 @@
 //! Judging committed programs by the answers that were observed, one after another, as they commit.
 ghost use Rattle.std.specs.Prelude.{◌≡◌, IfOk, OnOk, OnErr, true, false};
 ghost use Rattle.kr_model.specs.Map.{IsMap};
-ghost use Rattle.kr_trace_follow.specs.Told.{difference_at, difference_in, map_after, or_later};
+ghost use Rattle.kr_trace_follow.specs.Given.{difference_at, difference_in, map_after, or_later};
 
 use kr_index::Memory;
 use kr_model::{Op, Reply};
@@ -41,7 +41,7 @@ impl Model for Judge {
 
 impl Judge {
     ghost use Rattle.kr_trace_follow.specs.Judged.{unjudged, judged};
-    ghost use Rattle.kr_trace_follow.specs.Told.{difference_in, map_after};
+    ghost use Rattle.kr_trace_follow.specs.Given.{difference_in, map_after};
 
     /// No program has committed: the opening map, whose keys rise strictly. The only fault is `Memory`.
     pub fn new(alloc: Global, opening: &[(u64, u64)]) -> Result<Judge, Memory>
@@ -54,7 +54,7 @@ impl Judge {
         })
     }
 
-    /// Judges the next program in commit order: the first of its answers that isn't, as far as it was told, the answer of
+    /// Judges the next program in commit order: the first of its answers that isn't, as far as it was given, the answer of
     /// the operation run whole on the map that all operations before it left, or `None` where there is none. Whether
     /// answers differ or not, the map is then the one that the program leaves, run whole.
     ///
@@ -79,7 +79,7 @@ impl Judge {
     }
 }
 
-/// Runs a program whole on a map, and answers the first of its answers that differs, as far as it was told.
+/// Runs a program whole on a map, and answers the first of its answers that differs, as far as it was given.
 fn judge_program(
     alloc: Global,
     map: &mut BTreeMap<u64, u64>,
@@ -100,8 +100,7 @@ fn judge_program(
     Ok(first)
 }
 
-/// The difference of an operation with this number, whose answer in the serial run is given, if it differs from what was
-/// told.
+/// The difference of an operation with this number and this answer in the serial run, if the answer isn't what was given.
 fn difference_at(operation: u64, serial: Reply, observed: &Observed) -> Option<Difference>
     ensures { result ≡ difference_at operation serial observed.now }
 {

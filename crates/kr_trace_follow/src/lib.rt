@@ -11,11 +11,13 @@ mod laws;
 mod lines;
 mod present;
 mod scans;
+mod since;
 mod steps;
 mod waits;
 
 pub use follower::Follower;
 pub use judge::{Difference, Judge};
 pub use laws::{
-    conforming_is_serial, differences_are_first, lines_are_followed, programs_are_judged,
+    conforming_is_serial, differences_are_first, lines_are_followed, locks_are_held_since_lines,
+    programs_are_judged,
 };

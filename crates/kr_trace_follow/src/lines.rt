@@ -2,8 +2,9 @@
 ghost use Rattle.std.specs.Prelude.{◌≡◌, ◌≤◌, All, None, IfOk, OnOk};
 ghost use Rattle.kr_model.specs.WellFormed.{IsState};
 ghost use Rattle.kr_trace_follow.specs.Conflicts.{conflicts_of};
-ghost use Rattle.kr_trace_follow.specs.Deviates.{kind_of, deviation_at, is_queued_at};
+ghost use Rattle.kr_trace_follow.specs.Deviates.{since_left, kind_of, deviation_at, is_queued_at};
 ghost use Rattle.kr_trace_follow.specs.Scans.{AreNoted};
+ghost use Rattle.kr_trace_follow.specs.Since.{IsSince, last_noted, lines_of};
 ghost use Rattle.kr_trace_follow.specs.Steps.{attempt_at, last_of, outcome_of};
 ghost use Rattle.kr_trace_follow.specs.Waits.{waiting_after};
 
@@ -11,6 +12,7 @@ use crate::conflict::Lock;
 use crate::kinds::{deviation_at, is_queued, kind_of_blockers, kind_where_granted};
 use crate::present::conflicts_now;
 use crate::scans::Progress;
+use crate::since::Notes;
 use crate::steps::{Last, attempt_all, first_op, more_steps};
 use crate::waits::{note_wait, queue_for};
 use kr_index::{Memory, Ordered};
@@ -25,7 +27,7 @@ use kr_trace_observed::{Deviation, DeviationKind, Observed};
 fn kind_now<P: Protocol, Q: Protocol, I: Ordered, L: Holdings>(
     protocol: &P,
     stepper: &Stepper<Q, I, L>,
-    scans: &[Progress],
+    notes: &Notes,
     txn: Txn,
     last: Last,
     observed: &Observed,
@@ -33,8 +35,7 @@ fn kind_now<P: Protocol, Q: Protocol, I: Ordered, L: Holdings>(
     requires at_rest { stepper.now.pending ≡ None }
     requires same { Q.table stepper.now.protocol ≡ P.table protocol.now }
     requires well_formed { IsState (P.table protocol.now) stepper.now.state }
-    requires noted { AreNoted stepper.now.state scans.now }
-    ensures { IfOk result (λ kind. kind ≡ kind_of (conflicts_of (P.table protocol.now) txn (attempt_at stepper.now.state last.op)) last.ahead.items last.reply observed.now) }
+    ensures { IfOk result (λ kind. kind ≡ kind_of (conflicts_of (P.table protocol.now) (last_noted notes.now) txn (attempt_at stepper.now.state last.op)) last.ahead.items last.reply observed.now) }
 {
     let alloc = stepper.alloc();
     let Last { op, ahead, reply } = last;
@@ -42,7 +43,7 @@ fn kind_now<P: Protocol, Q: Protocol, I: Ordered, L: Holdings>(
         Reply::Blocked(blockers) => match observed {
             Observed::Blocked(named) => kind_of_blockers(alloc, named, blockers, &ahead),
             _ => {
-                let conflicts = conflicts_now(protocol, stepper, scans, txn, op)?;
+                let conflicts = conflicts_now(protocol, stepper, notes, txn, op)?;
                 Ok(Some(DeviationKind::Granted {
                     blockers,
                     conflicts,
@@ -60,6 +61,7 @@ pub(crate) fn deviation_of<P: Protocol, Q: Protocol, I: Ordered, L: Holdings>(
     protocol: &P,
     stepper: &mut Stepper<Q, I, L>,
     scans: &mut Vec<Progress>,
+    notes: &mut Notes,
     waiting: &mut Vec<Lock>,
     number: u64,
     event: Event,
@@ -69,24 +71,29 @@ pub(crate) fn deviation_of<P: Protocol, Q: Protocol, I: Ordered, L: Holdings>(
     requires same { Q.table stepper.old.protocol ≡ P.table protocol.now }
     requires well_formed { IsState (P.table protocol.now) stepper.old.state }
     requires noted { AreNoted stepper.old.state scans.old.items }
+    requires since { IsSince stepper.old.state.locks (last_noted notes.old) }
     requires modes { All (λ l. l.1 ≤ (P.table protocol.now).count) waiting.old.items }
     ensures at_rest { stepper.new.pending ≡ None }
     ensures protocol { stepper.new.protocol ≡ stepper.old.protocol }
     ensures well_formed { IsState (P.table protocol.now) stepper.new.state }
     ensures noted { OnOk result (AreNoted stepper.new.state scans.new.items) }
+    ensures is_since { OnOk result (IsSince stepper.new.state.locks (last_noted notes.new)) }
     ensures modes { OnOk result (All (λ l. l.1 ≤ (P.table protocol.now).count) waiting.new.items) }
-    ensures deviates { IfOk result (λ d. d.0 ≡ deviation_at (P.table protocol.now) waiting.old.items stepper.old.state (record { number = number; event = event; observed = observed.now })) }
+    ensures deviates { IfOk result (λ d. d.0 ≡ deviation_at (P.table protocol.now) (lines_of stepper.old.state.locks (last_noted notes.old)) waiting.old.items stepper.old.state (record { number = number; event = event; observed = observed.now })) }
     ensures queued { IfOk result (λ d. d.1 ≡ is_queued_at (P.table protocol.now) waiting.old.items stepper.old.state (record { number = number; event = event; observed = observed.now })) }
     ensures state { OnOk result (stepper.new.state ≡ (outcome_of (P.table protocol.now) waiting.old.items stepper.old.state (record { number = number; event = event; observed = observed.now })).1) }
+    ensures since { OnOk result (lines_of stepper.new.state.locks (last_noted notes.new) ≡ (let s = (outcome_of (P.table protocol.now) waiting.old.items stepper.old.state (record { number = number; event = event; observed = observed.now })).1 in lines_of s.locks (since_left (P.table protocol.now) (lines_of stepper.old.state.locks (last_noted notes.old)) waiting.old.items stepper.old.state (record { number = number; event = event; observed = observed.now })))) }
     ensures waiting { OnOk result (waiting.new.items ≡ waiting_after (P.table protocol.now) waiting.old.items event.txn (attempt_at stepper.new.state (last_of (P.table protocol.now) waiting.old.items stepper.old.state (record { number = number; event = event; observed = observed.now })).op) observed.now) }
 {
     let txn = event.txn;
     let first = first_op(scans, event, observed);
     let more = more_steps(event.op, observed);
     let queue = queue_for(observed, waiting);
-    let last = attempt_all(protocol, stepper, scans, queue, txn, first, more)?;
-    note_wait(protocol, stepper, scans, waiting, txn, last.op, observed)?;
+    let last = attempt_all(
+        protocol, stepper, scans, notes, number, queue, txn, first, more,
+    )?;
+    note_wait(protocol, stepper, waiting, txn, last.op, observed)?;
     let queued = is_queued(&last.ahead, &last.reply);
-    let kind = kind_now(protocol, stepper, scans, txn, last, observed)?;
+    let kind = kind_now(protocol, stepper, notes, txn, last, observed)?;
     Ok((deviation_at(number, kind), queued))
 }

@@ -7,15 +7,17 @@ ghost use Rattle.kr_model.specs.Step.{step};
 ghost use Rattle.kr_model.specs.WellFormed.{IsState};
 ghost use Rattle.kr_trace_follow.specs.Conflicts.{ahead_of};
 ghost use Rattle.kr_trace_follow.specs.Scans.{AreAt, AreNoted};
-ghost use Rattle.kr_trace_follow.specs.Steps.{taken, is_same_scan, first_op, more_steps, is_going, attempt_at, in_turn, last_step};
+ghost use Rattle.kr_trace_follow.specs.Since.{IsSince, has_ended, last_noted, since_after, since_along, with_changes};
+ghost use Rattle.kr_trace_follow.specs.Steps.{taken, is_same_scan, first_op, more_steps, is_going, attempt_at, in_turn, last_step, all_steps};
 
 use crate::conflict::Lock;
 use crate::present::ahead_now;
 use crate::scans::{Progress, note, noted_of};
+use crate::since::{Notes, forget, note_change, own_before};
 use kr_index::{Memory, Ordered};
 use kr_locks::Holdings;
 use kr_machine::Stepper;
-use kr_model::{Event, Op, Refusal, Reply, Txn};
+use kr_model::{Event, Mode, Name, Op, Refusal, Reply, Txn};
 use kr_protocol::Protocol;
 use kr_trace_observed::Observed;
 use std::alloc::AllocError;
@@ -82,15 +84,49 @@ fn is_going(reply: &Reply) -> bool
     }
 }
 
-/// Attempts a step, and notes how far scans are after it.
+/// Whether a reply ends its transaction.
+fn has_ended(reply: &Reply) -> bool
+    ensures { result ≡ has_ended reply.now }
+{
+    match reply {
+        Reply::Committed | Reply::Aborted => true,
+        _ => false,
+    }
+}
+
+/// Notes the line of a step with this reply for the names on which its transaction has another mode than before. Where it
+/// has ended nothing is noted of it.
+fn note_locks<P: Protocol, I: Ordered, L: Holdings>(
+    stepper: &Stepper<P, I, L>,
+    notes: &mut Notes,
+    line: u64,
+    txn: Txn,
+    before: (Option<(Name, Mode)>, Option<(Name, Mode)>),
+    reply: &Reply,
+) -> Result<(), Memory>
+    requires { stepper.now.pending ≡ None }
+    ensures { OnOk result (last_noted notes.new ≡ with_changes line stepper.now.state.locks txn before (has_ended reply.now) (last_noted notes.old)) }
+{
+    if has_ended(reply) {
+        forget(notes, txn);
+        return Ok(());
+    }
+    note_change(stepper, notes, line, txn, before.0)?;
+    note_change(stepper, notes, line, txn, before.1)
+}
+
+/// Attempts a step of this line, and notes how far scans are after it, and since which lines locks are held.
 fn attempt<P: Protocol, I: Ordered, L: Holdings>(
     stepper: &mut Stepper<P, I, L>,
     scans: &mut Vec<Progress>,
+    notes: &mut Notes,
+    line: u64,
     txn: Txn,
     op: Op,
 ) -> Result<Reply, Memory>
     requires at_rest { stepper.old.pending ≡ None }
     requires noted { AreNoted stepper.old.state scans.old.items }
+    requires since { IsSince stepper.old.state.locks (last_noted notes.old) }
     requires well_formed { IsState (P.table stepper.old.protocol) stepper.old.state }
     ensures at_rest { stepper.new.pending ≡ None }
     ensures protocol { stepper.new.protocol ≡ stepper.old.protocol }
@@ -98,12 +134,15 @@ fn attempt<P: Protocol, I: Ordered, L: Holdings>(
     ensures noted { OnOk result (AreNoted stepper.new.state scans.new.items) }
     ensures reply { IfOk result (λ r. r ≡ (step (P.table stepper.old.protocol) stepper.old.state txn op).0) }
     ensures state { OnOk result (stepper.new.state ≡ (step (P.table stepper.old.protocol) stepper.old.state txn op).1) }
+    ensures since { OnOk result (last_noted notes.new ≡ since_after line stepper.old.state.locks stepper.new.state.locks (last_noted notes.old)) }
 {
+    let before = own_before(stepper, txn, op);
     let reply = stepper.step(txn, op);
     if lacks_memory(&reply) {
         return Err(AllocError);
     }
     note(scans, txn, op, &reply)?;
+    note_locks(stepper, notes, line, txn, before, &reply)?;
     Ok(reply)
 }
 
@@ -138,6 +177,8 @@ fn attempt_in_turn<P: Protocol, Q: Protocol, I: Ordered, L: Holdings>(
     protocol: &P,
     stepper: &mut Stepper<Q, I, L>,
     scans: &mut Vec<Progress>,
+    notes: &mut Notes,
+    line: u64,
     queue: &[Lock],
     txn: Txn,
     op: Op,
@@ -145,6 +186,7 @@ fn attempt_in_turn<P: Protocol, Q: Protocol, I: Ordered, L: Holdings>(
     requires at_rest { stepper.old.pending ≡ None }
     requires same { Q.table stepper.old.protocol ≡ P.table protocol.now }
     requires noted { AreNoted stepper.old.state scans.old.items }
+    requires since { IsSince stepper.old.state.locks (last_noted notes.old) }
     requires well_formed { IsState (P.table protocol.now) stepper.old.state }
     requires modes { All (λ l. l.1 ≤ (P.table protocol.now).count) queue.now }
     ensures at_rest { stepper.new.pending ≡ None }
@@ -154,10 +196,12 @@ fn attempt_in_turn<P: Protocol, Q: Protocol, I: Ordered, L: Holdings>(
     ensures ahead { IfOk result (λ r. r.0.items ≡ ahead_of (P.table protocol.now) queue.now txn (attempt_at stepper.old.state op)) }
     ensures reply { IfOk result (λ r. r.1 ≡ (in_turn (P.table protocol.now) queue.now txn (attempt_at stepper.old.state op)).0) }
     ensures state { OnOk result (stepper.new.state ≡ (in_turn (P.table protocol.now) queue.now txn (attempt_at stepper.old.state op)).1) }
+    ensures since { OnOk result (last_noted notes.new ≡ since_along (P.table protocol.now) line stepper.old.state (all_steps (P.table protocol.now) queue.now txn 0 (attempt_at stepper.old.state op)) (last_noted notes.old)) }
+    ensures is_since { OnOk result (IsSince stepper.new.state.locks (last_noted notes.new)) }
 {
-    let ahead = ahead_now(protocol, stepper, scans, queue, txn, op)?;
+    let ahead = ahead_now(protocol, stepper, queue, txn, op)?;
     if ahead.is_empty() {
-        let reply = attempt(stepper, scans, txn, op)?;
+        let reply = attempt(stepper, scans, notes, line, txn, op)?;
         return Ok((ahead, reply));
     }
     let reply = look_at(stepper, txn, op)?;
@@ -181,6 +225,8 @@ pub(crate) fn attempt_all<P: Protocol, Q: Protocol, I: Ordered, L: Holdings>(
     protocol: &P,
     stepper: &mut Stepper<Q, I, L>,
     scans: &mut Vec<Progress>,
+    notes: &mut Notes,
+    line: u64,
     queue: &[Lock],
     txn: Txn,
     first: Op,
@@ -189,6 +235,7 @@ pub(crate) fn attempt_all<P: Protocol, Q: Protocol, I: Ordered, L: Holdings>(
     requires at_rest { stepper.old.pending ≡ None }
     requires same { Q.table stepper.old.protocol ≡ P.table protocol.now }
     requires noted { AreNoted stepper.old.state scans.old.items }
+    requires since { IsSince stepper.old.state.locks (last_noted notes.old) }
     requires well_formed { IsState (P.table protocol.now) stepper.old.state }
     requires modes { All (λ l. l.1 ≤ (P.table protocol.now).count) queue.now }
     ensures at_rest { stepper.new.pending ≡ None }
@@ -199,15 +246,19 @@ pub(crate) fn attempt_all<P: Protocol, Q: Protocol, I: Ordered, L: Holdings>(
     ensures ahead { IfOk result (λ r. let last = last_step (P.table protocol.now) queue.now txn more (attempt_at stepper.old.state first) in r.ahead.items ≡ ahead_of (P.table protocol.now) queue.now txn last) }
     ensures reply { IfOk result (λ r. let last = last_step (P.table protocol.now) queue.now txn more (attempt_at stepper.old.state first) in r.reply ≡ (in_turn (P.table protocol.now) queue.now txn last).0) }
     ensures state { OnOk result (let last = last_step (P.table protocol.now) queue.now txn more (attempt_at stepper.old.state first) in stepper.new.state ≡ (in_turn (P.table protocol.now) queue.now txn last).1) }
+    ensures since { OnOk result (last_noted notes.new ≡ since_along (P.table protocol.now) line stepper.old.state (all_steps (P.table protocol.now) queue.now txn more (attempt_at stepper.old.state first)) (last_noted notes.old)) }
+    ensures is_since { OnOk result (IsSince stepper.new.state.locks (last_noted notes.new)) }
 {
     let mut op = first;
     for _ in 0..more {
-        let (ahead, reply) = attempt_in_turn(protocol, stepper, scans, queue, txn, op)?;
+        let (ahead, reply) = attempt_in_turn(
+            protocol, stepper, scans, notes, line, queue, txn, op,
+        )?;
         if !ahead.is_empty() || !is_going(&reply) {
             return Ok(Last { op, ahead, reply });
         }
         op = Op::Go;
     }
-    let (ahead, reply) = attempt_in_turn(protocol, stepper, scans, queue, txn, op)?;
+    let (ahead, reply) = attempt_in_turn(protocol, stepper, scans, notes, line, queue, txn, op)?;
     Ok(Last { op, ahead, reply })
 }

@@ -3,13 +3,11 @@ ghost use Rattle.std.specs.Prelude.{◌≡◌, ◌≤◌, ◌++◌, All, None, O
 ghost use Rattle.kr_model.specs.Locks.{release};
 ghost use Rattle.kr_model.specs.WellFormed.{IsState};
 ghost use Rattle.kr_trace_follow.specs.Conflicts.{wanted};
-ghost use Rattle.kr_trace_follow.specs.Scans.{AreNoted};
 ghost use Rattle.kr_trace_follow.specs.Steps.{attempt_at, queue_for};
 ghost use Rattle.kr_trace_follow.specs.Waits.{waiting_after};
 
+use crate::attempts::tests_now;
 use crate::conflict::{Lock, Tested};
-use crate::present::tests_now;
-use crate::scans::Progress;
 use kr_index::{Memory, Ordered};
 use kr_locks::Holdings;
 use kr_machine::Stepper;
@@ -49,22 +47,21 @@ fn push_wanted(waiting: &mut Vec<Lock>, requests: &[Tested]) -> Result<(), Memor
 pub(crate) fn note_wait<P: Protocol, Q: Protocol, I: Ordered, L: Holdings>(
     protocol: &P,
     stepper: &Stepper<Q, I, L>,
-    scans: &[Progress],
     waiting: &mut Vec<Lock>,
     txn: Txn,
     op: Op,
     observed: &Observed,
 ) -> Result<(), Memory>
     requires at_rest { stepper.now.pending ≡ None }
+    requires same { Q.table stepper.now.protocol ≡ P.table protocol.now }
     requires well_formed { IsState (P.table protocol.now) stepper.now.state }
-    requires noted { AreNoted stepper.now.state scans.now }
     requires modes { All (λ l. l.1 ≤ (P.table protocol.now).count) waiting.old.items }
     ensures waiting { OnOk result (waiting.new.items ≡ waiting_after (P.table protocol.now) waiting.old.items txn (attempt_at stepper.now.state op) observed.now) }
     ensures modes { OnOk result (All (λ l. l.1 ≤ (P.table protocol.now).count) waiting.new.items) }
 {
     forget(waiting, txn);
     if let Observed::Blocked(_) = observed {
-        let requests = tests_now(protocol, stepper, scans, txn, op)?;
+        let requests = tests_now(protocol, stepper, txn, op)?;
         push_wanted(waiting, &requests)?;
     }
     Ok(())

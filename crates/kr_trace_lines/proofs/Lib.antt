@@ -1,4 +1,5 @@
 pub mod Each
+pub mod RiseLaws
 pub mod Distinct
 pub mod Texts
 pub mod Values

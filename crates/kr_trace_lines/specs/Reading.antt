@@ -6,6 +6,7 @@ use Rattle.serde_json.specs.Events.{items_len, members_len}
 use Rattle.kr_model.specs.declared.Op.{Op}
 use Rattle.kr_model.specs.declared.Event.{Event}
 use Rattle.kr_model.specs.Firsts.{first, unless}
+use Rattle.kr_model.specs.Map.{IsMap}
 use Rattle.kr_script.specs.declared.faults.ScriptFault.{ScriptFault}
 use Rattle.kr_script.specs.declared.faults.ScriptFault.TheVariants as told_as
 use Rattle.kr_script.specs.Json.{length_of, number_in, list_in, items_in, members_in}
@@ -133,6 +134,12 @@ line_read (Some d) = line_of d
 -- What the bytes of a line read as.
 abbrev pub reading_line : List ℕ → Result TraceLine LineFault
 reading_line bytes = line_read (document bytes)
+
+-- The keys of an opening rise, where the line is a head.
+abbrev pub RisesIn : TraceLine → Type 0
+RisesIn (head opening tests) = IsMap opening
+RisesIn (step e o) = Unit {0}
+RisesIn (order txns) = Unit {0}
 
 -- The answer is the reading, unless memory ran out.
 abbrev pub Gives : Result Line LineFault → Result TraceLine LineFault → Type 0

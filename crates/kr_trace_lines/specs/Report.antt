@@ -16,11 +16,11 @@ use Rattle.kr_trace_lines.specs.declared.verdict.TraceVerdict.{TraceVerdict}
 use Rattle.kr_trace_lines.specs.declared.verdict.TraceVerdict.TheVariants as verdict
 use Rattle.kr_trace_lines.specs.Replies.{observed_data}
 
--- A held lock that conflicts: its name, its holder and its mode; the mode that the step asks for, and the converted mode, which conflicts.
+-- A held lock that conflicts: its name, its holder and its mode; the line since which it is held in this mode; the mode that the step asks for, and the converted mode, which conflicts.
 abbrev pub conflict_data : List (List ℕ) → Conflict → Data
 conflict_data names c =
-    array (item (name_data c.name) (item (whole c.holder) (item (string (name_of names c.held))
-    (item (string (name_of names c.asked)) (item (string (name_of names c.tested)) no_items)))))
+    array (item (name_data c.name) (item (whole c.holder) (item (string (name_of names c.held)) (item (whole c.since)
+    (item (string (name_of names c.asked)) (item (string (name_of names c.tested)) no_items))))))
 
 -- Held locks that conflict, in their order.
 abbrev pub conflicts_data : List (List ℕ) → List Conflict → Data

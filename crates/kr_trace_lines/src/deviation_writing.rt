@@ -49,6 +49,14 @@ fn write_held<P: Protocol>(
     out.push_str(",")
 }
 
+/// Writes the line since which a lock is held, and a comma.
+fn write_since(out: &mut String, since: u64) -> Result<(), AllocError>
+    ensures { OnOk result (string_bytes out.new ≡ string_bytes out.old ++ (decimal since ++ 44 ∷ [])) }
+{
+    write_number(out, since)?;
+    out.push_str(",")
+}
+
 /// Writes the other parts of a lock: the modes that the step asks for, and the closing bracket.
 fn write_asked<P: Protocol>(
     alloc: Global,
@@ -77,6 +85,7 @@ fn write_conflict<P: Protocol>(
         ≡ string_bytes out.old ++ compact_text (conflict_data (P.names protocol.now) conflict)) }
 {
     write_held(alloc, protocol, out, conflict)?;
+    write_since(out, conflict.since)?;
     write_asked(alloc, protocol, out, conflict)
 }
 

@@ -8,7 +8,8 @@ ghost use Rattle.kr_script.specs.Json.{list_in, number_in};
 ghost use Rattle.kr_script.specs.Reading as script;
 ghost use Rattle.kr_trace_lines.specs.declared.faults.LineFault.TheVariants as fault;
 ghost use Rattle.kr_trace_lines.specs.Reading as spec;
-ghost use Rattle.kr_trace_lines.specs.Reading.{Gives, are_head_names, format_faults, head_line, pairs_faults, reading_line, step_line};
+ghost use Rattle.kr_trace_lines.specs.Reading.{Gives, RisesIn, are_head_names, format_faults, head_line, pairs_faults, reading_line, step_line};
+ghost use Rattle.kr_trace_lines.specs.Lines.{seen};
 ghost use Rattle.kr_trace_lines.specs.Replies.{each_of, txn_of};
 
 use crate::replies::{reply_in, texts_in, txns_in};
@@ -180,6 +181,7 @@ fn line_of(alloc: Global, value: &Value) -> Result<Line, LineFault>
 /// makes no difference: `PartLines` looks at that. `Memory` comes only where a growth was refused, and so at no empty line.
 pub fn read_line(alloc: Global, bytes: &[u8]) -> Result<Line, LineFault>
     ensures reads { Gives result (reading_line bytes.now) }
+    ensures rises { IfOk result (λ l. RisesIn (seen l)) }
     ensures memory { result ≡ Err fault.Memory → 0 < length bytes.now }
 {
     match Value::from_slice(alloc, bytes) {

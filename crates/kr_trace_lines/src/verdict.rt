@@ -3,7 +3,7 @@
 use kr_model::{Reply, Txn, Txns};
 use kr_trace_observed::Observed;
 
-/// Whether the committed transactions of a part are serializable, as far as their answers are told.
+/// Whether the committed transactions of a part are serializable, as far as their answers are given.
 #[derive(Debug, Drop)]
 pub enum TraceVerdict {
     /// In commit order.

@@ -6,12 +6,12 @@ use Rattle.kr_model.specs.Difference.{same_pairs}
 use Rattle.kr_trace_observed.specs.declared.observed.Observed.{Observed}
 use Rattle.kr_trace_observed.specs.declared.observed.Observed.TheVariants as observed
 
--- Whether the number is the one that was told, where one was.
-abbrev pub is_told : Option ℕ → ℕ → Bool
-is_told (Some m) n = n == m
-is_told None n = true
+-- Whether the number is the one that was given, where one was.
+abbrev pub is_given : Option ℕ → ℕ → Bool
+is_given (Some m) n = n == m
+is_given None n = true
 
--- Whether the reply is the one that was observed, as far as it was told. Whom the engine names as blockers isn't compared.
+-- Whether the reply is the one that was observed, as far as it was given. Whom the engine names as blockers isn't compared.
 abbrev pub fits : Reply → Observed → Bool
 fits (reply.Found v) (observed.Found w) = v == w
 fits reply.None observed.None = true
@@ -19,10 +19,10 @@ fits (reply.Going k) (observed.Going l) = k == l
 fits (reply.Rows a) (observed.Rows b) = same_pairs a b
 fits reply.Done observed.Done = true
 fits reply.Duplicate observed.Duplicate = true
-fits (reply.Deleted v) (observed.Deleted w) = is_told w v
+fits (reply.Deleted v) (observed.Deleted w) = is_given w v
 fits reply.Absent observed.Absent = true
-fits (reply.Updated v) (observed.Updated w) = is_told w v
-fits (reply.Undone n) (observed.Undone l) = is_told l n
+fits (reply.Updated v) (observed.Updated w) = is_given w v
+fits (reply.Undone n) (observed.Undone l) = is_given l n
 fits reply.Committed observed.Committed = true
 fits reply.Aborted observed.Aborted = true
 fits (reply.Blocked us) (observed.Blocked named) = true

@@ -13,6 +13,8 @@ pub struct Conflict {
     pub holder: Txn,
     /// The mode that it holds.
     pub held: Mode,
+    /// The number of the line since which it holds the lock in this mode.
+    pub since: u64,
     /// The mode that the step requests on the name.
     pub asked: Mode,
     /// The converted mode in which the request is tested: that of the requester's own mode on the name and `asked`.

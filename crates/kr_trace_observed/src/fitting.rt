@@ -1,23 +1,23 @@
 //! Whether a reply is the one that was observed.
 ghost use Rattle.std.specs.Prelude.{◌≡◌};
 ghost use Rattle.kr_model.specs.Difference.{same_pairs};
-ghost use Rattle.kr_trace_observed.specs.Fits.{is_told, fits};
+ghost use Rattle.kr_trace_observed.specs.Fits.{is_given, fits};
 
 use crate::observed::Observed;
 use kr_model::Reply;
 
-/// Whether the reply is the one that was observed, as far as it was told: of the same kind, with the same value where one
-/// was told. A blocked step fits whomever the engine names as blockers.
+/// Whether the reply is the one that was observed, as far as it was given: of the same kind, with the same value where one
+/// was given. A blocked step fits whomever the engine names as blockers.
 pub fn fits(reply: &Reply, observed: &Observed) -> bool
     ensures { result ≡ fits reply.now observed.now }
 {
     match (reply, observed) {
-        (Reply::Found(value), Observed::Found(told)) => *value == *told,
-        (Reply::Going(key), Observed::Going(told)) => *key == *told,
-        (Reply::Rows(rows), Observed::Rows(told)) => are_same(rows.as_slice(), told.as_slice()),
-        (Reply::Deleted(value), Observed::Deleted(told)) => is_told(*told, *value),
-        (Reply::Updated(value), Observed::Updated(told)) => is_told(*told, *value),
-        (Reply::Undone(left), Observed::Undone(told)) => is_told(*told, *left),
+        (Reply::Found(value), Observed::Found(given)) => *value == *given,
+        (Reply::Going(key), Observed::Going(given)) => *key == *given,
+        (Reply::Rows(rows), Observed::Rows(given)) => are_same(rows.as_slice(), given.as_slice()),
+        (Reply::Deleted(value), Observed::Deleted(given)) => is_given(*given, *value),
+        (Reply::Updated(value), Observed::Updated(given)) => is_given(*given, *value),
+        (Reply::Undone(left), Observed::Undone(given)) => is_given(*given, *left),
         (Reply::None, Observed::None)
         | (Reply::Done, Observed::Done)
         | (Reply::Duplicate, Observed::Duplicate)
@@ -29,19 +29,19 @@ pub fn fits(reply: &Reply, observed: &Observed) -> bool
     }
 }
 
-/// Whether the number is the one that was told, where one was.
-fn is_told(told: Option<u64>, number: u64) -> bool
-    ensures { result ≡ is_told told number }
+/// Whether the number is the one that was given, where one was.
+fn is_given(given: Option<u64>, number: u64) -> bool
+    ensures { result ≡ is_given given number }
 {
-    match told {
-        Some(told) => number == told,
+    match given {
+        Some(given) => number == given,
         None => true,
     }
 }
 
 /// Whether two lists of pairs are the same.
-fn are_same(rows: &[(u64, u64)], told: &[(u64, u64)]) -> bool
-    ensures { result ≡ same_pairs rows.now told.now }
+fn are_same(rows: &[(u64, u64)], given: &[(u64, u64)]) -> bool
+    ensures { result ≡ same_pairs rows.now given.now }
 {
-    rows == told
+    rows == given
 }

@@ -1,4 +1,4 @@
-//! Replies as an engine tells them, which replies of a lock table they agree with, and how a line may differ.
+//! Replies as an engine tells them, which replies of a protocol table they agree with, and how a line may differ.
 #![tactic(auto)]
 
 mod deviation;

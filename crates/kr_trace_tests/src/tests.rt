@@ -1,5 +1,5 @@
 mod follow;
+mod given;
 mod judge;
 mod lines;
 mod observed;
-mod told;

@@ -1,13 +1,15 @@
 //! Lines followed under key-value locking, against deviations worked out by hand.
 
 mod rows;
+mod since;
 
-use crate::tests::told::Told;
+use crate::tests::given::Given;
 use kr_model::{Event, Op, Txn};
 use kr_protocol::Kvl;
 use kr_trace_follow::Follower;
 use kr_trace_observed::Deviation;
 use rows::{ROWS, Row};
+use since::SINCE_ROWS;
 use std::alloc::{AllocError, Global};
 use std::process::Abort;
 use std::test::Fail;
@@ -15,14 +17,14 @@ use std::test::Fail;
 /// The deviation after the last of these lines, and how many are queued.
 fn follow(
     alloc: Global,
-    lines: &[(Txn, Op, Told)],
+    lines: &[(Txn, Op, Given)],
 ) -> Result<(Option<Deviation>, u64), AllocError> {
     let mut follower = Follower::new(alloc, &Kvl, &[(10, 1), (20, 2), (30, 3)])?;
     let mut last = None;
     let mut number = 0;
-    for &(txn, op, told) in lines {
+    for &(txn, op, given) in lines {
         number += 1;
-        last = follower.line(number, Event { txn, op }, &told.observed(alloc)?)?;
+        last = follower.line(number, Event { txn, op }, &given.observed(alloc)?)?;
     }
     Ok((last, follower.queued()))
 }
@@ -45,6 +47,14 @@ fn check(rt: &impl Abort, alloc: Global, row: &Row) -> Result<(), AllocError> {
 #[test]
 fn follows_lines(rt: HostRuntime) -> Result<(), Fail> {
     for row in ROWS {
+        check(&rt, rt.alloc(), row)?;
+    }
+    Ok(())
+}
+
+#[test]
+fn says_since_which_line_a_lock_is_held(rt: HostRuntime) -> Result<(), Fail> {
+    for row in SINCE_ROWS {
         check(&rt, rt.alloc(), row)?;
     }
     Ok(())

@@ -2,8 +2,8 @@ use Rattle.std.proofs.Common.{◌≡◌, ◌+◌, suc, sym, ◌∙◌, ap, arith
 use Rattle.kr_model.specs.Difference.{same_reply}
 use Rattle.kr_model.specs.Serial.{whole}
 use Rattle.kr_model.proofs.SerialLaws.{reply_same}
-use Rattle.kr_trace_follow.specs.Told.{difference_in, map_after}
-use Rattle.kr_trace_follow.proofs.ToldLaws.{judged_more, left_more}
+use Rattle.kr_trace_follow.specs.Given.{difference_in, map_after}
+use Rattle.kr_trace_follow.proofs.GivenLaws.{judged_more, left_more}
 use Rattle.kr_trace_follow.proofs.judge.judge_program.Goals as goal
 
 pub follow-requires-clause-given : goal.follow-requires-clause-given

@@ -1,6 +1,6 @@
 use Rattle.std.proofs.Common.{◌≡◌, suc, drop}
 use Rattle.kr_model.specs.Map.{IsMap}
-use Rattle.kr_trace_follow.specs.Told.{or_later, difference_in, map_after}
+use Rattle.kr_trace_follow.specs.Given.{or_later, difference_in, map_after}
 use Rattle.kr_trace_follow.proofs.judge.judge_program.Given as goal
 
 -- The first difference so far, or else that of what is left, is the program's; and what is left leaves its map.

@@ -1,4 +1,4 @@
-use Rattle.kr_trace_follow.proofs.ToldLaws.{answered_if, no_difference, difference_is_first, first_is_difference}
+use Rattle.kr_trace_follow.proofs.GivenLaws.{answered_if, no_difference, difference_is_first, first_is_difference}
 use Rattle.kr_trace_follow.proofs.laws.differences_are_first.Goals as goal
 
 pub returns-clause-if_none : goal.returns-clause-if_none

@@ -1,5 +1,5 @@
-use Rattle.kr_trace_follow.proofs.ToldLaws.{one_more_program, first_program, other_programs, none_differs, differs_none}
-use Rattle.kr_trace_follow.proofs.WholeLaws.{told_whole, whole_told}
+use Rattle.kr_trace_follow.proofs.GivenLaws.{one_more_program, first_program, other_programs, none_differs, differs_none}
+use Rattle.kr_trace_follow.proofs.WholeLaws.{given_whole, whole_given}
 use Rattle.kr_trace_follow.proofs.laws.programs_are_judged.Goals as goal
 
 pub returns-clause-one_more : goal.returns-clause-one_more
@@ -12,10 +12,10 @@ pub returns-clause-others : goal.returns-clause-others
 returns-clause-others c = other_programs
 
 pub returns-clause-whole : goal.returns-clause-whole
-returns-clause-whole c = told_whole
+returns-clause-whole c = given_whole
 
-pub returns-clause-told : goal.returns-clause-told
-returns-clause-told c = whole_told
+pub returns-clause-given : goal.returns-clause-given
+returns-clause-given c = whole_given
 
 pub returns-clause-judged : goal.returns-clause-judged
 returns-clause-judged c = none_differs

@@ -1,9 +1,11 @@
-use Rattle.std.proofs.Common.{◌≡◌, false, true, sym, ◌∙◌, ap}
+use Rattle.std.proofs.Common.{◌≡◌, false, sym, ◌∙◌, ap}
 use Rattle.kr_model.specs.Step.{Outcome}
 use Rattle.kr_trace_follow.specs.Conflicts.{ahead_of}
 use Rattle.kr_trace_follow.specs.Lines.{Attempt}
 use Rattle.kr_trace_follow.specs.Steps.{is_passed, in_turn, attempt_at, after_step, last_step}
 use Rattle.kr_trace_follow.proofs.StepLaws.{turn_done, behind_none, empty_list, some_list, goes_last, stops_last, ends_last, passes, stops_going, stops_behind}
+use Rattle.kr_trace_follow.specs.Since.{last_noted}
+use Rattle.kr_trace_follow.proofs.SinceLaws.{goes_since, stops_since, ends_since}
 use Rattle.kr_trace_follow.proofs.steps.attempt_all.Goals as goal
 use Rattle.kr_trace_follow.proofs.steps.attempt_all.Goals.{then-not-is_empty-via-then-not-is_empty, then-not-is_empty-via-else-not-is_empty+then-not-is_going}
 
@@ -29,6 +31,8 @@ returns-then-not-is_empty g c =
       ahead = c.in_ok-ahead.ensures.ahead ∙ ap (λ z. ahead_of p queue t z) last;
       reply = c.in_ok-ahead.ensures.reply ∙ ap (λ z. (in_turn p queue t z).0) last;
       state = c.in_ok-ahead.ensures.state ∙ ap (λ z. (in_turn p queue t z).1) last;
+      since = c.in_ok-ahead.ensures.since ∙ sym (stops_since p queue t c.args.more c.loop.counter c.args.line a (last_noted c.loop.notes) c.loop-test.true stops) ∙ c.loop.invariant.since;
+      is_since = c.in_ok-ahead.ensures.is_since;
     }
 
 pub loop-preserved : goal.loop-preserved
@@ -46,6 +50,8 @@ loop-preserved g c =
       protocol = c.in_ok-ahead.ensures.protocol ∙ c.loop.invariant.protocol;
       well_formed = c.in_ok-ahead.ensures.well_formed;
       noted = c.in_ok-ahead.ensures.noted;
+      is_since = c.in_ok-ahead.ensures.is_since;
+      since = goes_since p queue t c.args.more c.loop.counter c.args.line a c.attempt_in_turn.new.stepper.state (last_noted c.loop.notes) (last_noted c.attempt_in_turn.new.notes) c.loop-test.true passed new c.in_ok-ahead.ensures.since ∙ c.loop.invariant.since;
       last = goes_last p queue t c.args.more c.loop.counter a c.attempt_in_turn.new.stepper.state c.loop-test.true passed new ∙ c.loop.invariant.last;
     }
 
@@ -69,3 +75,9 @@ returns-clause-state g c =
     let a : Attempt = attempt_at c.loop.stepper.state c.loop.op in
     c.in_ok-ahead-2.ensures.state
     ∙ ap (λ z. (in_turn p c.args.queue.now c.args.txn z).1) (sym (ends_last p c.args.queue.now c.args.txn c.args.more c.loop.counter a c.loop-test.false) ∙ c.loop.invariant.last)
+
+pub returns-clause-since : goal.returns-clause-since
+returns-clause-since g c =
+    let p = g.P.Protocol.table c.args.protocol.now in
+    let a : Attempt = attempt_at c.loop.stepper.state c.loop.op in
+    c.in_ok-ahead-2.ensures.since ∙ sym (ends_since p c.args.queue.now c.args.txn c.args.more c.loop.counter c.args.line a (last_noted c.loop.notes) c.loop-test.false) ∙ c.loop.invariant.since

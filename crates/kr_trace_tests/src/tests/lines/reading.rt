@@ -4,7 +4,7 @@ use std::alloc::Global;
 use std::test::Fail;
 
 /// What a line reads as, in words.
-pub fn told(alloc: Global, line: &str) -> Result<String, Fail> {
+pub fn given(alloc: Global, line: &str) -> Result<String, Fail> {
     match read_line(alloc, line.as_bytes()) {
         Ok(line) => Ok(format!(in alloc; "{line:?}")?),
         Err(fault) => Ok(format!(in alloc; "{fault}")?),
@@ -109,7 +109,7 @@ pub const LINES: &[(&str, &str)] = &[
 #[test]
 fn lines_read(rt: HostRuntime) -> Result<(), Fail> {
     for (line, expected) in LINES {
-        let found = told(rt.alloc(), line)?;
+        let found = given(rt.alloc(), line)?;
         assert_eq!(rt; found.as_str(), *expected, "{line}");
     }
     Ok(())

@@ -1,5 +1,5 @@
 //! The line of a step, and the lines that are printed.
-use crate::tests::lines::reading::{LINES, told};
+use crate::tests::lines::reading::{LINES, given};
 use kr_model::{Event, Items, Name, Op, Reply};
 use kr_protocol::Kvl;
 use kr_trace_lines::{Line, TraceVerdict, read_line, write_judged, write_line, write_part};
@@ -16,7 +16,7 @@ fn steps_read_back(rt: HostRuntime) -> Result<(), Fail> {
             continue;
         };
         let written = write_line(alloc, event, &observed)?;
-        let found = told(alloc, written.as_str())?;
+        let found = given(alloc, written.as_str())?;
         assert_eq!(rt; found.as_str(), *expected, "{line}");
     }
     Ok(())
@@ -41,6 +41,7 @@ fn granted(alloc: Global) -> Result<Deviation, AllocError> {
         name: Name::Key(20),
         holder: 1,
         held: 2,
+        since: 12,
         asked: 3,
         tested: 3,
     };
@@ -70,7 +71,7 @@ fn a_part_that_differs_is_written(rt: HostRuntime) -> Result<(), Fail> {
     let line = write_part(alloc, &Kvl, 1, differs, 0, tests.as_slice(), &verdict)?;
     assert_eq!(rt;
         line.as_str(),
-        r#"{"conforms":["granted",3,["blocked",[1]],[[20,1,"IX","S","S"],["End",1,"IX","S","S"]]],"part":1,"queued":0,"tests":["a \"b\""],"verdict":["not-serial",1,1,["none"],["found",5]]}"#
+        r#"{"conforms":["granted",3,["blocked",[1]],[[20,1,"IX",12,"S","S"],["End",1,"IX",12,"S","S"]]],"part":1,"queued":0,"tests":["a \"b\""],"verdict":["not-serial",1,1,["none"],["found",5]]}"#
     );
     Ok(())
 }

@@ -1,4 +1,4 @@
--- Judging programs by what was told of their answers.
+-- Judging programs by what was given of their answers.
 use Rattle.std.specs.Prelude.{◌≡◌, ℕ, suc, ◌+◌, Bool, true, false, cond, List, [], ◌∷◌, ◌++◌, Option, Some, None, length, refl, unwrap_or}
 use Rattle.std.specs.List.{flat_map}
 use Rattle.std.proofs.Common.{sym, ◌∙◌, ap, ap₂, subst, arith, get_or, drop, ◌<◌}
@@ -10,7 +10,7 @@ use Rattle.kr_model.specs.Serial.{whole}
 use Rattle.kr_trace_observed.specs.declared.observed.Observed.{Observed}
 use Rattle.kr_trace_observed.specs.Fits.{fits}
 use Rattle.kr_trace_follow.specs.declared.judge.Difference.{Difference}
-use Rattle.kr_trace_follow.specs.Told.{Told, AreAnsweredWhereTold, AreSerialWhereTold, map_after, difference_at, or_later, difference_in, NoneDiffers, IsFirstDifference}
+use Rattle.kr_trace_follow.specs.Given.{Given, AreAnsweredWhereGiven, AreSerialWhereGiven, map_after, difference_at, or_later, difference_in, NoneDiffers, IsFirstDifference}
 
 -- One operation more: the first difference so far, and those of the rest.
 pub one_more : (first here later : Option Difference) → or_later (or_later first here) later ≡ or_later first (or_later here later)
@@ -22,7 +22,7 @@ or_nothing (Some d) = refl
 or_nothing None = refl
 
 -- One operation of a program is judged.
-module _ (m after : Map) (i : ℕ) (xs : List Told) (y : Told) (lt : i < length xs) (here : get_or xs i y ≡ y) (left : after ≡ (whole m y.0).1) where
+module _ (m after : Map) (i : ℕ) (xs : List Given) (y : Given) (lt : i < length xs) (here : get_or xs i y ≡ y) (left : after ≡ (whole m y.0).1) where
   next : drop i xs ≡ y ∷ drop (suc i) xs
   next = drop-cons xs i y lt ∙ ap (λ z. z ∷ drop (suc i) xs) here
 
@@ -53,38 +53,38 @@ false_not_true e = cc
 some_is : (x y : Difference) → Some x ≡ Some y → x ≡ y
 some_is x y e = ap (λ o. unwrap_or o x) e
 
-answered_here : (m : Map) (n : ℕ) (o : Op) (a : Observed) (rest : List Told) (b : Bool) → fits (whole m o).0 a ≡ b
+answered_here : (m : Map) (n : ℕ) (o : Op) (a : Observed) (rest : List Given) (b : Bool) → fits (whole m o).0 a ≡ b
     → or_later (cond b None (Some (record { operation = n; serial = (whole m o).0 }))) (difference_in (whole m o).1 (suc n) rest) ≡ None
-    → (difference_in (whole m o).1 (suc n) rest ≡ None → AreAnsweredWhereTold (whole m o).1 rest) → AreAnsweredWhereTold m ((o, a) ∷ rest)
+    → (difference_in (whole m o).1 (suc n) rest ≡ None → AreAnsweredWhereGiven (whole m o).1 rest) → AreAnsweredWhereGiven m ((o, a) ∷ rest)
 answered_here m n o a rest true e h later = (e, later h)
 answered_here m n o a rest false e h later = absurd (cc)
 
-pub answered_if : (m : Map) (n : ℕ) (os : List Told) → difference_in m n os ≡ None → AreAnsweredWhereTold m os
+pub answered_if : (m : Map) (n : ℕ) (os : List Given) → difference_in m n os ≡ None → AreAnsweredWhereGiven m os
 answered_if m n [] h = tt
 answered_if m n ((o, a) ∷ rest) h = answered_here m n o a rest (fits (whole m o).0 a) refl h (λ g. answered_if (whole m o).1 (suc n) rest g)
 
-pub no_difference : (m : Map) (n : ℕ) (os : List Told) → AreAnsweredWhereTold m os → difference_in m n os ≡ None
+pub no_difference : (m : Map) (n : ℕ) (os : List Given) → AreAnsweredWhereGiven m os → difference_in m n os ≡ None
 no_difference m n [] h = refl
 no_difference m n ((o, a) ∷ rest) h =
     ap (λ b. or_later (cond b None (Some (record { operation = n; serial = (whole m o).0 }))) (difference_in (whole m o).1 (suc n) rest)) h.0
     ∙ no_difference (whole m o).1 (suc n) rest h.1
 
 -- what the first difference is of operations that are numbered from n
-record IsFirstIn (m : Map) (n : ℕ) (os : List Told) (d : Difference) : Type 0 where
-  before : List Told
+record IsFirstIn (m : Map) (n : ℕ) (os : List Given) (d : Difference) : Type 0 where
+  before : List Given
   op : Op
   answer : Observed
-  rest : List Told
+  rest : List Given
   place : os ≡ before ++ (op, answer) ∷ rest
   numbered : d.operation ≡ n + length before
-  answered : AreAnsweredWhereTold m before
+  answered : AreAnsweredWhereGiven m before
   whole_answer : d.serial ≡ (whole (map_after m before) op).0
   differs : fits d.serial answer ≡ false
 
 one_later : (a n l : ℕ) → a ≡ suc n + l → a ≡ n + suc l
 one_later a n l e = omega arith
 
-first_here : (m : Map) (n : ℕ) (o : Op) (a : Observed) (rest : List Told) (d : Difference) (b : Bool) → fits (whole m o).0 a ≡ b
+first_here : (m : Map) (n : ℕ) (o : Op) (a : Observed) (rest : List Given) (d : Difference) (b : Bool) → fits (whole m o).0 a ≡ b
     → or_later (cond b None (Some (record { operation = n; serial = (whole m o).0 }))) (difference_in (whole m o).1 (suc n) rest) ≡ Some d
     → (difference_in (whole m o).1 (suc n) rest ≡ Some d → IsFirstIn (whole m o).1 (suc n) rest d) → IsFirstIn m n ((o, a) ∷ rest) d
 first_here m n o a rest d true e h later =
@@ -114,14 +114,14 @@ first_here m n o a rest d false e h later =
       differs = e;
     })
 
-first_in : (m : Map) (n : ℕ) (os : List Told) (d : Difference) → difference_in m n os ≡ Some d → IsFirstIn m n os d
+first_in : (m : Map) (n : ℕ) (os : List Given) (d : Difference) → difference_in m n os ≡ Some d → IsFirstIn m n os d
 first_in m n [] d h = absurd (cc)
 first_in m n ((o, a) ∷ rest) d h = first_here m n o a rest d (fits (whole m o).0 a) refl h (λ g. first_in (whole m o).1 (suc n) rest d g)
 
 from_one : (n l : ℕ) → n ≡ 1 + l → n ≡ l + 1
 from_one n l e = omega arith
 
-pub difference_is_first : (m : Map) (os : List Told) (d : Difference) → difference_in m 1 os ≡ Some d → IsFirstDifference m os d
+pub difference_is_first : (m : Map) (os : List Given) (d : Difference) → difference_in m 1 os ≡ Some d → IsFirstDifference m os d
 difference_is_first m os d h =
     let f = first_in m 1 os d h in
     record {
@@ -136,7 +136,7 @@ difference_is_first m os d h =
       differs = f.differs;
     }
 
-only_in : (d : Difference) (m : Map) (n : ℕ) (before : List Told) (o : Op) (a : Observed) (rest : List Told) → d.operation ≡ n + length before → AreAnsweredWhereTold m before
+only_in : (d : Difference) (m : Map) (n : ℕ) (before : List Given) (o : Op) (a : Observed) (rest : List Given) → d.operation ≡ n + length before → AreAnsweredWhereGiven m before
     → d.serial ≡ (whole (map_after m before) o).0 → fits d.serial a ≡ false → difference_in m n (before ++ (o, a) ∷ rest) ≡ Some d
 only_in d m n [] o a rest numbered answered is differs =
     let at_n : n ≡ d.operation = omega arith in
@@ -146,39 +146,39 @@ only_in d m n ((p, b) ∷ before) o a rest numbered answered is differs =
     ap (λ x. or_later (cond x None (Some (record { operation = n; serial = (whole m p).0 }))) (difference_in (whole m p).1 (suc n) (before ++ (o, a) ∷ rest))) answered.0
     ∙ only_in d (whole m p).1 (suc n) before o a rest (omega arith) answered.1 is differs
 
-pub first_is_difference : (m : Map) (os : List Told) (d : Difference) → IsFirstDifference m os d → difference_in m 1 os ≡ Some d
+pub first_is_difference : (m : Map) (os : List Given) (d : Difference) → IsFirstDifference m os d → difference_in m 1 os ≡ Some d
 first_is_difference m os d f =
     ap (λ l. difference_in m 1 l) f.place
     ∙ only_in d m 1 f.before f.op f.answer f.rest (let n : d.operation ≡ length f.before + 1 = f.numbered in omega arith) f.answered f.whole_answer f.differs
 
 -- Programs --
 
-pub told_append : (m : Map) (xs ys : List Told) → AreAnsweredWhereTold m xs → AreAnsweredWhereTold (map_after m xs) ys → AreAnsweredWhereTold m (xs ++ ys)
-told_append m [] ys h g = g
-told_append m ((o, a) ∷ xs) ys h g = (h.0, told_append (whole m o).1 xs ys h.1 g)
+pub given_append : (m : Map) (xs ys : List Given) → AreAnsweredWhereGiven m xs → AreAnsweredWhereGiven (map_after m xs) ys → AreAnsweredWhereGiven m (xs ++ ys)
+given_append m [] ys h g = g
+given_append m ((o, a) ∷ xs) ys h g = (h.0, given_append (whole m o).1 xs ys h.1 g)
 
-told_front : (m : Map) (xs ys : List Told) → AreAnsweredWhereTold m (xs ++ ys) → AreAnsweredWhereTold m xs
-told_front m [] ys h = tt
-told_front m ((o, a) ∷ xs) ys h = (h.0, told_front (whole m o).1 xs ys h.1)
+given_front : (m : Map) (xs ys : List Given) → AreAnsweredWhereGiven m (xs ++ ys) → AreAnsweredWhereGiven m xs
+given_front m [] ys h = tt
+given_front m ((o, a) ∷ xs) ys h = (h.0, given_front (whole m o).1 xs ys h.1)
 
-told_back : (m : Map) (xs ys : List Told) → AreAnsweredWhereTold m (xs ++ ys) → AreAnsweredWhereTold (map_after m xs) ys
-told_back m [] ys h = h
-told_back m ((o, a) ∷ xs) ys h = told_back (whole m o).1 xs ys h.1
+given_back : (m : Map) (xs ys : List Given) → AreAnsweredWhereGiven m (xs ++ ys) → AreAnsweredWhereGiven (map_after m xs) ys
+given_back m [] ys h = h
+given_back m ((o, a) ∷ xs) ys h = given_back (whole m o).1 xs ys h.1
 
-pub one_more_program : (m : Map) (os : List Told) (ps : List (List Told)) → AreAnsweredWhereTold m os → AreSerialWhereTold (map_after m os) ps → AreSerialWhereTold m (os ∷ ps)
-one_more_program m os ps h g = told_append m os (flat_map (λ p. p) ps) h g
+pub one_more_program : (m : Map) (os : List Given) (ps : List (List Given)) → AreAnsweredWhereGiven m os → AreSerialWhereGiven (map_after m os) ps → AreSerialWhereGiven m (os ∷ ps)
+one_more_program m os ps h g = given_append m os (flat_map (λ p. p) ps) h g
 
-pub first_program : (m : Map) (os : List Told) (ps : List (List Told)) → AreSerialWhereTold m (os ∷ ps) → AreAnsweredWhereTold m os
-first_program m os ps h = told_front m os (flat_map (λ p. p) ps) h
+pub first_program : (m : Map) (os : List Given) (ps : List (List Given)) → AreSerialWhereGiven m (os ∷ ps) → AreAnsweredWhereGiven m os
+first_program m os ps h = given_front m os (flat_map (λ p. p) ps) h
 
-pub other_programs : (m : Map) (os : List Told) (ps : List (List Told)) → AreSerialWhereTold m (os ∷ ps) → AreSerialWhereTold (map_after m os) ps
-other_programs m os ps h = told_back m os (flat_map (λ p. p) ps) h
+pub other_programs : (m : Map) (os : List Given) (ps : List (List Given)) → AreSerialWhereGiven m (os ∷ ps) → AreSerialWhereGiven (map_after m os) ps
+other_programs m os ps h = given_back m os (flat_map (λ p. p) ps) h
 
--- The judge finds no difference exactly where the programs are serializable in commit order as far as they were told.
-pub none_differs : (m : Map) (ps : List (List Told)) → AreSerialWhereTold m ps → NoneDiffers m ps
+-- The judge finds no difference exactly where the programs are serializable in commit order as far as they were given.
+pub none_differs : (m : Map) (ps : List (List Given)) → AreSerialWhereGiven m ps → NoneDiffers m ps
 none_differs m [] h = tt
 none_differs m (os ∷ ps) h = (no_difference m 1 os (first_program m os ps h), none_differs (map_after m os) ps (other_programs m os ps h))
 
-pub differs_none : (m : Map) (ps : List (List Told)) → NoneDiffers m ps → AreSerialWhereTold m ps
+pub differs_none : (m : Map) (ps : List (List Given)) → NoneDiffers m ps → AreSerialWhereGiven m ps
 differs_none m [] h = tt
 differs_none m (os ∷ ps) h = one_more_program m os ps (answered_if m 1 os h.0) (differs_none (map_after m os) ps h.1)
