@@ -1,4 +1,4 @@
-# Completions of kr, kr_explain and kr_view for bash.
+# Completions of kr, kr_explain, kr_view and kr_trace for bash.
 
 _kr_files() { # files of this kind, and folders
   compopt -o filenames
@@ -31,6 +31,9 @@ _kr() {
   kr_explain.3.*) _kr_words --script ;;
   kr_view.3.-*) ;;
   kr_view.3.*) _kr_files .json ;;
+  kr_trace.2.*) _kr_table --serial --some-order --help -h --version ;;
+  kr_trace.3.-h | kr_trace.3.--help | kr_trace.3.--version) ;;
+  kr_trace.3.*) _kr_files .trace ;;
   esac
 }
-complete -F _kr kr kr_explain kr_view
+complete -F _kr kr kr_explain kr_view kr_trace

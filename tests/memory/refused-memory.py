@@ -1,15 +1,16 @@
 #!/usr/bin/env python3
 """Refuses growths, reads and writes of the programs, one by one, and compares what they then do with what they do
-undisturbed: tests/memory/refused-memory.py [PROGRAM..], of kr, kr_view, kr_explain and kr_memory_tests, all four where none is named.
-Needs a C compiler, `cc`, for refuse.c beside it. Build first: any run of ./kr, ./kr_view or ./kr_explain builds that
-program, and `rt test` in crates/kr_memory_tests its tests.
+undisturbed: tests/memory/refused-memory.py [PROGRAM..], of kr, kr_view, kr_explain, kr_trace and kr_memory_tests, all where none
+is named. Needs a C compiler, `cc`, for refuse.c beside it. Build first: any run of ./kr, ./kr_view, ./kr_explain or ./kr_trace
+builds that program, and `rt test` in crates/kr_memory_tests its tests.
 
-The words are each form of a program's on the shipped tables and scripts; of kr_view and kr_explain, whose answers are long,
-a few. For each of them
+The words are each form of a program's on the shipped tables and scripts; of those but kr, whose answers are long, a few. For
+each of them
 
   memory    the k-th growth is refused, and then again with all after it, for k counted up until a run meets no refusal;
             beyond 400 by one in a hundred. Each run ends with the right answer, or with 'kr: out of memory', say, status 2
-            and nothing on standard output; at a fault the help behind its line may be cut
+            and nothing on standard output, or of kr_trace the lines of the parts that had ended; at a fault the help behind
+            its line may be cut
   reads     the k-th read and all after it fail: a file that cannot be read, so told, or the fault that comes before it
   writes    the k-th write to standard output and all after it fail, or take nothing, and one byte moves at a time; standard
             output is full (/dev/full), a closed pipe, or closed. Right where all was taken; else a prefix of the
@@ -28,7 +29,7 @@ import tempfile
 from concurrent.futures import ThreadPoolExecutor
 
 TOP = os.path.dirname(os.path.dirname(os.path.dirname(os.path.abspath(__file__))))
-PROGRAMS = sys.argv[1:] or ["kr", "kr_view", "kr_explain", "kr_memory_tests"]
+PROGRAMS = sys.argv[1:] or ["kr", "kr_view", "kr_explain", "kr_trace", "kr_memory_tests"]
 TESTS = f"{TOP}/crates/kr_memory_tests/out/kr_hostile_tests"
 AT_ONCE = 3
 READER, CLOSED_PIPE = os.pipe()
@@ -45,20 +46,26 @@ def fault(words, what):
     return f"{words[0]}: {what}\n".encode()
 
 
-def out_of_memory(words):
-    return 2, b"", fault(words, "out of memory")
+def is_unanswered(words, ended, right):
+    """Whether a run ended with a fault and printed nothing, or of kr_trace the lines of the first parts."""
+    begun = words[0] == "kr_trace" and right[1].startswith(ended[1]) and ended[1].endswith(b"\n")
+    return ended[0] == 2 and (ended[1] == b"" or begun)
+
+
+def is_out_of_memory(words, ended, right):
+    return is_unanswered(words, ended, right) and ended[2] == fault(words, "out of memory")
 
 
 def is_fault(ended, right):
     """Whether a run ended at the fault of an undisturbed one, with all of the help behind its line, or a part of it."""
-    return right[0] == 2 and ended[:2] == (2, b"") and ended[2].endswith(b"\n") and right[2].startswith(ended[2])
+    return right[0] == 2 and ended[:2] == right[:2] and ended[2].endswith(b"\n") and right[2].startswith(ended[2])
 
 
 def all_words():
     """The words with which the programs are run, each behind the program's name."""
-    for name, forms in [("kr", words_of_kr), ("kr_view", words_of_view), ("kr_explain", words_of_explain)]:
-        if name in PROGRAMS:
-            yield from ([name, *words] for words in forms())
+    forms = {"kr": words_of_kr, "kr_view": words_of_view, "kr_explain": words_of_explain, "kr_trace": words_of_trace}
+    for name in (it for it in forms if it in PROGRAMS):
+        yield from ([name, *words] for words in forms[name]())
 
 
 def words_of_view():
@@ -74,6 +81,14 @@ def words_of_explain():
     yield from (["@im"], ["examples/rejected/delete.toml"], ["examples/rejected/split.toml"])
     yield ["examples/rejected/delete.toml", "--script", "1"]
     yield from (["@im", "--script", "1"], ["none.toml"], ["@im", "--script"])
+
+
+def words_of_trace():
+    """A short trace, two long ones, each form of the words, and words that name none."""
+    traces = ["examples/phantom.trace", "examples/engines/innodb-repeatable-read.trace"]
+    yield from (["@kvl", traces[0]], ["examples/engines/innodb.toml", traces[1]], ["examples/rejected/delete.toml", traces[0]])
+    yield from ([word, trace] for word in ["--serial", "--some-order"] for trace in traces)
+    yield from (["@kvl", "none.trace"], ["none.toml", traces[0]], ["@kvl", "examples/phantom.json"], ["@kvl"])
 
 
 def words_of_kr():
@@ -131,16 +146,16 @@ class Part:
 
 
 def refuse_memory(part, shim, words, right):
-    wanting = out_of_memory(words)
     for kind in ["GROWTH", "GROWTHS"]:
         k = 1
         while True:
             ended, was_refused = run(command(words), shim, **{kind: k})
-            is_right = ended == right or (was_refused and (ended == wanting or is_fault(ended, right)))
+            is_wanting = is_out_of_memory(words, ended, right)
+            is_right = ended == right or (was_refused and (is_wanting or is_fault(ended, right)))
             part.count(is_right, words, f"{kind}={k}", ended)
             if not was_refused:
                 break
-            part.note("out of memory" if ended == wanting else "right all the same")
+            part.note("out of memory" if is_wanting else "right all the same")
             k += max(1, k // 100 - 3)
 
 
@@ -148,7 +163,7 @@ def fail_reads(part, shim, words, right):
     unread = [fault(words, f"{word}: cannot be read") for word in words[1:]]
     for k in range(1, 100_000):
         ended, was_refused = run(command(words), shim, READ=k)
-        is_unread = ended[:2] == (2, b"") and any(ended[2].startswith(it) for it in unread)
+        is_unread = is_unanswered(words, ended, right) and any(ended[2].startswith(it) for it in unread)
         is_right = ended == right or (was_refused and (is_unread or is_fault(ended, right)))
         part.count(is_right, words, f"READ={k}", ended)
         if not was_refused:

@@ -15,8 +15,8 @@ the files of the folder in which the programs run:
 More edits and cuts of the same NAME follow one another. Then calls, and below them what each of them prints. Further calls may
 follow, with what they print:
 
-    call    the program, kr, kr_explain or kr_view, and its words; WORDS < NAME reads standard input from a file. A blank
-            stands before each word, also before an empty one
+    call    the program, kr, kr_explain, kr_view or kr_trace, and its words; WORDS < NAME reads standard input from a file. A
+            blank stands before each word, also before an empty one
     status  the status
     out     a line of standard output, or `out: ..` for any text
     begins  what standard output begins with, with escapes; there is then no out

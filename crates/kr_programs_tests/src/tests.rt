@@ -4,4 +4,5 @@ mod explanation;
 mod picture;
 mod program;
 mod shell;
+mod trace_program;
 mod view_program;

@@ -1,0 +1,118 @@
+-- What is known of a trace that was held, and of an ending before.
+use Rattle.std.specs.Prelude.{◌≡◌, ◌↔◌, ◌≤◌, ℕ, List, [], Bool, true, false, Option, Some, Result, Ok, Err, IfOk, IfErr, OnOk, ◌⊎◌, String, string_bytes}
+use Rattle.std.proofs.Common.{Global, subst, sym, ap, inl, inr, ◌∙◌}
+use Rattle.kr_model.specs.Protocol.{IsLawful}
+use Rattle.kr_cli.proofs.Finished.{silent_at}
+use Rattle.kr_cli.specs.declared.endings.Ending.{Ending}
+use Rattle.kr_cli.specs.declared.endings.Ending.TheVariants.{NotUnderstood, Memory, Place, Output, Told}
+use Rattle.kr_cli.specs.declared.questions.Question.{Question}
+use Rattle.kr_cli.specs.declared.tables.AnyTable.{AnyTable}
+use Rattle.kr_cli.specs.Endings.{MemoryOrTold}
+use Rattle.kr_cli.specs.Named.{NamesTable}
+use Rattle.kr_cli.specs.Questions.{IsQuestion, IsNoQuestion}
+use Rattle.kr_cli.specs.Tables.{names_of, table_of}
+use Rattle.kr_cli_trace.specs.Endings.{IsStopped, IsThrough, StopsSo, TellsFault}
+use Rattle.kr_cli_trace.specs.Parts.{Part}
+use Rattle.kr_cli_trace.specs.Printed.{IsPrinted, against}
+use Rattle.kr_cli_trace.specs.Program.{Answers, AnswersAsked, Explains, Holds, Tells, TellsTrace}
+use Rattle.kr_cli_trace.specs.Words.{AskNoTrace, IsAsked, words_of}
+use Rattle.kr_cli_trace.specs.declared.words.Asked.{Asked}
+
+-- An ending that tells more of what it tells.
+pub stops_more : (Tells More : List ℕ → Type 0) (e : Ending) → ((line : List ℕ) → Tells line → More line) → StopsSo Tells e → StopsSo More e
+stops_more Tells More NotUnderstood by h = absurd h
+stops_more Tells More Memory by h = tt
+stops_more Tells More Place by h = absurd h
+stops_more Tells More Output by h = tt
+stops_more Tells More (Told line) by h = by (string_bytes line) h
+
+-- An ending of a word that isn't read.
+pub word_stops : (Tells More : List ℕ → Type 0) (e : Ending) → ((line : List ℕ) → Tells line → More line) → MemoryOrTold e Tells → StopsSo More e
+word_stops Tells More NotUnderstood by h = absurd h
+word_stops Tells More Memory by h = tt
+word_stops Tells More Place by h = absurd h
+word_stops Tells More Output by h = absurd h
+word_stops Tells More (Told line) by h = by (string_bytes line) h
+
+-- Memory and printing tell nothing.
+pub stops_silent : (Tells : List ℕ → Type 0) (e : Ending) → (e ≡ Memory) ⊎ (e ≡ Output) → StopsSo Tells e
+stops_silent Tells e (inl memory) = let P : Ending → Type 0 = λ x. StopsSo Tells x in subst P (sym memory) tt
+stops_silent Tells e (inr output) = let P : Ending → Type 0 = λ x. StopsSo Tells x in subst P (sym output) tt
+
+-- A trace that is read to its end is named.
+pub trace_held : (P : ℕ → Part → List ℕ → Bool → Type 0) (may_name : List ℕ → Option (List (List ℕ)) → Type 0) (may_give : List (List ℕ) → Type 0) (trace : List ℕ) (old new : Option (List ℕ)) (r : Result Bool Ending)
+    → ((lines : List (List ℕ)) → may_give lines → may_name trace (Some lines)) → IfOk r (IsThrough P may_give old new) → IfOk r (Holds P may_name trace old new)
+trace_held P may_name may_give trace old new (Ok well) found h = record { lines = h.lines; given = found h.lines h.given; faultless = h.faultless; written = h.written }
+trace_held P may_name may_give trace old new (Err e) found h = tt
+
+tells_named : (may_name : List ℕ → Option (List (List ℕ)) → Type 0) (may_give : List (List ℕ) → Type 0) (trace : List ℕ) → ((lines : List (List ℕ)) → may_give lines → may_name trace (Some lines))
+    → (word : List ℕ) (front : List (List ℕ)) (told : List ℕ) → TellsFault may_give word front told → TellsFault (λ lines. may_name trace (Some lines)) word front told
+tells_named may_name may_give trace found word front told (inl (line, (rest, (f, (given, says))))) = inl (line, (rest, (f, (found _ given, says))))
+tells_named may_name may_give trace found word front told (inr (inl (rest, (given, says)))) = inr (inl (rest, (found _ given, says)))
+tells_named may_name may_give trace found word front told (inr (inr says)) = inr (inr says)
+
+pub trace_stopped : (P : ℕ → Part → List ℕ → Bool → Type 0) (may_name : List ℕ → Option (List (List ℕ)) → Type 0) (may_give : List (List ℕ) → Type 0) (trace : List ℕ) (old new : Option (List ℕ)) (r : Result Bool Ending)
+    → ((lines : List (List ℕ)) → may_give lines → may_name trace (Some lines)) → IfErr r (StopsSo (IsStopped P may_give trace old new)) → IfErr r (StopsSo (TellsTrace P may_name trace old new))
+trace_stopped P may_name may_give trace old new (Ok well) found h = tt
+trace_stopped P may_name may_give trace old new (Err e) found h =
+    stops_more (IsStopped P may_give trace old new) (TellsTrace P may_name trace old new) e
+    (λ line s. inr (record { front = s.front; faultless = s.faultless; well = s.well; written = s.written; tells = tells_named may_name may_give trace found trace s.front line s.tells })) h
+
+-- What is asked of a table that a word names.
+pub table_held : (may_give : List ℕ → Option (List ℕ) → Type 0) (may_name : List ℕ → Option (List (List ℕ)) → Type 0) (table trace : List ℕ) (t : AnyTable) (old new : Option (List ℕ)) (r : Result Bool Ending)
+    → NamesTable may_give table t → IsLawful (table_of t) → IfOk r (Holds (IsPrinted (against (table_of t) (names_of t))) may_name trace old new)
+    → IfOk r (λ well. (u : AnyTable) × (NamesTable may_give table u × (IsLawful (table_of u) × Holds (IsPrinted (against (table_of u) (names_of u))) may_name trace old new well)))
+table_held may_give may_name table trace t old new (Ok well) names lawful h = (t, (names, (lawful, h)))
+table_held may_give may_name table trace t old new (Err e) names lawful h = tt
+
+pub if_err_more : (r : Result Bool Ending) (A B : List ℕ → Type 0) → ((line : List ℕ) → A line → B line) → IfErr r (StopsSo A) → IfErr r (StopsSo B)
+if_err_more (Ok well) A B by h = tt
+if_err_more (Err e) A B by h = stops_more A B e by h
+
+-- What is asked was answered.
+pub asked_answered : (may_give : List ℕ → Option (List ℕ) → Type 0) (may_name : List ℕ → Option (List (List ℕ)) → Type 0) (words : List (List ℕ)) (r : Result Bool Ending) (a : Asked) (old new : Option (List ℕ))
+    → words ≡ words_of a → IsAsked a → IfOk r (Answers may_give may_name a old new) → IfOk r (AnswersAsked may_give may_name words old new)
+asked_answered may_give may_name words (Ok well) a old new are asked h = record { asked = a; words_are = are; is_asked = asked; answers = h }
+asked_answered may_give may_name words (Err e) a old new are asked h = tt
+
+-- Words of no form.
+pub no_form : (may_give : List ℕ → Option (List ℕ) → Type 0) (may_name : List ℕ → Option (List (List ℕ)) → Type 0) (words : List (List ℕ)) (old new : Option (List ℕ)) (e : Ending)
+    → e ≡ NotUnderstood → AskNoTrace words → IsNoQuestion words → Explains may_give may_name words old new e
+no_form may_give may_name words old new e is isnt own = let P : Ending → Type 0 = λ x. Explains may_give may_name words old new x in subst P (sym is) (own, isnt)
+
+explained : (may_give : List ℕ → Option (List ℕ) → Type 0) (may_name : List ℕ → Option (List (List ℕ)) → Type 0) (words : List (List ℕ)) (a : Asked) (old new : Option (List ℕ)) (e : Ending)
+    → words ≡ words_of a → IsAsked a → StopsSo (Tells may_give may_name a old new) e → Explains may_give may_name words old new e
+explained may_give may_name words a old new NotUnderstood are asked ends = absurd ends
+explained may_give may_name words a old new Memory are asked ends = tt
+explained may_give may_name words a old new Place are asked ends = absurd ends
+explained may_give may_name words a old new Output are asked ends = tt
+explained may_give may_name words a old new (Told line) are asked ends = (a, (are, (asked, ends)))
+
+-- Why what is asked wasn't answered.
+pub asked_explained : (may_give : List ℕ → Option (List ℕ) → Type 0) (may_name : List ℕ → Option (List (List ℕ)) → Type 0) (words : List (List ℕ)) (r : Result Bool Ending) (a : Asked) (old new : Option (List ℕ))
+    → words ≡ words_of a → IsAsked a → IfErr r (StopsSo (Tells may_give may_name a old new)) → IfErr r (λ e. IsNoQuestion words → Explains may_give may_name words old new e)
+asked_explained may_give may_name words (Ok well) a old new are asked ends = tt
+asked_explained may_give may_name words (Err e) a old new are asked ends = λ own. explained may_give may_name words a old new e are asked ends
+
+-- Nothing was added to what helps.
+pub unhelped : (r : Result Bool Ending) (old new : String Global) → OnOk r (new ≡ old) → OnOk r (string_bytes new ≡ string_bytes old)
+unhelped (Ok well) old new same = ap (λ (h : String Global). string_bytes h) same
+unhelped (Err e) old new same = tt
+
+-- What an answer tells isn't that it isn't well.
+neither : (r : Result Bool Ending) (A B : Type 0) → ((r ≡ Ok true) × A) ⊎ ((r ≡ Err Output) × B) → r ≡ Ok false → ⊥
+neither r A B (inl (is, told)) other = absurd (cc)
+neither r A B (inr (is, failed)) other = absurd (cc)
+
+-- Words that ask a question are not answered so.
+pub no_question : (words : List (List ℕ)) (r : Result Bool Ending) (A : Question → Type 0) (B : Type 0) → ((q : Question) → IsQuestion words q → ((r ≡ Ok true) × A q) ⊎ ((r ≡ Err Output) × B)) → r ≡ Ok false → IsNoQuestion words
+no_question words r A B answers other q asks = neither r (A q) B (answers q asks) other
+
+-- Where nothing was added to no help.
+unsaid : (r : Result Bool Ending) (Same : Type 0) (old new shown : List ℕ) → OnOk r (new ≡ old) → old ≡ [] → shown ≡ new → OnOk r (shown ≡ [] → Same) → OnOk r Same
+unsaid (Ok b) Same old new shown same none is quiet = quiet (is ∙ same ∙ none)
+unsaid (Err e) Same old new shown same none is quiet = tt
+
+-- Nothing is told but at an ending, where nothing was added to no help.
+pub silent : (r : Result Bool Ending) (n : ℕ) (Same : Type 0) (old new shown : List ℕ) → n ≤ 2 → ((n ≡ 0) ↔ (r ≡ Ok true)) → ((n ≡ 1) ↔ (r ≡ Ok false)) → OnOk r (new ≡ old) → old ≡ [] → shown ≡ new → OnOk r (shown ≡ [] → Same) → Same ⊎ (n ≡ 2)
+silent r n Same old new shown within well not_well same none is quiet = silent_at r n Same within well not_well (unsaid r Same old new shown same none is quiet)

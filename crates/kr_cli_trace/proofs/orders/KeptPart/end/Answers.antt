@@ -1,0 +1,4 @@
+use Rattle.kr_cli_trace.proofs.orders.KeptPart.end.Goals as goal
+
+pub returns : goal.returns
+returns c s h once = (c.in_ok-verdict.verdict, (c.in_ok-verdict.ensures s h once, (c.in_ok-line.ensures, c.is_serial.ensures)))

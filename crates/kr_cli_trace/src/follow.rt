@@ -1,0 +1,96 @@
+//! A part held against a table.
+ghost use Rattle.std.specs.Prelude.{◌≡◌, false, map, string_bytes};
+ghost use Rattle.std.specs.Option.{option_map};
+ghost use Rattle.kr_trace_follow.specs.Following.{after_lines, begun};
+ghost use Rattle.kr_cli_trace.specs.Followed.{IsFollowed};
+ghost use Rattle.kr_cli_trace.specs.Printed.{IsPrinted, against};
+
+use crate::asking::{Asks, Part};
+use crate::serial::{Judging, is_serial, verdict_of};
+use kr_model::{Event, Memory, Pairs, Txns};
+use kr_protocol::Protocol;
+use kr_trace_follow::{Follower, lines_are_followed};
+use kr_trace_lines::write_part;
+use kr_trace_observed::{Deviation, Observed};
+use std::alloc::Global;
+
+/// Asks whether each reply is the table's, and whether what committed is serializable in commit order.
+#[derive(Drop)]
+pub(crate) struct Against<'a, P: Protocol> {
+    pub(crate) protocol: &'a P,
+}
+
+/// A part that is held against a table.
+#[derive(Drop)]
+pub(crate) struct Followed<'a, P: Protocol> {
+    pub(crate) protocol: &'a P,
+    pub(crate) follower: Follower<'a, P>,
+    /// The first line that deviates.
+    pub(crate) found: Option<Deviation>,
+    pub(crate) tests: Vec<String>,
+    pub(crate) judging: Judging,
+}
+
+impl<'a, P: Protocol> Asks for Against<'a, P> {
+    type Part = Followed<'a, P>;
+
+    ghost is_printed = { λ a. IsPrinted (against (P.table a.protocol.now) (P.names a.protocol.now)) };
+
+    fn begin(
+        &self,
+        alloc: Global,
+        opening: Pairs,
+        tests: Vec<String>,
+    ) -> Result<Followed<'a, P>, Memory> {
+        Ok(Followed {
+            protocol: self.protocol,
+            follower: Follower::new(alloc, self.protocol, opening.as_slice())?,
+            found: None,
+            tests,
+            judging: Judging::new(alloc, opening.as_slice())?,
+        })
+    }
+}
+
+impl<'a, P: Protocol> Part for Followed<'a, P> {
+    ghost asked = { λ p. IsPrinted (against (P.table p.protocol.now) (P.names p.protocol.now)) };
+
+    ghost stands_for = { λ p s. IsFollowed (P.table p.protocol.now) s (P.table p.follower.protocol) p.follower.following p.found (map string_bytes p.tests.items) p.judging.tales p.judging.judge.map p.judging.found };
+
+    fn step(
+        &mut self,
+        alloc: Global,
+        number: u64,
+        event: Event,
+        observed: Observed,
+    ) -> Result<(), Memory> {
+        self.found = self.follower.line(number, event, &observed)?;
+        self.judging.take(alloc, event, observed)
+    }
+
+    fn order(&mut self, txns: Txns) {
+        let _ = txns;
+    }
+
+    fn end(self, alloc: Global, part: u64) -> Result<(String, bool), Memory> {
+        let Followed {
+            protocol,
+            follower,
+            found,
+            tests,
+            judging,
+        } = self;
+        let verdict = verdict_of(judging.found);
+        let line = write_part(
+            alloc,
+            protocol,
+            part,
+            found.as_ref(),
+            follower.queued(),
+            tests.as_slice(),
+            &verdict,
+        )?;
+        lines_are_followed();
+        Ok((line, found.is_none() && is_serial(&verdict)))
+    }
+}

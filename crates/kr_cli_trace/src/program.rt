@@ -1,0 +1,165 @@
+//! The program over its words, files and streams.
+ghost use Rattle.std.specs.Prelude.{◌≡◌, ◌⊎◌, ◌≤◌, ◌++◌, ℕ, List, Option, Some, true, false, Ok, Err, IfOk, IfErr, OnOk, IsTrue, map, string_bytes};
+ghost use Rattle.std.specs.Io.KnownBytes.{Appends};
+ghost use Rattle.kr_sink.specs.Puts.{HasCause};
+ghost use Rattle.kr_cli_diagnosis.specs.Finding.{AreLines, AddsLines};
+ghost use Rattle.kr_cli.specs.Endings.{is_output};
+ghost use Rattle.kr_cli.specs.Manual.{IsTold, answer_of, ending_text};
+ghost use Rattle.kr_cli.specs.Questions.{IsQuestion, IsNoQuestion};
+ghost use Rattle.kr_cli.specs.declared.endings.Ending.{Ending};
+ghost use Rattle.kr_cli.specs.declared.endings.Ending.TheVariants as ending;
+ghost use Rattle.kr_cli.specs.declared.questions.Question.{Question};
+ghost use Rattle.kr_cli_trace.specs.Endings.{StopsSo};
+ghost use Rattle.kr_model.specs.Protocol.{IsLawful};
+ghost use Rattle.kr_cli_trace.specs.declared.words.Asked.TheVariants as asked;
+ghost use Rattle.kr_cli_trace.specs.Program.{Answers, AnswersAsked, Explains, Holds, Tells, TellsTrace};
+ghost use Rattle.kr_cli_trace.specs.Words.{AskNothing, AskNoTrace};
+
+use crate::asking::Asks;
+use crate::follow::Against;
+use crate::manual::{MANUAL, NAME, USAGE, WORDS};
+use crate::orders::InSomeOrder;
+use crate::serial::InCommitOrder;
+use crate::source::Traces;
+use crate::trace::read_trace;
+use crate::words::{Asked, read_words};
+use kr_cli::{Ending, FileFault, Files, VERSION, question_in, unreadable};
+use kr_cli_diagnosis::table_at;
+use kr_protocol::Protocol;
+use kr_sink::Sink;
+
+/// Reads the trace that a word names, prints a line for each part, and answers whether all is well with each.
+fn read_named<R: std::rt::Files + AllocGlobal, F: Traces<R>, A: Asks, W: Sink>(
+    rt: &R,
+    files: &F,
+    word: &str,
+    asks: &A,
+    out: &mut W,
+) -> Result<bool, Ending>
+    ensures holds { IfOk result (Holds (A.is_printed asks.now) (F.may_name files.now) word.now (W.taken out.old) (W.taken out.new)) }
+    ensures err { IfErr result (StopsSo (TellsTrace (A.is_printed asks.now) (F.may_name files.now) word.now (W.taken out.old) (W.taken out.new))) }
+    ensures cause { IfErr result (λ e. IsTrue (is_output e) → HasCause (W.failures out.old) (W.failures out.new)) }
+{
+    let mut lines = match files.open(rt, word) {
+        Ok(lines) => lines,
+        Err(FileFault::Memory) => return Err(Ending::Memory),
+        Err(_) => return Err(unreadable(rt.alloc(), word)),
+    };
+    read_trace(rt.alloc(), asks, word, &mut lines, out)
+}
+
+/// Does nothing: a protocol is lawful.
+fn are_laws_kept<P: Protocol>(protocol: &P)
+    ensures { IsLawful (P.table protocol.now) }
+{
+    let _ = protocol;
+}
+
+/// Holds the trace that the second word names against the table that the first names. `help` gets what helps where the first
+/// names none.
+fn hold_against<R: std::rt::Files + AllocGlobal, F: Files + Traces<R>, W: Sink>(
+    rt: &R,
+    words: (&str, &str),
+    files: &F,
+    out: &mut W,
+    help: &mut String,
+) -> Result<bool, Ending>
+    ensures answers { IfOk result (Answers (F.may_give files.now) (F.may_name files.now) (asked.Both words.entry.0 words.entry.1) (W.taken out.old) (W.taken out.new)) }
+    ensures err { IfErr result (StopsSo (Tells (F.may_give files.now) (F.may_name files.now) (asked.Both words.entry.0 words.entry.1) (W.taken out.old) (W.taken out.new))) }
+    ensures cause { IfErr result (λ e. IsTrue (is_output e) → HasCause (W.failures out.old) (W.failures out.new)) }
+    ensures help { AddsLines (string_bytes help.old) (string_bytes help.new) }
+    ensures unhelped { OnOk result (help.new ≡ help.old) }
+{
+    let (word, trace) = words;
+    let table = table_at(rt, word, files, help)?;
+    are_laws_kept(&table);
+    read_named(rt, files, trace, &Against { protocol: &table }, out)
+}
+
+/// Prints what the words ask of a trace, and answers whether all is well with each of its parts. `help` gets what helps where a
+/// word names no table.
+fn hold<R: std::rt::Files + AllocGlobal, F: Files + Traces<R>, W: Sink>(
+    rt: &R,
+    words: &[String],
+    files: &F,
+    out: &mut W,
+    help: &mut String,
+) -> Result<bool, Ending>
+    ensures answers { IfOk result (AnswersAsked (F.may_give files.now) (F.may_name files.now) (map string_bytes words.now) (W.taken out.old) (W.taken out.new)) }
+    ensures err { IfErr result (λ e. IsNoQuestion (map string_bytes words.now)
+        → Explains (F.may_give files.now) (F.may_name files.now) (map string_bytes words.now) (W.taken out.old) (W.taken out.new) e) }
+    ensures unknown { AskNoTrace (map string_bytes words.now)
+        → (result ≡ Err ending.NotUnderstood) × ((out.new ≡ out.old) × (help.new ≡ help.old)) }
+    ensures cause { IfErr result (λ e. IsTrue (is_output e) → HasCause (W.failures out.old) (W.failures out.new)) }
+    ensures help { AddsLines (string_bytes help.old) (string_bytes help.new) }
+    ensures unhelped { OnOk result (help.new ≡ help.old) }
+{
+    let asked = read_words(words)?;
+    match asked {
+        Asked::Both(table, trace) => hold_against(rt, (table, trace), files, out, help),
+        Asked::Serial(trace) => read_named(rt, files, trace, &InCommitOrder, out),
+        Asked::SomeOrder(trace) => read_named(rt, files, trace, &InSomeOrder, out),
+    }
+}
+
+/// Does what the words ask, of the program or of a trace, and answers whether all is well. `help` gets what helps.
+fn answered<R: std::rt::Files + AllocGlobal, F: Files + Traces<R>, W: Sink>(
+    rt: &R,
+    words: &[String],
+    files: &F,
+    out: &mut W,
+    help: &mut String,
+) -> Result<bool, Ending>
+    ensures question { (q : Question) → IsQuestion (map string_bytes words.now) q
+        → ((result ≡ Ok true) × Appends (W.taken out.old) (W.taken out.new) (answer_of NAME.now USAGE.now WORDS.now VERSION.now q))
+        ⊎ ((result ≡ Err ending.Output) × HasCause (W.failures out.old) (W.failures out.new)) }
+    ensures answers { IsNoQuestion (map string_bytes words.now)
+        → IfOk result (AnswersAsked (F.may_give files.now) (F.may_name files.now) (map string_bytes words.now) (W.taken out.old) (W.taken out.new)) }
+    ensures err { IfErr result (Explains (F.may_give files.now) (F.may_name files.now) (map string_bytes words.now) (W.taken out.old) (W.taken out.new)) }
+    ensures unknown { AskNothing (map string_bytes words.now)
+        → (result ≡ Err ending.NotUnderstood) × ((out.new ≡ out.old) × (help.new ≡ help.old)) }
+    ensures cause { IfErr result (λ e. IsTrue (is_output e) → HasCause (W.failures out.old) (W.failures out.new)) }
+    ensures help { AddsLines (string_bytes help.old) (string_bytes help.new) }
+    ensures unhelped { OnOk result (string_bytes help.new ≡ string_bytes help.old) }
+{
+    match question_in(words) {
+        Some(question) => {
+            MANUAL.answer(question, out)?;
+            Ok(true)
+        }
+        None => hold(rt, words, files, out, help),
+    }
+}
+
+/// Runs the program on words without its own name, and answers its status: 0 where the trace that a word names has lines without
+/// a fault and all is well with each of their parts; 1 where it isn't with some; and 2 where it told a fault on `err`, the first
+/// in the order of lines. At 0 and 1 a line is written on `out` for each part; at a fault of the trace, for each part that has
+/// ended before it. Words that ask for help or the version are answered on `out` with 0. Behind the line of words that aren't
+/// understood `err` has the usage.
+pub fn execute<R: std::rt::Files + AllocGlobal, F: Files + Traces<R>, W: Sink, E: Sink>(
+    rt: &R,
+    words: &[String],
+    files: &F,
+    out: &mut W,
+    err: &mut E,
+) -> u8
+    ensures within { result ≤ 2 }
+    ensures question { (q : Question) → IsQuestion (map string_bytes words.now) q
+        → ((result ≡ 0) × Appends (W.taken out.old) (W.taken out.new) (answer_of NAME.now USAGE.now WORDS.now VERSION.now q))
+        ⊎ ((result ≡ 2) × HasCause (W.failures out.old) (W.failures out.new)) }
+    ensures well { IsNoQuestion (map string_bytes words.now) → result ≡ 0
+        → AnswersAsked (F.may_give files.now) (F.may_name files.now) (map string_bytes words.now) (W.taken out.old) (W.taken out.new) true }
+    ensures not_well { result ≡ 1 → AnswersAsked (F.may_give files.now) (F.may_name files.now) (map string_bytes words.now) (W.taken out.old) (W.taken out.new) false }
+    ensures unknown { AskNothing (map string_bytes words.now) → (result ≡ 2) × ((out.new ≡ out.old)
+        × IsTold (E.taken err.old) (E.taken err.new) (E.failures err.old) (E.failures err.new)
+        (ending_text NAME.now USAGE.now ending.NotUnderstood)) }
+    ensures told { result ≡ 2 → (help : List ℕ) × (AreLines help × ((e : Ending)
+        × (Explains (F.may_give files.now) (F.may_name files.now) (map string_bytes words.now) (W.taken out.old) (W.taken out.new) e
+        × IsTold (E.taken err.old) (E.taken err.new) (E.failures err.old) (E.failures err.new)
+        (ending_text NAME.now USAGE.now e ++ help)))) }
+    ensures silent { (err.new ≡ err.old) ⊎ (result ≡ 2) }
+{
+    let mut help = String::new(rt.alloc());
+    let done = answered(rt, words, files, out, &mut help);
+    MANUAL.finish(&done, help.as_str(), err)
+}

@@ -1,0 +1,166 @@
+//! Calls of the program, each kind once, with what it leaves on its two streams.
+use kr_cli_test_support::{Full, Left, Shelf, owned};
+use kr_cli_trace::{Asked, Lines, LinesFault, ReadLines, execute, read_words};
+use kr_sink::Io;
+use std::alloc::AllocError;
+use std::io::{Error, ErrorKind, Read};
+use std::test::Fail;
+
+/// Two parts. In the first the engine lets an insert into a gap that was read, which is serializable in another order alone; the
+/// second conforms.
+const PARTS: &str = r#"{"format":1,"opening":[[10,1],[20,2],[30,3]]}
+[[1,"fetch",17],["none"]]
+[[2,"insert",17,5],["done"]]
+[[2,"commit"],["committed"]]
+[[1,"commit"],["committed"]]
+{"format":1,"opening":[]}
+
+[[1,"insert",17,5],["done"]]
+[[1,"commit"],["committed"]]
+"#;
+
+/// A part, and a line that is no step.
+const FAULTY: &str = r#"{"format":1,"opening":[]}
+{"format":1,"opening":[]}
+[[1,"get",5],["none"]]
+"#;
+
+/// A part that breaks off.
+const BROKEN: &str = "{\"format\":1,\"opening\":[]}\n[[1,\"fetch\",5],[\"no";
+
+const SHELF: Shelf = Shelf(&[("t", PARTS), ("faulty", FAULTY), ("broken", BROKEN)]);
+
+/// What the program leaves, called with these words.
+fn left_by<R: std::rt::Files + AllocGlobal>(rt: &R, words: &[&str]) -> Result<Left, AllocError> {
+    let alloc = rt.alloc();
+    let words = owned(alloc, words)?;
+    let mut out = Io::new(Vec::new(alloc));
+    let mut err = Io::new(Vec::new(alloc));
+    let status = execute(rt, words.as_slice(), &SHELF, &mut out, &mut err);
+    Left::on(alloc, status, &out, &err)
+}
+
+/// Words, with the status and what is left on the two streams.
+const CALLS: [(&[&str], u8, &str, &str); 8] = [
+    (
+        &["--serial", "t"],
+        1,
+        "{\"part\":1,\"verdict\":[\"not-serial\",1,1,[\"none\"],[\"found\",5]]}\n{\"part\":2,\"verdict\":[\"serial\"]}\n",
+        "",
+    ),
+    (
+        &["--some-order", "t"],
+        0,
+        "{\"part\":1,\"verdict\":[\"serial\",[1,2]]}\n{\"part\":2,\"verdict\":[\"serial\",[1]]}\n",
+        "",
+    ),
+    (
+        &["--serial", "faulty"],
+        2,
+        "{\"part\":1,\"verdict\":[\"serial\"]}\n",
+        "kr_trace: faulty: fault 6 Step at 3\n",
+    ),
+    (
+        &["--serial", "broken"],
+        2,
+        "",
+        "kr_trace: broken: fault 2 NotJson at 2\n",
+    ),
+    (
+        &["--serial", "missing"],
+        2,
+        "",
+        "kr_trace: missing: cannot be read\n",
+    ),
+    (&["--serial", "big"], 2, "", "kr_trace: out of memory\n"),
+    (
+        &["t"],
+        2,
+        "",
+        "kr_trace: words not understood\nusage: kr_trace TABLE TRACE | --serial TRACE | --some-order TRACE\n",
+    ),
+    (&["--version"], 0, "kr_trace 0.9.0\n", ""),
+];
+
+#[test]
+fn each_call_leaves_its_lines(rt: HostRuntime) -> Result<(), Fail> {
+    for (words, status, out, err) in CALLS {
+        let left = left_by(&rt, words)?;
+        assert_eq!(rt; left.out.as_slice(), out.as_bytes());
+        assert_eq!(rt; left.err.as_slice(), err.as_bytes());
+        assert_eq!(rt; left.status, status);
+    }
+    Ok(())
+}
+
+#[test]
+fn a_table_is_held_against(rt: HostRuntime) -> Result<(), Fail> {
+    let left = left_by(&rt, ["@kvl", "t"].as_slice())?;
+    let first = b"{\"conforms\":[\"granted\",3,[\"blocked\",[1]],[[20,1,\"S\",".as_slice();
+    let last =
+        b"{\"conforms\":[\"yes\"],\"part\":2,\"queued\":0,\"verdict\":[\"serial\"]}\n".as_slice();
+    assert!(rt; left.out.starts_with(first));
+    assert!(rt; left.out.ends_with(last));
+    assert_eq!(rt; left.status, 1);
+    Ok(())
+}
+
+#[test]
+fn output_that_is_refused_is_told(rt: HostRuntime) -> Result<(), Fail> {
+    let words = owned(rt.alloc(), ["--serial", "t"].as_slice())?;
+    let mut err = Io::new(Vec::new(rt.alloc()));
+    let status = execute(&rt, words.as_slice(), &SHELF, &mut Full, &mut err);
+    assert_eq!(rt;
+        err.writer().as_slice(),
+        b"kr_trace: output: cannot be written\n".as_slice()
+    );
+    assert_eq!(rt; status, 2);
+    Ok(())
+}
+
+#[test]
+fn words_are_read(rt: HostRuntime) -> Result<(), Fail> {
+    let words = owned(rt.alloc(), ["--serial", "t"].as_slice())?;
+    assert!(rt; read_words(words.as_slice()).is_ok_and(|asked| asked == Asked::Serial("t")));
+    Ok(())
+}
+
+#[test]
+fn lines_end_at_line_feeds(rt: HostRuntime) -> Result<(), Fail> {
+    let mut lines = ReadLines::new(rt.alloc(), b"a\n\nbc".as_slice());
+    for line in [b"a".as_slice(), b"".as_slice(), b"bc".as_slice()] {
+        let next = lines.next_line(rt.alloc()).map_err(|_| "no line")?;
+        assert!(rt; next.is_some_and(|next| next.as_slice() == line));
+    }
+    assert!(rt; lines.next_line(rt.alloc()).is_ok_and(|next| next.is_none()));
+    Ok(())
+}
+
+/// A reader that gives a line, and then fails.
+#[derive(Drop)]
+struct Fails {
+    given: bool,
+}
+
+impl Read for Fails {
+    fn read(&mut self, buf: &mut [u8]) -> Result<usize, Error> {
+        if self.given || buf.is_empty() {
+            return Err(Error::from(ErrorKind::Other));
+        }
+        self.given = true;
+        buf[0] = b'\n';
+        Ok(1)
+    }
+}
+
+#[test]
+fn a_read_that_fails_is_told(rt: HostRuntime) -> Result<(), Fail> {
+    let mut lines = ReadLines::new(rt.alloc(), Fails { given: false });
+    assert!(rt; lines.next_line(rt.alloc()).is_ok_and(|next| next.is_some()));
+    assert!(rt;
+        lines
+            .next_line(rt.alloc())
+            .is_err_and(|fault| fault == LinesFault::Unreadable)
+    );
+    Ok(())
+}
