@@ -1,9 +1,8 @@
 //! Operations, replies and lists in numbers, as C has them.
 ghost use Rattle.std.specs.Prelude.{◌≡◌, ◌<◌, IfOk, IfSome, IfNone, map};
 ghost use Rattle.kr_embed.specs.Numbers.{IsOperation, plain, pair_of, lock_of};
-ghost use Rattle.kr_model.specs.Difference.{refusal_number};
 
-use kr_model::{Mode, Name, Op, Refusal, Reply, Txn};
+use kr_model::{Mode, Name, Op, Reply, Txn, refusal_number};
 use std::alloc::{AllocError, Global};
 
 /// A reply in numbers.
@@ -64,22 +63,6 @@ pub fn operation(kind: u32, first: u64, second: u64) -> Option<Op>
     }
 }
 
-fn refusal_number(refusal: Refusal) -> u32
-    ensures { result ≡ refusal_number refusal }
-{
-    match refusal {
-        Refusal::Ended => 1,
-        Refusal::Busy => 2,
-        Refusal::NoScan => 3,
-        Refusal::BadRange => 4,
-        Refusal::Full => 5,
-        Refusal::Memory => 6,
-        Refusal::NoUpdate => 7,
-        Refusal::RollingBack => 8,
-        Refusal::NothingLeft => 9,
-    }
-}
-
 /// A reply of this kind with a value.
 fn valued(kind: u32, value: u64) -> PlainReply
     ensures { result ≡ record { kind = kind; refusal = 0; value = value; count = 0 } }
@@ -124,7 +107,7 @@ pub fn plain(reply: &Reply) -> PlainReply
         Reply::Blocked(txns) => counted(12, txns.as_slice().len()),
         Reply::Refused(refusal) => PlainReply {
             kind: 13,
-            refusal: refusal_number(*refusal),
+            refusal: u32::from(refusal_number(*refusal)),
             value: 0,
             count: 0,
         },

@@ -6,3 +6,4 @@ pub mod Masks
 pub mod NameLaws
 pub mod BucketLaws
 pub mod NotedLaws
+pub mod ListedLaws

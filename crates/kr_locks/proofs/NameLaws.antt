@@ -1,5 +1,5 @@
 -- The locks by name, holder by holder.
-use Rattle.std.proofs.Common.{◌≡◌, ℕ, ◌+◌, ◌-◌, ◌<◌, ◌≤◌, length, get_or, drop, Bool, true, false, cond, not, [], ◌∷◌, Option, Some, None, sym, ap, ◌∙◌, refl, subst, arith}
+use Rattle.std.proofs.Common.{◌≡◌, ℕ, Bool, true, false, cond, not, [], ◌∷◌, Option, Some, None, sym, ap, ◌∙◌, refl, subst, arith}
 use Rattle.std.specs.Prelude.{T, unwrap_or}
 use Rattle.std.specs.HashMap as hash
 use Rattle.std.specs.declared.cmp.Ordering.{Ordering}
@@ -8,8 +8,6 @@ use Rattle.std.specs.Ordering.{nat_cmp, ordering_then, eq_by_cmp, is_eq}
 use Rattle.std.specs.Cmp.{IsEquivalence, nat_cmp_total, nat_eq_equiv, eq_by_cmp_equiv, tied_itself}
 use Rattle.std.specs.Option.{option_eq}
 use Rattle.std.specs.Map.{lookup, keys_of}
-use Rattle.std.specs.BTreeMap.{insert_entry}
-use Rattle.std.proofs.lemmas.List.{drop_more}
 use Rattle.std.proofs.lemmas.Map.{lookup-none}
 use Rattle.std.proofs.lemmas.Map.Entries.{none_past_head}
 use Rattle.std.proofs.lemmas.Map.Keys.{IsDistinct-tail}
@@ -23,11 +21,11 @@ use Rattle.std.specs.Prelude.{IsSome, nat_eq}
 use Rattle.kr_model.specs.Locks.{Locks, Holder, IsLocks, name_cmp, holder_cmp, keep, forget}
 use Rattle.kr_model.proofs.LockLaws.{name_total, name_exact, holder_total, holder_exact}
 use Rattle.kr_model.proofs.Keep.{same}
-use Rattle.kr_model.proofs.Trees.{of_t, inserted_is_put}
+use Rattle.kr_model.proofs.Trees.{of_t}
 use Rattle.kr_model.specs.contracts.NameOrd.TheImpl.{cmp-value}
 use Rattle.kr_locks.specs.Buckets.{Holders, Names, IsNames, key_of, name_of, holders_at, with_holders, with_names, locks_of, without}
 
-equal_of : (o : Ordering) → is_eq o ≡ true → o ≡ Equal
+pub equal_of : (o : Ordering) → is_eq o ≡ true → o ≡ Equal
 equal_of Less e = absurd (cc)
 equal_of Equal e = refl
 equal_of Greater e = absurd (cc)
@@ -62,7 +60,7 @@ find-with n (h ∷ hs) ls q =
     by Equal Greater = refl
     by Greater p = refl
 
-option_eq_laws : IsEquivalence (option_eq nat_eq)
+pub option_eq_laws : IsEquivalence (option_eq nat_eq)
 option_eq_laws = record {
   refl = λ x. ties x;
   symm = λ x y. flips x y;
@@ -87,7 +85,7 @@ option_eq_laws = record {
     agree (Some a) (Some b) (Some d) e = nat_eq_equiv.congr a b d e
 
 -- keys are equal where the names are
-same_key : (n : Name) (k : Option ℕ) → eq_by_cmp name_cmp n (name_of k) ≡ option_eq nat_eq (key_of n) k
+pub same_key : (n : Name) (k : Option ℕ) → eq_by_cmp name_cmp n (name_of k) ≡ option_eq nat_eq (key_of n) k
 same_key (Key a) (Some b) = grind (arith, nat_tests)
 same_key (Key a) None = refl
 same_key End (Some b) = refl
@@ -133,7 +131,7 @@ IsLocks-locks_of es = of_t _ (sorted_locks es)
 
 -- A change at one name --
 
-same_locks : (es : Names) (h : Locks) → IsNames es → T (is_sorted holder_cmp h) → ((q : Holder) → find nat_cmp q.1 (holders_at es q.0) ≡ find holder_cmp q h) → locks_of es ≡ h
+pub same_locks : (es : Names) (h : Locks) → IsNames es → T (is_sorted holder_cmp h) → ((q : Holder) → find nat_cmp q.1 (holders_at es q.0) ≡ find holder_cmp q h) → locks_of es ≡ h
 same_locks es h s sh is = same_entries holder_cmp holder_total holder_exact (locks_of es) h (sorted_locks es) sh (λ q. find_locks es s q ∙ is q)
 
 -- names with other holders at one of them
@@ -246,15 +244,5 @@ order_is R kk ke ek ee = λ i a b. by a b i
     by End End = ee
 
 -- names compare in the code as they do here
-name_order : cmp-value.it ≡ name_cmp
+pub name_order : cmp-value.it ≡ name_cmp
 name_order = order_is cmp-value.it (λ a b. refl) (λ a. refl) (λ b. refl) refl
-
--- a lock that the code puts into a map
-pub put_in : (es fs : Locks) (k : Holder) (m : ℕ) → fs ≡ insert_entry (λ (x y : Holder). ordering_then (cmp-value.it x.0 y.0) (nat_cmp x.1 y.1)) es k m → fs ≡ put holder_cmp k m es
-put_in es fs k m is = is ∙ ap (λ (R : Name → Name → Ordering). insert_entry (λ (x y : Holder). ordering_then (R x.0 y.0) (nat_cmp x.1 y.1)) es k m) name_order ∙ inserted_is_put holder_cmp es k m
-
--- the holders from the one before place i on
-pub one_more : (n : Name) (hs : Holders) (i : ℕ) (d : ℕ × ℕ) (ls : Locks) → 0 < i → i ≤ length hs → put holder_cmp (n, (get_or hs (i - 1) d).0) (get_or hs (i - 1) d).1 (with_holders n (drop i hs) ls) ≡ with_holders n (drop (i - 1) hs) ls
-one_more n hs i d ls some fits =
-    let next : i - 1 + 1 ≡ i = omega arith in
-    sym (ap (λ (l : Holders). with_holders n l ls) (drop_more hs (i - 1) d (omega arith)) ∙ ap (λ (k : ℕ). with_holders n (get_or hs (i - 1) d ∷ drop k hs) ls) next)

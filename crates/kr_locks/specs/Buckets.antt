@@ -1,5 +1,5 @@
 -- Locks by name: the few holders of each name, and the locks that they make.
-use Rattle.std.specs.Prelude.{◌≡◌, ℕ, ◌<◌, ◌≤◌, Bool, not, ◌&&◌, ◌==◌, List, [], ◌∷◌, filter, map, length, slice_index_or, unwrap_or, IsTrue, Option, Some, None, nat_eq}
+use Rattle.std.specs.Prelude.{◌≡◌, ℕ, ◌<◌, ◌≤◌, Bool, not, ◌&&◌, ◌==◌, List, [], ◌∷◌, ◌++◌, filter, map, length, slice_index_or, unwrap_or, IsTrue, Option, Some, None, nat_eq}
 use Rattle.std.specs.List.{HoldsAt, IsDistinct}
 use Rattle.std.specs.Map.{lookup, keys_of}
 use Rattle.std.specs.Option.{option_eq}
@@ -83,6 +83,16 @@ locks_of es = with_names es []
 -- the locks of the holders of name n, rising
 abbrev pub locks_at : Name → Holders → Locks
 locks_at n hs = map (λ h. ((n, h.0), h.1)) hs
+
+-- the locks of the holders of all these names, name by name
+abbrev pub listed : Names → Locks
+listed [] = []
+listed (e ∷ es) = locks_at (name_of e.0) e.1 ++ listed es
+
+-- the holders of each of these names rise
+abbrev pub AreHolders : Names → Type 0
+AreHolders [] = Unit {0}
+AreHolders (e ∷ es) = IsHolders e.1 × AreHolders es
 
 -- the locks without those of t on these names
 abbrev pub forget_all : Locks → ℕ → List Name → Locks

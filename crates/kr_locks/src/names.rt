@@ -2,14 +2,14 @@
 ghost use Rattle.std.specs.Prelude.{◌≡◌, ◌≢◌, ◌≤◌, ◌↔◌, ◌++◌, [], ◌∷◌, None, false, IsTrue, IsOk, OnOk, OnErr, IfOk};
 ghost use Rattle.std.specs.FinMap.{find};
 ghost use Rattle.kr_model.specs.Locks.{AreWithin, holder_cmp, own, keep, forget, blockers};
-ghost use Rattle.kr_locks.specs.Buckets.{IsNames, key_of, name_of, holders_at, with_holders, locks_of, forget_all};
+ghost use Rattle.kr_locks.specs.Buckets.{IsNames, key_of, name_of, holders_at, locks_at, locks_of, listed, forget_all, AreHolders};
 ghost use Rattle.kr_model.specs.declared.Span.TheVariants as span;
 
 use crate::bucket::Bucket;
 use crate::{Memory, Mode, Name, Txn};
 use kr_protocol::Protocol;
 use std::alloc::Global;
-use std::collections::{BTreeMap, HashMap};
+use std::collections::HashMap;
 
 /// The names on which a lock is held, each with its holders. The key of a name is its own key, and that of the end is `None`.
 pub(crate) type Names = HashMap<Option<u64>, Bucket>;
@@ -194,28 +194,26 @@ pub(crate) fn conflicting<P: Protocol>(
     }
 }
 
-/// Adds the locks of these holders of a name to a map of locks, the last holder first.
+/// Adds the locks of these holders of a name to a list.
 fn add_holders(
-    all: &mut BTreeMap<(Name, Txn), Mode>,
+    all: &mut Vec<((Name, Txn), Mode)>,
     name: Name,
     holders: &[(Txn, Mode)],
 ) -> Result<(), Memory>
-    ensures { OnOk result (all.new.entries ≡ with_holders name holders.now all.old.entries) }
+    ensures { OnOk result (all.new.items ≡ all.old.items ++ locks_at name holders.now) }
 {
-    let mut left = holders.len();
-    while left > 0 {
-        left -= 1;
-        let (txn, mode) = holders[left];
-        all.insert((name, txn), mode)?;
+    for &(txn, mode) in holders {
+        all.push(((name, txn), mode))?;
     }
     Ok(())
 }
 
-/// All locks, in a map.
-fn gather(alloc: Global, names: &Names) -> Result<BTreeMap<(Name, Txn), Mode>, Memory>
-    ensures { IfOk result (λ all. all.entries ≡ locks_of names.now.entries) }
+/// All locks, name by name.
+fn gather(alloc: Global, names: &Names) -> Result<Vec<((Name, Txn), Mode)>, Memory>
+    ensures listed { IfOk result (λ all. all.items ≡ listed names.now.entries) }
+    ensures in_order { OnOk result (AreHolders names.now.entries) }
 {
-    let mut all = BTreeMap::new(alloc);
+    let mut all = Vec::with_capacity(alloc, names.len())?;
     for (key, bucket) in names {
         add_holders(&mut all, name_of(*key), bucket.holders())?;
     }
@@ -224,12 +222,10 @@ fn gather(alloc: Global, names: &Names) -> Result<BTreeMap<(Name, Txn), Mode>, M
 
 /// All locks, by name and then by transaction.
 pub(crate) fn all_locks(alloc: Global, names: &Names) -> Result<Vec<((Name, Txn), Mode)>, Memory>
+    requires { IsNames names.now.entries }
     ensures { IfOk result (λ list. list.items ≡ locks_of names.now.entries) }
 {
-    let all = gather(alloc, names)?;
-    let mut list = Vec::with_capacity(alloc, all.len())?;
-    for (lock, mode) in &all {
-        list.push((*lock, *mode))?;
-    }
+    let mut list = gather(alloc, names)?;
+    list.sort_unstable();
     Ok(list)
 }

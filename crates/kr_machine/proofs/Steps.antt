@@ -93,8 +93,12 @@ module _ (p : Protocol) (s : State) (t : ℕ) where
       → step p s t (op_of_touch x) ≡ granted_or_blocked p s t (asked a) (effect_of s.map (standing s t) (op_of_touch x)) (blockers p s.locks t (asked a))
   attempts x a allowed is = performs p s t (op_of_touch x) allowed ∙ by_touch x ∙ ap (attempted_by p s t (effect_of s.map (standing s t) (op_of_touch x))) is
 
+  -- To go on where no scan is in progress is refused.
+  pub nothing_attempted : (x : Touch) → refusal_of p s t (op_of_touch x) ≡ None → attempt_of s.map (standing s t).scan (op_of_touch x) ≡ None → step p s t (op_of_touch x) ≡ (reply.Refused NoScan, s)
+  nothing_attempted x allowed none = performs p s t (op_of_touch x) allowed ∙ by_touch x ∙ ap (attempted_by p s t (effect_of s.map (standing s t) (op_of_touch x))) none
+
   -- An attempt that nobody blocks has its effect.
-  granted_step : (x : Touch) (a : Step) → refusal_of p s t (op_of_touch x) ≡ None → attempt_of s.map (standing s t).scan (op_of_touch x) ≡ Some a → blockers p s.locks t (asked a) ≡ []
+  pub granted_step : (x : Touch) (a : Step) → refusal_of p s t (op_of_touch x) ≡ None → attempt_of s.map (standing s t).scan (op_of_touch x) ≡ Some a → blockers p s.locks t (asked a) ≡ []
       → step p s t (op_of_touch x) ≡ after_effect p s t (asked a) (effect_of s.map (standing s t) (op_of_touch x))
   granted_step x a allowed is none = attempts x a allowed is ∙ ap (granted_or_blocked p s t (asked a) (effect_of s.map (standing s t) (op_of_touch x))) none
 
@@ -151,7 +155,7 @@ module _ (p : Protocol) (s : State) (t : ℕ) where
   abbrev reply_now : Step → Reply
   reply_now = reply_of s.map (rows_of (standing s t).scan)
 
-  reply_is : (x : Touch) (a : Step) → refusal_of p s t (op_of_touch x) ≡ None → attempt_of s.map (standing s t).scan (op_of_touch x) ≡ Some a → reply_now a ≡ (effect_of s.map (standing s t) (op_of_touch x)).reply
+  pub reply_is : (x : Touch) (a : Step) → refusal_of p s t (op_of_touch x) ≡ None → attempt_of s.map (standing s t).scan (op_of_touch x) ≡ Some a → reply_now a ≡ (effect_of s.map (standing s t) (op_of_touch x)).reply
   reply_is (touch.Key (key.Fetch k)) a allowed is = ap reply_now (sym (some_step (attempt.Fetch k) a is)) ∙ fetch_reply s.map idle (standing s t) (get s.map k)
   reply_is (touch.Key (key.Insert k v)) a allowed is = ap reply_now (sym (some_step (attempt.Insert k) a is)) ∙ insert_reply s.map idle (standing s t) k 0 v (get s.map k)
   reply_is (touch.Key (key.Delete k)) a allowed is = ap reply_now (sym (some_step (attempt.Delete k) a is)) ∙ delete_reply s.map idle (standing s t) k (get s.map k)

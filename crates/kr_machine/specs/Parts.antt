@@ -1,4 +1,5 @@
 -- What an operation comes to for a machine: an end, a change undone, or something that requests locks.
+use Rattle.std.specs.Prelude.{ℕ}
 use Rattle.kr_model.specs.declared.Op.{Op}
 use Rattle.kr_model.specs.declared.Op.TheVariants as op
 use Rattle.kr_machine.specs.declared.parts.Ending.{Ending}
@@ -21,6 +22,13 @@ op_of_key (key.Fetch k) = op.Fetch k
 op_of_key (key.Insert k v) = op.Insert k v
 op_of_key (key.Delete k) = op.Delete k
 op_of_key (key.Update k v) = op.Update k v
+
+-- The key that is read or changed.
+abbrev pub key_of : KeyTouch → ℕ
+key_of (key.Fetch k) = k
+key_of (key.Insert k v) = k
+key_of (key.Delete k) = k
+key_of (key.Update k v) = k
 
 -- The operation that requests locks so.
 abbrev pub op_of_touch : Touch → Op

@@ -4,8 +4,11 @@
 //! does it or `cancel` gives it up, neither of which can fail.
 #![tactic(auto)]
 
+mod asked;
 mod at_once;
+mod at_place;
 mod change;
+mod effects;
 mod holds;
 mod machine;
 mod parts;
@@ -15,6 +18,7 @@ mod replies;
 mod reserve;
 mod room;
 mod scans;
+mod sights;
 mod stepper;
 
 pub use kr_model::{Mode, Name, Txn};

@@ -1,7 +1,8 @@
 //! The refusals of a step, `Memory` aside.
 ghost use Rattle.std.specs.Prelude.{◌≡◌, None, []};
 ghost use Rattle.kr_model.specs.Step.{refusal_of};
-ghost use Rattle.kr_txn.specs.Standings.{entries};
+ghost use Rattle.kr_txn.specs.Numbered.{IsPosition};
+ghost use Rattle.kr_txn.specs.Standings.{entries, number_of};
 ghost use Rattle.kr_machine.specs.Pending.{scan_refusal, refusal_in, shown};
 
 use kr_model::{Op, Refusal, Txn};
@@ -82,22 +83,38 @@ pub(crate) fn refusal<P: Protocol>(
 ) -> Option<Refusal>
     ensures { result ≡ refusal_of (P.table protocol.now) (shown None [] [] ended.now.numbers (entries active.now)) txn op }
 {
+    match position(active, txn) {
+        None => {
+            if ended.has(txn) {
+                return Some(Refusal::Ended);
+            }
+            if active.len() >= 64 {
+                return Some(Refusal::Full);
+            }
+            scan_refusal(protocol.updates(), false, true, op)
+        }
+        Some(place) => refusal_at(protocol, ended, active, place, txn, op),
+    }
+}
+
+/// The same of the active transaction at this place.
+pub(crate) fn refusal_at<P: Protocol>(
+    protocol: &P,
+    ended: &Ended,
+    active: &[Standing],
+    place: usize,
+    txn: Txn,
+    op: Op,
+) -> Option<Refusal>
+    requires { IsPosition number_of txn active.now place }
+    ensures { result ≡ refusal_of (P.table protocol.now) (shown None [] [] ended.now.numbers (entries active.now)) txn op }
+{
     let updates = protocol.updates();
     if ended.has(txn) {
         return Some(Refusal::Ended);
     }
-    match position(active, txn) {
-        None => {
-            if active.len() >= 64 {
-                return Some(Refusal::Full);
-            }
-            scan_refusal(updates, false, true, op)
-        }
-        Some(i) => {
-            let standing = &active[i];
-            let is_scanning = standing.scan.is_some();
-            let is_unchanged = standing.changes.is_empty();
-            standing_refusal(updates, standing.rolling, is_scanning, is_unchanged, op)
-        }
-    }
+    let standing = &active[place];
+    let is_scanning = standing.scan.is_some();
+    let is_unchanged = standing.changes.is_empty();
+    standing_refusal(updates, standing.rolling, is_scanning, is_unchanged, op)
 }

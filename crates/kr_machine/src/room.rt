@@ -40,7 +40,7 @@ pub(crate) fn make_room(ended: &mut Ended, active: &mut Vec<Standing>) -> Result
 }
 
 /// Takes room for what is added to a transaction: a row of the scan in progress, or a change.
-fn make_room_in(standing: &mut Standing, touch: Touch) -> Result<(), Memory>
+pub(crate) fn make_room_in(standing: &mut Standing, touch: Touch) -> Result<(), Memory>
     ensures txn { standing.new.txn ≡ standing.old.txn }
     ensures same { active_of standing.new ≡ active_of standing.old }
     ensures ok { OnOk result (HasRoomIn standing.new (op_of_touch touch)) }

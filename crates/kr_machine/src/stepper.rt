@@ -24,17 +24,17 @@ use std::marker::Model;
 #[derive(Drop)]
 pub struct Stepper<P: Protocol, I: Ordered, L: Holdings> {
     /// The locking protocol.
-    protocol: P,
+    pub(crate) protocol: P,
     /// The index, with a pin for each change of an active transaction, and one for that of a pending step.
-    index: I,
+    pub(crate) index: I,
     /// The locks that are held, with those that a pending step keeps.
-    locks: L,
+    pub(crate) locks: L,
     /// The transactions that have ended, with room for each active one and for that of a pending step.
-    ended: Ended,
+    pub(crate) ended: Ended,
     /// The active transactions, rising by number, without that of a pending step.
-    active: Vec<Standing>,
+    pub(crate) active: Vec<Standing>,
     /// A step that has its memory and is neither done nor given up.
-    pending: Option<Pending>,
+    pub(crate) pending: Option<Pending>,
 }
 
 impl<P: Protocol, I: Ordered, L: Holdings> Model for Stepper<P, I, L> {

@@ -8,7 +8,9 @@ mod words;
 
 pub use items::{Answers, Items, Pairs, Programs, Txns};
 use std::alloc::AllocError;
-pub use words::{cover_code, row_word, rule_code, rule_number, side_word, span_word};
+pub use words::{
+    cover_code, refusal_number, row_word, rule_code, rule_number, side_word, span_word,
+};
 
 /// A growth was refused.
 pub type Memory = AllocError;

@@ -1,8 +1,9 @@
-//! The words and codes of rows, sides, durations, groups of cases and covers, as tables and reports have them.
+//! The words, codes and numbers of rows, sides, durations, groups of cases, covers and refusals, as tables and reports have them.
 ghost use Rattle.std.specs.Prelude.{◌≡◌};
+ghost use Rattle.kr_model.specs.Difference.{refusal_number};
 ghost use Rattle.kr_model.specs.Words.{row_word, side_word, span_word, rule_code, rule_number, cover_code};
 
-use crate::{Cover, Row, Rule, Side, Span};
+use crate::{Cover, Refusal, Row, Rule, Side, Span};
 
 /// A row, as tables name it.
 pub fn row_word(row: Row) -> &'static str
@@ -83,5 +84,22 @@ pub fn cover_code(cover: Cover) -> &'static str
         Cover::InsertedKey => "IK",
         Cover::DeletedGap => "DG",
         Cover::UpdatedKey => "UK",
+    }
+}
+
+/// The number of a refusal, from 1, in the order of `Refusal`.
+pub fn refusal_number(refusal: Refusal) -> u8
+    ensures { result ≡ refusal_number refusal }
+{
+    match refusal {
+        Refusal::Ended => 1,
+        Refusal::Busy => 2,
+        Refusal::NoScan => 3,
+        Refusal::BadRange => 4,
+        Refusal::Full => 5,
+        Refusal::Memory => 6,
+        Refusal::NoUpdate => 7,
+        Refusal::RollingBack => 8,
+        Refusal::NothingLeft => 9,
     }
 }

@@ -6,11 +6,9 @@ use Rattle.kr_model.specs.declared.Row.TheVariants as row
 use Rattle.kr_model.specs.declared.Side.{Side}
 use Rattle.kr_model.specs.declared.Side.TheVariants.{Current, Next}
 use Rattle.kr_model.specs.declared.Span.{Span}
-use Rattle.kr_model.specs.declared.Step.{Step}
 use Rattle.kr_model.specs.Protocol.{Protocol, IsLawful}
-use Rattle.kr_model.specs.Map.{Map}
 use Rattle.kr_model.specs.Locks.{Locks, AreWithin}
-use Rattle.kr_model.specs.Plan.{Access, access_of, own_next, side_request, plan_by, plan_of}
+use Rattle.kr_model.specs.Plan.{Access, own_next, side_request, plan_by}
 use Rattle.kr_plan.specs.Modes.{SideIsMode, ArePlanModes}
 
 own_next_within : (count : ℕ) (h : Locks) (t : ℕ) (r : Row) (n : Option Name) → AreWithin count h → own_next h t r n ≤ count
@@ -30,11 +28,8 @@ side_mode p r s o (Some n) None laws le e = tt
 side_mode p r s o (Some n) (Some (q, span)) laws le e =
     let m = laws.ask-mode r s o q span le e in (m.some, m.in_range)
 
-modes_by : (p : Protocol) (h : Locks) (t : ℕ) (a : Access) → IsLawful p → AreWithin p.count h → ArePlanModes p.count (plan_by p h t a)
+-- What a lawful protocol requests at two names are its modes.
+pub modes_by : (p : Protocol) (h : Locks) (t : ℕ) (a : Access) → IsLawful p → AreWithin p.count h → ArePlanModes p.count (plan_by p h t a)
 modes_by p h t a laws w =
     let le = own_next_within p.count h t a.row a.next w in
     (side_mode p a.row Current (own_next h t a.row a.next) a.current (p.ask a.row Current (own_next h t a.row a.next)) laws le refl, side_mode p a.row Next (own_next h t a.row a.next) a.next (p.ask a.row Next (own_next h t a.row a.next)) laws le refl)
-
--- The plan of an attempt under a lawful protocol requests its modes.
-pub plan_modes : (p : Protocol) (m : Map) (h : Locks) (t : ℕ) (a : Step) → IsLawful p → AreWithin p.count h → ArePlanModes p.count (plan_of p m h t a)
-plan_modes p m h t a laws w = modes_by p h t (access_of m a) laws w

@@ -79,7 +79,7 @@ fn side(name: Option<Name>, asked: Option<(Mode, Span)>) -> Option<(Name, Mode, 
 }
 
 /// What a row requests at these names.
-fn plan_at<P: Protocol, L: Holdings>(
+fn requested<P: Protocol, L: Holdings>(
     protocol: &P,
     locks: &L,
     txn: Txn,
@@ -100,6 +100,24 @@ fn plan_at<P: Protocol, L: Holdings>(
         current: side(current, protocol.ask(row, Side::Current, own)),
         next: side(next, protocol.ask(row, Side::Next, own)),
     }
+}
+
+/// What an attempt requests that finds this row, and these names at its two sides. Takes no memory.
+///
+/// The own mode on the next name and the conditions on modes are those of `plan`.
+pub fn plan_at<P: Protocol, L: Holdings>(
+    protocol: &P,
+    locks: &L,
+    txn: Txn,
+    row: Row,
+    current: Option<Name>,
+    next: Option<Name>,
+) -> Plan
+    requires { AreWithin (P.table protocol.now).count (L.locks locks.now) }
+    ensures plan { result ≡ plan_by (P.table protocol.now) (L.locks locks.now) txn (access row current next) }
+    ensures modes { ArePlanModes (P.table protocol.now).count result }
+{
+    requested(protocol, locks, txn, row, current, next)
 }
 
 /// Whether nobody's lock conflicts with the request of a side.

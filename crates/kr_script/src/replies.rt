@@ -3,11 +3,10 @@ ghost use Rattle.std.specs.Prelude.{◌≡◌, ◌++◌, codes, IfOk, OnOk, stri
 ghost use Rattle.serde_json.specs.Data.{string};
 ghost use Rattle.serde_json.specs.Written.{compact_text};
 ghost use Rattle.kr_model.specs.declared.Reply.TheVariants as reply;
-ghost use Rattle.kr_model.specs.Difference.{refusal_number};
 ghost use Rattle.kr_script.specs.Replies.{name_data, numbers_data, refusal_name, reply_data};
 
 use crate::writing::{separator, write_number, write_pairs, write_with_number};
-use kr_model::{Name, Refusal, Reply, Txn};
+use kr_model::{Name, Refusal, Reply, Txn, refusal_number};
 use serde_json::Value;
 use std::alloc::{AllocError, Global};
 
@@ -59,22 +58,6 @@ pub fn quoted(alloc: Global, text: &str) -> Result<String, AllocError>
     Value::try_from_str(alloc, text)?.to_string(alloc)
 }
 
-fn number_of(refusal: Refusal) -> u64
-    ensures { result ≡ refusal_number refusal }
-{
-    match refusal {
-        Refusal::Ended => 1,
-        Refusal::Busy => 2,
-        Refusal::NoScan => 3,
-        Refusal::BadRange => 4,
-        Refusal::Full => 5,
-        Refusal::Memory => 6,
-        Refusal::NoUpdate => 7,
-        Refusal::RollingBack => 8,
-        Refusal::NothingLeft => 9,
-    }
-}
-
 /// The name of a refusal in its quotes.
 #[tactic(auto, unfolding(serde_json::proofs::OnLiterals::serde_json_on_literals))]
 fn quoted_refusal(refusal: Refusal) -> &'static str
@@ -98,7 +81,7 @@ fn write_refusal(out: &mut String, refusal: Refusal) -> Result<(), AllocError>
     ensures { OnOk result (string_bytes out.new ≡ string_bytes out.old ++ compact_text (reply_data (reply.Refused refusal))) }
 {
     out.push_str(r#"["refused","#)?;
-    write_number(out, number_of(refusal))?;
+    write_number(out, u64::from(refusal_number(refusal)))?;
     out.push_str(",")?;
     out.push_str(quoted_refusal(refusal))?;
     out.push_str("]")

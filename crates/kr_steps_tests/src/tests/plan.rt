@@ -8,7 +8,7 @@ ghost use Rattle.kr_model.specs.Locks.{AreWithin};
 use kr_index::{Ordered, Sorted};
 use kr_locks::{Holdings, List, Memory};
 use kr_model::{Mode, Name, Plan, Row, Span, Step, Txn};
-use kr_plan::{blockers, granted, plan};
+use kr_plan::{blockers, granted, plan, plan_at};
 use kr_protocol::{Kvl, KvlUpdate, Protocol};
 use std::alloc::Global;
 use std::process::Abort;
@@ -150,6 +150,13 @@ fn plans<P: Protocol, I: Ordered, L: Holdings>(
             step
         );
     }
+    let (row, key, name) = (Row::Insert, Some(Name::Key(12)), Some(Name::Key(20)));
+    let current = to_commit(Name::Key(12), X);
+    let next = at_once(Name::Key(20), IX);
+    same!(rt;
+        plan_at(protocol, &locks, 1, row, key, name),
+        Plan { row, current, next },
+    );
     Ok(())
 }
 

@@ -1,7 +1,7 @@
 use kr_model::{
     Answers, Cover, Event, FailedCase, Name, Op, Origin, Pairs, Program, Programs, Refusal, Reply,
-    Requester, Row, Rule, Side, Span, Step, Txns, cover_code, row_word, rule_code, rule_number,
-    side_word, span_word,
+    Requester, Row, Rule, Side, Span, Step, Txns, cover_code, refusal_number, row_word, rule_code,
+    rule_number, side_word, span_word,
 };
 use std::alloc::{AllocError, Global};
 
@@ -197,6 +197,8 @@ fn words_are_those_of_tables_and_reports(rt: HostRuntime) {
     assert_eq!(rt; rule_code(Rule::Conversion), "G1");
     assert_eq!(rt; rule_code(Rule::Update), "G9");
     assert_eq!(rt; rule_number(Rule::Split), 7);
+    assert_eq!(rt; refusal_number(Refusal::Ended), 1);
+    assert_eq!(rt; refusal_number(Refusal::NothingLeft), 9);
     assert_eq!(rt; cover_code(Cover::ReadKey), "RK");
     assert_eq!(rt; cover_code(Cover::UpdatedKey), "UK");
 }

@@ -17,3 +17,6 @@ returns-clause-helps c = (
     ),
   ),
 )
+
+pub returns-clause-none : goal.returns-clause-none
+returns-clause-none c = grind (arith, common_steps)

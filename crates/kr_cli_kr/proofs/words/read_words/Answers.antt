@@ -1,3 +1,4 @@
+use Rattle.std.proofs.lemmas.Grind.{common_steps}
 use Rattle.std.proofs.Common.{◌≡◌, ℕ, List, [], ◌∷◌, ◌++◌, Some, All, map, get_or, string_bytes, suc, ap, subst, sym, inl, inr, refl, arith}
 use Rattle.std.specs.Prelude.{codes, slice_get}
 use Rattle.std.specs.Fmt.{decimal}
@@ -50,3 +51,6 @@ returns-clause-words c =
     let is : AreLeft left table task = c.is_of.ensures c.if-not-is_of.false in
     let plain : All IsPlain left = All-map IsPlain string_bytes c.in-Some.left.now (c.are_plain.ensures c.if-not-are_plain.false) in
     (form_of_left _ left c.in-Some.workers table task c.in-Some.ensures c.in_ok-asked.ensures.workers is, plain_of_left left table task plain is)
+
+pub returns-then-not-are_plain-clause-err : goal.returns-then-not-are_plain-clause-err
+returns-then-not-are_plain-clause-err c = grind (arith, common_steps)

@@ -1,3 +1,4 @@
+use Rattle.std.proofs.lemmas.Grind.{common_steps}
 use Rattle.std.proofs.Common.{◌≡◌, ℕ, List, [], ◌∷◌, ◌++◌, Some, map, length, get_or, take, string_bytes, sym, inl, arith, rules}
 use Rattle.std.specs.Prelude.{codes, slice_get}
 use Rattle.std.specs.Fmt.{decimal}
@@ -24,3 +25,6 @@ returns-then-eq-2 c =
     let threads = (bytes_eq-Decides c.as_str.result.now (codes "threads")).0 (sym c.if-eq.ensures) in
     let option = (bytes_eq-Decides c.as_str-then-eq.result.now (codes "--workers")).0 (sym c.if-eq-2.ensures) in
     inl (split_five string_bytes c.args.words.now c.index-words-0.result c.index-words-3.result c.index-words-4.result (codes "threads") (codes "--workers") (decimal (count_of c.in_ok-workers.workers)) (search rules) c.index-words-0.is c.index-words-3.is c.index-words-4.is (across c.as_str.ensures.value threads) (across c.as_str-then-eq.ensures.value option) (across c.as_str-then-eq-2.ensures.value (c.in_ok-workers.ensures)))
+
+pub returns : goal.returns
+returns c = grind (arith, common_steps)

@@ -1,3 +1,5 @@
+use Rattle.std.proofs.Common.{arith}
+use Rattle.std.proofs.lemmas.Grind.{common_steps}
 use Rattle.kr_engine.proofs.Waking.{leaves_keys, frees_nobody, keys_left, blocks_nobody, quiet_is, leaves_is}
 use Rattle.std.proofs.Common.{ap}
 use Rattle.kr_model.specs.Run.{is_committed}
@@ -62,3 +64,30 @@ returns-in-Found-9-clause-nothing c = λ _. frees_nobody c.args.reply.now (quiet
 
 pub returns-in-Found-9-clause-keys : goal.returns-in-Found-9-clause-keys
 returns-in-Found-9-clause-keys c = λ _. keys_left c.args.reply.now (leaves_is c.args.reply.now c.in-Found.is)
+
+pub returns-in-Aborted-clause-locks : goal.returns-in-Aborted-clause-locks
+returns-in-Aborted-clause-locks c = grind (arith, common_steps)
+
+pub returns-in-Aborted-clause-keys : goal.returns-in-Aborted-clause-keys
+returns-in-Aborted-clause-keys c = grind (arith, common_steps)
+
+pub returns-in-Aborted-2-clause-locks : goal.returns-in-Aborted-2-clause-locks
+returns-in-Aborted-2-clause-locks c = grind (arith, common_steps)
+
+pub returns-in-Aborted-2-clause-keys : goal.returns-in-Aborted-2-clause-keys
+returns-in-Aborted-2-clause-keys c = grind (arith, common_steps)
+
+pub returns-in-Aborted-3-clause-locks : goal.returns-in-Aborted-3-clause-locks
+returns-in-Aborted-3-clause-locks c = grind (arith, common_steps)
+
+pub returns-in-Aborted-3-clause-keys : goal.returns-in-Aborted-3-clause-keys
+returns-in-Aborted-3-clause-keys c = grind (arith, common_steps)
+
+pub returns-in-Aborted-4-clause-locks : goal.returns-in-Aborted-4-clause-locks
+returns-in-Aborted-4-clause-locks c = grind (arith, common_steps)
+
+pub returns-in-Aborted-4-clause-keys : goal.returns-in-Aborted-4-clause-keys
+returns-in-Aborted-4-clause-keys c = grind (arith, common_steps)
+
+pub returns-in-Committed-clause-nothing : goal.returns-in-Committed-clause-nothing
+returns-in-Committed-clause-nothing c = grind (arith, common_steps)

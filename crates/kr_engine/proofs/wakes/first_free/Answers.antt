@@ -1,3 +1,4 @@
+use Rattle.std.proofs.lemmas.Grind.{common_steps}
 use Rattle.std.proofs.Common.{◌≢◌, [], List, All, subst, arith}
 use Rattle.std.proofs.lemmas.List.{take_all}
 use Rattle.kr_model.specs.declared.Event.{Event}
@@ -8,3 +9,6 @@ pub returns-clause-none : goal.returns-clause-none
 returns-clause-none g c =
     let blocked : List Event → Type 0 = All (λ e. in_the_way (g.P.Protocol.table c.args.machine.now.protocol) c.args.machine.now.state e ≢ []) in
     λ _. subst blocked (take_all c.loop-event.event-index c.args.noted.now (omega (arith, c.loop-event-test.false))) c.loop-event.invariant.blocked
+
+pub loop-event-preserved : goal.loop-event-preserved
+loop-event-preserved g c = grind (arith, common_steps)

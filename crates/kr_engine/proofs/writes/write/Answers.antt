@@ -1,3 +1,5 @@
+use Rattle.std.proofs.Common.{arith}
+use Rattle.std.proofs.lemmas.Grind.{common_steps}
 use Rattle.std.proofs.Common.{sym, ◌∙◌}
 use Rattle.kr_model.specs.Step.{step}
 use Rattle.kr_engine.proofs.Ended.{ended_stays, ends_stay, nobody_ended}
@@ -12,3 +14,6 @@ returns-clause-ends g c =
     ends_stay old.state new.state c.args.numbers.now
     (nobody_ended (λ m. m.state) c.write_step.result old new after.1 c.write_step.ensures.state c.write_step.ensures.err (ended_stays p old.state c.args.txn c.args.op (sym c.is_end.ensures ∙ c.if-is_end.false)))
     c.requires.ends
+
+pub returns-then-kept-left-clause-only_full : goal.returns-then-kept-left-clause-only_full
+returns-then-kept-left-clause-only_full g c = grind (arith, common_steps)

@@ -1,3 +1,5 @@
+use Rattle.std.proofs.Common.{arith}
+use Rattle.std.proofs.lemmas.Grind.{common_steps}
 use Rattle.std.proofs.Common.{◌≡◌, ◌+◌, get_or, ap, ◌∙◌}
 use Rattle.kr_model.specs.declared.Event.{Event}
 use Rattle.kr_model.specs.declared.Op.TheVariants as op
@@ -27,3 +29,6 @@ loop-at-preserved g c =
 
 pub returns : goal.returns
 returns g c = rows_all (g.P.Protocol.table c.args.machine.now.protocol.now) (g.P.Protocol.names c.args.protocol.now) c.args.txns.now c.args.machine.now.state c.args.events.now c.args.weak c.args.let_in c.loop-at.at _ c.loop-at-test.false c.loop-at.invariant.rows
+
+pub loop-at-init : goal.loop-at-init
+loop-at-init g c = grind (arith, common_steps)

@@ -1,3 +1,5 @@
+use Rattle.std.proofs.Common.{arith}
+use Rattle.std.proofs.lemmas.Grind.{common_steps}
 use Rattle.std.proofs.Common.{◌≡◌, true, false, is_some, suc, sym, ◌∙◌, ap}
 use Rattle.kr_index.proofs.TreeLaws.{least_present}
 use Rattle.kr_index.proofs.Ordered.pair_after.Goals as goal
@@ -8,3 +10,9 @@ unreachable-requires g c =
     let there = least_present m (suc c.args.key) c.in-Key.next (sym c.after.ensures ∙ c.in-Key.is) in
     let none = ap is_some (sym c.get.ensures ∙ c.in-None-get.is) in
     absurd (cc (there, none))
+
+pub returns-in-Some-clause-none : goal.returns-in-Some-clause-none
+returns-in-Some-clause-none g c = grind (arith, common_steps)
+
+pub returns-in-Some-clause-name : goal.returns-in-Some-clause-name
+returns-in-Some-clause-name g c = grind (arith, common_steps)

@@ -1,3 +1,5 @@
+use Rattle.std.proofs.Common.{arith}
+use Rattle.std.proofs.lemmas.Grind.{common_steps}
 use Rattle.std.specs.Prelude.{◌≡◌, None}
 use Rattle.std.proofs.Common.{sym, ◌∙◌, ap}
 use Rattle.kr_model.specs.Map.{get}
@@ -17,3 +19,6 @@ returns-in-None-clause-map g c =
     let absent : get m key ≡ None = sym c.take.ensures.value ∙ c.in-None.is in
     c.unpin.ensures.map ∙ c.take.ensures.map ∙ without_absent m key absent
     ∙ sym (ap (λ x. (effect_of m a (op_of_key x)).map) c.in-Delete-Delete.is-0 ∙ ap (λ o. (deleted m a key o).map) absent)
+
+pub returns-in-Insert-Insert-clause-standing : goal.returns-in-Insert-Insert-clause-standing
+returns-in-Insert-Insert-clause-standing g c = grind (arith, common_steps)

@@ -1,10 +1,10 @@
-use Rattle.std.proofs.Common.{◌≡◌, ℕ, true, false, Some, None, [], ap, ap₂, sym, ◌∙◌, refl, length, arith, ◌≤◌, ◌<◌}
+use Rattle.std.proofs.Common.{◌≡◌, ℕ, true, false, None, [], ap, sym, ◌∙◌, length, arith, ◌≤◌, ◌<◌}
 use Rattle.std.specs.Prelude.{nat_le}
 use Rattle.std.proofs.lemmas.Bool.Decides.{nat_tests}
 use Rattle.kr_txn.specs.Standings.{number_of, active_of, entries}
-use Rattle.kr_txn.proofs.Lists.{found, not_found, length_entries}
-use Rattle.kr_machine.specs.Pending.{scan_refusal, refusal_in}
-use Rattle.kr_machine.proofs.Steps.{refusal_is, scanning, unchanged}
+use Rattle.kr_txn.proofs.Lists.{not_found, length_entries}
+use Rattle.kr_machine.specs.Pending.{scan_refusal}
+use Rattle.kr_machine.proofs.Steps.{refusal_is}
 use Rattle.kr_machine.proofs.refusals.refusal.Goals as goal
 
 le_true : (a b : ℕ) → a ≤ b → nat_le a b ≡ true
@@ -22,16 +22,6 @@ returns-then-active-ge64 g c =
 pub returns-else-active-ge64 : goal.returns-else-active-ge64
 returns-else-active-ge64 g c =
     let p = g.P.Protocol.table c.args.protocol.now in
-    c.scan_refusal.ensures ∙ ap (λ v. scan_refusal v false true c.args.op) c.updates-updates.ensures
+    c.scan_refusal.ensures ∙ ap (λ v. scan_refusal v false true c.args.op) c.updates.ensures
     ∙ sym (refusal_is p [] [] c.args.ended.now.numbers (entries c.args.active.now) c.args.txn c.args.op false (sym c.has.ensures ∙ c.if-has.false) None (not_found number_of active_of c.args.txn c.args.active.now c.in-None.ensures.none) false
     (ap (nat_le 64) (length_entries number_of active_of c.args.active.now) ∙ le_false 64 (length c.args.active.now) c.if-active-ge64.false))
-
-pub returns-in-Some : goal.returns-in-Some
-returns-in-Some g c =
-    let p = g.P.Protocol.table c.args.protocol.now in
-    let at = c.in-Some.ensures.some in
-    let x = c.index-active-i.result in
-    c.standing_refusal.ensures ∙ ap (λ v. refusal_in v x.rolling c.is_some-is_scanning.result c.is_empty-is_unchanged.result c.args.op) c.updates-updates.ensures
-    ∙ ap₂ (λ b u. refusal_in p.updates x.rolling b u c.args.op) (c.is_some-is_scanning.ensures ∙ sym (scanning x.scan)) (c.is_empty-is_unchanged.ensures ∙ unchanged x.changes)
-    ∙ sym (refusal_is p [] [] c.args.ended.now.numbers (entries c.args.active.now) c.args.txn c.args.op false (sym c.has.ensures ∙ c.if-has.false) (Some (active_of x))
-    (found number_of active_of c.args.txn c.args.active.now c.in-Some.i at.within at.others at.here x ∙ ap (λ z. Some (active_of z)) (sym c.index-active-i.is)) (nat_le 64 (length (entries c.args.active.now))) refl)

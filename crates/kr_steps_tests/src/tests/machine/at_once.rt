@@ -2,9 +2,13 @@
 use kr_index::Sorted;
 use kr_locks::List;
 use kr_machine::Stepper;
-use kr_model::{Op, Refusal, Reply};
+use kr_model::{Mode, Name, Op, Refusal, Reply, Row, Span};
 use kr_protocol::Kvl;
 use std::test::Fail;
+
+const IX: Mode = 2;
+
+const S: Mode = 3;
 
 #[test]
 fn steps_at_once(rt: HostRuntime) -> Result<(), Fail> {
@@ -23,5 +27,48 @@ fn steps_at_once(rt: HostRuntime) -> Result<(), Fail> {
     );
     assert_eq!(rt; stepper.index()?.as_slice(), [(10, 7)].as_slice());
     assert_eq!(rt; stepper.unfinished()?.as_slice(), [2].as_slice());
+    Ok(())
+}
+
+#[test]
+fn steps_at_once_where_they_stand(rt: HostRuntime) -> Result<(), Fail> {
+    let alloc = rt.alloc();
+    let mut stepper = Stepper::new(alloc, Kvl, Sorted::new(alloc), List::new(alloc));
+    assert!(rt; matches!(stepper.step(2, Op::Insert(200, 5)), Reply::Done));
+    assert!(rt; matches!(stepper.step(1, Op::Insert(10, 7)), Reply::Done));
+    assert!(rt; matches!(stepper.step(1, Op::Insert(20, 8)), Reply::Done));
+    assert!(rt; matches!(stepper.step(1, Op::Insert(20, 9)), Reply::Duplicate));
+    assert!(rt; matches!(stepper.step(1, Op::Fetch(20)), Reply::Found(8)));
+    assert!(rt; matches!(stepper.step(1, Op::Delete(20)), Reply::Blocked(_)));
+    assert!(rt; matches!(stepper.step(1, Op::Scan(10, 20)), Reply::Going(10)));
+    assert!(rt;
+        matches!(
+            stepper.step(1, Op::Fetch(10)),
+            Reply::Refused(Refusal::Busy)
+        )
+    );
+    assert!(rt; matches!(stepper.step(1, Op::Go), Reply::Rows(_)));
+    assert!(rt; matches!(stepper.step(1, Op::Go), Reply::Refused(Refusal::NoScan)));
+    assert!(rt; matches!(stepper.step(2, Op::Commit), Reply::Committed));
+    assert!(rt; matches!(stepper.step(1, Op::Delete(20)), Reply::Deleted(8)));
+    assert!(rt; matches!(stepper.step(1, Op::Commit), Reply::Committed));
+    assert_eq!(rt; stepper.index()?.as_slice(), [(10, 7), (200, 5)].as_slice());
+    Ok(())
+}
+
+#[test]
+fn what_is_requested_and_held(rt: HostRuntime) -> Result<(), Fail> {
+    let alloc = rt.alloc();
+    let mut stepper = Stepper::new(alloc, Kvl, Sorted::new(alloc), List::new(alloc));
+    assert!(rt; matches!(stepper.step(1, Op::Insert(10, 7)), Reply::Done));
+    let plan = stepper.plan(2, Op::Scan(5, 20)).unwrap();
+    assert_eq!(rt; plan.row, Row::ScanKey);
+    assert!(rt; plan.current == Some((Name::Key(10), S, Span::Commit)));
+    assert!(rt; plan.next.is_none());
+    assert!(rt; stepper.plan(2, Op::Go).is_none());
+    assert!(rt; stepper.plan(1, Op::Commit).is_none());
+    assert_eq!(rt; stepper.own(1, Name::Key(10)), IX);
+    assert_eq!(rt; stepper.own(1, Name::End), 0);
+    assert_eq!(rt; stepper.own(2, Name::Key(10)), 0);
     Ok(())
 }

@@ -1,3 +1,4 @@
+use Rattle.std.proofs.Common.{rules}
 use Rattle.std.specs.Prelude.{ℕ, List}
 use Rattle.std.proofs.Common.{subst}
 use Rattle.kr_view_html.specs.Parts.{IsMadeOfParts}
@@ -8,3 +9,6 @@ returns-clause-before c = let P : List ℕ → Type 0 = λ b. IsMadeOfParts b in
 
 pub returns-clause-behind : goal.returns-clause-behind
 returns-clause-behind c = let P : List ℕ → Type 0 = λ b. IsMadeOfParts b in subst P c.as_str-3.ensures.written c.as_str-3.ensures.parts
+
+pub returns-clause-page : goal.returns-clause-page
+returns-clause-page c = search rules

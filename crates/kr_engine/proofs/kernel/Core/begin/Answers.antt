@@ -1,3 +1,4 @@
+use Rattle.std.proofs.lemmas.Grind.{common_steps}
 use Rattle.std.proofs.Common.{◌≡◌, ◌<◌, ◌+◌, ◌++◌, ◌∷◌, [], length, ℕ, List, Some, true, false, All, sym, ap, ◌∙◌, refl, subst, arith}
 use Rattle.kr_engine.specs.declared.numbers.Number.{Number}
 use Rattle.kr_engine.specs.Numbers.{begun_by, was_begun, is_begun, ends_kept, HaveEnds}
@@ -33,3 +34,12 @@ invariant_of-self g c =
       kept_is = ap (λ (k : ℕ). k + 1) i.kept_is ∙ sym (ap ends_kept more ∙ ends_more ns c.args.txn c.args.seat c.in-Ok.end);
       room = omega (arith, i.room, c.if-self-places.false, c.len-places.ensures.length, ap (λ (l : List ℕ). length l) c.requires.row, c.len-place.ensures.length);
     }
+
+pub returns-then-self-places-clause-only_full : goal.returns-then-self-places-clause-only_full
+returns-then-self-places-clause-only_full g c = grind (arith, common_steps)
+
+pub returns-then-has-clause-only_taken : goal.returns-then-has-clause-only_taken
+returns-then-has-clause-only_taken g c = grind (arith, common_steps)
+
+pub returns-then-has-clause-full : goal.returns-then-has-clause-full
+returns-then-has-clause-full g c = grind (arith, common_steps)

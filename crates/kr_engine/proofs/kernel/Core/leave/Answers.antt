@@ -1,3 +1,5 @@
+use Rattle.std.proofs.Common.{arith}
+use Rattle.std.proofs.lemmas.Grind.{common_steps}
 use Rattle.std.proofs.Common.{◌<◌, length, ap, refl}
 use Rattle.kr_engine.specs.Numbers.{begun_by}
 use Rattle.kr_engine.proofs.Counts.{counts_stay}
@@ -23,3 +25,6 @@ invariant_of-self g c =
       kept_is = i.kept_is;
       room = i.room;
     }
+
+pub returns-clause-left : goal.returns-clause-left
+returns-clause-left g c = grind (arith, common_steps)

@@ -1,3 +1,4 @@
+use Rattle.std.proofs.lemmas.Grind.{common_steps}
 use Rattle.std.proofs.Common.{◌≡◌, ◌+◌, ◌<◌, ◌≤◌, ◌++◌, ◌∷◌, [], length, ℕ, List, true, All, sym, ap, ◌∙◌, subst, arith, refl, length-append, ⊎_elim}
 use Rattle.std.proofs.lemmas.List.Elements.{All-push}
 use Rattle.std.specs.Prelude.{slice_set}
@@ -71,3 +72,9 @@ invariant_of-self-2 g c =
 
 pub returns-clause-small : goal.returns-clause-small
 returns-clause-small g c = omega (arith, c.in-Ok.ensures.room, c.len-places.ensures.length, c.len-places.ensures.small)
+
+pub returns-clause-entry : goal.returns-clause-entry
+returns-clause-entry g c = grind (arith, common_steps)
+
+pub returns-clause-receipt : goal.returns-clause-receipt
+returns-clause-receipt g c = grind (arith, common_steps)

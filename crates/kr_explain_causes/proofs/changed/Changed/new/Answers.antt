@@ -1,3 +1,5 @@
+use Rattle.std.proofs.Common.{arith}
+use Rattle.std.proofs.lemmas.Grind.{common_steps}
 use Rattle.std.proofs.Common.{◌≡◌, ◌∙◌, sym, true}
 use Rattle.kr_explain_causes.specs.Changes.{is_change}
 use Rattle.kr_explain_causes.proofs.Lawful.{changed_lawful}
@@ -9,3 +11,6 @@ invariant_of-result g c =
     let p = g.P.Protocol.table c.args.base.now in
     let is : is_change p c.args.change ≡ true = sym c.is_change.ensures ∙ c.if-is_change.true in
     record { allowed = is; lawful = changed_lawful p c.args.change (g.met.P.Protocol.lawful c.args.base.now) is }
+
+pub returns-else-is_change-clause-exactly : goal.returns-else-is_change-clause-exactly
+returns-else-is_change-clause-exactly g c = grind (arith, common_steps)

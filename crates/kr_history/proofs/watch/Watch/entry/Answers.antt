@@ -1,3 +1,4 @@
+use Rattle.std.proofs.lemmas.Grind.{common_steps}
 use Rattle.std.proofs.Common.{◌≡◌, ◌<◌, ℕ, List, length, Option, None, Some, sym, ap, ◌∙◌, arith, subst}
 use Rattle.std.specs.Prelude.{MatchOption}
 use Rattle.once_cell.specs.Once.{Agrees}
@@ -25,3 +26,6 @@ returns-clause-seen g c =
     let lt : c.args.place < length c.args.self.now = omega (arith, length_is, c.if-place-len.false, c.len.ensures.length, ap (λ (l : List ℕ). length l) c.self.invariant.0) in
     now_seen c.self.inside.known.items c.args.self.now c.args.place c.index.result.now c.of.result c.self.view_is lt c.index.ensures c.get_as-found.result
     (subst (λ (o : Option Entry × Option Entry). MatchOption c.get_as-found.result ((o.0 ≡ None) × (o.1 ≡ None)) (λ r. (o.1 ≡ Some r.now) × Agrees o.0 r.now)) (λ i. (c.inform.ensures.1 i, sym c.of.ensures.2 i)) c.get_as-found.ensures.value)
+
+pub returns-then-place-len-clause-known : goal.returns-then-place-len-clause-known
+returns-then-place-len-clause-known g c = grind (arith, common_steps)

@@ -24,3 +24,6 @@ pub returns-clause-pins : goal.returns-clause-pins
 returns-clause-pins c q =
     let all : c.loop-key.entries.items ≡ unpinned c.args.pairs.now = grind (arith, common_steps) in
     ap (λ l. pins_of l q) all ∙ pins-unpinned c.args.pairs.now q
+
+pub loop-key-preserved : goal.loop-key-preserved
+loop-key-preserved c = grind (arith, common_steps)

@@ -1,3 +1,5 @@
+use Rattle.std.proofs.Common.{arith}
+use Rattle.std.proofs.lemmas.Grind.{common_steps}
 use Rattle.std.proofs.Common.{◌≡◌, sym, ap, subst, ◌∙◌, Some, IfSome}
 use Rattle.kr_model.specs.Step.{step}
 use Rattle.kr_model.specs.Log.{logged}
@@ -25,3 +27,6 @@ returns-clause-well_formed g c =
     let old = c.self.inside.stepper in
     let e = c.ready.inside.event in
     subst (λ n. IsState (g.P.Protocol.table n.protocol) n.state) (sym c.finish.ensures) (step_keeps_state (g.P.Protocol.table old.protocol) (g.met.P.Protocol.lawful old.protocol) old.state e.txn e.op c.self.invariant.well_formed)
+
+pub returns-clause-reply : goal.returns-clause-reply
+returns-clause-reply g c = grind (arith, common_steps)

@@ -1,0 +1,6 @@
+use Rattle.std.proofs.Common.{arith}
+use Rattle.std.proofs.lemmas.Grind.{common_steps}
+use Rattle.kr_txn.proofs.numbers.Goals as goal
+
+pub loop-standing-preserved : goal.loop-standing-preserved
+loop-standing-preserved c = grind (arith, common_steps)
