@@ -15,21 +15,28 @@ use Rattle.kr_model.specs.Step.{step, IsStep}
 use Rattle.kr_model.specs.WellFormed.{IsState}
 use Rattle.kr_model.specs.Log.{logged}
 use Rattle.kr_model.proofs.LogLaws.{unfinished_after}
-use Rattle.kr_model.proofs.WellFormedLaws.{step_keeps_state}
+use Rattle.kr_model.proofs.WellFormedLaws.{is_step_keeps_state}
 use Rattle.kr_model.proofs.EndLaws.{abort_of_active, commit_of_active, back_of_active}
 use Rattle.kr_txn.specs.Logs.{LogWithRoom}
 use Rattle.kr_machine.specs.declared.pending.DueReply.{DueReply}
 use Rattle.kr_machine.specs.Logged.{IsLogged}
 
--- After a step the log that has noted it goes with the new state.
+-- After a step that may have been refused memory, the log that has noted it goes with the new state.
+pub log_of_any_step : (p : Protocol) → IsLawful p → (s new : State) (e : Event) (r : Reply) (l m : LogWithRoom) (due : Option DueReply) → IsState p s → ((t : ℕ) → is_some (find nat_cmp t l.log.unfinished) ≡ is_some (active_of s t))
+    → IsStep p s e.txn e.op r new → m.log ≡ logged l.log (e, r) → IsLogged p new None m due
+log_of_any_step p laws s new e r l m due well_formed same is noted =
+    record {
+      well_formed = is_step_keeps_state p laws s e.txn e.op r new well_formed is;
+      same = λ t. ap (λ z. is_some (find nat_cmp t z.unfinished)) noted ∙ unfinished_after p s l.log e r new is same t;
+      noted = tt;
+    }
+
+-- So it does after one that had its memory.
 pub log_of_step : (p : Protocol) → IsLawful p → (s : State) (e : Event) (l m : LogWithRoom) (due : Option DueReply) → IsState p s → ((t : ℕ) → is_some (find nat_cmp t l.log.unfinished) ≡ is_some (active_of s t))
     → m.log ≡ logged l.log (e, (step p s e.txn e.op).0) → IsLogged p (step p s e.txn e.op).1 None m due
 log_of_step p laws s e l m due well_formed same noted =
-    let o = step p s e.txn e.op in record {
-      well_formed = step_keeps_state p laws s e.txn e.op well_formed;
-      same = λ t. ap (λ z. is_some (find nat_cmp t z.unfinished)) noted ∙ unfinished_after p s l.log e o.0 o.1 (inl refl) same t;
-      noted = tt;
-    }
+    let o = step p s e.txn e.op in
+    log_of_any_step p laws s o.1 e o.0 l m due well_formed same (inl refl) noted
 
 -- What is taken of a reply that is due is that reply.
 pub due_is : (o : Option DueReply) (d e : DueReply) → o ≡ Some e → o ≡ Some d → d ≡ e

@@ -1,5 +1,5 @@
 -- What contracts see of a machine, and how its log goes with its state.
-use Rattle.std.specs.Prelude.{◌≡◌, ℕ, Bool, true, Option, Some, IfSome, IsTrue, is_some}
+use Rattle.std.specs.Prelude.{◌≡◌, ℕ, Bool, true, false, Option, Some, IfSome, IsTrue, is_some}
 use Rattle.std.specs.Ordering.{nat_cmp}
 use Rattle.std.specs.FinMap.{find}
 use Rattle.kr_model.specs.declared.Event.{Event}
@@ -42,6 +42,12 @@ pub record IsLogged (p : Protocol) (s : State) (pending : Option Event) (l : Log
   pub same : (t : ℕ) → is_some (find nat_cmp t l.log.unfinished) ≡ is_some (active_of s t)
   -- where a step is ready, its reply is kept, and the log may note it
   pub noted : IfSome pending (IsDue p s l due)
+
+-- Whether a reply has a list: the rows of a scan, or the blockers.
+abbrev pub has_list : Reply → Bool
+has_list (reply.Rows rows) = true
+has_list (reply.Blocked us) = true
+has_list _ = false
 
 -- This reply to an operation may be kept for the log: one that ends an active transaction needs no room, nor does a change undone.
 abbrev pub MayKeep : LogWithRoom → Op → Bool → ℕ → Reply → Type 0

@@ -11,6 +11,7 @@ mod change;
 mod effects;
 mod holds;
 mod machine;
+mod noting;
 mod parts;
 mod pending;
 mod refusals;

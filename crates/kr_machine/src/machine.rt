@@ -1,17 +1,16 @@
 //! A machine: what does the steps, and the log of what they did.
-ghost use Rattle.std.specs.Prelude.{All, map, ◌≡◌, ℕ, ◌≤◌, ◌-◌, [], None, Some, IfOk, IfErr, OnOk, OnErr, IsOk, IsTrue, ◌⊎◌, true, false, is_some, length, if◌then◌else◌};
+ghost use Rattle.std.specs.Prelude.{All, map, ◌≡◌, ℕ, ◌≤◌, ◌-◌, [], None, Some, IfSome, IfNone, IfOk, IfErr, OnOk, OnErr, IsTrue, true, false, is_some, length, if◌then◌else◌};
 ghost use Rattle.kr_model.specs.declared.Op.TheVariants as op_is;
 ghost use Rattle.kr_model.specs.declared.Refusal.TheVariants as refusal_is;
 ghost use Rattle.kr_model.specs.declared.Reply.TheVariants as reply_is;
 ghost use Rattle.kr_model.specs.State.{start, active_of, standing, is_scanning, is_rolling, has_nothing_left};
-ghost use Rattle.kr_model.specs.Step.{step, takes_no_memory, IsStep};
+ghost use Rattle.kr_model.specs.Step.{step, IsStep};
 ghost use Rattle.kr_model.specs.WellFormed.{IsState};
 ghost use Rattle.kr_model.specs.Log.{no_log, logged};
 ghost use Rattle.kr_model.specs.Run.{is_granted};
-ghost use Rattle.kr_txn.specs.Logs.{MayNote};
-ghost use Rattle.kr_machine.specs.Logged.{MayKeep, twice};
 
-use crate::parts::Part;
+use crate::noting::{keep, step_key};
+use crate::parts::{Part, Touch};
 use crate::pending::{DueReply, Ready};
 use crate::stepper::Stepper;
 use kr_index::Ordered;
@@ -192,6 +191,39 @@ impl<P: Protocol, I: Ordered, L: Holdings> Machine<P, I, L> {
         ensures protocol { self.new.protocol ≡ self.old.protocol }
         ensures at_rest { self.new.pending ≡ None }
     {
+        match self.step_at_once(txn, op) {
+            Some(reply) => reply,
+            None => self.step_in_parts(txn, op),
+        }
+    }
+
+    /// Attempts an operation that reads or changes one key, and notes it. Does nothing where the operation is another, or
+    /// where the log gets no room.
+    fn step_at_once(&mut self, txn: Txn, op: Op) -> Option<Reply>
+        requires at_rest { self.old.pending ≡ None }
+        ensures step { IfSome result (λ r. IsStep (P.table self.old.protocol) self.old.state txn op r self.new.state) }
+        ensures log { IfSome result (λ r. self.new.log ≡ logged self.old.log (record { txn = txn; op = op }, r)) }
+        ensures protocol { self.new.protocol ≡ self.old.protocol }
+        ensures at_rest { self.new.pending ≡ None }
+        ensures none { IfNone result (self.new ≡ self.old) }
+        ensures well_formed { IsState (P.table self.old.protocol) self.old.state }
+    {
+        if let Part::Touch(Touch::Key(touch)) = Part::of(op) {
+            if let Ok(()) = self.log.make_room(txn) {
+                return Some(step_key(&mut self.stepper, &mut self.log, txn, touch));
+            }
+        }
+        None
+    }
+
+    /// Attempts an operation in two parts.
+    fn step_in_parts(&mut self, txn: Txn, op: Op) -> Reply
+        requires at_rest { self.old.pending ≡ None }
+        ensures step { IsStep (P.table self.old.protocol) self.old.state txn op result self.new.state }
+        ensures log { self.new.log ≡ logged self.old.log (record { txn = txn; op = op }, result) }
+        ensures protocol { self.new.protocol ≡ self.old.protocol }
+        ensures at_rest { self.new.pending ≡ None }
+    {
         match self.ready(txn, op) {
             Ok(ready) => self.finish(ready),
             Err(reply) => reply,
@@ -220,56 +252,5 @@ impl<P: Protocol, I: Ordered, L: Holdings> Machine<P, I, L> {
         self.log.note(event, noted);
         self.stepper.finish(event);
         told
-    }
-}
-
-/// Copies of the reply to a change undone. Takes no memory.
-fn undone(reply: &Reply) -> DueReply
-    requires { (left : ℕ) × (reply.now ≡ reply_is.Undone left) }
-    ensures { result ≡ twice reply.now }
-{
-    match reply {
-        Reply::Undone(left) => DueReply {
-            noted: Reply::Undone(*left),
-            told: Reply::Undone(*left),
-        },
-        _ => unreachable!(),
-    }
-}
-
-/// Takes the memory of noting a step with this reply, and gives copies of the reply. The end of an active transaction
-/// takes none, nor does a change undone; else the answer is `Memory` where a growth is refused. The log stays.
-fn keep(
-    alloc: Global,
-    log: &mut Log,
-    txn: Txn,
-    op: Op,
-    is_active: bool,
-    reply: &Reply,
-) -> Result<DueReply, Memory>
-    requires { MayKeep log.old op is_active txn reply.now }
-    ensures log { log.new.log ≡ log.old.log }
-    ensures due { IfOk result (λ due. due ≡ twice reply.now) }
-    ensures noted { OnOk result (MayNote log.new (record { txn = txn; op = op }) reply.now) }
-    ensures end { IsTrue (takes_no_memory op) → IsTrue is_active → IsOk result }
-{
-    match Part::of(op) {
-        Part::End(ending) => {
-            if !is_active {
-                log.make_room(txn)?;
-            }
-            Ok(DueReply {
-                noted: ending.reply(),
-                told: ending.reply(),
-            })
-        }
-        Part::Back => Ok(undone(reply)),
-        Part::Touch(_) => {
-            log.make_room(txn)?;
-            Ok(DueReply {
-                noted: reply.try_copy(alloc)?,
-                told: reply.try_copy(alloc)?,
-            })
-        }
     }
 }

@@ -49,7 +49,7 @@ pub(crate) enum KeyTouch {
 
 impl KeyTouch {
     /// The operation that does so.
-    fn op(self) -> Op
+    pub(crate) fn op(self) -> Op
         ensures { result ≡ op_of_key self }
     {
         match self {

@@ -2,3 +2,4 @@ pub mod Lists
 pub mod EndedLaws
 pub mod Unions
 pub mod LogSteps
+pub mod InPlace

@@ -1,8 +1,8 @@
 -- The log of a run with its room, as contracts see it.
-use Rattle.std.specs.Prelude.{◌≡◌, ℕ, ◌+◌, ◌<◌, ◌≤◌, false, List, [], ◌∷◌, ◌++◌, Option, Some, None, is_some, IsTrue, IfSome, Vec, ◌⊎◌, if◌then◌else◌}
+use Rattle.std.specs.Prelude.{◌≡◌, ℕ, ◌+◌, ◌<◌, ◌≤◌, List, [], ◌∷◌, ◌++◌, Option, Some, None, is_some, IsTrue, IfSome, Vec, ◌⊎◌, slice_index_or}
 use Rattle.std.specs.Vec.{vec_len, vec_capacity}
 use Rattle.std.specs.Ordering.{nat_cmp}
-use Rattle.std.specs.FinMap.{find, put}
+use Rattle.std.specs.FinMap.{find}
 use Rattle.std.specs.declared.alloc.Global.{Global}
 use Rattle.kr_model.specs.declared.Event.{Event}
 use Rattle.kr_model.specs.declared.Program.{Program}
@@ -12,9 +12,11 @@ use Rattle.kr_model.specs.Run.{Answered}
 use Rattle.kr_model.specs.Log.{Log, step_logged, end_logged, operations_so_far}
 use Rattle.kr_txn.specs.declared.unfinished.Unfinished.{Unfinished}
 use Rattle.kr_txn.specs.declared.unfinished.Ready.{Ready}
+use Rattle.kr_txn.specs.declared.unfinished.Ready.TheVariants as ready
 use Rattle.kr_txn.specs.declared.logging.Logging.{Logging}
 use Rattle.kr_txn.specs.declared.logging.Logging.TheVariants.{Operation, Committing, Aborting, Nothing}
 use Rattle.kr_txn.specs.Numbered as numbered
+use Rattle.kr_txn.specs.Numbered.{IsPosition}
 
 -- A log, and the transaction whose next operation and end have their memory.
 pub record LogWithRoom : Type 0 where
@@ -37,22 +39,36 @@ entries us = numbered.entries number_of operations_of us
 abbrev pub IsInOrder : List Unfinished → Type 0
 IsInOrder us = numbered.AreInOrder (entries us)
 
--- The unfinished transactions as contracts see them, where one that was there may be taken out.
-abbrev pub shown : Option Ready → List (ℕ × List Answered) → List (ℕ × List Answered)
-shown None es = es
-shown (Some r) es = if r.was_there then put nat_cmp r.unfinished.txn r.unfinished.operations.items es else es
+-- The transaction that has its memory.
+abbrev pub txn_of : Ready → ℕ
+txn_of (ready.Listed t i) = t
+txn_of (ready.New u) = u.txn
 
--- A transaction that is taken out is in the list no more.
-abbrev pub IsApart : List Unfinished → Ready → Type 0
-IsApart us r = find nat_cmp r.unfinished.txn (entries us) ≡ None
+-- There is room for one more operation of a transaction.
+abbrev pub HasRoomForOne : Unfinished → Type 0
+HasRoomForOne u = vec_len u.operations < vec_capacity u.operations
 
--- A transaction that is taken out has room for one more operation, for itself in the list, and for its program.
-pub record IsReady (us : Vec Unfinished Global) (committed : Vec Program Global) (r : Ready) : Type 0 where
-  pub apart : IsApart us.items r
+-- Transaction t is at place i of the list, and has room for one more operation there.
+pub record HasRoomAt (us : List Unfinished) (t i : ℕ) : Type 0 where
+  pub place : IsPosition number_of t us i
+  pub operation : (d : Unfinished) → HasRoomForOne (slice_index_or us i d)
+
+-- A transaction that isn't in the list has done nothing, and has room for its first operation, and for itself in the list.
+pub record HasRoomAnew (us : Vec Unfinished Global) (u : Unfinished) : Type 0 where
+  pub apart : find nat_cmp u.txn (entries us.items) ≡ None
   pub place : vec_len us < vec_capacity us
-  pub programs : vec_len us + vec_len committed + 2 ≤ vec_capacity committed
-  pub operation : vec_len r.unfinished.operations < vec_capacity r.unfinished.operations
-  pub anew : r.was_there ≡ false → r.unfinished.operations.items ≡ []
+  pub operation : HasRoomForOne u
+  pub anew : u.operations.items ≡ []
+
+-- The next operation of a transaction has its memory.
+abbrev pub HasMemory : Vec Unfinished Global → Ready → Type 0
+HasMemory us (ready.Listed t i) = HasRoomAt us.items t i
+HasMemory us (ready.New u) = HasRoomAnew us u
+
+-- The same, and there is room for its program.
+pub record IsReady (us : Vec Unfinished Global) (committed : Vec Program Global) (r : Ready) : Type 0 where
+  pub memory : HasMemory us r
+  pub program : vec_len us + vec_len committed + 1 ≤ vec_capacity committed
 
 -- What always holds of a log's parts: each unfinished transaction has room for its program.
 pub record HasRoom (us : Vec Unfinished Global) (committed : Vec Program Global) (ready : Option Ready) : Type 0 where

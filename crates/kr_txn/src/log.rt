@@ -5,7 +5,7 @@ ghost use Rattle.kr_txn.specs.Logs.{MayNote};
 
 use crate::Memory;
 use crate::logging::{Logging, what_to_log};
-use crate::unfinished::{Ready, Unfinished, commit, do_step, get_ready, put_down, take_operations};
+use crate::unfinished::{Ready, Unfinished, commit, do_step, get_ready, take_operations};
 use kr_model::{Event, Program, Programs, Reply, Txn};
 use std::alloc::Global;
 use std::marker::Model;
@@ -25,11 +25,11 @@ pub struct Log {
 
 impl Model for Log {
     ghost use Rattle.std.specs.Option.{option_map};
-    ghost use Rattle.kr_txn.specs.Logs.{LogWithRoom, shown, entries, HasRoom};
+    ghost use Rattle.kr_txn.specs.Logs.{LogWithRoom, entries, txn_of, HasRoom};
 
     ghost Value = { LogWithRoom };
 
-    ghost view = { λ l. record { log = record { unfinished = shown l.ready (entries l.unfinished.items); committed = l.committed.items }; ready = option_map (λ r. r.unfinished.txn) l.ready } };
+    ghost view = { λ l. record { log = record { unfinished = entries l.unfinished.items; committed = l.committed.items }; ready = option_map txn_of l.ready } };
 
     ghost invariant = { λ l. HasRoom l.unfinished l.committed l.ready };
 }
@@ -53,10 +53,9 @@ impl Log {
         ensures ok { OnOk result (self.new.ready ≡ Some txn) }
         ensures err { OnErr result (self.new.ready ≡ None) }
     {
-        put_down(&mut self.unfinished, self.ready.take());
-        let more = self.unfinished.len() + 2;
+        self.ready = None;
+        let more = self.unfinished.len() + 1;
         self.committed.reserve(more)?;
-        self.unfinished.reserve(1)?;
         let alloc = *self.committed.allocator();
         self.ready = Some(get_ready(alloc, &mut self.unfinished, txn)?);
         Ok(())
@@ -75,11 +74,11 @@ impl Log {
                 }
             }
             Logging::Committing => {
-                let ready = self.ready.take();
-                commit(&mut self.unfinished, &mut self.committed, ready, event.txn);
+                self.ready = None;
+                commit(&mut self.unfinished, &mut self.committed, event.txn);
             }
             Logging::Aborting => {
-                put_down(&mut self.unfinished, self.ready.take());
+                self.ready = None;
                 let alloc = *self.committed.allocator();
                 let _ = take_operations(alloc, &mut self.unfinished, event.txn);
             }

@@ -1,12 +1,12 @@
 //! Programs so far of transactions that haven't ended, in a list that rises by number.
-ghost use Rattle.std.specs.Prelude.{◌≡◌, ℕ, ◌+◌, ◌<◌, ◌≤◌, [], ◌∷◌, ◌++◌, None, Some, IfSome, IfNone, IfOk, OnErr, true, false, is_some, unwrap_or, length, vec_len, vec_capacity};
+ghost use Rattle.std.specs.Prelude.{◌≡◌, ℕ, ◌+◌, ◌<◌, ◌≤◌, ◌⊎◌, [], ◌∷◌, ◌++◌, IfSome, IfNone, IfOk, OnOk, true, is_some, unwrap_or, vec_len, vec_capacity, slice_index_or};
 ghost use Rattle.std.specs.Option.{option_map};
 ghost use Rattle.std.specs.Ordering.{nat_cmp};
 ghost use Rattle.std.specs.FinMap.{find, put};
 ghost use Rattle.kr_model.specs.declared.Op.TheVariants as op_is;
 ghost use Rattle.kr_model.specs.Log.{with_step, last_answered};
 ghost use Rattle.kr_txn.specs.Numbered.{IsPosition, IsPlace, AreOthers, without_txn};
-ghost use Rattle.kr_txn.specs.Logs.{number_of, operations_of, entries, shown, IsApart, IsInOrder};
+ghost use Rattle.kr_txn.specs.Logs.{number_of, operations_of, entries, txn_of, HasRoomForOne, HasRoomAt, HasMemory, IsInOrder};
 
 use crate::numbered::{Numbered, place, position};
 use kr_model::{Answers, Op, Program, Reply, Txn};
@@ -21,13 +21,13 @@ pub struct Unfinished {
     pub operations: Vec<(Op, Reply)>,
 }
 
-/// An unfinished transaction whose next operation and end have their memory.
+/// An unfinished transaction whose next operation has its memory.
 #[derive(Drop)]
-pub struct Ready {
-    /// The transaction, which isn't in the list meanwhile.
-    pub unfinished: Unfinished,
-    /// Whether it was there.
-    pub was_there: bool,
+pub enum Ready {
+    /// This one, which is at this place of the list.
+    Listed(Txn, usize),
+    /// One that isn't in the list yet, and has done nothing.
+    New(Unfinished),
 }
 
 impl Unfinished {
@@ -43,14 +43,15 @@ impl Unfinished {
     }
 }
 
-/// The operations after a step that was granted. There is room for one more, so it takes no memory.
-pub fn with_step(operations: Vec<(Op, Reply)>, op: Op, reply: Reply) -> Vec<(Op, Reply)>
-    requires { vec_len operations < vec_capacity operations }
-    ensures { result.items ≡ with_step operations.items op reply }
+/// Adds a step that was granted to what a transaction has done. There is room for one more operation, so it takes no
+/// memory.
+fn add_step(unfinished: &mut Unfinished, op: Op, reply: Reply)
+    requires { HasRoomForOne unfinished.old }
+    ensures txn { unfinished.new.txn ≡ unfinished.old.txn }
+    ensures operations { unfinished.new.operations.items ≡ with_step unfinished.old.operations.items op reply }
 {
-    let mut operations = operations;
     match op {
-        Op::Go => go_on(operations, reply),
+        Op::Go => go_on(&mut unfinished.operations, reply),
         Op::Fetch(_)
         | Op::Scan(_, _)
         | Op::Insert(_, _)
@@ -58,34 +59,26 @@ pub fn with_step(operations: Vec<(Op, Reply)>, op: Op, reply: Reply) -> Vec<(Op,
         | Op::Update(_, _)
         | Op::Commit
         | Op::Abort
-        | Op::Back => {
-            operations.push_reserved((op, reply));
-            operations
-        }
+        | Op::Back => unfinished.operations.push_reserved((op, reply)),
     }
 }
 
-/// The operations after the last of them, a scan, was gone on with.
-fn go_on(operations: Vec<(Op, Reply)>, reply: Reply) -> Vec<(Op, Reply)>
-    ensures { result.items ≡ with_step operations.items op_is.Go reply }
+/// Goes on with the last of the operations, a scan. Takes no memory.
+fn go_on(operations: &mut Vec<(Op, Reply)>, reply: Reply)
+    ensures { operations.new.items ≡ with_step operations.old.items op_is.Go reply }
 {
     match reply {
         Reply::Rows(rows) => answer_last(operations, Reply::Rows(rows)),
-        _ => operations,
+        _ => {}
     }
 }
 
-/// The operations with this answer to the last of them. Takes no memory.
-fn answer_last(operations: Vec<(Op, Reply)>, reply: Reply) -> Vec<(Op, Reply)>
-    ensures { result.items ≡ last_answered reply operations.items }
+/// Gives the last of the operations this answer. Takes no memory.
+fn answer_last(operations: &mut Vec<(Op, Reply)>, reply: Reply)
+    ensures { operations.new.items ≡ last_answered reply operations.old.items }
 {
-    let mut operations = operations;
-    match operations.pop() {
-        Some((op, _)) => {
-            operations.push_reserved((op, reply));
-            operations
-        }
-        None => operations,
+    if let Some((op, _)) = operations.pop() {
+        operations.push_reserved((op, reply));
     }
 }
 
@@ -132,76 +125,75 @@ pub fn put_in(list: &mut Vec<Unfinished>, unfinished: Unfinished)
     let _ = list.insert(i, unfinished);
 }
 
-/// Puts a transaction that was taken out back into the list, if it was there. Takes no memory.
-pub fn put_down(list: &mut Vec<Unfinished>, ready: Option<Ready>)
-    requires in_order { IsInOrder list.old.items }
-    requires apart { IfSome ready (IsApart list.old.items) }
-    requires place { IfSome ready (λ r. vec_len list.old < vec_capacity list.old) }
-    ensures in_order { IsInOrder list.new.items }
-    ensures items { entries list.new.items ≡ shown ready (entries list.old.items) }
-    ensures len { vec_len list.new ≤ vec_len list.old + 1 }
-    ensures none { ready ≡ None → vec_len list.new ≡ vec_len list.old }
+/// Takes the memory of one more operation.
+fn make_room_in(unfinished: &mut Unfinished) -> Result<(), AllocError>
+    ensures txn { unfinished.new.txn ≡ unfinished.old.txn }
+    ensures operations { unfinished.new.operations.items ≡ unfinished.old.operations.items }
+    ensures room { OnOk result (HasRoomForOne unfinished.new) }
 {
-    match ready {
-        Some(ready) => {
-            if ready.was_there {
-                put_in(list, ready.unfinished);
-            }
-        }
-        None => {}
-    }
+    unfinished.operations.reserve(1)?;
+    Ok(())
 }
 
-/// Takes a transaction out of the list, or makes one that has done nothing where it isn't there, and takes the memory of
-/// one more operation. Where a growth is refused, the list has the same transactions.
+/// Takes the memory of one more operation of the transaction at this place.
+fn make_room_at(list: &mut Vec<Unfinished>, place: usize) -> Result<(), AllocError>
+    requires { place < vec_len list.old }
+    ensures same { entries list.new.items ≡ entries list.old.items }
+    ensures len { vec_len list.new ≡ vec_len list.old }
+    ensures room { OnOk result ((d : Unfinished) → HasRoomForOne (slice_index_or list.new.items place d)) }
+{
+    make_room_in(&mut list[place])
+}
+
+/// Takes the memory of one more operation of a transaction, where it is in the list, or for a new one. The list keeps its
+/// transactions, also where a growth is refused.
 pub fn get_ready(alloc: Global, list: &mut Vec<Unfinished>, txn: Txn) -> Result<Ready, AllocError>
     requires in_order { IsInOrder list.old.items }
-    requires place { vec_len list.old < vec_capacity list.old }
-    ensures in_order { IsInOrder list.new.items }
-    ensures txn { IfOk result (λ r. r.unfinished.txn ≡ txn) }
-    ensures apart { IfOk result (IsApart list.new.items) }
-    ensures items { IfOk result (λ r. shown (Some r) (entries list.new.items) ≡ entries list.old.items) }
-    ensures operation { IfOk result (λ r. vec_len r.unfinished.operations < vec_capacity r.unfinished.operations) }
-    ensures anew { IfOk result (λ r. r.was_there ≡ false → r.unfinished.operations.items ≡ []) }
-    ensures len { vec_len list.new ≤ vec_len list.old }
-    ensures capacity { vec_capacity list.old ≤ vec_capacity list.new }
-    ensures err { OnErr result (entries list.new.items ≡ entries list.old.items) }
+    ensures items { entries list.new.items ≡ entries list.old.items }
+    ensures len { vec_len list.new ≡ vec_len list.old }
+    ensures txn { IfOk result (λ r. txn_of r ≡ txn) }
+    ensures memory { IfOk result (HasMemory list.new) }
 {
-    match take_out(list, txn) {
-        Some(mut unfinished) => match unfinished.operations.reserve(1) {
-            Ok(_) => Ok(Ready {
-                unfinished,
-                was_there: true,
-            }),
-            Err(refused) => {
-                put_in(list, unfinished);
-                Err(refused)
-            }
-        },
+    match position(list, txn) {
+        Some(place) => {
+            make_room_at(list, place)?;
+            Ok(Ready::Listed(txn, place))
+        }
         None => {
+            list.reserve(1)?;
             let mut unfinished = Unfinished::new(alloc, txn);
-            unfinished.operations.reserve(1)?;
-            Ok(Ready {
-                unfinished,
-                was_there: false,
-            })
+            make_room_in(&mut unfinished)?;
+            Ok(Ready::New(unfinished))
         }
     }
 }
 
-/// Does a step that was granted, for a transaction that was taken out: it is then in the list. Takes no memory.
+/// Does a step that was granted to the transaction at this place, which has room for it. Takes no memory.
+fn do_step_at(list: &mut Vec<Unfinished>, txn: Txn, place: usize, op: Op, reply: Reply)
+    requires in_order { IsInOrder list.old.items }
+    requires memory { HasRoomAt list.old.items txn place }
+    ensures items { entries list.new.items ≡ put nat_cmp txn (with_step (unwrap_or (find nat_cmp txn (entries list.old.items)) []) op reply) (entries list.old.items) }
+    ensures len { vec_len list.new ≡ vec_len list.old }
+{
+    add_step(&mut list[place], op, reply);
+}
+
+/// Does a step that was granted to a transaction that has its memory: it is then in the list. Takes no memory.
 pub fn do_step(list: &mut Vec<Unfinished>, ready: Ready, op: Op, reply: Reply)
     requires in_order { IsInOrder list.old.items }
-    requires apart { IsApart list.old.items ready }
-    requires place { vec_len list.old < vec_capacity list.old }
-    requires operation { vec_len ready.unfinished.operations < vec_capacity ready.unfinished.operations }
+    requires memory { HasMemory list.old ready }
+    ensures items { entries list.new.items ≡ put nat_cmp (txn_of ready) (with_step (unwrap_or (find nat_cmp (txn_of ready) (entries list.old.items)) []) op reply) (entries list.old.items) }
     ensures in_order { IsInOrder list.new.items }
-    ensures items { entries list.new.items ≡ put nat_cmp ready.unfinished.txn (with_step ready.unfinished.operations.items op reply) (entries list.old.items) }
-    ensures len { vec_len list.new ≡ vec_len list.old + 1 }
+    ensures len { vec_len list.new ≤ vec_len list.old + 1 }
 {
-    let txn = ready.unfinished.txn;
-    let operations = with_step(ready.unfinished.operations, op, reply);
-    put_in(list, Unfinished { txn, operations });
+    match ready {
+        Ready::Listed(txn, place) => do_step_at(list, txn, place, op, reply),
+        Ready::New(unfinished) => {
+            let mut unfinished = unfinished;
+            add_step(&mut unfinished, op, reply);
+            put_in(list, unfinished);
+        }
+    }
 }
 
 /// Takes a transaction out of the list, and gives its operations: none where it isn't there. Takes no memory.
@@ -219,37 +211,20 @@ pub fn take_operations(alloc: Global, list: &mut Vec<Unfinished>, txn: Txn) -> V
     }
 }
 
-/// Notes the commit of a transaction that was taken out or is in the list: its program is the last of the committed ones.
-/// There is room, so it takes no memory.
-pub fn commit(
-    list: &mut Vec<Unfinished>,
-    committed: &mut Vec<Program>,
-    ready: Option<Ready>,
-    txn: Txn,
-)
+/// Notes the commit of a transaction: its program, which has no operations where it isn't in the list, is the last of the
+/// committed ones. There is room, so it takes no memory.
+pub fn commit(list: &mut Vec<Unfinished>, committed: &mut Vec<Program>, txn: Txn)
     requires in_order { IsInOrder list.old.items }
-    requires apart { IfSome ready (IsApart list.old.items) }
-    requires place { IfSome ready (λ r. vec_len list.old < vec_capacity list.old) }
-    requires some { IfSome ready (λ r. vec_len list.old + vec_len committed.old + 2 ≤ vec_capacity committed.old) }
-    requires room { vec_len list.old + vec_len committed.old ≤ vec_capacity committed.old }
-    requires none { ready ≡ None → is_some (find nat_cmp txn (entries list.old.items)) ≡ true }
+    requires programs { vec_len list.old + vec_len committed.old ≤ vec_capacity committed.old }
+    requires room { (is_some (find nat_cmp txn (entries list.old.items)) ≡ true) ⊎ (vec_len list.old + vec_len committed.old + 1 ≤ vec_capacity committed.old) }
     ensures in_order { IsInOrder list.new.items }
-    ensures rest { entries list.new.items ≡ without_txn txn (shown ready (entries list.old.items)) }
-    ensures programs { committed.new.items ≡ committed.old.items ++ record { txn = txn; operations = unwrap_or (find nat_cmp txn (shown ready (entries list.old.items))) [] } ∷ [] }
-    ensures room { vec_len list.new + vec_len committed.new ≤ vec_capacity committed.new }
+    ensures rest { entries list.new.items ≡ without_txn txn (entries list.old.items) }
+    ensures committed { committed.new.items ≡ committed.old.items ++ record { txn = txn; operations = unwrap_or (find nat_cmp txn (entries list.old.items)) [] } ∷ [] }
+    ensures programs { vec_len list.new + vec_len committed.new ≤ vec_capacity committed.new }
 {
     let alloc = *committed.allocator();
-    match ready {
-        Some(ready) => {
-            put_down(list, Some(ready));
-            let operations = take_operations(alloc, list, txn);
-            push_program(committed, txn, operations);
-        }
-        None => {
-            let operations = take_operations(alloc, list, txn);
-            push_program(committed, txn, operations);
-        }
-    }
+    let operations = take_operations(alloc, list, txn);
+    push_program(committed, txn, operations);
 }
 
 /// Adds a program. There is room, so it takes no memory.

@@ -8,7 +8,8 @@ use Rattle.kr_txn.proofs.Lists.{in_order-put}
 use Rattle.kr_machine.specs.Parts.{op_of_touch}
 use Rattle.kr_machine.specs.Pending.{effect_of}
 use Rattle.kr_machine.specs.Pins.{all_changes_of, taken_pins}
-use Rattle.kr_machine.proofs.InPlace.{same_position, placed_machine}
+use Rattle.kr_txn.proofs.InPlace.{same_position}
+use Rattle.kr_machine.proofs.InPlace.{placed_machine}
 use Rattle.kr_machine.proofs.at_place.do_at.Goals as goal
 
 pub perform_at-requires-clause-place : goal.perform_at-requires-clause-place

@@ -1,6 +1,7 @@
 use Rattle.std.proofs.Common.{ap, ◌∙◌, ◌<◌, length, arith}
 use Rattle.kr_txn.specs.Standings.{active_of, number_of}
-use Rattle.kr_machine.proofs.InPlace.{set_same, standings_len}
+use Rattle.kr_txn.proofs.InPlace.{set_same}
+use Rattle.kr_machine.proofs.InPlace.{standings_len}
 use Rattle.kr_machine.proofs.effects.make_room_at.Goals as goal
 
 pub returns-clause-same : goal.returns-clause-same

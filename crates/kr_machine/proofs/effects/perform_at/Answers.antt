@@ -9,7 +9,8 @@ use Rattle.kr_txn.proofs.Lists.{found}
 use Rattle.kr_machine.specs.Parts.{op_of_touch}
 use Rattle.kr_machine.specs.Pending.{HasRoomIn, attempt_of, effect_of}
 use Rattle.kr_machine.specs.Pins.{all_changes_of, taken_pins}
-use Rattle.kr_machine.proofs.InPlace.{put_at_place, noted-over}
+use Rattle.kr_txn.proofs.InPlace.{put_at_place}
+use Rattle.kr_machine.proofs.InPlace.{noted-over}
 use Rattle.kr_machine.proofs.effects.perform_at.Goals as goal
 
 pub perform-requires-clause-attempt : goal.perform-requires-clause-attempt
