@@ -13,10 +13,11 @@ use Rattle.kr_model.specs.Safe.{free}
 use Rattle.kr_decide.specs.declared.pair.Pair.{Pair}
 use Rattle.kr_decide.specs.declared.finding.Above.{Above}
 use Rattle.kr_decide.specs.declared.finding.Found.{Found}
+use Rattle.kr_decide.specs.declared.finding.Spot.{Spot}
 use Rattle.std.proofs.lemmas.List.{get_or_default}
 use Rattle.kr_decide.specs.Numbers.{pair_number}
 use Rattle.kr_decide.specs.Pairs.{no_pair, pair_at}
-use Rattle.kr_decide.specs.Findings.{Has, AreFound, Grows, IsAbove, MovesTo, MovesPlainly, MovesByNext, MovesByNexts, AllMoveByNext, nothing_above, above_at, AreNexts, IsAlike, HasNext, HasAllOf, IsFollowed, IsFirst, IsGoing}
+use Rattle.kr_decide.specs.Findings.{Has, AreFound, Grows, IsAbove, IsSpot, MovesTo, MovesPlainly, MovesByNext, MovesByNexts, AllMoveByNext, nothing_above, above_at, AreNexts, IsAlike, HasNext, HasAllOf, IsFollowed, IsFirst, IsGoing}
 use Rattle.kr_decide.proofs.Growing.{found_none, grown, has_grown, grows_on}
 
 -- Where what is in one list is in the other, so is what one comes to.
@@ -62,6 +63,13 @@ by_next_grown p a b x y n g m r s e = moves_grown p a b x y n r s g (m r s e)
 below_or_last : (k n : ℕ) → k < n + 1 → (k < n) ⊎ (k ≡ n)
 below_or_last k n h = grind arith
 
+-- At first with none.
+pub nexts_none : (p : Protocol) (pairs : List Pair) (nexts : List Above) (x y : LockState) → MovesByNexts p pairs nexts 0 x y
+nexts_none p pairs nexts x y j below = absurd (omega arith)
+
+pub everywhere_none : (p : Protocol) (pairs from : List Pair) (above : LockState) → AllMoveByNext p pairs from 0 above
+everywhere_none p pairs from above k below = absurd (omega arith)
+
 -- With one lock state on the next name more.
 pub nexts_step : (p : Protocol) (a b : Found) (nexts : List Above) (n : ℕ) (x y : LockState) → Grows p a b
     → MovesByNexts p a.pairs.items nexts n x y → MovesByNext p b.pairs.items x y (above_at nexts n).state → MovesByNexts p b.pairs.items nexts (n + 1) x y
@@ -88,7 +96,15 @@ above_grown p a b z g i = record {
   alone = subst (λ (q : Pair). q.other ≡ free) (sym (g.kept z.place i.within)) i.alone;
 }
 
-nexts_grown : (p : Protocol) (a b : Found) (nexts : List Above) → Grows p a b → AreNexts a.pairs.items nexts → AreNexts b.pairs.items nexts
+-- So does what two transactions have.
+pub spot_grown : (p : Protocol) (a b : Found) (s : Spot) → Grows p a b → IsSpot a.pairs.items s → IsSpot b.pairs.items s
+spot_grown p a b s g i = record {
+  from = let l = g.longer in let w = i.from in omega arith;
+  pair = g.kept s.from i.from ∙ i.pair;
+  above = above_grown p a b s.above g i.above;
+}
+
+pub nexts_grown : (p : Protocol) (a b : Found) (nexts : List Above) → Grows p a b → AreNexts a.pairs.items nexts → AreNexts b.pairs.items nexts
 nexts_grown p a b nexts g old j h = above_grown p a b (above_at nexts j) g (old j h)
 
 pub first_grown : (p : Protocol) (a b : Found) → Grows p a b → IsFirst a.pairs.items → IsFirst b.pairs.items

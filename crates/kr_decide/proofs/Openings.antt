@@ -4,12 +4,15 @@ use Rattle.std.proofs.Math.ListN.{get_or-append}
 use Rattle.std.proofs.Math.Seq.{get_or-append_seam}
 use Rattle.kr_model.specs.declared.Cover.{Cover}
 use Rattle.kr_model.specs.declared.LockState.{LockState}
+use Rattle.kr_model.specs.declared.Row.TheVariants as row
+use Rattle.kr_model.specs.declared.Side.TheVariants.{Current, Next}
 use Rattle.kr_model.specs.Protocol.{Protocol}
+use Rattle.kr_model.specs.Safe.{free}
 use Rattle.kr_decide.specs.declared.pair.Pair.{Pair}
 use Rattle.kr_decide.specs.declared.opening.Opening.{Opening}
 use Rattle.kr_decide.specs.Protects.{protects, only}
-use Rattle.kr_decide.specs.Pairs.{pair_at, AreDerived}
-use Rattle.kr_decide.specs.Opens.{OpensAt, OpensFor, IsOpening, IsOpenedAt, NoneOpens}
+use Rattle.kr_decide.specs.Pairs.{pair_at, AreDerived, LetsIn}
+use Rattle.kr_decide.specs.Opens.{OpensAt, OpensFor, IsOpening, IsOpenedAt, LetsNoneIn, NoneOpens}
 use Rattle.kr_decide.proofs.Complete.{above_alone}
 
 opens_at : (p : Protocol) (pairs : List Pair) (x y : LockState) (o : Opening) → AreDerived p pairs → IsOpening p pairs x y o → OpensAt p x y
@@ -46,3 +49,22 @@ none_step p pairs n x old is none k below = split (below_or_last (omega arith))
     split : (k < n) ⊎ (k ≡ n) → OpensAt p (pair_at pairs k).own (pair_at pairs k).other → ⊥
     split (inl h) = old k h
     split (inr e) = λ o. none (subst (λ (z : Pair). OpensAt p z.own z.other) (ap (pair_at pairs) e ∙ is) o)
+
+-- None of the seven requests that don't go by the next name is let in that has to be kept out.
+pub none_in : (p : Protocol) (x y : LockState) → IsTrue false ↔ LetsIn p row.FetchHit Current x y free → IsTrue false ↔ LetsIn p row.FetchMiss Next x y free → IsTrue false ↔ LetsIn p row.ScanKey Current x y free
+    → IsTrue false ↔ LetsIn p row.ScanStop Next x y free → IsTrue false ↔ LetsIn p row.Insert Next x y free → IsTrue false ↔ LetsIn p row.Delete Next x y free → IsTrue false ↔ LetsIn p row.Update Current x y free
+    → LetsNoneIn p x y
+none_in p x y a b c d e f g row.FetchHit Current h l = let no = a.1 l in cc
+none_in p x y a b c d e f g row.FetchHit Next h l = absurd l.asks
+none_in p x y a b c d e f g row.FetchMiss Current h l = absurd l.asks
+none_in p x y a b c d e f g row.FetchMiss Next h l = let no = b.1 l in cc
+none_in p x y a b c d e f g row.ScanKey Current h l = let no = c.1 l in cc
+none_in p x y a b c d e f g row.ScanKey Next h l = absurd l.asks
+none_in p x y a b c d e f g row.ScanStop Current h l = absurd l.asks
+none_in p x y a b c d e f g row.ScanStop Next h l = let no = d.1 l in cc
+none_in p x y a b c d e f g row.Insert Current h l = cc
+none_in p x y a b c d e f g row.Insert Next h l = let no = e.1 l in cc
+none_in p x y a b c d e f g row.Delete Current h l = cc
+none_in p x y a b c d e f g row.Delete Next h l = let no = f.1 l in cc
+none_in p x y a b c d e f g row.Update Current h l = let no = g.1 l in cc
+none_in p x y a b c d e f g row.Update Next h l = absurd l.asks

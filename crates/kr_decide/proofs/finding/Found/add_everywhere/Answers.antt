@@ -1,10 +1,34 @@
-use Rattle.std.proofs.Common.{◌≡◌, ◌∙◌, rules, sym, subst}
+use Rattle.std.proofs.Common.{◌≡◌, ◌∙◌, rules, arith, sym, subst}
 use Rattle.kr_decide.specs.declared.pair.Pair.{Pair}
 use Rattle.kr_decide.specs.Pairs.{pair_at}
 use Rattle.kr_decide.specs.Findings.{MovesByNext}
-use Rattle.kr_decide.proofs.Growing.{grows_on}
-use Rattle.kr_decide.proofs.Following.{pair_read, everywhere_step}
+use Rattle.kr_decide.proofs.Growing.{grows_none, grows_on}
+use Rattle.kr_decide.proofs.Following.{above_grown, pair_read, everywhere_none, everywhere_step}
 use Rattle.kr_decide.proofs.finding.Found.add_everywhere.Goals as goal
+
+pub add_by_next-requires : goal.add_by_next-requires
+add_by_next-requires g c =
+    let p = g.P.Protocol.table c.args.protocol.now in
+    let i = c.loop-from.invariant.grows in
+    record {
+      found = i.found;
+      spot = record {
+        from = omega (arith, i.longer);
+        pair = pair_read c.loop-from.self.pairs.items c.loop-from.from c.index-pair.result.now (omega (arith, i.longer)) c.index-pair.ensures;
+        above = above_grown p c.args.self.now c.loop-from.self c.args.above i c.requires.above;
+      };
+    }
+
+pub loop-from-init : goal.loop-from-init
+loop-from-init g c =
+    let p = g.P.Protocol.table c.args.protocol.now in
+    record {
+      grows = grows_none p c.args.self.now c.requires.found;
+      moves = everywhere_none p c.args.self.now.pairs.items c.args.self.now.pairs.items c.args.above.state;
+    }
+
+pub returns-clause-moves : goal.returns-clause-moves
+returns-clause-moves g c = λ k below. c.loop-from.invariant.moves k (omega (arith, c.loop-from-test.false))
 
 pub loop-from-preserved : goal.loop-from-preserved
 loop-from-preserved g c =

@@ -1,4 +1,5 @@
-use Rattle.std.proofs.Common.{◌≡◌, rules, sym, subst}
+use Rattle.std.proofs.Common.{◌≡◌, ◌≤◌, rules, sym, subst}
+use Rattle.kr_model.specs.declared.LockState.{LockState}
 use Rattle.kr_model.specs.declared.Side.TheVariants.{Current}
 use Rattle.kr_model.specs.Safe.{free, Beside}
 use Rattle.kr_decide.specs.declared.finding.Above.{Above}
@@ -9,14 +10,22 @@ use Rattle.kr_decide.proofs.Complete.{above_alone}
 use Rattle.kr_decide.proofs.Marked.{adds_on, one_next_more}
 use Rattle.kr_decide.proofs.met.Met.add_nexts.Goals as goal
 
-pub add_request-requires-clause-alone : goal.add_request-requires-clause-alone
-add_request-requires-clause-alone g c =
+pub add_request-requires : goal.add_request-requires
+add_request-requires g c =
     let p = g.P.Protocol.table c.args.protocol.now in
     let going = c.requires.going in
     let found = going.found in
     let nexts = c.args.found.now.nexts.items in
     let read : above_at nexts c.loop-at.at ≡ c.index.result.now = above_read nexts c.loop-at.at c.index.result.now (search rules) (search rules) in
-    subst (λ (q : Above). Beside p q.state free) read (above_alone p c.args.found.now.pairs.items (above_at nexts c.loop-at.at) found.derived (going.nexts c.loop-at.at (search rules)))
+    let is = going.nexts c.loop-at.at (search rules) in
+    record {
+      sound = c.loop-at.invariant.adds.sound;
+      own = c.requires.own;
+      other = c.requires.other;
+      next = subst (λ (q : Above). q.state.mode ≤ p.count) read (subst (λ (x : LockState). x.mode ≤ p.count) is.state (found.own (above_at nexts c.loop-at.at).place));
+      beside = c.requires.beside;
+      alone = subst (λ (q : Above). Beside p q.state free) read (above_alone p c.args.found.now.pairs.items (above_at nexts c.loop-at.at) found.derived is);
+    }
 
 pub loop-at-preserved : goal.loop-at-preserved
 loop-at-preserved g c =
