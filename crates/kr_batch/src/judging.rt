@@ -4,7 +4,7 @@ ghost use Rattle.kr_serial.specs.Verdicts.{verdict_of_run};
 
 use kr_protocol::Protocol;
 use kr_script::Script;
-use kr_serial::{Verdict, judge, run_any};
+use kr_serial::{Verdict, judge_run};
 use rayon::prelude::*;
 use std::alloc::{AllocError, Global};
 use std::thread::Threads;
@@ -17,8 +17,7 @@ pub fn verdict_on<P: Protocol>(
 ) -> Result<Verdict, AllocError>
     ensures { IfOk result (λ v. v ≡ verdict_of_run (P.table protocol.now) script.now.opening script.now.steps) }
 {
-    let ran = run_any(alloc, protocol, script.opening(), script.steps())?;
-    judge(alloc, &ran)
+    judge_run(alloc, protocol, script.opening(), script.steps())
 }
 
 /// The verdicts on the runs of the scripts under a protocol, in the order of the scripts: the list that one thread gives

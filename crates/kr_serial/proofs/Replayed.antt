@@ -1,12 +1,12 @@
 -- A run whose first steps are done.
 use Rattle.std.specs.Prelude.{◌≡◌, List, ◌++◌}
-use Rattle.std.proofs.Common.{ap, ◌∙◌}
+use Rattle.std.proofs.Common.{◌∙◌}
 use Rattle.kr_model.specs.declared.Event.{Event}
 use Rattle.kr_model.specs.declared.Reply.{Reply}
 use Rattle.kr_model.specs.Protocol.{Protocol}
 use Rattle.kr_model.specs.State.{State, start}
 use Rattle.kr_model.specs.Map.{Map}
-use Rattle.kr_model.specs.Run.{run, replies_of, programs}
+use Rattle.kr_model.specs.Run.{Program, run, replies_of, programs}
 use Rattle.kr_model.specs.Log.{Log, no_log, log_after}
 use Rattle.kr_model.proofs.LogLaws.{log_of_run}
 
@@ -22,6 +22,6 @@ pub record IsLeft (p : Protocol) (first : State) (all : List Event) (now : State
   pub state : (let r = run p now left in r.state) ≡ (let r = run p first all in r.state)
 
 -- The committed programs of a log that went along with a run are those of the run.
-pub programs_of_run : (p : Protocol) (opening : Map) (events : List Event) (l : Log) → (let r = run p (start opening) events in l ≡ log_after no_log r.history)
-    → l.committed ≡ (let r = run p (start opening) events in programs r.history)
-programs_of_run p opening events l is = let log = log_of_run p opening events in ap (λ x. x.committed) is ∙ log.committed
+pub programs_of_run : (p : Protocol) (opening : Map) (events : List Event) (ps : List Program) → (let r = run p (start opening) events in let log = log_after no_log r.history in ps ≡ log.committed)
+    → ps ≡ (let r = run p (start opening) events in programs r.history)
+programs_of_run p opening events ps is = let log = log_of_run p opening events in is ∙ log.committed

@@ -6,7 +6,7 @@ ghost use Rattle.kr_model.specs.Difference.{difference_in, first_difference};
 ghost use Rattle.kr_serial.specs.declared.verdict.Verdict.TheVariants as verdict;
 ghost use Rattle.kr_serial.specs.Verdicts.{verdict_of};
 
-use crate::whole::{answer, follow, is_answer, map_of};
+use crate::whole::{differs, map_of};
 use crate::{Ran, Verdict};
 use kr_index::Memory;
 use kr_model::Program;
@@ -15,7 +15,7 @@ use std::collections::BTreeMap;
 
 /// Judges a run: the operations of its committed programs are run whole on the opening map, one after another in commit
 /// order, and each answer is compared with the one given. It tells that they are serializable, or the first answer that
-/// differs. The only fault is `Memory`. Each operation takes a logarithmic number of looks at the map, and a scan is compared
+/// differs. The only fault is `Memory`. Each operation takes one look at the map, and a scan is compared
 /// in place.
 pub fn judge(alloc: Global, ran: &Ran) -> Result<Verdict, Memory>
     ensures verdict { IfOk result (λ v. v ≡ verdict_of (first_difference ran.now.opening ran.now.programs)) }
@@ -58,15 +58,14 @@ fn judge_program(
     let operations = program.operations.as_slice();
     for i in 0..operations.len() {
         let (op, given) = &operations[i];
-        if !is_answer(map, *op, given) {
+        if let Some(serial) = differs(alloc, map, *op, given)? {
             return Ok(Verdict::NotSerial {
                 txn: program.txn,
                 operation: i as u64 + 1,
                 given: given.try_copy(alloc)?,
-                serial: answer(alloc, map, *op)?,
+                serial,
             });
         }
-        follow(map, *op, given)?;
     }
     Ok(Verdict::Serial)
 }

@@ -4,7 +4,9 @@
 
 mod covered;
 mod index;
+mod judged;
 mod judging;
+mod logged;
 mod played;
 mod ran;
 mod runs;
@@ -14,6 +16,7 @@ mod whole;
 
 pub use covered::run;
 pub use index::Index;
+pub use judged::judge_run;
 pub use judging::judge;
 pub use kr_model::{Items, Mode, Name, Pairs, Program, Programs, Reply, Txn, Txns};
 pub use played::{Played, play};

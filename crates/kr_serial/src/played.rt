@@ -72,7 +72,7 @@ fn step_all<P: Protocol, I: Ordered, L: Holdings>(
 }
 
 /// What is shown of a run with these replies.
-fn show<P: Protocol, I: Ordered, L: Holdings>(
+pub(crate) fn show<P: Protocol, I: Ordered, L: Holdings>(
     stepper: &Stepper<P, I, L>,
     replies: Replies,
 ) -> Result<Played, Memory>

@@ -1,5 +1,5 @@
 //! Whole runs.
-ghost use Rattle.std.specs.Prelude.{◌≡◌, ◌≤◌, None, IfOk, OnOk, All, map};
+ghost use Rattle.std.specs.Prelude.{◌≡◌, ◌≤◌, IfOk, OnOk, All, map};
 ghost use Rattle.kr_model.specs.Map.{IsMap};
 ghost use Rattle.kr_model.specs.Covers.{IsCovered};
 ghost use Rattle.kr_model.specs.Safe.{IsSafe};
@@ -8,10 +8,12 @@ ghost use Rattle.kr_model.specs.State.{start};
 ghost use Rattle.kr_model.specs.Run.{run, replies_of, programs};
 ghost use Rattle.kr_serial.specs.Ran.{IsRanUnder};
 
-use crate::{Index, Ran, Replies, Triples, replay};
-use kr_index::{Memory, Ordered, Tree};
-use kr_locks::{Buckets, Holdings};
-use kr_machine::Machine;
+use crate::logged::{Logged, log_all};
+use crate::played::show;
+use crate::{Index, Ran};
+use kr_index::{Memory, Tree};
+use kr_locks::Buckets;
+use kr_machine::Stepper;
 use kr_model::Event;
 use kr_protocol::Protocol;
 use std::alloc::Global;
@@ -57,36 +59,15 @@ fn replayed<P: Protocol>(
 {
     let first = Index::copy_of(alloc, opening)?;
     let index = Tree::from_pairs(alloc, opening)?;
-    let mut machine = Machine::new(alloc, protocol, index, Buckets::new(alloc));
-    let replies = replay(alloc, &mut machine, events)?;
-    show(machine, first, replies)
-}
-
-/// What a machine shows after a run with these replies from this opening map.
-fn show<P: Protocol, I: Ordered, L: Holdings>(
-    machine: Machine<P, I, L>,
-    opening: Index,
-    replies: Replies,
-) -> Result<Ran, Memory>
-    requires { machine.pending ≡ None }
-    ensures opening { IfOk result (λ ran. ran.opening ≡ opening) }
-    ensures replies { IfOk result (λ ran. ran.replies ≡ replies) }
-    ensures index { IfOk result (λ ran. ran.index ≡ machine.state.map) }
-    ensures locks { IfOk result (λ ran. ran.locks ≡ machine.state.locks) }
-    ensures programs { IfOk result (λ ran. ran.programs ≡ machine.log.committed) }
-    ensures modes { IfOk result (λ ran. All (λ l. l.1 ≤ (P.table machine.protocol).count) ran.locks) }
-    ensures unfinished { IfOk result (λ ran. ran.unfinished ≡ map (λ a. a.0) machine.state.active) }
-{
-    let index = Index::from_pairs(machine.index()?);
-    let locks = Triples::from_vec(machine.locks()?);
-    let unfinished = machine.unfinished()?;
-    let programs = machine.into_programs();
+    let mut stepper = Stepper::new(alloc, protocol, index, Buckets::new(alloc));
+    let Logged { replies, programs } = log_all(alloc, &mut stepper, events)?;
+    let played = show(&stepper, replies)?;
     Ok(Ran {
-        opening,
-        replies,
+        opening: first,
+        replies: played.replies,
         programs,
-        index,
-        locks,
-        unfinished,
+        index: Index::from_pairs(played.index),
+        locks: played.locks,
+        unfinished: played.unfinished,
     })
 }

@@ -1,6 +1,6 @@
 //! Whole operations on a map.
-ghost use Rattle.std.specs.Prelude.{◌≡◌, ℕ, IfOk, OnOk, IsTrue};
-ghost use Rattle.kr_model.specs.Map.{Map, IsMap, pairs_between};
+ghost use Rattle.std.specs.Prelude.{◌≡◌, ℕ, None, true, false, IfOk, IfSome, OnOk, IsTrue};
+ghost use Rattle.kr_model.specs.Map.{Map, IsMap, get, set, without, pairs_between};
 ghost use Rattle.kr_model.specs.Serial.{found_or_none, whole_insert, whole_delete, whole_update, whole};
 ghost use Rattle.kr_model.specs.Difference.{same_pairs, same_reply};
 
@@ -122,22 +122,120 @@ pub fn answer(alloc: Global, map: &BTreeMap<u64, u64>, op: Op) -> Result<Reply, 
             None => Ok(Reply::None),
         },
         Op::Scan(lo, hi) => Ok(Reply::Rows(between(alloc, map, lo, hi)?)),
-        Op::Insert(key, _) => match map.get(&key) {
-            Some(_) => Ok(Reply::Duplicate),
-            None => Ok(Reply::Done),
-        },
-        Op::Delete(key) => match map.get(&key) {
-            Some(value) => Ok(Reply::Deleted(*value)),
-            None => Ok(Reply::Absent),
-        },
-        Op::Update(key, _) => match map.get(&key) {
-            Some(value) => Ok(Reply::Updated(*value)),
-            None => Ok(Reply::Absent),
-        },
+        Op::Insert(key, _) => Ok(inserted(map.get(&key).copied())),
+        Op::Delete(key) => Ok(deleted(map.get(&key).copied())),
+        Op::Update(key, _) => Ok(updated(map.get(&key).copied())),
         Op::Go => Ok(Reply::Refused(Refusal::NoScan)),
         Op::Commit => Ok(Reply::Committed),
         Op::Abort => Ok(Reply::Aborted),
         Op::Back => Ok(Reply::Refused(Refusal::NothingLeft)),
+    }
+}
+
+/// The answer of an insert, by what stands at the key.
+fn inserted(value: Option<u64>) -> Reply
+    ensures { (m : Map) (k v : ℕ) → result ≡ (whole_insert m k v value).0 }
+{
+    match value {
+        Some(_) => Reply::Duplicate,
+        None => Reply::Done,
+    }
+}
+
+/// The answer of a delete, by what stands at the key.
+fn deleted(value: Option<u64>) -> Reply
+    ensures { (m : Map) (k : ℕ) → result ≡ (whole_delete m k value).0 }
+{
+    match value {
+        Some(value) => Reply::Deleted(value),
+        None => Reply::Absent,
+    }
+}
+
+/// The answer of an update, by what stands at the key.
+fn updated(value: Option<u64>) -> Reply
+    ensures { (m : Map) (k v : ℕ) → result ≡ (whole_update m k v value).0 }
+{
+    match value {
+        Some(value) => Reply::Updated(value),
+        None => Reply::Absent,
+    }
+}
+
+/// Puts a value at a key, and returns the one before. At an error a growth was refused, and the map's keys still rise.
+fn put(map: &mut BTreeMap<u64, u64>, key: u64, value: u64) -> Result<Option<u64>, AllocError>
+    requires { IsMap map.old.entries }
+    ensures is_map { IsMap map.new.entries }
+    ensures before { IfOk result (λ before. before ≡ get map.old.entries key) }
+    ensures map { OnOk result (map.new.entries ≡ set map.old.entries key value) }
+{
+    Ok(map.insert(key, value)?)
+}
+
+/// Takes a key away, and returns its value.
+fn take(map: &mut BTreeMap<u64, u64>, key: u64) -> Option<u64>
+    requires { IsMap map.old.entries }
+    ensures is_map { IsMap map.new.entries }
+    ensures before { result ≡ get map.old.entries key }
+    ensures map { map.new.entries ≡ without map.old.entries key }
+{
+    map.remove(&key)
+}
+
+/// The operation's own answer, where it isn't the one given.
+fn unlike(
+    alloc: Global,
+    map: &BTreeMap<u64, u64>,
+    op: Op,
+    given: &Reply,
+) -> Result<Option<Reply>, AllocError>
+    requires { IsMap map.now.entries }
+    ensures alike { IfOk result (λ own. own ≡ None → same_reply given.now (whole map.now.entries op).0 ≡ true) }
+    ensures unlike { IfOk result (λ own. IfSome own (λ _. same_reply given.now (whole map.now.entries op).0 ≡ false)) }
+    ensures own { IfOk result (λ own. IfSome own (λ serial. serial ≡ (whole map.now.entries op).0)) }
+{
+    if is_answer(map, op, given) {
+        return Ok(None);
+    }
+    Ok(Some(answer(alloc, map, op)?))
+}
+
+/// Does an operation whole on the map, and answers with its own answer, where that isn't the one given. A change that was
+/// answered so takes one look at the map. Where the answers differ the map may be another one; its keys still rise, as they do
+/// at an error, where a growth was refused.
+pub(crate) fn differs(
+    alloc: Global,
+    map: &mut BTreeMap<u64, u64>,
+    op: Op,
+    given: &Reply,
+) -> Result<Option<Reply>, AllocError>
+    requires { IsMap map.old.entries }
+    ensures is_map { IsMap map.new.entries }
+    ensures alike { IfOk result (λ own. own ≡ None → same_reply given.now (whole map.old.entries op).0 ≡ true) }
+    ensures unlike { IfOk result (λ own. IfSome own (λ _. same_reply given.now (whole map.old.entries op).0 ≡ false)) }
+    ensures own { IfOk result (λ own. IfSome own (λ serial. serial ≡ (whole map.old.entries op).0)) }
+    ensures map { IfOk result (λ own. own ≡ None → map.new.entries ≡ (whole map.old.entries op).1) }
+{
+    match (op, given) {
+        (Op::Insert(key, value), Reply::Done) => match put(map, key, value)? {
+            None => Ok(None),
+            Some(_) => Ok(Some(Reply::Duplicate)),
+        },
+        (Op::Update(key, value), Reply::Updated(old)) => match put(map, key, value)? {
+            Some(before) if before == *old => Ok(None),
+            before => Ok(Some(updated(before))),
+        },
+        (Op::Delete(key), Reply::Deleted(old)) => match take(map, key) {
+            Some(before) if before == *old => Ok(None),
+            before => Ok(Some(deleted(before))),
+        },
+        _ => {
+            if let Some(own) = unlike(alloc, map, op, given)? {
+                return Ok(Some(own));
+            }
+            follow(map, op, given)?;
+            Ok(None)
+        }
     }
 }
 
@@ -152,21 +250,21 @@ pub fn follow(map: &mut BTreeMap<u64, u64>, op: Op, given: &Reply) -> Result<(),
     match op {
         Op::Insert(key, value) => match given {
             Reply::Done => {
-                map.insert(key, value)?;
+                put(map, key, value)?;
                 Ok(())
             }
             _ => Ok(()),
         },
         Op::Delete(key) => match given {
             Reply::Deleted(_) => {
-                let _ = map.remove(&key);
+                let _ = take(map, key);
                 Ok(())
             }
             _ => Ok(()),
         },
         Op::Update(key, value) => match given {
             Reply::Updated(_) => {
-                map.insert(key, value)?;
+                put(map, key, value)?;
                 Ok(())
             }
             _ => Ok(()),

@@ -2,7 +2,7 @@
 ghost use Rattle.kr_model.specs.Map.{IsMap};
 
 use super::telling::{Did, Told, are_programs};
-use super::ways::{Way, played_by, ran_by};
+use super::ways::{Way, judged_by, played_by, ran_by};
 use kr_index::Memory;
 use kr_model::{Event, Op};
 use kr_serial::{Mode, Name, Played, Ran, Reply, Txn, judge};
@@ -131,6 +131,8 @@ fn tells_from(
         compare(rt, alloc, run, opening, &ran)?;
         let played = played_by(alloc, *way, opening, events.as_slice())?;
         compare_played(rt, run, &ran, &played);
+        let verdict = judged_by(alloc, *way, opening, events.as_slice())?;
+        assert!(rt; run.told.is(&verdict), "{verdict:?}");
     }
     Ok(())
 }

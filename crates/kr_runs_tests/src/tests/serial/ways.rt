@@ -4,7 +4,7 @@ ghost use Rattle.kr_model.specs.Map.{IsMap};
 use kr_index::Memory;
 use kr_model::Event;
 use kr_protocol::{Covered, Im, Kvl, KvlUpdate, RangeKey};
-use kr_serial::{Played, Ran, play, run, run_any};
+use kr_serial::{Played, Ran, Verdict, judge_run, play, run, run_any};
 use kr_test_support::Plain;
 use std::alloc::Global;
 
@@ -115,5 +115,25 @@ pub fn played_by(
             Locking::RangeKey => play(alloc, &RangeKey, opening, events),
         },
         Way::WithoutLocks => play(alloc, &Plain, opening, events),
+    }
+}
+
+/// The verdict on the run of the events under the protocol of a way, by `judge_run`, which keeps nothing else.
+pub fn judged_by(
+    alloc: Global,
+    way: Way,
+    opening: &[(u64, u64)],
+    events: &[Event],
+) -> Result<Verdict, Memory>
+    requires { IsMap opening.now }
+{
+    match way {
+        Way::Run(locking) | Way::RunAny(locking) => match locking {
+            Locking::KeyValue => judge_run(alloc, &Kvl, opening, events),
+            Locking::KeyValueWithUpdates => judge_run(alloc, &KvlUpdate, opening, events),
+            Locking::IndexSpecific => judge_run(alloc, &Im, opening, events),
+            Locking::RangeKey => judge_run(alloc, &RangeKey, opening, events),
+        },
+        Way::WithoutLocks => judge_run(alloc, &Plain, opening, events),
     }
 }

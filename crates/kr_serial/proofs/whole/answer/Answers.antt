@@ -1,6 +1,5 @@
-use Rattle.std.proofs.Common.{arith}
-use Rattle.std.proofs.lemmas.Grind.{common_steps}
+use Rattle.std.proofs.Common.{rules}
 use Rattle.kr_serial.proofs.whole.answer.Goals as goal
 
-pub returns-in-Some-get-2 : goal.returns-in-Some-get-2
-returns-in-Some-get-2 c = grind (arith, common_steps)
+pub returns-in-Delete : goal.returns-in-Delete
+returns-in-Delete c = search rules

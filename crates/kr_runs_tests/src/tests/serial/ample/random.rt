@@ -1,6 +1,6 @@
 //! Steps that look random, from a small generator.
 
-use super::super::ways::{KEY_VALUE_WITH_UPDATES, LOCKED, Way, ran_by};
+use super::super::ways::{KEY_VALUE_WITH_UPDATES, LOCKED, Way, judged_by, ran_by};
 use super::inputs::{KEYS, event};
 use kr_index::Memory;
 use kr_model::{Event, Op};
@@ -117,22 +117,31 @@ const DIFFERENCES: [(usize, Txn, u64); 20] = [
     (34, 4, 2), (36, 1, 3), (42, 0, 3), (39, 24, 1), (42, 9, 2),
 ];
 
-/// How many programs such steps leave without locks, and the transaction and the number of the first operation whose answer
-/// isn't the one of the commit order.
-fn difference(alloc: Global, seed: u64) -> Result<(usize, Txn, u64), Memory> {
-    let ran = ran_by(alloc, Way::WithoutLocks, &[], &random_steps(seed, false))?;
-    let programs = ran.programs.as_slice().len();
-    match judge(alloc, &ran)? {
-        Verdict::Serial => Ok((programs, 0, 0)),
-        Verdict::NotSerial { txn, operation, .. } => Ok((programs, txn, operation)),
+/// The transaction and the number of the first operation whose answer isn't the one of the commit order, if there is one.
+fn place_of(verdict: &Verdict) -> (Txn, u64) {
+    match verdict {
+        Verdict::Serial => (0, 0),
+        Verdict::NotSerial { txn, operation, .. } => (*txn, *operation),
     }
+}
+
+/// How many programs such steps leave without locks, and where they differ first: by `judge`, and by `judge_run`.
+fn difference(alloc: Global, seed: u64) -> Result<(usize, (Txn, u64), (Txn, u64)), Memory> {
+    let events = random_steps(seed, false);
+    let ran = ran_by(alloc, Way::WithoutLocks, &[], &events)?;
+    let judged = judged_by(alloc, Way::WithoutLocks, &[], &events)?;
+    let programs = ran.programs.as_slice().len();
+    Ok((programs, place_of(&judge(alloc, &ran)?), place_of(&judged)))
 }
 
 #[test]
 fn random_steps_without_locks(rt: HostRuntime) -> Result<(), Memory> {
     for seed in 1..=20_u64 {
-        let told = difference(rt.alloc(), seed)?;
-        assert_eq!(rt; told, DIFFERENCES[seed as usize - 1], "{seed}");
+        let (programs, judged, judged_at_once) = difference(rt.alloc(), seed)?;
+        let (count, txn, operation) = DIFFERENCES[seed as usize - 1];
+        assert_eq!(rt; programs, count, "{seed}");
+        assert_eq!(rt; judged, (txn, operation), "{seed}");
+        assert_eq!(rt; judged_at_once, judged, "{seed}");
     }
     Ok(())
 }

@@ -1,6 +1,5 @@
-use Rattle.std.proofs.Common.{arith}
-use Rattle.std.proofs.lemmas.Grind.{common_steps}
+use Rattle.std.proofs.Common.{rules}
 use Rattle.kr_serial.proofs.index.Index.as_slice.Goals as goal
 
 pub returns-clause-pairs : goal.returns-clause-pairs
-returns-clause-pairs c = grind (arith, common_steps)
+returns-clause-pairs c = search rules

@@ -1,0 +1,69 @@
+//! Steps with a log of what the transactions did.
+ghost use Rattle.std.specs.Prelude.{◌≡◌, None, IfOk, OnOk};
+ghost use Rattle.kr_model.specs.Run.{run, replies_of};
+ghost use Rattle.kr_model.specs.Log.{logged, log_after, no_log};
+
+use crate::Replies;
+use crate::steps::lacks_memory;
+use kr_index::{Memory, Ordered};
+use kr_locks::Holdings;
+use kr_machine::Stepper;
+use kr_model::{Event, Programs, Reply};
+use kr_protocol::Protocol;
+use kr_txn::Log;
+use std::alloc::{AllocError, Global};
+
+/// The reply to each step, in the order of the steps, and what each transaction that committed did, in commit order.
+#[derive(Drop)]
+pub(crate) struct Logged {
+    pub(crate) replies: Replies,
+    pub(crate) programs: Programs,
+}
+
+/// Attempts the events one after another, and notes what they did. Ends with `Memory` at the first step that is refused memory,
+/// or where a reply can't be kept.
+pub(crate) fn log_all<P: Protocol, I: Ordered, L: Holdings>(
+    alloc: Global,
+    stepper: &mut Stepper<P, I, L>,
+    events: &[Event],
+) -> Result<Logged, Memory>
+    requires { stepper.old.pending ≡ None }
+    ensures at_rest { stepper.new.pending ≡ None }
+    ensures protocol { stepper.new.protocol ≡ stepper.old.protocol }
+    ensures replies { IfOk result (λ l. let r = run (P.table stepper.old.protocol) stepper.old.state events.now in l.replies ≡ replies_of r.history) }
+    ensures state { OnOk result (let r = run (P.table stepper.old.protocol) stepper.old.state events.now in stepper.new.state ≡ r.state) }
+    ensures programs { IfOk result (λ l. let r = run (P.table stepper.old.protocol) stepper.old.state events.now in let log = log_after no_log r.history in l.programs ≡ log.committed) }
+{
+    let mut log = Log::new(alloc);
+    let mut replies = Vec::with_capacity(alloc, events.len())?;
+    for event in events {
+        let reply = stepper.step(event.txn, event.op);
+        if lacks_memory(&reply) {
+            return Err(AllocError);
+        }
+        note(alloc, &mut log, *event, &reply)?;
+        replies.push(reply)?;
+    }
+    Ok(Logged {
+        replies: Replies::from_vec(replies),
+        programs: log.into_programs(),
+    })
+}
+
+/// Notes a step with its reply in a log, or fails where a growth is refused.
+fn note(alloc: Global, log: &mut Log, event: Event, reply: &Reply) -> Result<(), Memory>
+    ensures { OnOk result (log.new.log ≡ logged log.old.log (event, reply.now)) }
+{
+    match reply {
+        Reply::Blocked(_) | Reply::Refused(_) | Reply::Undone(_) => Ok(()),
+        Reply::Aborted => {
+            log.note(event, Reply::Aborted);
+            Ok(())
+        }
+        _ => {
+            log.make_room(event.txn)?;
+            log.note(event, reply.try_copy(alloc)?);
+            Ok(())
+        }
+    }
+}
