@@ -131,6 +131,10 @@ class Engine:
         held = self.index.locks(name).get(txn)
         return None if held and self.way == 'not-converted' else converted(held, mode)
 
+    def is_held(self, txn, name, mode):
+        """Whether a transaction holds the lock in this mode already, so that it waits behind nobody."""
+        return self.index.locks(name).get(txn) == mode
+
     def blockers(self, txn, requests):
         wanted = [(name, self.wanted(txn, name, mode)) for name, mode, _ in requests]
         return sorted({

@@ -50,7 +50,7 @@ class Follower:
                 break
             operation, words = 'go', []
         if reply[0] == 'blocked':
-            self.waiting[txn] = [(name, converted) for name, _, converted in requests]
+            self.waiting[txn] = [(name, converted) for name, _, _, converted in requests]
 
     def compare(self, number, reply, given, blocking, ahead):
         """How a reply differs from the table's, if it does."""
@@ -75,7 +75,7 @@ class Follower:
         return active is not None and active.scan is not None and self.ranges.get(txn) == words
 
     def requests(self, txn, operation, words):
-        """What a step requests, on the current name first: the name, the mode, and the converted mode."""
+        """What a step requests, on the current name first: the name, the mode, the own mode there, and the converted mode."""
         run = self.run
         if operation in ENDS or run.refusal(txn, operation, words):
             return []
@@ -87,9 +87,10 @@ class Follower:
             scan = run.active[txn].scan
             scan = Scan(scan.high, run.at(scan.rows[-1][0] + 1))
         requests = run.requests(txn, *run.access(operation, words, scan))
-        return [(name, mode, self.table.convert(run.own(txn, name), mode)) for name, mode, _ in requests]
+        owned = [(name, mode, run.own(txn, name)) for name, mode, _ in requests]
+        return [(name, mode, own, self.table.convert(own, mode)) for name, mode, own in owned]
 
-    def conflicts(self, txn, name, requested, converted):
+    def conflicts(self, txn, name, requested, _, converted):
         """The locks in the way of a request, by the numbers of their holders."""
         names = self.table.names
         return [
@@ -99,12 +100,12 @@ class Follower:
         ]
 
     def ahead(self, requests):
-        """The transactions that wait, and whose requests conflict with these."""
+        """The transactions that wait, and whose requests conflict with these. A request that the own lock covers waits behind nobody."""
         return {
             other
             for other, theirs in self.waiting.items()
-            for name, _, mode in requests
-            if any(one == name and not self.table.ok(mode, asked) for one, asked in theirs)
+            for name, _, own, mode in requests
+            if mode != own and any(one == name and not self.table.ok(mode, asked) for one, asked in theirs)
         }
 
     def mark(self, number):

@@ -88,14 +88,15 @@ class Schedule:
         self.log(step, reply)
 
     def ahead(self, txn, requests):
-        """Those that came to wait before, and want what conflicts, where nobody passes them."""
+        """Those that came to wait before, and want what conflicts, where nobody passes them but by a lock that it holds."""
         before = itertools.takewhile(lambda it: it != txn, self.waiting)
         wanted = [(name, self.engine.wanted(txn, name, mode)) for name, mode, _ in requests]
         return [
             other
             for other in (before if self.is_fair else [])
             for name, mode in wanted
-            if mode and any(name == one and its not in BESIDE[mode] for one, its in self.waiting[other].wanted)
+            if mode and not self.engine.is_held(txn, name, mode)
+            if any(name == one and its not in BESIDE[mode] for one, its in self.waiting[other].wanted)
         ]
 
     def wait(self, txn, waiting, in_way):
@@ -154,7 +155,8 @@ class Schedule:
                 other
                 for other in self.waits
                 for name, mode in wanted
-                if other != txn and any(name == one and its not in BESIDE[mode] for one, its in self.asked[other])
+                if other != txn and not self.right.is_held(txn, name, mode)
+                if any(name == one and its not in BESIDE[mode] for one, its in self.asked[other])
             }
             self.asked[txn] = wanted
             if reply[0] == 'blocked':

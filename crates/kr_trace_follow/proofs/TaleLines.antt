@@ -1,5 +1,5 @@
 -- What was given in lines that don't deviate.
-use Rattle.std.specs.Prelude.{◌≡◌, ℕ, zero, suc, Bool, true, false, not, ◌&&◌, ◌==◌, cond, List, [], ◌∷◌, ◌++◌, Option, Some, None, refl}
+use Rattle.std.specs.Prelude.{◌≡◌, ℕ, zero, suc, Bool, true, false, not, ◌&&◌, ◌==◌, cond, if◌then◌else◌, List, [], ◌∷◌, ◌++◌, Option, Some, None, refl}
 use Rattle.std.specs.List.{flat_map}
 use Rattle.std.proofs.Common.{sym, ◌∙◌, ap, ap₂, subst, inl, inr, arith}
 use Rattle.std.proofs.lemmas.Bool.Decides.{nat_tests}
@@ -23,7 +23,7 @@ use Rattle.kr_trace_observed.specs.declared.observed.Observed.{Observed}
 use Rattle.kr_trace_observed.specs.declared.observed.Observed.TheVariants as observed
 use Rattle.kr_trace_observed.specs.Fits.{fits}
 use Rattle.kr_trace_follow.specs.declared.conflict.Tested.{Tested}
-use Rattle.kr_trace_follow.specs.Conflicts.{tests_of, waits_ahead, conflicts_of, ahead_of, is_behind}
+use Rattle.kr_trace_follow.specs.Conflicts.{tests_of, waits_ahead, waits_for_conflicts, conflicts_of, ahead_of, is_behind}
 use Rattle.kr_trace_follow.specs.Deviates.{since_left, kind_at, deviation_at}
 use Rattle.kr_trace_follow.specs.Following.{Point, at_start, point_after, deviation, steps_in}
 use Rattle.kr_trace_follow.specs.Lines.{Line, Attempt}
@@ -98,7 +98,11 @@ before_last p queue t said (suc n) a lg w k say =
 -- Nobody waits ahead of a step that the engine doesn't block.
 none_of_none : (p : Protocol) (qs : List Tested) → flat_map (waits_ahead p []) qs ≡ []
 none_of_none p [] = refl
-none_of_none p (q ∷ qs) = none_of_none p qs
+none_of_none p (q ∷ qs) = by (q.tested == q.own) (none_of_none p qs)
+  where
+    by : (covered : Bool) → flat_map (waits_ahead p []) qs ≡ [] → (if covered then [] else waits_for_conflicts p [] q) ++ flat_map (waits_ahead p []) qs ≡ []
+    by true rest = rest
+    by false rest = rest
 
 none_behind : (p : Protocol) (t : ℕ) (a : Attempt) → is_behind p [] t a ≡ false
 none_behind p t a = ap (λ xs. not (is_empty xs)) (none_of_none p (tests_of p t a))

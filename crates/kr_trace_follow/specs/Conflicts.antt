@@ -1,5 +1,5 @@
 -- The held locks that conflict with a step, and those who wait ahead of it.
-use Rattle.std.specs.Prelude.{ℕ, Bool, not, ◌&&◌, ◌==◌, List, [], Option, Some, None, map, filter}
+use Rattle.std.specs.Prelude.{ℕ, Bool, not, ◌&&◌, ◌==◌, if◌then◌else◌, List, [], Option, Some, None, map, filter}
 use Rattle.std.specs.List.{flat_map}
 use Rattle.std.specs.Ordering.{eq_by_cmp}
 use Rattle.kr_model.specs.declared.Step.{Step}
@@ -17,9 +17,9 @@ use Rattle.kr_trace_follow.specs.declared.conflict.Tested.{Tested}
 
 -- Requests --
 
--- A request of t with the converted mode in which it is tested.
+-- A request of t with the mode that t holds on the name, and the converted mode in which it is tested.
 abbrev pub tested_by : Protocol → Locks → ℕ → Request → Tested
-tested_by p h t r = record { txn = t; name = name_asked r; asked = mode_asked r; tested = p.convert (own h t (name_asked r)) (mode_asked r) }
+tested_by p h t r = let held = own h t (name_asked r) in record { txn = t; name = name_asked r; own = held; asked = mode_asked r; tested = p.convert held (mode_asked r) }
 
 -- What t requests by what it attempts, if it attempts anything.
 abbrev pub requests_by : Protocol → Map → Locks → ℕ → Option Step → List Request
@@ -68,10 +68,14 @@ abbrev pub wanted : Tested → Lock
 wanted q = ((q.name, q.txn), q.tested)
 
 -- Those who wait for a lock that conflicts with a request.
-abbrev pub waits_ahead : Protocol → Locks → Tested → List ℕ
-waits_ahead p waiting q = map holder_of (in_the_way p waiting q)
+abbrev pub waits_for_conflicts : Protocol → Locks → Tested → List ℕ
+waits_for_conflicts p waiting q = map holder_of (in_the_way p waiting q)
 
--- Those who wait ahead of a step of t: they wait for a lock that conflicts with a request of the step.
+-- Those who wait ahead of a request. Nobody waits ahead of a transaction that holds the lock in the converted mode already.
+abbrev pub waits_ahead : Protocol → Locks → Tested → List ℕ
+waits_ahead p waiting q = if q.tested == q.own then [] else waits_for_conflicts p waiting q
+
+-- Those who wait ahead of a step of t: ahead of its request on the current name, then ahead of that on the next.
 abbrev pub ahead_of : Protocol → Locks → ℕ → Attempt → List ℕ
 ahead_of p waiting t a = flat_map (waits_ahead p waiting) (tests_of p t a)
 

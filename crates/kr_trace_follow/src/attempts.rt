@@ -30,10 +30,12 @@ fn push_side<P: Protocol, Q: Protocol, I: Ordered, L: Holdings>(
     ensures modes { OnOk result (All (λ q. q.tested ≤ (P.table protocol.now).count) list.new.items) }
 {
     if let Some((name, asked, _)) = side {
-        let tested = protocol.convert(stepper.own(txn, name), asked);
+        let own = stepper.own(txn, name);
+        let tested = protocol.convert(own, asked);
         list.push(Tested {
             txn,
             name,
+            own,
             asked,
             tested,
         })?;

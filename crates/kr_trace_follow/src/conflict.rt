@@ -1,7 +1,7 @@
 //! Locks that conflict with requests.
 ghost use Rattle.std.specs.Prelude.{◌≡◌, ◌≤◌, ◌++◌, All, IfOk, OnOk};
 ghost use Rattle.std.specs.List.{flat_map};
-ghost use Rattle.kr_trace_follow.specs.Conflicts.{is_in_the_way, conflict, conflicts_with, waits_ahead};
+ghost use Rattle.kr_trace_follow.specs.Conflicts.{is_in_the_way, conflict, conflicts_with, waits_ahead, waits_for_conflicts};
 ghost use Rattle.kr_trace_follow.specs.Since.{last_noted};
 
 use crate::since::{Notes, since};
@@ -14,11 +14,12 @@ use std::alloc::Global;
 /// A lock that is held or waited for: its name, its transaction, and the mode.
 pub(crate) type Lock = ((Name, Txn), Mode);
 
-/// A lock that is requested, with the converted mode in which it is tested.
+/// A lock that is requested, with the mode that the transaction holds there and the converted mode in which it is tested.
 #[derive(Clone, Copy)]
 pub(crate) struct Tested {
     pub(crate) txn: Txn,
     pub(crate) name: Name,
+    pub(crate) own: Mode,
     pub(crate) asked: Mode,
     pub(crate) tested: Mode,
 }
@@ -97,7 +98,7 @@ fn push_ahead<P: Protocol>(
 ) -> Result<(), Memory>
     requires tested { request.tested ≤ (P.table protocol.now).count }
     requires modes { All (λ l. l.1 ≤ (P.table protocol.now).count) waiting.now }
-    ensures { OnOk result (list.new.items ≡ list.old.items ++ waits_ahead (P.table protocol.now) waiting.now request) }
+    ensures { OnOk result (list.new.items ≡ list.old.items ++ waits_for_conflicts (P.table protocol.now) waiting.now request) }
 {
     for i in 0..waiting.len() {
         let wanted = waiting[i];
@@ -108,7 +109,7 @@ fn push_ahead<P: Protocol>(
     Ok(())
 }
 
-/// Who waits for a lock that conflicts with any of the requests, those ahead of the first request first.
+/// Who waits ahead of any of the requests, those ahead of the first request first.
 pub(crate) fn ahead_of_all<P: Protocol>(
     alloc: Global,
     protocol: &P,
@@ -121,7 +122,10 @@ pub(crate) fn ahead_of_all<P: Protocol>(
 {
     let mut list = Vec::new(alloc);
     for i in 0..requests.len() {
-        push_ahead(protocol, waiting, requests[i], &mut list)?;
+        let request = requests[i];
+        if request.tested != request.own {
+            push_ahead(protocol, waiting, request, &mut list)?;
+        }
     }
     Ok(list)
 }
