@@ -4,3 +4,4 @@ pub mod Clear
 pub mod Outcomes
 pub mod InBlocks
 pub mod Shown
+pub mod Wrong

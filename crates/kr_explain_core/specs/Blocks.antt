@@ -28,11 +28,15 @@ pub record IsBlock (p : Protocol) (names : List (List ℕ)) (n : ℕ) (e : Expla
   pub is_mending : IsMending names (is_some e.harmless) e.mend fixes
   pub written : block ≡ title ++ (said ++ fixes)
 
--- A block for each of the causes, in their order, from this number on.
+-- A block for each of the causes, in their order: Is says what the block of a cause and its number is. The first has this number.
+abbrev pub AreNumbered : (ℕ → Explained → List ℕ → Type 0) → ℕ → List Explained → List ℕ → Type 0
+AreNumbered Is n [] text = text ≡ []
+AreNumbered Is n (e ∷ es) text =
+    (block rest : List ℕ) × (Is n e block × (AreNumbered Is (n + 1) es rest × (text ≡ block ++ rest)))
+
+-- The same of the blocks of the text, of a table p with these names of its modes.
 abbrev pub AreBlocks : Protocol → List (List ℕ) → ℕ → List Explained → List ℕ → Type 0
-AreBlocks p names n [] text = text ≡ []
-AreBlocks p names n (e ∷ es) text =
-    (block rest : List ℕ) × (IsBlock p names n e block × (AreBlocks p names (n + 1) es rest × (text ≡ block ++ rest)))
+AreBlocks p names = AreNumbered (IsBlock p names)
 
 -- What is told of all causes: a block for each, from 1, and a last line.
 pub record TellsCauses (p : Protocol) (names : List (List ℕ)) (f : Failures) (text : List ℕ) : Type 0 where

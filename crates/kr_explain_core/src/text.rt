@@ -185,15 +185,7 @@ fn with_run<P: Protocol>(
 ) -> Result<String, Memory>
     ensures { IfOk result (λ text. IsSchedule (P.table protocol.now) (P.names protocol.now) run.now.script (string_bytes text)) }
 {
-    let mut out = String::new(alloc);
-    write_body(
-        alloc,
-        protocol,
-        &mut out,
-        &explained.cause,
-        &run.case,
-        "can",
-    )?;
+    let mut out = body_text(alloc, protocol, explained, run)?;
     write_run(alloc, protocol, &mut out, &run.script)?;
     let case = case_text(alloc, protocol, explained, run)?;
     out.push_str(case.as_str())?;
@@ -209,17 +201,22 @@ pub fn prose_text<P: Protocol>(
     let Some(run) = &explained.run else {
         return without_run(alloc, protocol, explained);
     };
-    let mut out = String::new(alloc);
-    write_body(
-        alloc,
-        protocol,
-        &mut out,
-        &explained.cause,
-        &run.case,
-        "can",
-    )?;
+    let mut out = body_text(alloc, protocol, explained, run)?;
     let case = case_text(alloc, protocol, explained, run)?;
     out.push_str(case.as_str())?;
+    Ok(out)
+}
+
+/// What is wrong in the case that a schedule was made from.
+fn body_text<P: Protocol>(
+    alloc: Global,
+    protocol: &P,
+    explained: &Explained,
+    run: &Run,
+) -> Result<String, Memory> {
+    let mut out = String::new(alloc);
+    let cause = &explained.cause;
+    write_body(alloc, protocol, &mut out, cause, &run.case, "can")?;
     Ok(out)
 }
 

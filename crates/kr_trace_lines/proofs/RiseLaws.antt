@@ -76,7 +76,7 @@ line_rises None = tt
 line_rises (Some d) = value_rises d (is_some (get (codes "order") d))
 
 -- The keys of the opening of a head that is read rise.
-reading_rises : (bytes : List ℕ) (l : TraceLine) → reading_line bytes ≡ Ok l → RisesIn l
+pub reading_rises : (bytes : List ℕ) (l : TraceLine) → reading_line bytes ≡ Ok l → RisesIn l
 reading_rises bytes l is = subst Rises is (line_rises (document bytes))
 
 -- So do those of a line that is given.

@@ -1,11 +1,12 @@
 -- The causes of a table, as they stand in its page.
-use Rattle.std.specs.Prelude.{◌≡◌, ℕ, ◌+◌, ◌==◌, Bool, true, false, List, [], ◌∷◌, ◌++◌, Option, Some, None, nat_le, codes, decimal, if◌then◌else◌}
+use Rattle.std.specs.Prelude.{◌≡◌, ℕ, ◌==◌, Bool, true, false, List, [], ◌++◌, Option, Some, None, nat_le, codes, decimal, if◌then◌else◌}
 use Rattle.kr_model.specs.Protocol.{Protocol}
 use Rattle.kr_view_html.specs.Escape.{escaped}
 use Rattle.kr_view_html.specs.Parts.{IsMadeOfParts}
 use Rattle.kr_view_scenes.specs.Scenes.{drawn_steps}
 use Rattle.kr_view_run.specs.Page.{AreBands}
 use Rattle.kr_explain_text.specs.Titles.{IsTitle}
+use Rattle.kr_explain_core.specs.Blocks.{AreNumbered}
 use Rattle.kr_explain_core.specs.declared.run.Run.{Run}
 use Rattle.kr_explain_core.specs.declared.explanation.Explained.{Explained}
 use Rattle.kr_view_table.specs.declared.causes.TheConstants.{CAUSES}
@@ -49,9 +50,7 @@ pub record IsCauseBlock (p : Protocol) (names : List (List ℕ)) (n : ℕ) (e : 
 
 -- A block for each of the causes, in their order, from this number on.
 abbrev pub AreCauses : Protocol → List (List ℕ) → ℕ → List Explained → List ℕ → Type 0
-AreCauses p names n [] text = text ≡ []
-AreCauses p names n (e ∷ es) text =
-    (block rest : List ℕ) × (IsCauseBlock p names n e block × (AreCauses p names (n + 1) es rest × (text ≡ block ++ rest)))
+AreCauses p names = AreNumbered (IsCauseBlock p names)
 
 -- What stands before so many causes.
 abbrev pub causes_heading : ℕ → List ℕ

@@ -1,26 +1,16 @@
-//! What stands around the tables of a page: its head with its look, the table's name, the verdict, and the end.
+//! What stands around the tables of a page: the look of the tables, the verdict, and the causes behind them.
 ghost use Rattle.std.specs.Prelude.{◌≡◌, IfOk, string_bytes};
 ghost use Rattle.kr_view_table.specs.Page.{page_of};
 
-use kr_view_run::LOOK;
+use kr_view_run::{END, page_head};
 use std::alloc::{AllocError, Global};
 
-/// Up to the table's name in the title.
-pub const HEAD: &str = "<!DOCTYPE html>
-<html lang=\"en\">
-<head>
-<meta charset=\"utf-8\">
-<meta name=\"viewport\" content=\"width=device-width, initial-scale=1\">
-<title>Table ";
+/// What the title and the heading say before the table's name.
+pub const TABLE: &str = "Table ";
 
-/// From there to the look of a page of a run.
-pub const STYLE: &str = "</title>
-<style>
-";
-
-/// From there to the table's name in the heading: the look of the tables. Each scrolls by itself, and its edges stay in view.
-/// What is in conflict, apart or to blame shows by a mark, brackets or a number, and not by its colour alone.
-pub const BODY: &str = ":root{--clash:#f7ddd3}
+/// The look of the tables. Each scrolls by itself, and its edges stay in view. What is in conflict, apart or to blame shows by a
+/// mark, brackets or a number, and not by its colour alone.
+pub const TABLE_LOOK: &str = ":root{--clash:#f7ddd3}
 @media screen and (prefers-color-scheme:dark){:root{--clash:#4a2416}}
 @media print{:root{--clash:#eee}}
 .grid{overflow:auto;max-width:100%;max-height:92vh}
@@ -40,13 +30,7 @@ pub const BODY: &str = ":root{--clash:#f7ddd3}
 summary{cursor:pointer;font-weight:700;padding:4px 0}
 @media screen and (max-width:640px){.matrix th,.matrix td{padding:4px}.covers td,.rules td{font-size:13px}}
 @media print{.grid{overflow:visible;max-height:none}.grid th{position:static}.cause{break-inside:auto}}
-</style>
-</head>
-<body>
-<h1>Table <code>";
-
-/// From there to the verdict.
-pub const BEHIND_NAME: &str = "</code></h1>\n";
+";
 
 /// How the verdict on a table that is safe begins.
 pub const SAFE: &str = "<p class=\"verdict yes\"><b>✓</b> ";
@@ -56,9 +40,6 @@ pub const UNSAFE: &str = "<p class=\"verdict no\"><b>✗</b> ";
 
 /// From the verdict to the tables.
 pub const BEHIND_VERDICT: &str = "</p>\n";
-
-/// The end of a page.
-pub const END: &str = "</body>\n</html>\n";
 
 /// The page under this name, with this verdict, and with what is told of the table behind it.
 pub fn framed(
@@ -71,14 +52,7 @@ pub fn framed(
 ) -> Result<String, AllocError>
     ensures { IfOk result (λ page. string_bytes page ≡ page_of name.now is_safe verdict.now tables.now causes.now) }
 {
-    let mut page = String::new(alloc);
-    page.push_str(HEAD)?;
-    page.push_str(name)?;
-    page.push_str(STYLE)?;
-    page.push_str(LOOK)?;
-    page.push_str(BODY)?;
-    page.push_str(name)?;
-    page.push_str(BEHIND_NAME)?;
+    let mut page = page_head(alloc, TABLE, TABLE_LOOK, name)?;
     page.push_str(if is_safe { SAFE } else { UNSAFE })?;
     page.push_str(verdict)?;
     page.push_str(BEHIND_VERDICT)?;
