@@ -189,6 +189,11 @@ pub fn not_json(alloc: Global, text: &[u8]) -> Result<Option<Help>, AllocError> 
         let what = "the file begins with a byte order mark (BOM), which a script may not have";
         return Ok(Some(Help::of(alloc, Some(0), what)?));
     }
+    not_value(alloc, text)
+}
+
+/// What is said of a text that is no value of JSON.
+fn not_value(alloc: Global, text: &[u8]) -> Result<Option<Help>, AllocError> {
     match Value::from_slice(alloc, text) {
         Ok(_) => Ok(None),
         Err(e) if e.is_memory() => Err(AllocError),

@@ -4,7 +4,7 @@ use serde_json::Value;
 use std::alloc::{AllocError, Global};
 
 /// A walk over the bytes of a text: how many brackets and braces are open, and whether it is in a text in quotes.
-#[derive(Clone, Copy, Debug)]
+#[derive(Clone, Copy)]
 pub struct Walk {
     pub depth: usize,
     pub in_text: bool,
@@ -47,7 +47,7 @@ pub fn is_space(byte: u8) -> bool {
 }
 
 /// The members of one name in an object: how many there are, and where the last one's name and value stand.
-#[derive(Clone, Copy, Debug)]
+#[derive(Clone, Copy)]
 pub struct Members {
     pub count: usize,
     pub key: usize,

@@ -157,10 +157,15 @@ pub fn step_fault(
         let at = place.and_then(|place| element(text, place, 0));
         return transaction_fault(alloc, text, at, first);
     }
-    let Some(word) = list.get(1).and_then(Value::as_str) else {
-        let at = place.and_then(|place| element(text, place, 1));
-        let what = "behind the transaction's number stands an operation";
-        return Help::of(alloc, at.or(place), what)?.name(alloc, "", &OPERATIONS);
-    };
-    form_fault(alloc, text, place, is_later, word, list)
+    match list.get(1).and_then(Value::as_str) {
+        Some(word) => form_fault(alloc, text, place, is_later, word, list),
+        None => no_word(alloc, text, place),
+    }
+}
+
+/// What is said of a step without a word behind its number.
+fn no_word(alloc: Global, text: &[u8], place: Option<usize>) -> Result<Help, AllocError> {
+    let at = place.and_then(|place| element(text, place, 1));
+    let what = "behind the transaction's number stands an operation";
+    Help::of(alloc, at.or(place), what)?.name(alloc, "", &OPERATIONS)
 }

@@ -16,18 +16,22 @@ fn source_fault(
     source: &Source,
     fault: &ScriptFault,
 ) -> Result<Option<Help>, AllocError> {
-    Ok(Some(match fault {
-        ScriptFault::Format => format_fault(alloc, source)?,
-        ScriptFault::Field(name) => field_fault(alloc, source, name.as_str())?,
-        ScriptFault::Opening(index) => opening_fault(alloc, source, *index)?,
-        ScriptFault::TooMany(name) => too_many(alloc, source, name.as_str())?,
-        ScriptFault::Step(index) => {
-            let place = source.element_of(alloc, "steps", *index)?;
-            let step = source.element("steps", *index);
-            step_fault(alloc, source.text, place, source.is_later(), step)?
-        }
+    let help = match fault {
+        ScriptFault::Format => format_fault(alloc, source),
+        ScriptFault::Field(name) => field_fault(alloc, source, name.as_str()),
+        ScriptFault::Opening(index) => opening_fault(alloc, source, *index),
+        ScriptFault::TooMany(name) => too_many(alloc, source, name.as_str()),
+        ScriptFault::Step(index) => no_step(alloc, source, *index),
         _ => return Ok(None),
-    }))
+    };
+    Ok(Some(help?))
+}
+
+/// What is said of the step at an index.
+fn no_step(alloc: Global, source: &Source, index: usize) -> Result<Help, AllocError> {
+    let place = source.element_of(alloc, "steps", index)?;
+    let step = source.element("steps", index);
+    step_fault(alloc, source.text, place, source.is_later(), step)
 }
 
 fn of_source(alloc: Global, text: &[u8], fault: &ScriptFault) -> Result<Option<Help>, AllocError> {

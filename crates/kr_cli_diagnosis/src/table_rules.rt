@@ -135,12 +135,22 @@ fn mode_fault(
     let Some(value) = clause.get("mode") else {
         return Ok(Some(missing_word(alloc, document, path, "mode")?));
     };
+    let whole = with_step(alloc, path, "mode")?;
+    mode_fault_at(alloc, document, whole.as_slice(), value)
+}
+
+/// What is said of a value at this path, which is to be the name of a mode.
+fn mode_fault_at(
+    alloc: Global,
+    document: &Document,
+    path: &[String],
+    value: &Value,
+) -> Result<Option<Help>, AllocError> {
     let modes = document.modes(alloc)?;
     if is_mode(value, modes.as_slice()) {
         return Ok(None);
     }
-    let whole = with_step(alloc, path, "mode")?;
-    let help = no_mode(alloc, document, whole.as_slice(), value, modes.as_slice())?;
+    let help = no_mode(alloc, document, path, value, modes.as_slice())?;
     Ok(Some(help))
 }
 
@@ -190,15 +200,19 @@ fn own_list_fault(
         let kind = "an array of names of modes and of \"none\"";
         return Ok(Some(wrong_kind(alloc, document, whole.as_slice(), kind, value)?));
     };
+    own_element_fault(alloc, document, whole.as_slice(), list.as_slice())
+}
+
+/// What is said of the elements of a clause's `own`, which stands at this path.
+fn own_element_fault(
+    alloc: Global,
+    document: &Document,
+    path: &[String],
+    list: &[Value],
+) -> Result<Option<Help>, AllocError> {
     let mut names = document.modes(alloc)?;
     names.push("none")?;
-    element_fault(
-        alloc,
-        document,
-        whole.as_slice(),
-        list.as_slice(),
-        names.as_slice(),
-    )
+    element_fault(alloc, document, path, list, names.as_slice())
 }
 
 /// What is said of a clause.

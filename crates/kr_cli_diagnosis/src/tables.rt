@@ -18,17 +18,18 @@ fn document_fault(
     document: &Document,
     fault: &TableFault,
 ) -> Result<Option<Help>, AllocError> {
-    Ok(Some(match fault {
-        TableFault::Format => format_fault(alloc, document)?,
-        TableFault::Field(name) => field_fault(alloc, document, name.as_str())?,
-        TableFault::ModeCount => count_fault(alloc, document)?,
-        TableFault::ModeName(index) => mode_fault(alloc, document, *index)?,
-        TableFault::Compatible(path) => compatible_fault(alloc, document, path.as_str())?,
-        TableFault::Convert(path) => convert_fault(alloc, document, path.as_str())?,
-        TableFault::Rule(path) => rule_fault(alloc, document, path.as_str())?,
-        TableFault::OwnNotAllowed(path) => own_fault(alloc, document, path.as_str())?,
+    let help = match fault {
+        TableFault::Format => format_fault(alloc, document),
+        TableFault::Field(name) => field_fault(alloc, document, name.as_str()),
+        TableFault::ModeCount => count_fault(alloc, document),
+        TableFault::ModeName(index) => mode_fault(alloc, document, *index),
+        TableFault::Compatible(path) => compatible_fault(alloc, document, path.as_str()),
+        TableFault::Convert(path) => convert_fault(alloc, document, path.as_str()),
+        TableFault::Rule(path) => rule_fault(alloc, document, path.as_str()),
+        TableFault::OwnNotAllowed(path) => own_fault(alloc, document, path.as_str()),
         _ => return Ok(None),
-    }))
+    };
+    Ok(Some(help?))
 }
 
 fn of_document(

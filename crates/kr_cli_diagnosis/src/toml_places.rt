@@ -5,7 +5,7 @@ use std::alloc::{AllocError, Global};
 use toml::Value;
 
 /// Where what a path leads to stands, as far as the path leads.
-#[derive(Clone, Copy, Debug)]
+#[derive(Clone, Copy)]
 pub struct Found {
     /// How many steps of the path lead somewhere.
     pub depth: usize,
@@ -16,7 +16,7 @@ pub struct Found {
 }
 
 /// An array or a table in braces that is open, and how many steps of the path lead to it, if it lies on the path.
-#[derive(Clone, Copy, Debug)]
+#[derive(Clone, Copy)]
 struct Frame {
     is_array: bool,
     matched: Option<usize>,
@@ -24,7 +24,7 @@ struct Frame {
 }
 
 /// A header that is being read: of a table, or of an element of an array of tables.
-#[derive(Clone, Copy, Debug, PartialEq, Eq)]
+#[derive(Clone, Copy, PartialEq, Eq)]
 enum Header {
     No,
     Table,

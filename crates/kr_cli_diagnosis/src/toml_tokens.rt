@@ -5,7 +5,7 @@ use crate::place::line_end;
 use std::alloc::{AllocError, Global};
 
 /// What a token is.
-#[derive(Clone, Copy, Debug, PartialEq, Eq)]
+#[derive(Clone, Copy, PartialEq, Eq)]
 pub enum TokenKind {
     /// A bare key, or a part of a value.
     Bare,
@@ -16,7 +16,7 @@ pub enum TokenKind {
 }
 
 /// A token, and where it stands.
-#[derive(Clone, Copy, Debug)]
+#[derive(Clone, Copy)]
 pub struct Token {
     pub kind: TokenKind,
     pub start: usize,

@@ -5,7 +5,11 @@ use Rattle.kr_view_html.specs.Escape.{escaped, unescaped}
 use Rattle.kr_view_html.specs.Parts.{IsMadeOfParts}
 use Rattle.kr_view_scenes.specs.Scenes.{NumberedStep}
 use Rattle.kr_view_scenes.specs.Words.{op_words, reply_words, kind_word}
-use Rattle.kr_view_run.specs.declared.frame.TheConstants.{HEAD, STYLE, LOOK, BODY, BEHIND_NAME, SERIAL, NOT_SERIAL, STEP_IDS, BAND_END, END}
+use Rattle.kr_view_run.specs.declared.frame.TheConstants.{HEAD, STYLE, LOOK, BODY, NAME, BEHIND_NAME, RUN, SERIAL, NOT_SERIAL, STEP_IDS, BAND_END, END}
+
+-- Which step of which transaction asks for an operation, whose words these are.
+abbrev pub asked_words : ℕ → ℕ → List ℕ → List ℕ
+asked_words number txn op = codes "Step " ++ (decimal number ++ (codes ": transaction " ++ (decimal txn ++ (codes ", " ++ op))))
 
 -- The head of the band of a step: its number, its transaction, what it does, and the reply, whose kind is the band's class. Its id is the number behind a text.
 abbrev pub band_head : List ℕ → NumberedStep → List ℕ
@@ -24,10 +28,15 @@ AreBands ids [] bytes = bytes ≡ []
 AreBands ids (step ∷ steps) bytes =
     (telling more : List ℕ) × (IsMadeOfParts telling × (AreBands ids steps more × (bytes ≡ band_of ids step telling ++ more)))
 
--- A page with a name in its title and its heading, then the first words of the verdict, then what is told before the bands, the bands, and what is told behind them.
+-- The beginning of a page: its title, the look of all pages and its own, and its heading. The title and the heading say of what kind it is, and have its name.
+abbrev pub page_head : List ℕ → List ℕ → List ℕ → List ℕ
+page_head kind look name =
+    HEAD.now ++ kind ++ name ++ STYLE.now ++ LOOK.now ++ look ++ BODY.now ++ kind ++ NAME.now ++ name ++ BEHIND_NAME.now
+
+-- The page of a run with a name in its title and its heading, then the first words of the verdict, then what is told before the bands, the bands, and what is told behind them.
 abbrev pub page_of : List ℕ → Bool → List ℕ → List ℕ → List ℕ → List ℕ
 page_of name serial before bands behind =
-    HEAD.now ++ name ++ STYLE.now ++ LOOK.now ++ BODY.now ++ name ++ BEHIND_NAME.now ++ (if serial then SERIAL.now else NOT_SERIAL.now) ++ before ++ bands ++ behind ++ END.now
+    page_head RUN.now [] name ++ (if serial then SERIAL.now else NOT_SERIAL.now) ++ before ++ bands ++ behind ++ END.now
 
 -- A whole page whose name is this one, escaped, and reads as it; whose verdict is this; and that has a band of each of these steps, in their order, and no other. All else that it tells is made of parts.
 abbrev pub IsPage : List ℕ → List NumberedStep → Bool → List ℕ → Type 0

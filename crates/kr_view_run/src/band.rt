@@ -1,12 +1,13 @@
 //! The band of a step: what was asked and answered in words, and its drawing.
 ghost use Rattle.std.specs.Prelude.{◌≡◌, ◌++◌, ◌∷◌, [], List, IfOk, OnOk, string_bytes};
 ghost use Rattle.kr_view_scenes.specs.Scenes.{NumberedStep, step_of};
-ghost use Rattle.kr_view_run.specs.Page.{AreBands, band_head};
+ghost use Rattle.kr_view_scenes.specs.Words.{op_words, reply_words};
+ghost use Rattle.kr_view_run.specs.Page.{AreBands, asked_words, band_head};
 
 use crate::drawing::write_drawing;
 use crate::frame::BAND_END;
 use kr_locks::Memory;
-use kr_model::Span;
+use kr_model::{Op, Reply, Span};
 use kr_protocol::{Protocol, name_or_empty};
 use kr_view_html::{Html, Mark, Part};
 use kr_view_scenes::{
@@ -49,29 +50,40 @@ pub fn push_band<P: Protocol>(
 fn head_of(alloc: Global, ids: &str, scene: &Scene) -> Result<String, Memory>
     ensures { IfOk result (λ head. string_bytes head ≡ band_head ids.now (step_of scene.now)) }
 {
-    let mut op = Html::new(alloc);
-    write_op(&mut op, scene.event.op)?;
-    let mut reply = Html::new(alloc);
-    write_reply(&mut reply, &scene.reply)?;
+    let op = op_of(alloc, scene.event.op)?;
+    let reply = reply_of(alloc, &scene.reply)?;
+    let asked = asked_of(alloc, scene, op.as_str())?;
+    let (number, kind) = (scene.number, kind_of(&scene.reply));
+    let (asked, reply) = (asked.as_str(), reply.as_str());
+    format!(in alloc;
+        "<section id=\"{ids}{number}\" class=\"{kind}\">\n<h3><span>{asked}</span> <span class=\"reply\">{reply}</span></h3>\n"
+    )
+}
+
+/// Which step of which transaction asks for an operation, whose words these are.
+fn asked_of(alloc: Global, scene: &Scene, op: &str) -> Result<String, Memory>
+    ensures { IfOk result (λ asked. string_bytes asked ≡ asked_words scene.now.number scene.now.event.txn op.now) }
+{
     let (number, txn) = (scene.number, scene.event.txn);
-    let number = format!(in alloc; "{number}")?;
-    let txn = format!(in alloc; "{txn}")?;
-    let mut head = String::new(alloc);
-    head.push_str("<section id=\"")?;
-    head.push_str(ids)?;
-    head.push_str(number.as_str())?;
-    head.push_str("\" class=\"")?;
-    head.push_str(kind_of(&scene.reply))?;
-    head.push_str("\">\n<h3><span>Step ")?;
-    head.push_str(number.as_str())?;
-    head.push_str(": transaction ")?;
-    head.push_str(txn.as_str())?;
-    head.push_str(", ")?;
-    head.push_str(op.as_str())?;
-    head.push_str("</span> <span class=\"reply\">")?;
-    head.push_str(reply.as_str())?;
-    head.push_str("</span></h3>\n")?;
-    Ok(head)
+    format!(in alloc; "Step {number}: transaction {txn}, {op}")
+}
+
+/// An operation in words.
+fn op_of(alloc: Global, op: Op) -> Result<Html, Memory>
+    ensures { IfOk result (λ words. words ≡ op_words op) }
+{
+    let mut words = Html::new(alloc);
+    write_op(&mut words, op)?;
+    Ok(words)
+}
+
+/// A reply in words.
+fn reply_of(alloc: Global, reply: &Reply) -> Result<Html, Memory>
+    ensures { IfOk result (λ words. words ≡ reply_words reply.now) }
+{
+    let mut words = Html::new(alloc);
+    write_reply(&mut words, reply)?;
+    Ok(words)
 }
 
 /// What a band tells behind its head: the serial answer where it differs, what a blocked step requested, and the drawing.

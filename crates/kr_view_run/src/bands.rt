@@ -138,7 +138,22 @@ pub fn bands_of_run<P: Protocol>(
     let ran = run_any(alloc, protocol, opening, steps)?;
     let verdict = judge(alloc, &ran)?;
     let run = run_of(opening, steps, &ran, &verdict);
+    bands_of_judged(alloc, protocol, opening, steps, &run, ids)
+}
+
+/// A band for each step that is drawn of the run of these steps, which has been judged.
+fn bands_of_judged<P: Protocol>(
+    alloc: Global,
+    protocol: &P,
+    opening: &[(u64, u64)],
+    steps: &[Event],
+    run: &Run<'_>,
+    ids: &str,
+) -> Result<String, Memory>
+    requires { IsMap opening.now }
+    ensures { IfOk result (λ bands. AreBands ids.now (drawn_steps (P.table protocol.now) opening.now steps.now) (string_bytes bands)) }
+{
     let drawn = scenes_of(alloc, protocol, opening, steps)?;
     let layout = Layout::of(&drawn.columns, drawn.scenes.as_slice());
-    drawn_bands(alloc, protocol, &run, &drawn, &layout, &*ids)
+    drawn_bands(alloc, protocol, &*run, &drawn, &layout, &*ids)
 }

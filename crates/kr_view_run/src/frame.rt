@@ -1,21 +1,20 @@
-//! What stands around the body of a page: its head with its look, the table's name, the first words of the verdict, and the
-//! end.
+//! What a page begins and ends with: its head with its look, and its heading. And the page of a run around its bands.
 ghost use Rattle.std.specs.Prelude.{◌≡◌, IfOk, OnOk, string_bytes};
 ghost use Rattle.kr_view_html.specs.Parts.{IsMadeOfParts};
-ghost use Rattle.kr_view_run.specs.Page.{page_of};
+ghost use Rattle.kr_view_run.specs.Page.{page_head, page_of};
 
 use kr_view_html::Html;
 use std::alloc::{AllocError, Global};
 
-/// Up to the table's name in the title.
+/// Up to the title.
 pub const HEAD: &str = "<!DOCTYPE html>
 <html lang=\"en\">
 <head>
 <meta charset=\"utf-8\">
 <meta name=\"viewport\" content=\"width=device-width, initial-scale=1\">
-<title>A run under ";
+<title>";
 
-/// From there to the look of the page.
+/// From the title to the look of all pages.
 pub const STYLE: &str = "</title>
 <style>
 ";
@@ -57,14 +56,23 @@ table{border-collapse:collapse}th,td{border:1px solid var(--rule);padding:4px 10
 @media print{.wide{overflow:visible}svg{width:min(var(--w),100%)}}
 ";
 
-/// From there to the table's name in the heading.
+/// From the look to the heading.
 pub const BODY: &str = "</style>
 </head>
 <body>
-<h1>A run under <code>";
+<h1>";
 
-/// From there to the verdict.
+/// What the name in the heading begins with.
+pub const NAME: &str = "<code>";
+
+/// From the name in the heading to what comes below the heading.
 pub const BEHIND_NAME: &str = "</code></h1>\n";
+
+/// The end of a page.
+pub const END: &str = "</body>\n</html>\n";
+
+/// What the title and the heading of the page of a run say before the table's name.
+pub const RUN: &str = "A run under ";
 
 /// How the verdict on a run that is serializable begins.
 pub const SERIAL: &str = "<p class=\"verdict yes\"><b>✓ Serial.</b> ";
@@ -78,9 +86,6 @@ pub const STEP_IDS: &str = "s";
 /// The end of the band of a step.
 pub const BAND_END: &str = "</section>\n";
 
-/// The end of a page.
-pub const END: &str = "</body>\n</html>\n";
-
 /// What a page has behind the first words of its verdict.
 #[derive(Drop)]
 pub struct Body {
@@ -91,21 +96,36 @@ pub struct Body {
     pub behind: Html,
 }
 
-/// The page under this name, which has been escaped.
+/// The beginning of a page that stands alone, up to the end of its heading. Its title and its heading are `kind` and the name,
+/// which has been escaped; `look` adds to the look of all pages. `END` ends the page. The only error is that a growth was
+/// refused.
+pub fn page_head(alloc: Global, kind: &str, look: &str, name: &str) -> Result<String, AllocError>
+    ensures { IfOk result (λ page. string_bytes page ≡ page_head kind.now look.now name.now) }
+{
+    [
+        HEAD,
+        kind,
+        name,
+        STYLE,
+        LOOK,
+        look,
+        BODY,
+        kind,
+        NAME,
+        name,
+        BEHIND_NAME,
+    ]
+    .concat(alloc)
+}
+
+/// The page of a run under this name, which has been escaped.
 pub fn framed(alloc: Global, name: &str, is_serial: bool, body: &Body) -> Result<String, AllocError>
     ensures page { IfOk result (λ page. string_bytes page
         ≡ page_of name.now is_serial body.now.before (string_bytes body.now.bands) body.now.behind) }
     ensures before { OnOk result (IsMadeOfParts body.now.before) }
     ensures behind { OnOk result (IsMadeOfParts body.now.behind) }
 {
-    let mut page = String::new(alloc);
-    page.push_str(HEAD)?;
-    page.push_str(name)?;
-    page.push_str(STYLE)?;
-    page.push_str(LOOK)?;
-    page.push_str(BODY)?;
-    page.push_str(name)?;
-    page.push_str(BEHIND_NAME)?;
+    let mut page = page_head(alloc, RUN, "", name)?;
     page.push_str(if is_serial { SERIAL } else { NOT_SERIAL })?;
     page.push_str(body.before.as_str())?;
     page.push_str(body.bands.as_str())?;

@@ -66,28 +66,49 @@ fn down(lane: usize) -> u64 {
 /// Writes the lanes of the steps that are drawn, with so much room at the left for the numbers of transactions.
 pub fn write_lanes(alloc: Global, run: &Run<'_>, left: u64, out: &mut Html) -> Result<(), Memory> {
     let steps = run.steps.get(run.skipped..).unwrap_or(&[]);
-    let replies = run.replies.get(run.skipped..).unwrap_or(&[]);
     if steps.is_empty() {
         return Ok(());
     }
     let txns = txns_of(alloc, steps)?;
     let lanes = Lanes::new(left, run.steps.len() as u64);
+    open(out, lanes, steps.len(), txns.len())?;
+    for (lane, txn) in txns.iter().enumerate() {
+        write_lane(alloc, out, lanes, steps, lane, *txn)?;
+    }
+    write_marks(alloc, run, lanes, txns.as_slice(), out)
+}
+
+/// Writes the heading, and begins a drawing that has room for so many steps and lanes.
+fn open(out: &mut Html, lanes: Lanes, steps: usize, count: usize) -> Result<(), Memory> {
     out.put(&[
         Part::Mark(Mark::Heading),
         Part::Text("Transactions over time"),
         Part::Mark(Mark::EndHeading),
     ])?;
-    let high = down(txns.len()).saturating_sub(LANE_HIGH / 2);
-    let wide = lanes.across(steps.len());
-    svg::open(out, wide, high, "the steps of each transaction")?;
-    for (lane, txn) in txns.iter().enumerate() {
-        write_lane(alloc, out, lanes, steps, lane, *txn)?;
-    }
+    let high = down(count).saturating_sub(LANE_HIGH / 2);
+    svg::open(
+        out,
+        lanes.across(steps),
+        high,
+        "the steps of each transaction",
+    )
+}
+
+/// Writes the marks of the steps that are drawn on the lanes of these transactions, ends the drawing, and writes what it says.
+fn write_marks(
+    alloc: Global,
+    run: &Run<'_>,
+    lanes: Lanes,
+    txns: &[Txn],
+    out: &mut Html,
+) -> Result<(), Memory> {
+    let steps = run.steps.get(run.skipped..).unwrap_or(&[]);
+    let replies = run.replies.get(run.skipped..).unwrap_or(&[]);
     let mut number = run.skipped as u64;
     for (column, (step, reply)) in steps.iter().zip(replies.iter()).enumerate() {
         number = number.saturating_add(1);
         let x = lanes.across(column);
-        if let Ok(lane) = txns.as_slice().binary_search(&step.txn) {
+        if let Ok(lane) = txns.binary_search(&step.txn) {
             write_mark(alloc, out, number, at(x, down(lane)), *step, reply)?;
         }
     }
@@ -141,24 +162,40 @@ fn write_mark(
     reply: &Reply,
 ) -> Result<(), AllocError> {
     let Point { x, y } = place;
-    let kind = kind_of(reply);
-    let colour = colour_of(step.txn);
     out.put(&[
         Part::Mark(Mark::Link),
         Part::Number(number),
         Part::Mark(Mark::EndTag),
     ])?;
-    let words = format!(in alloc; "{number}")?;
-    svg::text(out, "when", at(x, 15), words.as_str())?;
-    let class = format!(in alloc; "mark {kind} c{colour}")?;
-    match reply {
-        Reply::Committed | Reply::Aborted => svg::circle(out, class.as_str(), place, HALF + 1)?,
-        _ => {
-            let corner = at(x.saturating_sub(HALF), y.saturating_sub(HALF));
-            svg::rect(out, class.as_str(), corner, 2 * HALF, 2 * HALF)?;
-        }
-    }
+    write_when(alloc, out, number, at(x, 15))?;
+    write_form(alloc, out, place, step.txn, reply)?;
     let middle = at(x, y.saturating_add(5));
     svg::text(out, "letter", middle, letter_of(step.op))?;
     out.put(&[Part::Mark(Mark::EndLink), Part::Text("\n")])
+}
+
+/// Writes the number of a step above its mark.
+fn write_when(alloc: Global, out: &mut Html, number: u64, place: Point) -> Result<(), AllocError> {
+    let words = format!(in alloc; "{number}")?;
+    svg::text(out, "when", place, words.as_str())
+}
+
+/// Writes the form of a mark, by the reply: a circle where the transaction ends, and else a box.
+fn write_form(
+    alloc: Global,
+    out: &mut Html,
+    place: Point,
+    txn: Txn,
+    reply: &Reply,
+) -> Result<(), AllocError> {
+    let kind = kind_of(reply);
+    let colour = colour_of(txn);
+    let class = format!(in alloc; "mark {kind} c{colour}")?;
+    match reply {
+        Reply::Committed | Reply::Aborted => svg::circle(out, class.as_str(), place, HALF + 1),
+        _ => {
+            let corner = at(place.x.saturating_sub(HALF), place.y.saturating_sub(HALF));
+            svg::rect(out, class.as_str(), corner, 2 * HALF, 2 * HALF)
+        }
+    }
 }

@@ -10,7 +10,7 @@ mod page;
 mod svg;
 
 pub use bands::bands_of_run;
-pub use frame::LOOK;
+pub use frame::{END, LOOK, page_head};
 pub use kr_locks::Memory;
 pub use kr_view_html::escape;
 pub use page::picture;

@@ -43,10 +43,26 @@ pub fn picture<P: Protocol>(
     let ran = run_any(alloc, protocol, script.opening(), script.steps())?;
     let verdict = judge(alloc, &ran)?;
     let is_serial = verdict.is_serial();
-    let name = escape(alloc, table)?;
-    let body = shown(alloc, protocol, script, &ran, &verdict)?;
-    let page = framed(alloc, name.as_str(), is_serial, &body)?;
+    let page = page(alloc, protocol, table, script, &ran, &verdict, is_serial)?;
     Ok((page, is_serial))
+}
+
+/// The page of a script's run, which has been judged.
+fn page<P: Protocol>(
+    alloc: Global,
+    protocol: &P,
+    table: &str,
+    script: &Script,
+    ran: &Ran,
+    verdict: &Verdict,
+    is_serial: bool,
+) -> Result<String, Memory>
+    ensures { IfOk result (λ page. IsPage table.now
+        (drawn_steps (P.table protocol.now) script.now.opening script.now.steps) is_serial (string_bytes page)) }
+{
+    let name = escape(alloc, table)?;
+    let body = shown(alloc, protocol, script, ran, verdict)?;
+    framed(alloc, name.as_str(), is_serial, &body)
 }
 
 /// What the page of a script's run has behind the first words of its verdict.

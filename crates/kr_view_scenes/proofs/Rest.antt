@@ -1,5 +1,5 @@
 -- The scenes of a run whose first steps are done.
-use Rattle.std.specs.Prelude.{◌≡◌, ℕ, List, [], ◌∷◌, ◌+◌, ◌-◌, ◌++◌, drop, length, map}
+use Rattle.std.specs.Prelude.{◌≡◌, ℕ, List, [], ◌∷◌, ◌+◌, ◌-◌, ◌++◌, drop, length, map, Result, Ok, Err, IfOk}
 use Rattle.std.specs.List.{enumerate_from}
 use Rattle.std.proofs.Common.{ap, sym, ◌∙◌, arith, append_assoc}
 use Rattle.std.proofs.lemmas.List.{map-append}
@@ -11,6 +11,7 @@ use Rattle.kr_model.specs.Step.{step}
 use Rattle.kr_model.specs.Run.{run}
 use Rattle.kr_view_scenes.specs.declared.run.TheConstants.{STEPS_DRAWN}
 use Rattle.kr_view_scenes.specs.declared.scene.Scene.{Scene}
+use Rattle.kr_view_scenes.specs.declared.scenes.Drawn.{Drawn}
 use Rattle.kr_view_scenes.specs.Scenes.{NumberedStep, step_of, drawn_steps}
 
 -- the steps of a run from a state, the first with this number
@@ -48,3 +49,8 @@ drawn_are p opening steps earlier drawn now shown long split same are =
     let from : shown ≡ numbered p (run p s earlier).state (1 + length earlier) drawn = are ∙ ap (λ (k : ℕ). numbered p now k drawn) number ∙ ap (λ (x : State). numbered p x (1 + length earlier) drawn) same in
     let whole : drop (length earlier) (numbered p s 1 (earlier ++ drawn)) ≡ drawn_steps p opening steps = ap (λ (k : ℕ). drop k (numbered p s 1 (earlier ++ drawn))) long ∙ ap (λ (es : List Event). drop (length steps - STEPS_DRAWN) (numbered p s 1 es)) (sym split) in
     from ∙ sym (steps_behind p s earlier drawn 1) ∙ whole
+
+-- the scenes of steps, where they are made, by what the steps are
+pub same_steps : {E : Type 0} (r : Result Drawn E) (a b : List NumberedStep) → a ≡ b → IfOk r (λ drawn. map step_of drawn.scenes.items ≡ a) → IfOk r (λ drawn. map step_of drawn.scenes.items ≡ b)
+same_steps (Ok drawn) a b same are = are ∙ same
+same_steps (Err e) a b same are = tt

@@ -41,15 +41,48 @@ pub fn scenes_of<P: Protocol>(
     let (earlier, drawn) = steps.split_at(steps.len().saturating_sub(STEPS_DRAWN));
     let index = Tree::from_pairs(alloc, opening)?;
     let mut machine = Machine::new(alloc, protocol, index, Buckets::new(alloc));
-    let replies = replay(alloc, &mut machine, earlier)?;
-    let mut scans = scans_behind(alloc, earlier, replies.as_slice())?;
-    let columns = columns_at(alloc, &machine, earlier, replies.as_slice(), drawn)?;
+    scenes_on(alloc, protocol, &mut machine, earlier, drawn)
+}
+
+/// Does the earlier steps on a machine, and then these, and answers the scenes of these.
+fn scenes_on<P: Protocol, I: Ordered, L: Holdings>(
+    alloc: Global,
+    protocol: &P,
+    machine: &mut Machine<&P, I, L>,
+    earlier: &[Event],
+    steps: &[Event],
+) -> Result<Drawn, Memory>
+    requires at_rest { machine.old.pending ≡ None }
+    requires numbers { length earlier.now + length steps.now < 2 ^ 64 }
+    ensures { IfOk result (λ drawn. let p = P.table machine.old.protocol.now in map step_of drawn.scenes.items
+        ≡ enumerate_from (length earlier.now + 1) (run p (run p machine.old.state earlier.now).state steps.now).history) }
+{
+    let replies = replay(alloc, &mut *machine, earlier)?;
+    drawn_behind(alloc, protocol, machine, earlier, replies.as_slice(), steps)
+}
+
+/// Does steps on a machine behind earlier ones with these replies, and answers their scenes.
+fn drawn_behind<P: Protocol, I: Ordered, L: Holdings>(
+    alloc: Global,
+    protocol: &P,
+    machine: &mut Machine<&P, I, L>,
+    earlier: &[Event],
+    replies: &[Reply],
+    steps: &[Event],
+) -> Result<Drawn, Memory>
+    requires at_rest { machine.old.pending ≡ None }
+    requires numbers { length earlier.now + length steps.now < 2 ^ 64 }
+    ensures { IfOk result (λ drawn. map step_of drawn.scenes.items
+        ≡ enumerate_from (length earlier.now + 1) (run (P.table machine.old.protocol.now) machine.old.state steps.now).history) }
+{
+    let mut scans = scans_behind(alloc, earlier, replies)?;
+    let columns = columns_at(alloc, &*machine, earlier, replies, steps)?;
     let scenes = scenes_behind(
         alloc,
         protocol,
-        &mut machine,
+        machine,
         earlier.len(),
-        drawn,
+        steps,
         &columns,
         &mut scans,
     )?;

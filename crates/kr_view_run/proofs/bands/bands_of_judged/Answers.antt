@@ -2,7 +2,7 @@ use Rattle.std.specs.Prelude.{List, IfOk, string_bytes}
 use Rattle.std.proofs.Common.{subst}
 use Rattle.kr_view_scenes.specs.Scenes.{NumberedStep}
 use Rattle.kr_view_run.specs.Page.{AreBands}
-use Rattle.kr_view_run.proofs.bands.bands_of_run.Goals as goal
+use Rattle.kr_view_run.proofs.bands.bands_of_judged.Goals as goal
 
 pub returns : goal.returns
 returns g c =
