@@ -34,6 +34,8 @@ _kr() {
   kr_trace.2.*) _kr_table --serial --some-order --help -h --version ;;
   kr_trace.3.-h | kr_trace.3.--help | kr_trace.3.--version) ;;
   kr_trace.3.*) _kr_files .trace ;;
+  kr_trace.4.-*) ;;
+  kr_trace.4.*) _kr_words --tell ;;
   esac
 }
 complete -F _kr kr kr_explain kr_view kr_trace

@@ -20,3 +20,4 @@ complete -c kr_trace -n '__kr_trace_at 1' -l some-order -d 'no table, and whethe
 complete -c kr_trace -n '__kr_trace_at 1' -s h -l help -d 'print the usage'
 complete -c kr_trace -n '__kr_trace_at 1' -l version -d 'print the version'
 complete -c kr_trace -n '__kr_trace_at 2; or __kr_trace_in_order' -a '(__fish_complete_suffix .trace | string match -r ".*(?:/|\.trace)\$")'
+complete -c kr_trace -n '__kr_trace_at 3' -a --tell -d 'print a part, from 1, as a text'

@@ -38,7 +38,7 @@ not_well_if_some (Some d) v is_none result some none same = (λ t. absurd (cc), 
 
 -- One more line --
 
-lines_more : (p : Protocol) (f : Following) (ls : List Line) (l : Line) → after_lines p f (ls ++ l ∷ []) ≡ next p (after_lines p f ls) l
+pub lines_more : (p : Protocol) (f : Following) (ls : List Line) (l : Line) → after_lines p f (ls ++ l ∷ []) ≡ next p (after_lines p f ls) l
 lines_more p f [] l = refl
 lines_more p f (k ∷ ks) l = lines_more p (next p f k) ks l
 

@@ -1,19 +1,18 @@
 -- What is known of a trace that was held, and of an ending before.
 use Rattle.std.specs.Prelude.{◌≡◌, ◌↔◌, ◌≤◌, ℕ, List, [], Bool, true, false, Option, Some, Result, Ok, Err, IfOk, IfErr, OnOk, ◌⊎◌, String, string_bytes}
 use Rattle.std.proofs.Common.{Global, subst, sym, ap, inl, inr, ◌∙◌}
-use Rattle.kr_model.specs.Protocol.{IsLawful}
 use Rattle.kr_cli.proofs.Finished.{silent_at}
 use Rattle.kr_cli.specs.declared.endings.Ending.{Ending}
 use Rattle.kr_cli.specs.declared.endings.Ending.TheVariants.{NotUnderstood, Memory, Place, Output, Told}
 use Rattle.kr_cli.specs.declared.questions.Question.{Question}
-use Rattle.kr_cli.specs.declared.tables.AnyTable.{AnyTable}
 use Rattle.kr_cli.specs.Endings.{MemoryOrTold}
 use Rattle.kr_cli.specs.Named.{NamesTable}
+use Rattle.kr_cli.specs.Tables.{table_of}
+use Rattle.kr_cli.specs.declared.tables.AnyTable.{AnyTable}
+use Rattle.kr_model.specs.Protocol.{IsLawful}
 use Rattle.kr_cli.specs.Questions.{IsQuestion, IsNoQuestion}
-use Rattle.kr_cli.specs.Tables.{names_of, table_of}
 use Rattle.kr_cli_trace.specs.Endings.{IsStopped, IsThrough, StopsSo, TellsFault}
 use Rattle.kr_cli_trace.specs.Parts.{Part}
-use Rattle.kr_cli_trace.specs.Printed.{IsPrinted, against}
 use Rattle.kr_cli_trace.specs.Program.{Answers, AnswersAsked, Explains, Holds, Tells, TellsTrace}
 use Rattle.kr_cli_trace.specs.Words.{AskNoTrace, IsAsked, words_of}
 use Rattle.kr_cli_trace.specs.declared.words.Asked.{Asked}
@@ -40,9 +39,9 @@ stops_silent Tells e (inl memory) = let P : Ending → Type 0 = λ x. StopsSo Te
 stops_silent Tells e (inr output) = let P : Ending → Type 0 = λ x. StopsSo Tells x in subst P (sym output) tt
 
 -- A trace that is read to its end is named.
-pub trace_held : (P : ℕ → Part → List ℕ → Bool → Type 0) (may_name : List ℕ → Option (List (List ℕ)) → Type 0) (may_give : List (List ℕ) → Type 0) (trace : List ℕ) (old new : Option (List ℕ)) (r : Result Bool Ending)
-    → ((lines : List (List ℕ)) → may_give lines → may_name trace (Some lines)) → IfOk r (IsThrough P may_give old new) → IfOk r (Holds P may_name trace old new)
-trace_held P may_name may_give trace old new (Ok well) found h = record { lines = h.lines; given = found h.lines h.given; faultless = h.faultless; written = h.written }
+pub trace_held : (P : ℕ → Part → List ℕ → Bool → Type 0) (may_name : List ℕ → Option (List (List ℕ)) → Type 0) (may_give : List (List ℕ) → Type 0) (trace : List ℕ) (old new : Option (List ℕ)) (r : Result (ℕ × Bool) Ending)
+    → ((lines : List (List ℕ)) → may_give lines → may_name trace (Some lines)) → IfOk r (λ read. IsThrough P may_give old new read.0 read.1) → IfOk r (λ read. Holds P may_name trace old new read.0 read.1)
+trace_held P may_name may_give trace old new (Ok read) found h = record { lines = h.lines; count = h.count; given = found h.lines h.given; faultless = h.faultless; written = h.written }
 trace_held P may_name may_give trace old new (Err e) found h = tt
 
 tells_named : (may_name : List ℕ → Option (List (List ℕ)) → Type 0) (may_give : List (List ℕ) → Type 0) (trace : List ℕ) → ((lines : List (List ℕ)) → may_give lines → may_name trace (Some lines))
@@ -51,19 +50,18 @@ tells_named may_name may_give trace found word front told (inl (line, (rest, (f,
 tells_named may_name may_give trace found word front told (inr (inl (rest, (given, says)))) = inr (inl (rest, (found _ given, says)))
 tells_named may_name may_give trace found word front told (inr (inr says)) = inr (inr says)
 
-pub trace_stopped : (P : ℕ → Part → List ℕ → Bool → Type 0) (may_name : List ℕ → Option (List (List ℕ)) → Type 0) (may_give : List (List ℕ) → Type 0) (trace : List ℕ) (old new : Option (List ℕ)) (r : Result Bool Ending)
+pub trace_stopped : (P : ℕ → Part → List ℕ → Bool → Type 0) (may_name : List ℕ → Option (List (List ℕ)) → Type 0) (may_give : List (List ℕ) → Type 0) (trace : List ℕ) (old new : Option (List ℕ)) (r : Result (ℕ × Bool) Ending)
     → ((lines : List (List ℕ)) → may_give lines → may_name trace (Some lines)) → IfErr r (StopsSo (IsStopped P may_give trace old new)) → IfErr r (StopsSo (TellsTrace P may_name trace old new))
-trace_stopped P may_name may_give trace old new (Ok well) found h = tt
+trace_stopped P may_name may_give trace old new (Ok read) found h = tt
 trace_stopped P may_name may_give trace old new (Err e) found h =
     stops_more (IsStopped P may_give trace old new) (TellsTrace P may_name trace old new) e
     (λ line s. inr (record { front = s.front; faultless = s.faultless; well = s.well; written = s.written; tells = tells_named may_name may_give trace found trace s.front line s.tells })) h
 
 -- What is asked of a table that a word names.
-pub table_held : (may_give : List ℕ → Option (List ℕ) → Type 0) (may_name : List ℕ → Option (List (List ℕ)) → Type 0) (table trace : List ℕ) (t : AnyTable) (old new : Option (List ℕ)) (r : Result Bool Ending)
-    → NamesTable may_give table t → IsLawful (table_of t) → IfOk r (Holds (IsPrinted (against (table_of t) (names_of t))) may_name trace old new)
-    → IfOk r (λ well. (u : AnyTable) × (NamesTable may_give table u × (IsLawful (table_of u) × Holds (IsPrinted (against (table_of u) (names_of u))) may_name trace old new well)))
-table_held may_give may_name table trace t old new (Ok well) names lawful h = (t, (names, (lawful, h)))
-table_held may_give may_name table trace t old new (Err e) names lawful h = tt
+pub table_held : (may_give : List ℕ → Option (List ℕ) → Type 0) (table : List ℕ) (t : AnyTable) (Held : AnyTable → Bool → Type 0) (r : Result Bool Ending)
+    → NamesTable may_give table t → IsLawful (table_of t) → IfOk r (Held t) → IfOk r (λ well. (u : AnyTable) × (NamesTable may_give table u × (IsLawful (table_of u) × Held u well)))
+table_held may_give table t Held (Ok well) names lawful h = (t, (names, (lawful, h)))
+table_held may_give table t Held (Err e) names lawful h = tt
 
 pub if_err_more : (r : Result Bool Ending) (A B : List ℕ → Type 0) → ((line : List ℕ) → A line → B line) → IfErr r (StopsSo A) → IfErr r (StopsSo B)
 if_err_more (Ok well) A B by h = tt

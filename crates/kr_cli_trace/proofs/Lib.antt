@@ -5,6 +5,7 @@ mod JudgedLaws
 mod PrintedLaws
 mod LineLaws
 mod FollowLaws
+mod OnePartLaws
 mod KeptLaws
 mod ReadLaws
 mod OnceLaws

@@ -74,19 +74,19 @@ one_at_most (Some s) = omega arith
 
 -- The part in progress --
 
-module _ {T : Type 0} (stands : T → Part → Type 0) (asked : T → ℕ → Part → List ℕ → Bool → Type 0) (P : ℕ → Part → List ℕ → Bool → Type 0) where
+module _ {T : Type 0} (stands : T → ℕ → Part → Type 0) (asked : T → ℕ → Part → List ℕ → Bool → Type 0) (P : ℕ → Part → List ℕ → Bool → Type 0) where
   -- The part in progress after a line of its own.
-  pub stands_after : (x y : T) (f : Part → Part) (s : Option Part) → StandsFor stands (Some x) s → ((r : Part) → stands x r → stands y (f r)) → StandsFor stands (Some y) (option_map f s)
-  stands_after x y f None h g = h
-  stands_after x y f (Some s) h g = g s h
+  pub stands_after : (x y : T) (n : ℕ) (f : Part → Part) (s : Option Part) → StandsFor stands n (Some x) s → ((r : Part) → stands x n r → stands y n (f r)) → StandsFor stands n (Some y) (option_map f s)
+  stands_after x y n f None h g = h
+  stands_after x y n f (Some s) h g = g s h
 
-  pub none_after : (f : Part → Part) (s : Option Part) → StandsFor stands None s → StandsFor stands None (option_map f s)
-  none_after f None h = tt
-  none_after f (Some s) h = h
+  pub none_after : (n : ℕ) (f : Part → Part) (s : Option Part) → StandsFor stands n None s → StandsFor stands n None (option_map f s)
+  none_after n f None h = tt
+  none_after n f (Some s) h = h
 
   -- The parts written where the one in progress has ended too.
   pub ended_written : (ss : List Part) (part : Option T) (s : Option Part) (first old new : Option (List ℕ)) (was well : Bool) (k : ℕ)
-      → AreWritten P ss first old was → k ≡ length ss → StandsFor stands part s → IsAsked asked P part → HasEnded asked part s (k + 1) old new was well
+      → AreWritten P ss first old was → k ≡ length ss → StandsFor stands (k + 1) part s → IsAsked asked P part → HasEnded asked part s (k + 1) old new was well
       → AreWritten P (ss ++ option_to_list s) first new well
   ended_written ss None None first old new was well k h at st ask e =
       subst (λ (z : List Part). AreWritten P z first new well) (sym (append-nil ss)) (subst (λ (w : Bool). AreWritten P ss first new w) (sym e.1) (subst (λ (o : Option (List ℕ)). AreWritten P ss first o was) (sym e.0) h))
@@ -107,7 +107,7 @@ module _ {T : Type 0} (stands : T → Part → Type 0) (asked : T → ℕ → Pa
   module _ (front : List (List ℕ)) (line : List ℕ) (first : Option (List ℕ)) (faultless : HaveNoFault at_start front) (fault : fault_at (after_all at_start front) line ≡ None) where
     -- One more line, where this is what it leads to.
     pub read_more : (to : Led) → after (after_all at_start front) line ≡ to → (new : Option (List ℕ)) (ended : ℕ) (well : Bool) (kept : PartLines) (part : Option T)
-        → AreWritten P to.ended first new well → ended ≡ length to.ended → ended ≤ suc (length front) → StandsFor stands part to.current → IsAsked asked P part → kept ≡ to.kept
+        → AreWritten P to.ended first new well → ended ≡ length to.ended → ended ≤ suc (length front) → StandsFor stands (ended + 1) part to.current → IsAsked asked P part → kept ≡ to.kept
         → IsRead stands asked P (front ++ line ∷ []) first new ended well kept part
     read_more to is new ended well kept part w c f st ask k =
         let led : to ≡ after_all at_start (front ++ line ∷ []) = sym is ∙ sym (after_more at_start front line) in
@@ -116,7 +116,7 @@ module _ {T : Type 0} (stands : T → Part → Type 0) (asked : T → ℕ → Pa
           written = subst (λ (r : Led). AreWritten P r.ended first new well) led w;
           count = subst (λ (r : Led). ended ≡ length r.ended) led c;
           few = subst (λ (n : ℕ). ended ≤ n) (sym (length-append front (line ∷ []) ∙ omega arith)) f;
-          in_progress = subst (λ (r : Led). StandsFor stands part r.current) led st;
+          in_progress = subst (λ (r : Led). StandsFor stands (ended + 1) part r.current) led st;
           is_asked = ask;
           keeps = subst (λ (r : Led). kept ≡ r.kept) led k;
         }
@@ -131,7 +131,7 @@ module _ {T : Type 0} (stands : T → Part → Type 0) (asked : T → ℕ → Pa
         → IsRead stands asked P front first old ended was (let r = after_all at_start front in r.kept) part
         → HasEnded asked part (let r = after_all at_start front in r.current) (ended + 1) old new was well
         → now ≡ ended + length (option_to_list (let r = after_all at_start front in r.current))
-        → StandsFor stands other (Some (begun opening tests)) → IsAsked asked P other
+        → StandsFor stands (now + 1) other (Some (begun opening tests)) → IsAsked asked P other
         → kept ≡ (let r = after_all at_start (front ++ line ∷ []) in r.kept)
         → IsRead stands asked P (front ++ line ∷ []) first new now well kept other
     head_read opening tests blank reads old new ended now was well kept part other h e count st ask k =
@@ -149,7 +149,7 @@ module _ {T : Type 0} (stands : T → Part → Type 0) (asked : T → ℕ → Pa
     pub step_read : (n : ℕ) (e : Event) (o : Observed) → n ≡ suc (length front) → is_blank line ≡ false → reading_line line ≡ Ok (step e o)
         → (now : Option (List ℕ)) (ended : ℕ) (well : Bool) (kept : PartLines) (part other : Option T)
         → IsRead stands asked P front first now ended well (let r = after_all at_start front in r.kept) part
-        → ((s : Option Part) → StandsFor stands part s → StandsFor stands other (option_map (with_step n e o) s)) → StillAsks asked part other
+        → ((m : ℕ) (s : Option Part) → StandsFor stands m part s → StandsFor stands m other (option_map (with_step n e o) s)) → StillAsks asked part other
         → kept ≡ (let r = after_all at_start (front ++ line ∷ []) in r.kept)
         → IsRead stands asked P (front ++ line ∷ []) first now ended well kept other
     step_read n e o number blank reads now ended well kept part other h st ask k =
@@ -158,21 +158,21 @@ module _ {T : Type 0} (stands : T → Part → Type 0) (asked : T → ℕ → Pa
         let own : n ≡ suc r.count = number ∙ ap suc (sym (counted front)) in
         let few : ended ≤ length front = h.few in
         read_more (led_by r (Ok (step e o))) is now ended well kept other h.written h.count (omega (arith, few))
-        (subst (λ (i : ℕ). StandsFor stands other (option_map (with_step i e o) r.current)) own (st r.current h.in_progress))
+        (subst (λ (i : ℕ). StandsFor stands (ended + 1) other (option_map (with_step i e o) r.current)) own (st (ended + 1) r.current h.in_progress))
         (still_asked part other h.is_asked ask) (kept_now (led_by r (Ok (step e o))) is kept k)
 
     -- The order that ends the part in progress.
     pub order_read : (ts : List ℕ) → is_blank line ≡ false → reading_line line ≡ Ok (order ts)
         → (now : Option (List ℕ)) (ended : ℕ) (well : Bool) (kept : PartLines) (part other : Option T)
         → IsRead stands asked P front first now ended well (let r = after_all at_start front in r.kept) part
-        → ((s : Option Part) → StandsFor stands part s → StandsFor stands other (option_map (with_order ts) s)) → StillAsks asked part other
+        → ((m : ℕ) (s : Option Part) → StandsFor stands m part s → StandsFor stands m other (option_map (with_order ts) s)) → StillAsks asked part other
         → kept ≡ (let r = after_all at_start (front ++ line ∷ []) in r.kept)
         → IsRead stands asked P (front ++ line ∷ []) first now ended well kept other
     order_read ts blank reads now ended well kept part other h st ask k =
         let r : Led = after_all at_start front in
         let is : after r line ≡ led_by r (Ok (order ts)) = after_read r line (order ts) blank reads in
         let few : ended ≤ length front = h.few in
-        read_more (led_by r (Ok (order ts))) is now ended well kept other h.written h.count (omega (arith, few)) (st r.current h.in_progress)
+        read_more (led_by r (Ok (order ts))) is now ended well kept other h.written h.count (omega (arith, few)) (st (ended + 1) r.current h.in_progress)
         (still_asked part other h.is_asked ask) (kept_now (led_by r (Ok (order ts))) is kept k)
 
     -- A line of blanks.

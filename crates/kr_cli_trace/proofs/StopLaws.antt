@@ -1,6 +1,8 @@
 -- A trace that is read to its end, or to its first fault.
 use Rattle.std.specs.Prelude.{◌≡◌, ◌⊎◌, ℕ, suc, ◌+◌, Bool, List, [], ◌∷◌, ◌++◌, Option, Some, length}
 use Rattle.std.proofs.Common.{sym, ◌∙◌, ap, subst, append_assoc, inl, inr}
+use Rattle.std.proofs.lemmas.List.{length-append}
+use Rattle.std.specs.Option.{option_to_list}
 use Rattle.kr_cli.specs.declared.endings.Ending.{Ending}
 use Rattle.kr_cli.specs.Endings.{MemoryOrTold}
 use Rattle.kr_cli.specs.Lines.{told_line, unreadable_line}
@@ -21,7 +23,7 @@ pub given_behind : (may_give now next : List (List ℕ) → Type 0) (front : Lis
     → ((rest : List (List ℕ)) → next rest → now (line ∷ rest)) → (rest : List (List ℕ)) → next rest → may_give ((front ++ line ∷ []) ++ rest)
 given_behind may_give now next front line before more rest g = subst may_give (sym (append_assoc front (line ∷ []) rest)) (before (line ∷ rest) (more rest g))
 
-module _ {T : Type 0} (stands : T → Part → Type 0) (asked : T → ℕ → Part → List ℕ → Bool → Type 0) (P : ℕ → Part → List ℕ → Bool → Type 0) (may_give : List (List ℕ) → Type 0) (word : List ℕ)
+module _ {T : Type 0} (stands : T → ℕ → Part → Type 0) (asked : T → ℕ → Part → List ℕ → Bool → Type 0) (P : ℕ → Part → List ℕ → Bool → Type 0) (may_give : List (List ℕ) → Type 0) (word : List ℕ)
     (front : List (List ℕ)) (first now : Option (List ℕ)) (ended : ℕ) (well : Bool) (kept : PartLines) (part : Option T) (h : IsRead stands asked P front first now ended well kept part) where
   stopped : (told : List ℕ) → TellsFault may_give word front told → IsStopped P may_give word first now told
   stopped told t = record { front = front; faultless = h.faultless; well = well; written = h.written; tells = t }
@@ -62,10 +64,12 @@ module _ {T : Type 0} (stands : T → Part → Type 0) (asked : T → ℕ → Pa
   unreadable_stops e m = word_stops (λ line. line ≡ unreadable_line word) (IsStopped P may_give word first now) e (λ line t. stopped line (inr (inr t))) m
 
   -- The trace has no more lines, and the part in progress has ended.
-  pub read_through : (new : Option (List ℕ)) (final : Bool) → may_give front → HasEnded asked part (let r = after_all at_start front in r.current) (ended + 1) now new well final
-      → IsThrough P may_give first new final
-  read_through new final given e = record {
+  pub read_through : (new : Option (List ℕ)) (parts : ℕ) (final : Bool) → may_give front → parts ≡ ended + length (option_to_list (let r = after_all at_start front in r.current))
+      → HasEnded asked part (let r = after_all at_start front in r.current) (ended + 1) now new well final → IsThrough P may_give first new parts final
+  read_through new parts final given count e = record {
     lines = front;
+    count = count ∙ ap (λ (n : ℕ). n + length (option_to_list (let r = after_all at_start front in r.current))) h.count
+        ∙ sym (length-append (let r = after_all at_start front in r.ended) (option_to_list (let r = after_all at_start front in r.current)));
     given = given;
     faultless = h.faultless;
     written = ended_written stands asked P (let r = after_all at_start front in r.ended) part (let r = after_all at_start front in r.current) first now new well final ended h.written h.count h.in_progress h.is_asked e;

@@ -7,7 +7,7 @@ use Rattle.kr_trace_follow.specs.Given.{Given, AreAnsweredWhereGiven, AreSerialW
 use Rattle.kr_trace_lines.specs.declared.verdict.TraceVerdict.{TraceVerdict}
 use Rattle.kr_trace_lines.specs.declared.verdict.TraceVerdict.TheVariants as verdict
 
--- A committed transaction with its program: its operations with their answers, as they were told.
+-- A committed transaction with its program: its operations with their answers, as they were given.
 pub record Committed : Type 0 where
   pub txn : ℕ
   pub program : List Given
@@ -17,11 +17,11 @@ abbrev pub map_left : Map → List Committed → Map
 map_left m [] = m
 map_left m (c ∷ cs) = map_left (map_after m c.program) cs
 
--- Each answer of the programs is, as far as it was told, that of their serial run from m in this order.
+-- Each answer of the programs is, as far as it was given, that of their serial run from m in this order.
 abbrev pub AreSerial : Map → List Committed → Type 0
 AreSerial m cs = AreSerialWhereGiven m (map (λ c. c.program) cs)
 
--- The first answer that isn't the serial one: its transaction, the number of its operation from 1, the answer that was told, and the serial one.
+-- The first answer that isn't the serial one: its transaction, the number of its operation from 1, the answer that was given, and the serial one.
 pub record IsFirstWrong (m : Map) (cs : List Committed) (t n : ℕ) (given : Observed) (serial : Reply) : Type 0 where
   -- the programs before it, its program, and those after it
   pub before : List Committed

@@ -13,18 +13,19 @@ use Rattle.kr_cli_trace.specs.Printed.{AreWritten}
 
 -- A trace --
 
--- Lines that may be given have no fault, and a line was written for each of their parts.
-pub record IsThrough (P : ℕ → Part → List ℕ → Bool → Type 0) (may_give : List (List ℕ) → Type 0) (old new : Option (List ℕ)) (well : Bool) : Type 0 where
+-- Lines that may be given have no fault and so many parts, and of each it was written what is asked.
+pub record IsThrough (P : ℕ → Part → List ℕ → Bool → Type 0) (may_give : List (List ℕ) → Type 0) (old new : Option (List ℕ)) (parts : ℕ) (well : Bool) : Type 0 where
   pub lines : List (List ℕ)
+  pub count : parts ≡ length (parts_of lines)
   pub given : may_give lines
   pub faultless : HaveNoFault at_start lines
   pub written : AreWritten P (parts_of lines) old new well
 
--- What is told of the fault of a line with this number.
+-- What is printed of the fault of a line with this number.
 abbrev pub line_fault_text : LineFault → ℕ → List ℕ
 line_fault_text f n = fault_text (fault_number f) (fault_name f) (Some (decimal n))
 
--- The line tells the fault of the line behind these: of itself, or since it may not stand there; that it is too long; or that it can't be read.
+-- The line says the fault of the line behind these: its own, or that it may not come there; that it is too long; or that it can't be read.
 abbrev pub TellsFault : (List (List ℕ) → Type 0) → List ℕ → List (List ℕ) → List ℕ → Type 0
 TellsFault may_give word front told =
     ((line : List ℕ) × ((rest : List (List ℕ)) × ((f : LineFault) × (may_give (front ++ line ∷ rest)
@@ -32,7 +33,7 @@ TellsFault may_give word front told =
     ⊎ (((rest : List (List ℕ)) × (may_give (front ++ rest) × (BeginTooLong rest × (told ≡ told_line word (line_fault_text fault.TooLong (suc (length front)))))))
     ⊎ (told ≡ unreadable_line word))
 
--- The first fault of a trace is told: the lines before it have none, and a line was written for each part of theirs that has ended.
+-- The first fault of a trace is printed: the lines before it have none, and a line was written for each part of theirs that has ended.
 pub record IsStopped (P : ℕ → Part → List ℕ → Bool → Type 0) (may_give : List (List ℕ) → Type 0) (word : List ℕ) (old new : Option (List ℕ)) (told : List ℕ) : Type 0 where
   pub front : List (List ℕ)
   pub faultless : HaveNoFault at_start front
@@ -40,7 +41,7 @@ pub record IsStopped (P : ℕ → Part → List ℕ → Bool → Type 0) (may_gi
   pub written : AreWritten P (ended_in front) old new well
   pub tells : TellsFault may_give word front told
 
--- Why the program ends before it is through with a trace: memory, or printing failed; or its first fault, which is told.
+-- Why the program ends before it is through with a trace: memory, or printing failed; or its first fault, which is printed.
 abbrev pub StopsSo : (List ℕ → Type 0) → Ending → Type 0
 StopsSo Tells NotUnderstood = ⊥
 StopsSo Tells Memory = Unit {0}

@@ -9,7 +9,7 @@ use Rattle.kr_cli_trace.specs.Committed.{IsFirstFound, map_left}
 use Rattle.kr_cli_trace.specs.Tales.{committed_in, noted, told_after}
 use Rattle.kr_cli_trace.specs.declared.tales.Tale.{Tale}
 
--- The steps are told of the transactions that haven't ended; the map is the one that the committed programs leave; and what was found is the first wrong answer of theirs.
+-- What the transactions that haven't ended have done is noted; the map is the one that the committed programs leave; and what was found is the first wrong answer of theirs.
 pub record AreJudged (opening : Map) (steps : List Line) (tales : BTreeMap ℕ Tale) (map : Map) (found : Option TraceVerdict) : Type 0 where
   pub told : (u : ℕ) → noted tales u ≡ told_after (λ t. no_tale) steps u
   pub left : map ≡ map_left opening (committed_in steps)

@@ -13,7 +13,7 @@ use Rattle.kr_cli_trace.specs.declared.tales.Tale.{Tale}
 abbrev pub shown : Noted → Committed
 shown c = record { txn = c.txn; program = c.program.items }
 
--- What is kept of a part: its opening; what is told of the transactions that haven't ended; those that have committed; and the order that it tells.
+-- What is kept of a part: its opening; what the transactions that haven't ended have done; those that have committed; and the order that ends it.
 pub record IsKept (s : Part) (opening : Map) (tales : BTreeMap ℕ Tale) (committed : List Noted) (order : Option (List ℕ)) : Type 0 where
   pub opened : opening ≡ s.opening
   pub told : (u : ℕ) → noted tales u ≡ told_after (λ t. no_tale) s.steps u

@@ -3,6 +3,7 @@ pub mod Lines
 pub mod Parts
 pub mod Committed
 pub mod Tales
+pub mod OnePart
 pub mod Judged
 pub mod Kept
 pub mod Followed

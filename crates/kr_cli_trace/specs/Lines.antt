@@ -35,7 +35,7 @@ some_given false (Some left) ahead = (lines_of (ahead ++ left), (ahead ++ left, 
 abbrev pub HasNoLineFeed : ℕ → List ℕ → Type 0
 HasNoLineFeed n bytes = (i : ℕ) → i < n → slice_get bytes i ≢ Some 10
 
--- A line feed stands at a place.
+-- There is a line feed at a place.
 abbrev pub HasLineFeedAt : ℕ → List ℕ → Type 0
 HasLineFeedAt i bytes = slice_get bytes i ≡ Some 10
 

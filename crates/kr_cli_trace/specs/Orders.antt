@@ -45,7 +45,7 @@ abbrev pub AreArranged : List ℕ → List ℕ → Type 0
 AreArranged us [] = us ≡ []
 AreArranged us (t ∷ ts) = (i : ℕ) × ((slice_get us i ≡ Some t) × AreArranged (remove us i) ts)
 
--- The verdict in the order that a part tells.
+-- The verdict in the order that ends a part.
 abbrev pub IsVerdictInTold : Map → List Committed → List ℕ → TraceVerdict → Type 0
 IsVerdictInTold m cs ts verdict.Serial = ⊥
 IsVerdictInTold m cs ts (verdict.SerialInOrder us) = (us ≡ ts) × AreSerial m (in_order cs ts)

@@ -34,7 +34,7 @@ with_order ts s = record { opening = s.opening; tests = s.tests; steps = s.steps
 
 -- Lines --
 
--- Where the lines of a trace have led: how many there were; the parts that have ended; the part in progress; and which lines may stand behind them.
+-- Where the lines of a trace have led: how many there were; the parts that have ended; the part in progress; and which lines may follow.
 pub record Led : Type 0 where
   pub count : ℕ
   pub ended : List Part
@@ -71,7 +71,7 @@ abbrev pub after_all : Led → List (List ℕ) → Led
 after_all r [] = r
 after_all r (line ∷ lines) = after_all (after r line) lines
 
--- The fault of a line by what it reads as: of itself, or since it may not stand where it does.
+-- The fault of a line by what it reads as: its own, or that it may not come there.
 abbrev pub fault_in : PartLines → Result TraceLine LineFault → Option LineFault
 fault_in p (Ok l) = fault_behind p l
 fault_in p (Err f) = Some f
@@ -89,6 +89,6 @@ HaveNoFault r (line ∷ lines) = (fault_at r line ≡ None) × HaveNoFault (afte
 abbrev pub parts_of : List (List ℕ) → List Part
 parts_of lines = let r = after_all at_start lines in r.ended ++ option_to_list r.current
 
--- The parts of lines that have ended, since a head stands behind them.
+-- The parts of lines that have ended, since a head follows.
 abbrev pub ended_in : List (List ℕ) → List Part
 ended_in lines = let r = after_all at_start lines in r.ended

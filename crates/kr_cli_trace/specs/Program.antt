@@ -1,29 +1,35 @@
 -- What the program writes of the trace that a word names, what it answers, and why it ends before it is through.
-use Rattle.std.specs.Prelude.{◌≡◌, ◌⊎◌, ℕ, Bool, List, Option, Some, None, string_bytes}
+use Rattle.std.specs.Prelude.{◌≡◌, ◌⊎◌, ◌<◌, ◌≤◌, ℕ, Bool, List, ◌++◌, Option, Some, None, codes, decimal, string_bytes}
 use Rattle.kr_model.specs.Protocol.{IsLawful}
 use Rattle.kr_cli.specs.declared.endings.Ending.{Ending}
 use Rattle.kr_cli.specs.declared.endings.Ending.TheVariants.{NotUnderstood, Memory, Place, Output, Told}
 use Rattle.kr_cli.specs.declared.tables.AnyTable.{AnyTable}
-use Rattle.kr_cli.specs.Lines.{unreadable_line}
+use Rattle.kr_cli.specs.Lines.{told_line, unreadable_line}
 use Rattle.kr_cli.specs.Named.{NamesTable, TellsNoTable}
 use Rattle.kr_cli.specs.Tables.{names_of, table_of}
 use Rattle.kr_cli_trace.specs.Endings.{IsStopped, IsThrough}
 use Rattle.kr_cli_trace.specs.Parts.{Part}
-use Rattle.kr_cli_trace.specs.Printed.{IsPrinted, against, in_commit_order, in_some_order}
+use Rattle.kr_cli_trace.specs.Printed.{IsPrinted, against, in_commit_order, in_some_order, one_part}
 use Rattle.kr_cli_trace.specs.Words.{AskNothing, IsAsked, words_of}
 use Rattle.kr_cli_trace.specs.declared.words.Asked.{Asked}
 use Rattle.kr_cli_trace.specs.declared.words.Asked.TheVariants as asked
 
--- The trace that a word names has lines without a fault, and a line was written for each of their parts.
-abbrev pub Holds : (ℕ → Part → List ℕ → Bool → Type 0) → (List ℕ → Option (List (List ℕ)) → Type 0) → List ℕ → Option (List ℕ) → Option (List ℕ) → Bool → Type 0
-Holds P may_name trace old new well = IsThrough P (λ lines. may_name trace (Some lines)) old new well
+-- What is printed where a trace has no part with this number.
+abbrev pub no_part_text : ℕ → List ℕ
+no_part_text n = codes "no part " ++ decimal n
+
+-- The trace that a word names has lines without a fault and so many parts, and of each it was written what is asked.
+abbrev pub Holds : (ℕ → Part → List ℕ → Bool → Type 0) → (List ℕ → Option (List (List ℕ)) → Type 0) → List ℕ → Option (List ℕ) → Option (List ℕ) → ℕ → Bool → Type 0
+Holds P may_name trace old new parts well = IsThrough P (λ lines. may_name trace (Some lines)) old new parts well
 
 -- What is asked was written of a trace, and the answer is whether all is well with each of its parts.
 abbrev pub Answers : (List ℕ → Option (List ℕ) → Type 0) → (List ℕ → Option (List (List ℕ)) → Type 0) → Asked → Option (List ℕ) → Option (List ℕ) → Bool → Type 0
 Answers may_give may_name (asked.Both table trace) old new well =
-    (t : AnyTable) × (NamesTable may_give table.now t × (IsLawful (table_of t) × Holds (IsPrinted (against (table_of t) (names_of t))) may_name trace.now old new well))
-Answers may_give may_name (asked.Serial trace) old new well = Holds (IsPrinted in_commit_order) may_name trace.now old new well
-Answers may_give may_name (asked.SomeOrder trace) old new well = Holds (IsPrinted in_some_order) may_name trace.now old new well
+    (t : AnyTable) × (NamesTable may_give table.now t × (IsLawful (table_of t) × ((parts : ℕ) × Holds (IsPrinted (against (table_of t) (names_of t))) may_name trace.now old new parts well)))
+Answers may_give may_name (asked.OnePart table trace n) old new well =
+    (t : AnyTable) × (NamesTable may_give table.now t × (IsLawful (table_of t) × ((parts : ℕ) × ((n ≤ parts) × Holds (IsPrinted (one_part (table_of t) (names_of t) n)) may_name trace.now old new parts well))))
+Answers may_give may_name (asked.Serial trace) old new well = (parts : ℕ) × Holds (IsPrinted in_commit_order) may_name trace.now old new parts well
+Answers may_give may_name (asked.SomeOrder trace) old new well = (parts : ℕ) × Holds (IsPrinted in_some_order) may_name trace.now old new parts well
 
 -- What the words ask was written.
 pub record AnswersAsked (may_give : List ℕ → Option (List ℕ) → Type 0) (may_name : List ℕ → Option (List (List ℕ)) → Type 0) (words : List (List ℕ)) (old new : Option (List ℕ)) (well : Bool) : Type 0 where
@@ -32,17 +38,26 @@ pub record AnswersAsked (may_give : List ℕ → Option (List ℕ) → Type 0) (
   pub is_asked : IsAsked asked
   pub answers : Answers may_give may_name asked old new well
 
--- The line tells that a word names no trace that can be read, or the first fault of the one that it names.
+-- The line says that a word names no trace that can be read, or the first fault of the one that it names.
 abbrev pub TellsTrace : (ℕ → Part → List ℕ → Bool → Type 0) → (List ℕ → Option (List (List ℕ)) → Type 0) → List ℕ → Option (List ℕ) → Option (List ℕ) → List ℕ → Type 0
 TellsTrace P may_name trace old new told =
     (may_name trace None × ((told ≡ unreadable_line trace) × (new ≡ old)))
     ⊎ IsStopped P (λ lines. may_name trace (Some lines)) trace old new told
 
--- The line tells why what is asked wasn't written, or not whole.
+-- The line says the same, or that the trace has no part with this number.
+abbrev pub TellsOnePart : (ℕ → Part → List ℕ → Bool → Type 0) → (List ℕ → Option (List (List ℕ)) → Type 0) → List ℕ → ℕ → Option (List ℕ) → Option (List ℕ) → List ℕ → Type 0
+TellsOnePart P may_name trace n old new told =
+    TellsTrace P may_name trace old new told
+    ⊎ ((parts : ℕ) × (well : Bool) × Holds P may_name trace old new parts well × (parts < n) × (told ≡ told_line trace (no_part_text n)))
+
+-- The line says why what is asked wasn't written, or not whole.
 abbrev pub Tells : (List ℕ → Option (List ℕ) → Type 0) → (List ℕ → Option (List (List ℕ)) → Type 0) → Asked → Option (List ℕ) → Option (List ℕ) → List ℕ → Type 0
 Tells may_give may_name (asked.Both table trace) old new told =
     (TellsNoTable may_give table.now told × (new ≡ old))
     ⊎ ((t : AnyTable) × (NamesTable may_give table.now t × TellsTrace (IsPrinted (against (table_of t) (names_of t))) may_name trace.now old new told))
+Tells may_give may_name (asked.OnePart table trace n) old new told =
+    (TellsNoTable may_give table.now told × (new ≡ old))
+    ⊎ ((t : AnyTable) × (NamesTable may_give table.now t × TellsOnePart (IsPrinted (one_part (table_of t) (names_of t) n)) may_name trace.now n old new told))
 Tells may_give may_name (asked.Serial trace) old new told = TellsTrace (IsPrinted in_commit_order) may_name trace.now old new told
 Tells may_give may_name (asked.SomeOrder trace) old new told = TellsTrace (IsPrinted in_some_order) may_name trace.now old new told
 

@@ -1,5 +1,5 @@
 -- How far a trace is read.
-use Rattle.std.specs.Prelude.{◌≡◌, ◌≤◌, ℕ, Bool, ◌&&◌, List, [], ◌∷◌, ◌++◌, Option, Some, None, length}
+use Rattle.std.specs.Prelude.{◌≡◌, ◌≤◌, ℕ, ◌+◌, Bool, ◌&&◌, List, Option, Some, None, length}
 use Rattle.std.specs.Io.KnownBytes.{Appends}
 use Rattle.kr_model.specs.Map.{IsMap}
 use Rattle.kr_trace_lines.specs.Lines.{TraceLine, head, step, order}
@@ -7,12 +7,12 @@ use Rattle.kr_trace_lines.specs.Parts.{PartLines}
 use Rattle.kr_cli_trace.specs.Parts.{Part, HaveNoFault, after_all, at_start, ended_in}
 use Rattle.kr_cli_trace.specs.Printed.{AreWritten, CommitsOnce}
 
--- A part in progress stands for what is said of it, if there is one.
-abbrev pub StandsFor : {T : Type 0} → (T → Part → Type 0) → Option T → Option Part → Type 0
-StandsFor stands None None = Unit {0}
-StandsFor stands None (Some s) = ⊥
-StandsFor stands (Some x) None = ⊥
-StandsFor stands (Some x) (Some s) = stands x s
+-- A part in progress stands for what is said of it, which has this number, if there is one.
+abbrev pub StandsFor : {T : Type 0} → (T → ℕ → Part → Type 0) → ℕ → Option T → Option Part → Type 0
+StandsFor stands n None None = Unit {0}
+StandsFor stands n None (Some s) = ⊥
+StandsFor stands n (Some x) None = ⊥
+StandsFor stands n (Some x) (Some s) = stands x n s
 
 -- What is printed of a part in progress, if there is one, is what is asked.
 abbrev pub IsAsked : {T : Type 0} → (T → ℕ → Part → List ℕ → Bool → Type 0) → (ℕ → Part → List ℕ → Bool → Type 0) → Option T → Type 0
@@ -31,20 +31,20 @@ abbrev pub CommitOnce : Option Part → Type 0
 CommitOnce None = Unit {0}
 CommitOnce (Some s) = CommitsOnce s
 
--- A part in progress has ended, if there was one: its line was written, and whether all is well so far is whether it was, and is with this part.
+-- A part in progress has ended, if there was one: what is asked of it was written, and whether all is well so far is whether it was, and is with this part.
 abbrev pub HasEnded : {T : Type 0} → (T → ℕ → Part → List ℕ → Bool → Type 0) → Option T → Option Part → ℕ → Option (List ℕ) → Option (List ℕ) → Bool → Bool → Type 0
 HasEnded asked None s n old new was well = (new ≡ old) × (well ≡ was)
 HasEnded asked (Some x) None n old new was well = ⊥
 HasEnded asked (Some x) (Some s) n old new was well =
-    (text : List ℕ) × (is_well : Bool) × asked x n s text is_well × Appends old new (text ++ 10 ∷ []) × (well ≡ (was && is_well))
+    (text : List ℕ) × (is_well : Bool) × asked x n s text is_well × Appends old new text × (well ≡ (was && is_well))
 
--- Lines without a fault were read: a line was written for each part of theirs that has ended, and the part in progress stands for what they say of it.
-pub record IsRead {T : Type 0} (stands : T → Part → Type 0) (asked : T → ℕ → Part → List ℕ → Bool → Type 0) (P : ℕ → Part → List ℕ → Bool → Type 0) (front : List (List ℕ)) (old now : Option (List ℕ)) (ended : ℕ) (well : Bool) (kept : PartLines) (part : Option T) : Type 0 where
+-- Lines without a fault were read: what is asked was written of each part of theirs that has ended, and the part in progress stands for what they say of it; its number is the next.
+pub record IsRead {T : Type 0} (stands : T → ℕ → Part → Type 0) (asked : T → ℕ → Part → List ℕ → Bool → Type 0) (P : ℕ → Part → List ℕ → Bool → Type 0) (front : List (List ℕ)) (old now : Option (List ℕ)) (ended : ℕ) (well : Bool) (kept : PartLines) (part : Option T) : Type 0 where
   pub faultless : HaveNoFault at_start front
   pub written : AreWritten P (ended_in front) old now well
   pub count : ended ≡ length (ended_in front)
   pub few : ended ≤ length front
-  pub in_progress : StandsFor stands part (let r = after_all at_start front in r.current)
+  pub in_progress : StandsFor stands (ended + 1) part (let r = after_all at_start front in r.current)
   pub is_asked : IsAsked asked P part
   pub keeps : kept ≡ (let r = after_all at_start front in r.kept)
 

@@ -11,7 +11,7 @@ use Rattle.kr_trace_follow.specs.Given.{Given}
 use Rattle.kr_cli_trace.specs.Committed.{Committed}
 use Rattle.kr_cli_trace.specs.declared.tales.Tale.{Tale as Noted}
 
--- What is noted, as the definitions of told programs have it.
+-- What is noted, as the definitions of given programs have it.
 abbrev pub shown : Noted → Tale
 shown x = record { done = x.done.items; scan = x.scan }
 
@@ -23,11 +23,11 @@ tale_in (Some x) = shown x
 abbrev pub noted : BTreeMap ℕ Noted → ℕ → Tale
 noted tales t = tale_in (get nat_cmp tales t)
 
--- What is told of each transaction after a step of t with this reply, where f is what was told before.
+-- What each transaction has done after a step of t with this reply, where f is what it had done before.
 abbrev pub told_of : (ℕ → Tale) → Event → Observed → ℕ → Tale
 told_of f e o u = let w = tales_after (record { of = f; committed = [] }) e.txn e.op o in w.of u
 
--- The program that commits with a reply, where this was told of its transaction.
+-- The program that commits with a reply, where its transaction has done this.
 abbrev pub program_committed : Tale → Observed → Option (List Given)
 program_committed x observed.Committed = Some x.done
 program_committed x _ = None
@@ -37,12 +37,12 @@ abbrev pub committed_with : ℕ → Option (List Given) → List Committed
 committed_with t None = []
 committed_with t (Some program) = record { txn = t; program = program } ∷ []
 
--- What is told of each transaction after steps.
+-- What each transaction has done after steps.
 abbrev pub told_after : (ℕ → Tale) → List Line → ℕ → Tale
 told_after f [] = f
 told_after f (l ∷ ls) = told_after (told_of f l.event l.observed) ls
 
--- Those that commit in steps, in commit order, where f is what was told before.
+-- Those that commit in steps, in commit order, where f is what they had done before.
 abbrev pub committed_from : (ℕ → Tale) → List Line → List Committed
 committed_from f [] = []
 committed_from f (l ∷ ls) = committed_with l.event.txn (program_committed (f l.event.txn) l.observed) ++ committed_from (told_of f l.event l.observed) ls

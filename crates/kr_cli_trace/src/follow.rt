@@ -1,16 +1,16 @@
 //! A part held against a table.
-ghost use Rattle.std.specs.Prelude.{◌≡◌, false, map, string_bytes};
+ghost use Rattle.std.specs.Prelude.{◌≡◌, ◌↔◌, IsTrue, None, false, map, string_bytes};
 ghost use Rattle.std.specs.Option.{option_map};
 ghost use Rattle.kr_trace_follow.specs.Following.{after_lines, begun};
 ghost use Rattle.kr_cli_trace.specs.Followed.{IsFollowed};
-ghost use Rattle.kr_cli_trace.specs.Printed.{IsPrinted, against};
+ghost use Rattle.kr_cli_trace.specs.Printed.{IsPrinted, IsSerialVerdict, against};
 
 use crate::asking::{Asks, Part};
 use crate::serial::{Judging, is_serial, verdict_of};
 use kr_model::{Event, Memory, Pairs, Txns};
 use kr_protocol::Protocol;
 use kr_trace_follow::{Follower, lines_are_followed};
-use kr_trace_lines::write_part;
+use kr_trace_lines::{TraceVerdict, write_part};
 use kr_trace_observed::{Deviation, Observed};
 use std::alloc::Global;
 
@@ -31,6 +31,13 @@ pub(crate) struct Followed<'a, P: Protocol> {
     pub(crate) judging: Judging,
 }
 
+/// Whether all is well with a part: no line deviates, and the verdict says that the answers are serializable.
+pub(crate) fn is_well(found: &Option<Deviation>, verdict: &TraceVerdict) -> bool
+    ensures { IsTrue result ↔ ((found.now ≡ None) × IsSerialVerdict verdict.now) }
+{
+    found.is_none() && is_serial(verdict)
+}
+
 impl<'a, P: Protocol> Asks for Against<'a, P> {
     type Part = Followed<'a, P>;
 
@@ -39,9 +46,11 @@ impl<'a, P: Protocol> Asks for Against<'a, P> {
     fn begin(
         &self,
         alloc: Global,
+        number: u64,
         opening: Pairs,
         tests: Vec<String>,
     ) -> Result<Followed<'a, P>, Memory> {
+        let _ = number;
         Ok(Followed {
             protocol: self.protocol,
             follower: Follower::new(alloc, self.protocol, opening.as_slice())?,
@@ -55,7 +64,7 @@ impl<'a, P: Protocol> Asks for Against<'a, P> {
 impl<'a, P: Protocol> Part for Followed<'a, P> {
     ghost asked = { λ p. IsPrinted (against (P.table p.protocol.now) (P.names p.protocol.now)) };
 
-    ghost stands_for = { λ p s. IsFollowed (P.table p.protocol.now) s (P.table p.follower.protocol) p.follower.following p.found (map string_bytes p.tests.items) p.judging.tales p.judging.judge.map p.judging.found };
+    ghost stands_for = { λ p _ s. IsFollowed (P.table p.protocol.now) s (P.table p.follower.protocol) p.follower.following p.found (map string_bytes p.tests.items) p.judging.tales p.judging.judge.map p.judging.found };
 
     fn step(
         &mut self,
@@ -72,7 +81,7 @@ impl<'a, P: Protocol> Part for Followed<'a, P> {
         let _ = txns;
     }
 
-    fn end(self, alloc: Global, part: u64) -> Result<(String, bool), Memory> {
+    fn end(self, alloc: Global, part: u64) -> Result<(Option<String>, bool), Memory> {
         let Followed {
             protocol,
             follower,
@@ -91,6 +100,6 @@ impl<'a, P: Protocol> Part for Followed<'a, P> {
             &verdict,
         )?;
         lines_are_followed();
-        Ok((line, found.is_none() && is_serial(&verdict)))
+        Ok((Some(line), is_well(&found, &verdict)))
     }
 }

@@ -6,6 +6,7 @@ mod asking;
 mod follow;
 mod lines;
 mod manual;
+mod one_part;
 mod orders;
 mod program;
 mod programs;

@@ -5,12 +5,14 @@ use kr_cli::Manual;
 pub const NAME: &str = "kr_trace";
 
 /// The line that says which words it takes.
-pub const USAGE: &str = "usage: kr_trace TABLE TRACE | --serial TRACE | --some-order TRACE";
+pub const USAGE: &str =
+    "usage: kr_trace TABLE TRACE [--tell N] | --serial TRACE | --some-order TRACE";
 
 /// What the words mean, and the statuses.
 pub const WORDS: &str = r#"  TABLE         @kvl, @kvl-update, @im, @range-key, or a file in TOML
   TRACE         a file, or /dev/stdin: a JSON value on each line, each step with
                 the engine's reply; a line is printed for each part
+  --tell N      no lines: part N, from 1, as a text, with the line that differs
   --serial      no table: whether the committed answers are serializable in
                 commit order
   --some-order  no table: whether they are in some order

@@ -28,7 +28,7 @@ pub(crate) struct Kept {
     pub(crate) tales: BTreeMap<Txn, Tale>,
     /// In commit order.
     pub(crate) committed: Vec<Committed>,
-    /// The order that the part tells, if it tells one.
+    /// The order that ends the part, if one does.
     pub(crate) order: Option<Txns>,
     ghost rising: { IsMap opening },
 }
@@ -42,7 +42,14 @@ impl Asks for InSomeOrder {
 
     ghost is_printed = { λ _. IsPrinted in_some_order };
 
-    fn begin(&self, alloc: Global, opening: Pairs, tests: Vec<String>) -> Result<Kept, Memory> {
+    fn begin(
+        &self,
+        alloc: Global,
+        number: u64,
+        opening: Pairs,
+        tests: Vec<String>,
+    ) -> Result<Kept, Memory> {
+        let _ = number;
         let _ = tests;
         Ok(Kept {
             opening,
@@ -56,7 +63,7 @@ impl Asks for InSomeOrder {
 impl Part for Kept {
     ghost asked = { λ _. IsPrinted in_some_order };
 
-    ghost stands_for = { λ k s. IsKept s k.opening k.tales k.committed.items k.order };
+    ghost stands_for = { λ k _ s. IsKept s k.opening k.tales k.committed.items k.order };
 
     fn step(
         &mut self,
@@ -79,10 +86,10 @@ impl Part for Kept {
         self.order = Some(txns);
     }
 
-    fn end(self, alloc: Global, part: u64) -> Result<(String, bool), Memory> {
+    fn end(self, alloc: Global, part: u64) -> Result<(Option<String>, bool), Memory> {
         let verdict = verdict_of(alloc, self)?;
         let line = write_judged(alloc, part, &verdict)?;
-        Ok((line, is_serial(&verdict)))
+        Ok((Some(line), is_serial(&verdict)))
     }
 }
 
@@ -122,7 +129,7 @@ fn add_serial_rest(
     Ok(false)
 }
 
-/// The verdict in the order that a part tells.
+/// The verdict in the order that ends a part.
 fn verdict_in_told(
     alloc: Global,
     opening: &[(u64, u64)],
@@ -186,7 +193,7 @@ fn verdict_in_any(
     Ok(not_serial(committed, wrong))
 }
 
-/// The verdict on a part: in the order that it tells, or else in any.
+/// The verdict on a part: in the order that ends it, or else in any.
 fn verdict_of(alloc: Global, part: Kept) -> Result<TraceVerdict, Memory>
     ensures { (s : Part) → IsKept s part.opening part.tales part.committed.items part.order → CommitsOnce s → IfOk result (IsVerdictInSomeOrder s) }
 {

@@ -3,7 +3,8 @@ ghost use Rattle.std.specs.Prelude.{◌≡◌, ◌⊎◌, ◌≤◌, ◌++◌, �
 ghost use Rattle.std.specs.Io.KnownBytes.{Appends};
 ghost use Rattle.kr_sink.specs.Puts.{HasCause};
 ghost use Rattle.kr_cli_diagnosis.specs.Finding.{AreLines, AddsLines};
-ghost use Rattle.kr_cli.specs.Endings.{is_output};
+ghost use Rattle.kr_cli.specs.Endings.{MemoryOrTold, is_output};
+ghost use Rattle.kr_cli.specs.Lines.{told_line};
 ghost use Rattle.kr_cli.specs.Manual.{IsTold, answer_of, ending_text};
 ghost use Rattle.kr_cli.specs.Questions.{IsQuestion, IsNoQuestion};
 ghost use Rattle.kr_cli.specs.declared.endings.Ending.{Ending};
@@ -12,12 +13,13 @@ ghost use Rattle.kr_cli.specs.declared.questions.Question.{Question};
 ghost use Rattle.kr_cli_trace.specs.Endings.{StopsSo};
 ghost use Rattle.kr_model.specs.Protocol.{IsLawful};
 ghost use Rattle.kr_cli_trace.specs.declared.words.Asked.TheVariants as asked;
-ghost use Rattle.kr_cli_trace.specs.Program.{Answers, AnswersAsked, Explains, Holds, Tells, TellsTrace};
+ghost use Rattle.kr_cli_trace.specs.Program.{Answers, AnswersAsked, Explains, Holds, Tells, TellsOnePart, TellsTrace, no_part_text};
 ghost use Rattle.kr_cli_trace.specs.Words.{AskNothing, AskNoTrace};
 
 use crate::asking::Asks;
 use crate::follow::Against;
 use crate::manual::{MANUAL, NAME, USAGE, WORDS};
+use crate::one_part::OnePart;
 use crate::orders::InSomeOrder;
 use crate::serial::InCommitOrder;
 use crate::source::Traces;
@@ -27,16 +29,18 @@ use kr_cli::{Ending, FileFault, Files, VERSION, question_in, unreadable};
 use kr_cli_diagnosis::table_at;
 use kr_protocol::Protocol;
 use kr_sink::Sink;
+use std::alloc::Global;
 
-/// Reads the trace that a word names, prints a line for each part, and answers whether all is well with each.
+/// Reads the trace that a word names, prints of each part what is asked, and answers how many parts there are, and whether all
+/// is well with each.
 fn read_named<R: std::rt::Files + AllocGlobal, F: Traces<R>, A: Asks, W: Sink>(
     rt: &R,
     files: &F,
     word: &str,
     asks: &A,
     out: &mut W,
-) -> Result<bool, Ending>
-    ensures holds { IfOk result (Holds (A.is_printed asks.now) (F.may_name files.now) word.now (W.taken out.old) (W.taken out.new)) }
+) -> Result<(u64, bool), Ending>
+    ensures holds { IfOk result (λ read. Holds (A.is_printed asks.now) (F.may_name files.now) word.now (W.taken out.old) (W.taken out.new) read.0 read.1) }
     ensures err { IfErr result (StopsSo (TellsTrace (A.is_printed asks.now) (F.may_name files.now) word.now (W.taken out.old) (W.taken out.new))) }
     ensures cause { IfErr result (λ e. IsTrue (is_output e) → HasCause (W.failures out.old) (W.failures out.new)) }
 {
@@ -46,6 +50,54 @@ fn read_named<R: std::rt::Files + AllocGlobal, F: Traces<R>, A: Asks, W: Sink>(
         Err(_) => return Err(unreadable(rt.alloc(), word)),
     };
     read_trace(rt.alloc(), asks, word, &mut lines, out)
+}
+
+/// Reads the trace that a word names, prints of each part what is asked, and answers whether all is well with each.
+fn read_all<R: std::rt::Files + AllocGlobal, F: Traces<R>, A: Asks, W: Sink>(
+    rt: &R,
+    files: &F,
+    word: &str,
+    asks: &A,
+    out: &mut W,
+) -> Result<bool, Ending>
+    ensures holds { IfOk result (λ well. (parts : ℕ) × Holds (A.is_printed asks.now) (F.may_name files.now) word.now (W.taken out.old) (W.taken out.new) parts well) }
+    ensures err { IfErr result (StopsSo (TellsTrace (A.is_printed asks.now) (F.may_name files.now) word.now (W.taken out.old) (W.taken out.new))) }
+    ensures cause { IfErr result (λ e. IsTrue (is_output e) → HasCause (W.failures out.old) (W.failures out.new)) }
+{
+    let (_, is_well) = read_named(rt, files, word, asks, out)?;
+    Ok(is_well)
+}
+
+/// How the program ends where the trace that a word names has no part of this number.
+fn no_part(alloc: Global, word: &str, number: usize) -> Ending
+    ensures line { MemoryOrTold result (λ line. line ≡ told_line word.now (no_part_text number)) }
+    ensures other { is_output result ≡ false }
+{
+    match format!(in alloc; "no part {number}") {
+        Ok(what) => Ending::told(alloc, word, what.as_str()),
+        Err(_) => Ending::Memory,
+    }
+}
+
+/// Reads the trace that a word names, prints of each part what is asked, and answers whether all is well with each, if there is
+/// a part of this number.
+fn read_one<R: std::rt::Files + AllocGlobal, F: Traces<R>, A: Asks, W: Sink>(
+    rt: &R,
+    files: &F,
+    word: &str,
+    number: usize,
+    asks: &A,
+    out: &mut W,
+) -> Result<bool, Ending>
+    ensures holds { IfOk result (λ well. (parts : ℕ) × ((number ≤ parts) × Holds (A.is_printed asks.now) (F.may_name files.now) word.now (W.taken out.old) (W.taken out.new) parts well)) }
+    ensures err { IfErr result (StopsSo (TellsOnePart (A.is_printed asks.now) (F.may_name files.now) word.now number (W.taken out.old) (W.taken out.new))) }
+    ensures cause { IfErr result (λ e. IsTrue (is_output e) → HasCause (W.failures out.old) (W.failures out.new)) }
+{
+    let (parts, is_well) = read_named(rt, files, word, asks, out)?;
+    if parts < number as u64 {
+        return Err(no_part(rt.alloc(), word, number));
+    }
+    Ok(is_well)
 }
 
 /// Does nothing: a protocol is lawful.
@@ -73,7 +125,33 @@ fn hold_against<R: std::rt::Files + AllocGlobal, F: Files + Traces<R>, W: Sink>(
     let (word, trace) = words;
     let table = table_at(rt, word, files, help)?;
     are_laws_kept(&table);
-    read_named(rt, files, trace, &Against { protocol: &table }, out)
+    read_all(rt, files, trace, &Against { protocol: &table }, out)
+}
+
+/// Prints the part of this number as a text, of the trace that the second word names, held against the table that the first
+/// names. `help` gets what helps where the first names none.
+fn print_part<R: std::rt::Files + AllocGlobal, F: Files + Traces<R>, W: Sink>(
+    rt: &R,
+    words: (&str, &str),
+    number: usize,
+    files: &F,
+    out: &mut W,
+    help: &mut String,
+) -> Result<bool, Ending>
+    ensures answers { IfOk result (Answers (F.may_give files.now) (F.may_name files.now) (asked.OnePart words.entry.0 words.entry.1 number) (W.taken out.old) (W.taken out.new)) }
+    ensures err { IfErr result (StopsSo (Tells (F.may_give files.now) (F.may_name files.now) (asked.OnePart words.entry.0 words.entry.1 number) (W.taken out.old) (W.taken out.new))) }
+    ensures cause { IfErr result (λ e. IsTrue (is_output e) → HasCause (W.failures out.old) (W.failures out.new)) }
+    ensures help { AddsLines (string_bytes help.old) (string_bytes help.new) }
+    ensures unhelped { OnOk result (help.new ≡ help.old) }
+{
+    let (word, trace) = words;
+    let table = table_at(rt, word, files, help)?;
+    are_laws_kept(&table);
+    let asks = OnePart {
+        protocol: &table,
+        asked: number as u64,
+    };
+    read_one(rt, files, trace, number, &asks, out)
 }
 
 /// Prints what the words ask of a trace, and answers whether all is well with each of its parts. `help` gets what helps where a
@@ -97,8 +175,11 @@ fn hold<R: std::rt::Files + AllocGlobal, F: Files + Traces<R>, W: Sink>(
     let asked = read_words(words)?;
     match asked {
         Asked::Both(table, trace) => hold_against(rt, (table, trace), files, out, help),
-        Asked::Serial(trace) => read_named(rt, files, trace, &InCommitOrder, out),
-        Asked::SomeOrder(trace) => read_named(rt, files, trace, &InSomeOrder, out),
+        Asked::OnePart(table, trace, number) => {
+            print_part(rt, (table, trace), number, files, out, help)
+        }
+        Asked::Serial(trace) => read_all(rt, files, trace, &InCommitOrder, out),
+        Asked::SomeOrder(trace) => read_all(rt, files, trace, &InSomeOrder, out),
     }
 }
 
@@ -132,10 +213,11 @@ fn answered<R: std::rt::Files + AllocGlobal, F: Files + Traces<R>, W: Sink>(
 }
 
 /// Runs the program on words without its own name, and answers its status: 0 where the trace that a word names has lines without
-/// a fault and all is well with each of their parts; 1 where it isn't with some; and 2 where it told a fault on `err`, the first
+/// a fault and all is well with each of their parts; 1 where it isn't with some; and 2 where it printed a fault on `err`, the first
 /// in the order of lines. At 0 and 1 a line is written on `out` for each part; at a fault of the trace, for each part that has
-/// ended before it. Words that ask for help or the version are answered on `out` with 0. Behind the line of words that aren't
-/// understood `err` has the usage.
+/// ended before it. Where the words ask for one part, its text is written and nothing of the others, 0 and 1 are for that part
+/// alone, and 2 is also for a trace that has no part of this number. Words that ask for help or the version are answered on `out`
+/// with 0. Behind the line of words that aren't understood `err` has the usage.
 pub fn execute<R: std::rt::Files + AllocGlobal, F: Files + Traces<R>, W: Sink, E: Sink>(
     rt: &R,
     words: &[String],

@@ -98,7 +98,7 @@ fn judge_program(
     }
 }
 
-/// The answer that was told of the operation with this number, from 1.
+/// The answer that was given to the operation with this number, from 1.
 fn given_at(program: Vec<Answered>, operation: u64) -> Observed
     requires { (0 < operation) × (operation ≤ length program.items) }
     ensures { (before rest : List Given) (op : Op) (given : Observed) → program.items ≡ before ++ (op, given) ∷ rest → operation ≡ length before + 1 → result ≡ given }
@@ -146,7 +146,14 @@ impl Asks for InCommitOrder {
 
     ghost is_printed = { λ _. IsPrinted in_commit_order };
 
-    fn begin(&self, alloc: Global, opening: Pairs, tests: Vec<String>) -> Result<Judging, Memory> {
+    fn begin(
+        &self,
+        alloc: Global,
+        number: u64,
+        opening: Pairs,
+        tests: Vec<String>,
+    ) -> Result<Judging, Memory> {
+        let _ = number;
         let _ = tests;
         Judging::new(alloc, opening.as_slice())
     }
@@ -155,7 +162,7 @@ impl Asks for InCommitOrder {
 impl Part for Judging {
     ghost asked = { λ _. IsPrinted in_commit_order };
 
-    ghost stands_for = { λ j s. AreJudged s.opening s.steps j.tales j.judge.map j.found };
+    ghost stands_for = { λ j _ s. AreJudged s.opening s.steps j.tales j.judge.map j.found };
 
     fn step(
         &mut self,
@@ -172,9 +179,9 @@ impl Part for Judging {
         let _ = txns;
     }
 
-    fn end(self, alloc: Global, part: u64) -> Result<(String, bool), Memory> {
+    fn end(self, alloc: Global, part: u64) -> Result<(Option<String>, bool), Memory> {
         let verdict = verdict_of(self.found);
         let line = write_judged(alloc, part, &verdict)?;
-        Ok((line, is_serial(&verdict)))
+        Ok((Some(line), is_serial(&verdict)))
     }
 }

@@ -1,4 +1,4 @@
-//! What each transaction that hasn't ended was told to have done so far.
+//! What each transaction that hasn't ended has done so far.
 ghost use Rattle.std.specs.Prelude.{◌≡◌, ◌==◌, ℕ, IfOk, OnOk, if◌then◌else◌};
 ghost use Rattle.std.specs.Option.{option_map};
 ghost use Rattle.kr_trace_follow.specs.Programs as spec;
@@ -13,7 +13,7 @@ use std::collections::BTreeMap;
 /// An operation with the answer that was observed.
 pub(crate) type Answered = (Op, Observed);
 
-/// What a transaction was told to have done so far.
+/// What a transaction has done so far.
 #[derive(Drop)]
 pub(crate) struct Tale {
     /// Its operations with their answers.
@@ -22,7 +22,7 @@ pub(crate) struct Tale {
     pub(crate) scan: Option<(u64, u64)>,
 }
 
-/// Takes out what was told of a transaction: nothing, where nothing was.
+/// Takes out what a transaction has done: nothing, where nothing is noted.
 fn take_out(alloc: Global, tales: &mut BTreeMap<Txn, Tale>, txn: Txn) -> Tale
     ensures tale { shown result ≡ noted tales.old txn }
     ensures rest { (u : ℕ) → noted tales.new u ≡ (if u == txn then no_tale else noted tales.old u) }
@@ -36,7 +36,7 @@ fn take_out(alloc: Global, tales: &mut BTreeMap<Txn, Tale>, txn: Txn) -> Tale
     }
 }
 
-/// Puts in what was told of a transaction of which nothing is noted.
+/// Puts in what a transaction has done of which nothing is noted.
 fn put_in(tales: &mut BTreeMap<Txn, Tale>, txn: Txn, tale: Tale) -> Result<(), Memory>
     ensures { OnOk result ((u : ℕ) → noted tales.new u ≡ (if u == txn then shown tale else noted tales.old u)) }
 {

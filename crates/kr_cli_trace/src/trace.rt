@@ -1,5 +1,5 @@
 //! A trace, line by line: its parts, and the first fault.
-ghost use Rattle.std.specs.Prelude.{◌≡◌, ◌≢◌, ◌⊎◌, ◌<◌, ◌≤◌, ◌^◌, ◌-◌, ◌+◌, Option, ◌++◌, ◌∷◌, [], ℕ, suc, List, IfOk, IfErr, OnOk, IsTrue, Some, None, Ok, false, length, map, string_bytes};
+ghost use Rattle.std.specs.Prelude.{◌≡◌, ◌≢◌, ◌⊎◌, ◌<◌, ◌≤◌, ◌^◌, ◌-◌, ◌+◌, Option, ◌++◌, ◌∷◌, [], ℕ, suc, List, IfOk, IfErr, OnOk, OnErr, IsTrue, Some, None, Ok, false, length, map, string_bytes};
 ghost use Rattle.kr_cli.specs.Endings.{MemoryOrTold, is_output};
 ghost use Rattle.kr_cli.specs.Lines.{told_line, unreadable_line};
 ghost use Rattle.kr_cli.specs.declared.endings.Ending.TheVariants as ending;
@@ -10,6 +10,8 @@ ghost use Rattle.kr_trace_lines.specs.Reading.{reading_line};
 ghost use Rattle.kr_cli_trace.specs.declared.source.LinesFault.TheVariants as lines_fault;
 ghost use Rattle.kr_cli_trace.specs.Endings.{IsStopped, IsThrough, StopsSo, line_fault_text};
 ghost use Rattle.kr_cli_trace.specs.Lines as spec;
+ghost use Rattle.std.specs.Io.KnownBytes.{Appends};
+ghost use Rattle.kr_cli_trace.specs.Printed.{printed};
 ghost use Rattle.kr_cli_trace.specs.Parts.{Part, after_all, at_start, begun, fault_at, with_order, with_step};
 ghost use Rattle.kr_cli_trace.specs.Reading.{CommitOnce, HasEnded, IsAsked, IsRead, RisesIn, StandsFor, StillAsks};
 ghost use Rattle.kr_model.specs.Map.{IsMap};
@@ -20,7 +22,7 @@ use crate::asking::{Asks, Part};
 use crate::source::{Lines, LinesFault};
 use kr_cli::{Ending, unreadable};
 use kr_model::{Event, Memory, Pairs, Txns};
-use kr_sink::{Sink, print};
+use kr_sink::{PrintFault, Sink, print};
 use kr_trace_lines::{Line, LineFault, PartLines, read_line};
 use kr_trace_observed::Observed;
 use std::alloc::{AllocError, Global};
@@ -32,7 +34,7 @@ pub(crate) struct Reading<T> {
     pub(crate) ended: u64,
     /// Whether all is well with each of these.
     pub(crate) is_well: bool,
-    /// Which lines may stand behind those so far.
+    /// Which lines may follow those so far.
     pub(crate) lines: PartLines,
     /// The part in progress.
     pub(crate) part: Option<T>,
@@ -57,7 +59,7 @@ fn is_blank_byte(byte: u8) -> bool
     byte == b' ' || byte == b'\t' || byte == b'\r'
 }
 
-/// What is told of the fault of a line, which has this number: the number and the name of the fault, and the line's number.
+/// What is printed of the fault of a line, which has this number: the number and the name of the fault, and the line's number.
 fn line_fault_text(alloc: Global, fault: LineFault, number: u64) -> Result<String, AllocError>
     ensures { IfOk result (λ text. string_bytes text ≡ line_fault_text fault number) }
 {
@@ -94,18 +96,31 @@ fn at_lines_fault(alloc: Global, word: &str, fault: LinesFault, number: u64) -> 
     }
 }
 
-/// Ends the part in progress, if there is one, and prints its line.
+/// Prints a text with a line feed behind it, if there is one.
+fn print_if_any<W: Sink>(out: &mut W, text: Option<String>) -> Result<(), PrintFault>
+    ensures ok { OnOk result (Appends (W.taken out.old) (W.taken out.new) (printed text)) }
+    ensures count { OnOk result (W.failures out.new ≡ W.failures out.old) }
+    ensures cause { OnErr result (HasCause (W.failures out.old) (W.failures out.new)) }
+{
+    match text {
+        Some(text) => print(out, text.as_str()),
+        None => Ok(()),
+    }
+}
+
+/// Ends the part in progress, if there is one, and prints what is asked of it.
 fn end_part<T: Part, W: Sink>(
     alloc: Global,
     reading: &mut Reading<T>,
     out: &mut W,
 ) -> Result<(), Ending>
     requires { reading.old.ended < 2 ^ 64 - 1 }
-    ensures written { (s : Option Part) → StandsFor T.stands_for reading.old.part s → CommitOnce s
+    ensures written { (s : Option Part) → StandsFor T.stands_for (reading.old.ended + 1) reading.old.part s → CommitOnce s
         → OnOk result (HasEnded T.asked reading.old.part s (reading.old.ended + 1) (W.taken out.old) (W.taken out.new) reading.old.is_well reading.new.is_well) }
-    ensures ended { (s : Option Part) → StandsFor T.stands_for reading.old.part s
+    ensures ended { (s : Option Part) → StandsFor T.stands_for (reading.old.ended + 1) reading.old.part s
         → OnOk result (reading.new.ended ≡ reading.old.ended + length (option_to_list s)) }
     ensures part { OnOk result (reading.new.part ≡ None) }
+    ensures most { OnOk result (reading.new.ended ≤ reading.old.ended + 1) }
     ensures lines { reading.new.lines ≡ reading.old.lines }
     ensures err { IfErr result (λ e. (e ≡ ending.Memory) ⊎ (e ≡ ending.Output)) }
     ensures count { OnOk result (W.failures out.new ≡ W.failures out.old) }
@@ -114,7 +129,7 @@ fn end_part<T: Part, W: Sink>(
     if let Some(part) = reading.part.take() {
         let number = reading.ended + 1;
         let (line, is_well) = part.end(alloc, number)?;
-        print(out, line.as_str())?;
+        print_if_any(out, line)?;
         reading.ended = number;
         reading.is_well = reading.is_well && is_well;
     }
@@ -130,13 +145,13 @@ fn take_head<A: Asks, W: Sink>(
     tests: Vec<String>,
     out: &mut W,
 ) -> Result<(), Ending>
-    requires few { reading.old.ended < 2 ^ 64 - 1 }
+    requires few { reading.old.ended < 2 ^ 64 - 2 }
     requires rising { IsMap opening }
-    ensures written { (s : Option Part) → StandsFor A.Part.stands_for reading.old.part s → CommitOnce s
+    ensures written { (s : Option Part) → StandsFor A.Part.stands_for (reading.old.ended + 1) reading.old.part s → CommitOnce s
         → OnOk result (HasEnded A.Part.asked reading.old.part s (reading.old.ended + 1) (W.taken out.old) (W.taken out.new) reading.old.is_well reading.new.is_well) }
-    ensures ended { (s : Option Part) → StandsFor A.Part.stands_for reading.old.part s
+    ensures ended { (s : Option Part) → StandsFor A.Part.stands_for (reading.old.ended + 1) reading.old.part s
         → OnOk result (reading.new.ended ≡ reading.old.ended + length (option_to_list s)) }
-    ensures part { OnOk result (StandsFor A.Part.stands_for reading.new.part (Some (begun opening (map string_bytes tests.items)))) }
+    ensures part { OnOk result (StandsFor A.Part.stands_for (reading.new.ended + 1) reading.new.part (Some (begun opening (map string_bytes tests.items)))) }
     ensures asked { OnOk result (IsAsked A.Part.asked (A.is_printed asks.now) reading.new.part) }
     ensures lines { reading.new.lines ≡ reading.old.lines }
     ensures err { IfErr result (λ e. (e ≡ ending.Memory) ⊎ (e ≡ ending.Output)) }
@@ -144,7 +159,7 @@ fn take_head<A: Asks, W: Sink>(
     ensures cause { IfErr result (λ e. IsTrue (is_output e) → HasCause (W.failures out.old) (W.failures out.new)) }
 {
     end_part(alloc, reading, out)?;
-    reading.part = Some(asks.begin(alloc, opening, tests)?);
+    reading.part = Some(asks.begin(alloc, reading.ended + 1, opening, tests)?);
     Ok(())
 }
 
@@ -156,7 +171,7 @@ fn take_step<T: Part>(
     event: Event,
     observed: Observed,
 ) -> Result<(), Memory>
-    ensures part { (s : Option Part) → StandsFor T.stands_for part.old s → OnOk result (StandsFor T.stands_for part.new (option_map (with_step number event observed) s)) }
+    ensures part { (n : ℕ) (s : Option Part) → StandsFor T.stands_for n part.old s → OnOk result (StandsFor T.stands_for n part.new (option_map (with_step number event observed) s)) }
     ensures asked { OnOk result (StillAsks T.asked part.old part.new) }
 {
     if let Some(part) = part {
@@ -167,7 +182,7 @@ fn take_step<T: Part>(
 
 /// Takes the order that ends the part in progress.
 fn take_order<T: Part>(part: &mut Option<T>, txns: Txns)
-    ensures part { (s : Option Part) → StandsFor T.stands_for part.old s → StandsFor T.stands_for part.new (option_map (with_order txns) s) }
+    ensures part { (n : ℕ) (s : Option Part) → StandsFor T.stands_for n part.old s → StandsFor T.stands_for n part.new (option_map (with_order txns) s) }
     ensures asked { StillAsks T.asked part.old part.new }
 {
     if let Some(part) = part {
@@ -175,7 +190,7 @@ fn take_order<T: Part>(part: &mut Option<T>, txns: Txns)
     }
 }
 
-/// Takes one more line, which may stand behind those before it.
+/// Takes one more line, which may follow those before it.
 fn take_line<A: Asks, W: Sink>(
     alloc: Global,
     asks: &A,
@@ -184,7 +199,7 @@ fn take_line<A: Asks, W: Sink>(
     line: Line,
     out: &mut W,
 ) -> Result<(), Ending>
-    requires few { reading.old.ended < 2 ^ 64 - 1 }
+    requires few { reading.old.ended < 2 ^ 64 - 2 }
     requires rising { RisesIn (seen line) }
     ensures read { (front : List (List ℕ)) (bytes : List ℕ) (first : Option (List ℕ))
         → number ≡ suc (length front) → spec.is_blank bytes ≡ false → reading_line bytes ≡ Ok (seen line)
@@ -222,7 +237,7 @@ fn read_next<A: Asks, W: Sink>(
     bytes: &[u8],
     out: &mut W,
 ) -> Result<(), Ending>
-    requires few { reading.old.ended < 2 ^ 64 - 1 }
+    requires few { reading.old.ended < 2 ^ 64 - 2 }
     ensures read { (front : List (List ℕ)) (first : Option (List ℕ)) → number ≡ suc (length front)
         → IsRead A.Part.stands_for A.Part.asked (A.is_printed asks.now) front first (W.taken out.old) reading.old.ended reading.old.is_well reading.old.lines reading.old.part
         → OnOk result (IsRead A.Part.stands_for A.Part.asked (A.is_printed asks.now) (front ++ bytes.now ∷ []) first (W.taken out.new) reading.new.ended reading.new.is_well reading.new.lines reading.new.part) }
@@ -245,16 +260,16 @@ fn read_next<A: Asks, W: Sink>(
     }
 }
 
-/// Reads the trace that a word names to its end, prints a line for each part as it ends, and answers whether all is well with
-/// each.
+/// Reads the trace that a word names to its end, prints of each part what is asked as it ends, and answers how many parts there
+/// are, and whether all is well with each.
 pub(crate) fn read_trace<A: Asks, L: Lines, W: Sink>(
     alloc: Global,
     asks: &A,
     word: &str,
     lines: &mut L,
     out: &mut W,
-) -> Result<bool, Ending>
-    ensures through { IfOk result (IsThrough (A.is_printed asks.now) (L.may_give lines.old) (W.taken out.old) (W.taken out.new)) }
+) -> Result<(u64, bool), Ending>
+    ensures through { IfOk result (λ read. IsThrough (A.is_printed asks.now) (L.may_give lines.old) (W.taken out.old) (W.taken out.new) read.0 read.1) }
     ensures err { IfErr result (StopsSo (IsStopped (A.is_printed asks.now) (L.may_give lines.old) word.now (W.taken out.old) (W.taken out.new))) }
     ensures cause { IfErr result (λ e. IsTrue (is_output e) → HasCause (W.failures out.old) (W.failures out.new)) }
 {
@@ -279,7 +294,7 @@ pub(crate) fn read_trace<A: Asks, L: Lines, W: Sink>(
             }
             Ok(None) => {
                 end_part(alloc, &mut reading, out)?;
-                return Ok(reading.is_well);
+                return Ok((reading.ended, reading.is_well));
             }
             Err(fault) => return Err(at_lines_fault(alloc, word, fault, number)),
         }

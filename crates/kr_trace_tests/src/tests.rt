@@ -3,3 +3,4 @@ mod given;
 mod judge;
 mod lines;
 mod observed;
+mod text;

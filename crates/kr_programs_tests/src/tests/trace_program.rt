@@ -77,7 +77,7 @@ const CALLS: [(&[&str], u8, &str, &str); 8] = [
         &["t"],
         2,
         "",
-        "kr_trace: words not understood\nusage: kr_trace TABLE TRACE | --serial TRACE | --some-order TRACE\n",
+        "kr_trace: words not understood\nusage: kr_trace TABLE TRACE [--tell N] | --serial TRACE | --some-order TRACE\n",
     ),
     (&["--version"], 0, "kr_trace 0.9.0\n", ""),
 ];
@@ -102,6 +102,28 @@ fn a_table_is_held_against(rt: HostRuntime) -> Result<(), Fail> {
     assert!(rt; left.out.starts_with(first));
     assert!(rt; left.out.ends_with(last));
     assert_eq!(rt; left.status, 1);
+    Ok(())
+}
+
+/// The second part as a text.
+const SECOND: &str = "Part 2. The initial index is empty.
+
+     line      operation    answer
+        8  T1  insert 17 5  done
+        9  T1  commit       committed
+
+Each answer is the table's.
+Serializable in commit order.
+";
+
+#[test]
+fn one_part_is_printed(rt: HostRuntime) -> Result<(), Fail> {
+    let left = left_by(&rt, ["@kvl", "t", "--tell", "2"].as_slice())?;
+    assert_eq!(rt; left.out.as_slice(), SECOND.as_bytes());
+    assert_eq!(rt; left.status, 0);
+    let left = left_by(&rt, ["@kvl", "t", "--tell", "3"].as_slice())?;
+    assert_eq!(rt; left.err.as_slice(), b"kr_trace: t: no part 3\n".as_slice());
+    assert_eq!(rt; left.status, 2);
     Ok(())
 }
 

@@ -31,7 +31,7 @@ pub returns-clause-unknown : goal.returns-clause-unknown
 returns-clause-unknown g c asks =
     let taken = g.E.Sink.taken in
     let failures = g.E.Sink.failures in
-    not_understood c.answered-done.result c.finish.result _ (taken c.args.err.now) (taken c.finish.new.err) (failures c.args.err.now) (failures c.finish.new.err) (codes "kr_trace") (codes "usage: kr_trace TABLE TRACE | --serial TRACE | --some-order TRACE") c.new-help.result c.answered-done.new.help c.as_str.result.now (c.answered-done.ensures.unknown asks) c.new-help.ensures.bytes c.as_str.ensures.value c.finish.ensures.within c.finish.ensures.well c.finish.ensures.not_well c.finish.ensures.told
+    not_understood c.answered-done.result c.finish.result _ (taken c.args.err.now) (taken c.finish.new.err) (failures c.args.err.now) (failures c.finish.new.err) (codes "kr_trace") (codes "usage: kr_trace TABLE TRACE [--tell N] | --serial TRACE | --some-order TRACE") c.new-help.result c.answered-done.new.help c.as_str.result.now (c.answered-done.ensures.unknown asks) c.new-help.ensures.bytes c.as_str.ensures.value c.finish.ensures.within c.finish.ensures.well c.finish.ensures.not_well c.finish.ensures.told
 
 pub returns-clause-silent : goal.returns-clause-silent
 returns-clause-silent g c =

@@ -2,7 +2,7 @@ use Rattle.std.specs.Prelude.{◌≡◌, map, string_bytes}
 use Rattle.std.proofs.Common.{rules, subst}
 use Rattle.kr_cli_trace.specs.Words.{IsAsked, words_of}
 use Rattle.kr_cli_trace.specs.declared.words.Asked.{Asked}
-use Rattle.kr_cli_trace.specs.declared.words.Asked.TheVariants.{Both, Serial, SomeOrder}
+use Rattle.kr_cli_trace.specs.declared.words.Asked.TheVariants.{Both, OnePart, Serial, SomeOrder}
 use Rattle.kr_cli_trace.proofs.HeldLaws.{asked_answered, asked_explained, no_form}
 use Rattle.kr_cli_trace.proofs.program.hold.Goals as goal
 
@@ -35,6 +35,29 @@ returns-in-Both-clause-err g c =
 pub returns-in-Both-clause-unknown : goal.returns-in-Both-clause-unknown
 returns-in-Both-clause-unknown g c unknown = absurd (unknown c.in_ok-asked.asked c.in_ok-asked.ensures.asked c.in_ok-asked.ensures.words)
 
+pub returns-in-OnePart-clause-answers : goal.returns-in-OnePart-clause-answers
+returns-in-OnePart-clause-answers g c =
+    let taken = g.W.Sink.taken in
+    let words = map string_bytes c.args.words.now in
+    let Are : Asked → Type 0 = λ a. words ≡ words_of a in
+    let Is : Asked → Type 0 = λ a. IsAsked a in
+    let are = subst Are c.in-OnePart.is c.in_ok-asked.ensures.words in
+    let asked = subst Is c.in-OnePart.is c.in_ok-asked.ensures.asked in
+    asked_answered (g.F.Files.may_give c.args.files.now) (g.F.Traces.may_name c.args.files.now) words c.print_part.result (OnePart c.in-OnePart.table c.in-OnePart.trace c.in-OnePart.number) (taken c.args.out.now) (taken c.print_part.new.out) are asked c.print_part.ensures.answers
+
+pub returns-in-OnePart-clause-err : goal.returns-in-OnePart-clause-err
+returns-in-OnePart-clause-err g c =
+    let taken = g.W.Sink.taken in
+    let words = map string_bytes c.args.words.now in
+    let Are : Asked → Type 0 = λ a. words ≡ words_of a in
+    let Is : Asked → Type 0 = λ a. IsAsked a in
+    let are = subst Are c.in-OnePart.is c.in_ok-asked.ensures.words in
+    let asked = subst Is c.in-OnePart.is c.in_ok-asked.ensures.asked in
+    asked_explained (g.F.Files.may_give c.args.files.now) (g.F.Traces.may_name c.args.files.now) words c.print_part.result (OnePart c.in-OnePart.table c.in-OnePart.trace c.in-OnePart.number) (taken c.args.out.now) (taken c.print_part.new.out) are asked c.print_part.ensures.err
+
+pub returns-in-OnePart-clause-unknown : goal.returns-in-OnePart-clause-unknown
+returns-in-OnePart-clause-unknown g c unknown = absurd (unknown c.in_ok-asked.asked c.in_ok-asked.ensures.asked c.in_ok-asked.ensures.words)
+
 pub returns-in-Serial-clause-answers : goal.returns-in-Serial-clause-answers
 returns-in-Serial-clause-answers g c =
     let taken = g.W.Sink.taken in
@@ -43,7 +66,7 @@ returns-in-Serial-clause-answers g c =
     let Is : Asked → Type 0 = λ a. IsAsked a in
     let are = subst Are c.in-Serial.is c.in_ok-asked.ensures.words in
     let asked = subst Is c.in-Serial.is c.in_ok-asked.ensures.asked in
-    asked_answered (g.F.Files.may_give c.args.files.now) (g.F.Traces.may_name c.args.files.now) words c.read_named.result (Serial c.in-Serial.trace) (taken c.args.out.now) (taken c.read_named.new.out) are asked c.read_named.ensures.holds
+    asked_answered (g.F.Files.may_give c.args.files.now) (g.F.Traces.may_name c.args.files.now) words c.read_all.result (Serial c.in-Serial.trace) (taken c.args.out.now) (taken c.read_all.new.out) are asked c.read_all.ensures.holds
 
 pub returns-in-Serial-clause-err : goal.returns-in-Serial-clause-err
 returns-in-Serial-clause-err g c =
@@ -53,7 +76,7 @@ returns-in-Serial-clause-err g c =
     let Is : Asked → Type 0 = λ a. IsAsked a in
     let are = subst Are c.in-Serial.is c.in_ok-asked.ensures.words in
     let asked = subst Is c.in-Serial.is c.in_ok-asked.ensures.asked in
-    asked_explained (g.F.Files.may_give c.args.files.now) (g.F.Traces.may_name c.args.files.now) words c.read_named.result (Serial c.in-Serial.trace) (taken c.args.out.now) (taken c.read_named.new.out) are asked c.read_named.ensures.err
+    asked_explained (g.F.Files.may_give c.args.files.now) (g.F.Traces.may_name c.args.files.now) words c.read_all.result (Serial c.in-Serial.trace) (taken c.args.out.now) (taken c.read_all.new.out) are asked c.read_all.ensures.err
 
 pub returns-in-Serial-clause-unknown : goal.returns-in-Serial-clause-unknown
 returns-in-Serial-clause-unknown g c unknown = absurd (unknown c.in_ok-asked.asked c.in_ok-asked.ensures.asked c.in_ok-asked.ensures.words)
@@ -66,7 +89,7 @@ returns-in-SomeOrder-clause-answers g c =
     let Is : Asked → Type 0 = λ a. IsAsked a in
     let are = subst Are c.in-SomeOrder.is c.in_ok-asked.ensures.words in
     let asked = subst Is c.in-SomeOrder.is c.in_ok-asked.ensures.asked in
-    asked_answered (g.F.Files.may_give c.args.files.now) (g.F.Traces.may_name c.args.files.now) words c.read_named-in-SomeOrder.result (SomeOrder c.in-SomeOrder.trace) (taken c.args.out.now) (taken c.read_named-in-SomeOrder.new.out) are asked c.read_named-in-SomeOrder.ensures.holds
+    asked_answered (g.F.Files.may_give c.args.files.now) (g.F.Traces.may_name c.args.files.now) words c.read_all-in-SomeOrder.result (SomeOrder c.in-SomeOrder.trace) (taken c.args.out.now) (taken c.read_all-in-SomeOrder.new.out) are asked c.read_all-in-SomeOrder.ensures.holds
 
 pub returns-in-SomeOrder-clause-err : goal.returns-in-SomeOrder-clause-err
 returns-in-SomeOrder-clause-err g c =
@@ -76,7 +99,7 @@ returns-in-SomeOrder-clause-err g c =
     let Is : Asked → Type 0 = λ a. IsAsked a in
     let are = subst Are c.in-SomeOrder.is c.in_ok-asked.ensures.words in
     let asked = subst Is c.in-SomeOrder.is c.in_ok-asked.ensures.asked in
-    asked_explained (g.F.Files.may_give c.args.files.now) (g.F.Traces.may_name c.args.files.now) words c.read_named-in-SomeOrder.result (SomeOrder c.in-SomeOrder.trace) (taken c.args.out.now) (taken c.read_named-in-SomeOrder.new.out) are asked c.read_named-in-SomeOrder.ensures.err
+    asked_explained (g.F.Files.may_give c.args.files.now) (g.F.Traces.may_name c.args.files.now) words c.read_all-in-SomeOrder.result (SomeOrder c.in-SomeOrder.trace) (taken c.args.out.now) (taken c.read_all-in-SomeOrder.new.out) are asked c.read_all-in-SomeOrder.ensures.err
 
 pub returns-in-SomeOrder-clause-unknown : goal.returns-in-SomeOrder-clause-unknown
 returns-in-SomeOrder-clause-unknown g c unknown = absurd (unknown c.in_ok-asked.asked c.in_ok-asked.ensures.asked c.in_ok-asked.ensures.words)

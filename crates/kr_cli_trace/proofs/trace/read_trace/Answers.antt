@@ -59,7 +59,7 @@ returns-in-Ok-None-clause-through g c =
     let end = rw c.in-Ok-None.field-0-is at c.in-Ok-None.ensures.end in
     let given : g.L.Lines.may_give c.args.lines.now front = subst (g.L.Lines.may_give c.args.lines.now) (append-nil front) (rd.1.1.0 [] end) in
     read_through g.A.Part.Part.stands_for g.A.Part.Part.asked (g.A.Asks.is_printed c.args.asks.now) (g.L.Lines.may_give c.args.lines.now) c.args.word.now front (taken c.args.out.now) (taken c.loop-number.out)
-    at.ended at.is_well at.lines at.part rd.1.1.1 (taken c.end_part.new.out) c.end_part.new.reading.is_well given
+    at.ended at.is_well at.lines at.part rd.1.1.1 (taken c.end_part.new.out) c.end_part.new.reading.ended c.end_part.new.reading.is_well given (c.in_ok-end_part-in-Ok-None.ensures.ended said rd.1.1.1.in_progress)
     (c.in_ok-end_part-in-Ok-None.ensures.written said rd.1.1.1.in_progress (commits_once front rd.1.1.1.faultless))
 
 pub returns-in-Err-clause-err : goal.returns-in-Err-clause-err

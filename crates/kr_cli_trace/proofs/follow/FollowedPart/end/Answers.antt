@@ -1,10 +1,9 @@
-use Rattle.std.specs.Prelude.{◌≡◌, ◌↔◌, IsTrue, Option, None, map, string_bytes}
+use Rattle.std.specs.Prelude.{◌≡◌, ◌↔◌, ◌++◌, ◌∷◌, [], ℕ, List, IsTrue, Option, None, map, string_bytes}
 use Rattle.std.proofs.Common.{ap, ◌∙◌, subst}
 use Rattle.kr_trace_observed.specs.declared.deviation.Deviation.{Deviation}
 use Rattle.kr_cli_trace.specs.Printed.{IsSerialVerdict, deviation_in, queued_in}
 use Rattle.kr_cli_trace.specs.Tales.{committed_in}
-use Rattle.kr_cli_trace.proofs.FollowLaws.{not_well_if_some, same_text, well_if_none}
-use Rattle.kr_cli_trace.proofs.follow.FollowedPart.end.Goals.{then-is_none, else-is_none}
+use Rattle.kr_cli_trace.proofs.FollowLaws.{same_text}
 use Rattle.kr_cli_trace.proofs.follow.FollowedPart.end.Goals as goal
 
 pub returns : goal.returns
@@ -13,18 +12,14 @@ returns g c s h _ =
     let v = c.verdict_of-verdict.result in
     let found : c.args.self.found ≡ deviation_in p s = h.deviates ∙ ap (λ z. z.found) h.followed ∙ c.lines_are_followed.ensures.found p s.opening s.steps in
     let queued : c.queued.result ≡ queued_in p s = c.queued.ensures ∙ ap (λ z. let at = z.at in at.queued) h.followed in
-    let texts : map string_bytes c.as_slice.result.now ≡ s.tests = ap (map string_bytes) c.as_slice.ensures.value ∙ h.texts in
-    let well : IsTrue c.if-is_none.result ↔ ((c.args.self.found ≡ None) × IsSerialVerdict v) =
-    elim c.if-is_none.branch [
-      | then-is_none w ↦ well_if_none c.args.self.found v c.is_none.result c.if-is_none.result w.is_serial.result c.is_none.ensures w.if-is_none.true w.is_serial.ensures w.result-is
-      | else-is_none w ↦ not_well_if_some c.args.self.found v c.is_none.result c.if-is_none.result c.is_none.ensures w.if-is_none.false (w.result-is ∙ w.if-is_none.false)
-    ] in (
+    let texts : map string_bytes c.as_slice.result.now ≡ s.tests = ap (map string_bytes) c.as_slice.ensures.value ∙ h.texts in (
       v,
       (
         c.verdict_of-verdict.ensures s.opening (committed_in s.steps) h.judged.first,
         (
-          c.in_ok-line.ensures ∙ same_text (g.P.Protocol.names c.args.self.protocol.now) c.args.part _ (deviation_in p s) c.queued.result (queued_in p s) _ s.tests v (c.as_ref.ensures.value ∙ found) queued texts,
-          subst (λ (d : Option Deviation). IsTrue c.if-is_none.result ↔ ((d ≡ None) × IsSerialVerdict v)) found well,
+          ap (λ (z : List ℕ). z ++ 10 ∷ [])
+              (c.in_ok-line.ensures ∙ same_text (g.P.Protocol.names c.args.self.protocol.now) c.args.part _ (deviation_in p s) c.queued.result (queued_in p s) _ s.tests v (c.as_ref.ensures.value ∙ found) queued texts),
+          subst (λ (d : Option Deviation). IsTrue c.is_well.result ↔ ((d ≡ None) × IsSerialVerdict v)) found c.is_well.ensures,
         ),
       ),
     )

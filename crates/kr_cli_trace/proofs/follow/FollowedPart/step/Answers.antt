@@ -5,7 +5,7 @@ use Rattle.kr_cli_trace.proofs.FollowLaws.{step_followed}
 use Rattle.kr_cli_trace.proofs.follow.FollowedPart.step.Goals as goal
 
 pub returns-clause-step : goal.returns-clause-step
-returns-clause-step g c s h =
+returns-clause-step g c n s h =
     let table = g.P.Protocol.table in
     on_ok_weaker c.take.result
     (λ d. step_followed (table c.args.self.now.protocol.now) (table c.args.self.now.follower.protocol) (table c.line.new.self.protocol) s c.args.number c.args.event c.args.observed

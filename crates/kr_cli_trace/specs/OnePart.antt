@@ -1,0 +1,36 @@
+-- One part of a trace as a text.
+use Rattle.std.specs.Prelude.{◌≡◌, ◌≢◌, ℕ, List, [], ◌∷◌, ◌++◌, Option, Some, None, map}
+use Rattle.kr_model.specs.Protocol.{Protocol}
+use Rattle.kr_model.specs.Map.{Map}
+use Rattle.kr_trace_observed.specs.declared.deviation.Deviation.{Deviation}
+use Rattle.kr_trace_follow.specs.Following.{Following, after_lines, begun}
+use Rattle.kr_trace_follow.specs.Lines.{Line}
+use Rattle.kr_trace_lines.specs.declared.verdict.TraceVerdict.{TraceVerdict}
+use Rattle.kr_trace_text.specs.declared.steps.LoggedStep.{LoggedStep}
+use Rattle.kr_trace_text.specs.Verdicts.{verdict_words}
+use Rattle.kr_trace_text.specs.Whole.{part_words}
+use Rattle.kr_cli_trace.specs.Parts.{Part}
+
+-- A step of a part as it is written, and the other way round.
+abbrev pub logged : Line → LoggedStep
+logged l = record { number = l.number; event = l.event; observed = l.observed }
+
+abbrev pub line_of : LoggedStep → Line
+line_of s = record { number = s.number; event = s.event; observed = s.observed }
+
+-- What is written of a part with this number, deviation and verdict: its steps, how the first that deviates differs, and the verdict.
+abbrev pub shown_text : List (List ℕ) → ℕ → Part → Option Deviation → TraceVerdict → List ℕ
+shown_text names n s d v = part_words names n s.opening (map logged s.steps) d ++ 10 ∷ (verdict_words v ++ 10 ∷ [])
+
+-- A part with this number is kept where it is the one that is asked for, and only there.
+abbrev pub IsKeptIfAsked : {W : Type 0} → ℕ → Option W → ℕ → Type 0
+IsKeptIfAsked asked None n = n ≢ asked
+IsKeptIfAsked asked (Some w) n = n ≡ asked
+
+-- The steps are kept, and were followed under the table, and the first deviation is known.
+pub record IsWatched (p : Protocol) (s : Part) (own : Protocol) (at : Following) (deviation : Option Deviation) (opening : Map) (steps : List LoggedStep) : Type 0 where
+  pub same : own ≡ p
+  pub followed : at ≡ after_lines p (begun s.opening) s.steps
+  pub deviates : deviation ≡ at.found
+  pub opens : opening ≡ s.opening
+  pub keeps : steps ≡ map logged s.steps

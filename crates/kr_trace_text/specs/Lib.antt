@@ -1,0 +1,5 @@
+pub mod Answered
+pub mod Steps
+pub mod Deviations
+pub mod Verdicts
+pub mod Whole
