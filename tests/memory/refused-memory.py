@@ -10,7 +10,7 @@ each of them
   memory    the k-th growth is refused, and then again with all after it, for k counted up until a run meets no refusal;
             beyond 400 by one in a hundred. Each run ends with the right answer, or with 'kr: out of memory', say, status 2
             and nothing on standard output, or of kr_trace the lines of the parts that had ended; at a fault the help behind
-            its line may be cut
+            its line may be cut, and may stand behind the line on memory
   reads     the k-th read and all after it fail: a file that cannot be read, so told, or the fault that comes before it
   writes    the k-th write to standard output and all after it fail, or take nothing, and one byte moves at a time; standard
             output is full (/dev/full), a closed pipe, or closed. Right where all was taken; else a prefix of the
@@ -53,7 +53,10 @@ def is_unanswered(words, ended, right):
 
 
 def is_out_of_memory(words, ended, right):
-    return is_unanswered(words, ended, right) and ended[2] == fault(words, "out of memory")
+    """Whether a run ended for want of memory, behind which stands at most the help at the fault of an undisturbed one."""
+    line, (_, _, helped) = fault(words, "out of memory"), right[2].partition(b"\n")
+    told, more = ended[2][: len(line)], ended[2][len(line) :]
+    return is_unanswered(words, ended, right) and told == line and helped.startswith(more) and (not more or more.endswith(b"\n"))
 
 
 def is_fault(ended, right):
@@ -88,6 +91,7 @@ def words_of_trace():
     traces = ["examples/phantom.trace", "examples/engines/innodb-repeatable-read.trace"]
     yield from (["@kvl", traces[0]], ["examples/engines/innodb.toml", traces[1]], ["examples/rejected/delete.toml", traces[0]])
     yield from ([word, trace] for word in ["--serial", "--some-order"] for trace in traces)
+    yield from (["@kvl", traces[0], "--tell", "1"], ["examples/engines/innodb.toml", traces[1], "--tell", "7"], ["@kvl", traces[0], "--tell", "2"])
     yield from (["@kvl", "none.trace"], ["none.toml", traces[0]], ["@kvl", "examples/phantom.json"], ["@kvl"])
 
 
