@@ -9,3 +9,4 @@ mod rules;
 pub use checker::{Checked, Rejected, WhyRejected, cases, check};
 pub use holes::{first_open, must_conflict};
 pub use kr_model::{FailedCase, Memory};
+pub use rules::all_covers;

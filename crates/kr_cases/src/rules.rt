@@ -13,8 +13,8 @@ use kr_model::{Cover, FailedCase, Mode, Origin, Row, Rule, Side};
 use kr_protocol::{Protocol, mode_after};
 use std::alloc::AllocError;
 
-/// The covers that a protocol has to serve, in order.
-fn all_covers<P: Protocol>(protocol: &P) -> &'static [Cover]
+/// The covers that a protocol has to serve, in order: that of an update only where it offers updates.
+pub fn all_covers<P: Protocol>(protocol: &P) -> &'static [Cover]
     ensures { result.now ≡ all_covers (P.table protocol.now) }
 {
     if protocol.updates() {

@@ -3,16 +3,32 @@ ghost use Rattle.std.specs.Prelude.{◌≡◌, ℕ, Some, None, OnOk, OnErr, IfO
 ghost use Rattle.std.specs.Ordering.{nat_cmp};
 ghost use Rattle.std.specs.FinMap.{find};
 ghost use Rattle.kr_model.specs.Map.{restore};
-ghost use Rattle.kr_index.specs.Slots.{pairs_of, pins_of, value_in, least, IsInOrder, IsAt, IsGapFor};
+ghost use Rattle.kr_index.specs.Slots.{pairs_of, pins_of, value_in, least, unpinned, IsInOrder, IsAt, IsGapFor};
 
 use crate::Memory;
 use kr_model::Name;
+use std::alloc::Global;
 
 /// What stands at a key that is present or pinned.
 #[derive(Clone, Copy, Debug, PartialEq, Eq)]
 pub struct Slot {
     pub value: Option<u64>,
     pub pins: u32,
+}
+
+/// The entries of the pairs, in their order and without pins. The only error is that a growth was refused.
+pub fn unpinned(alloc: Global, pairs: &[(u64, u64)]) -> Result<Vec<(u64, Slot)>, Memory>
+    ensures { IfOk result (λ entries. entries.items ≡ unpinned pairs.now) }
+{
+    let mut entries = Vec::with_capacity(alloc, pairs.len())?;
+    for &(key, value) in pairs {
+        let slot = Slot {
+            value: Some(value),
+            pins: 0,
+        };
+        entries.push((key, slot))?;
+    }
+    Ok(entries)
 }
 
 /// The place and the slot of a key, or the place where it would go. Found by bisection.

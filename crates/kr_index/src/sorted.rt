@@ -3,7 +3,7 @@ ghost use Rattle.std.specs.Prelude.{◌≡◌, ℕ, [], IfOk};
 ghost use Rattle.kr_model.specs.Map.{IsMap};
 ghost use Rattle.kr_index.specs.Slots.{pairs_of, pins_of, IsInOrder};
 
-use crate::slots::{Slot, add, first_present, remove, search, write};
+use crate::slots::{Slot, add, first_present, remove, search, unpinned, write};
 use crate::{Memory, Ordered};
 use kr_model::{Name, Pairs};
 use std::alloc::{AllocError, Global};
@@ -38,14 +38,7 @@ impl Sorted {
         ensures map { IfOk result (λ index. ⟦<Sorted as Ordered>⟧.map index ≡ pairs.now) }
         ensures pins { IfOk result (λ index. (q : ℕ) → ⟦<Sorted as Ordered>⟧.pins index q ≡ 0) }
     {
-        let mut entries = Vec::with_capacity(alloc, pairs.len())?;
-        for &(key, value) in pairs {
-            let slot = Slot {
-                value: Some(value),
-                pins: 0,
-            };
-            entries.push((key, slot))?;
-        }
+        let entries = unpinned(alloc, pairs)?;
         Ok(Sorted { entries })
     }
 }

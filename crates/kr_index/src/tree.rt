@@ -7,7 +7,7 @@ ghost use Rattle.kr_index.specs.Slots.{pairs_of, pins_of, value_in, IsInOrder};
 ghost use Rattle.kr_index.specs.Stretches.{IsRising, AreMarked};
 
 use crate::firsts::{pair_from, value_at};
-use crate::slots::Slot;
+use crate::slots::{Slot, unpinned};
 use crate::stretches::{Stretch, cut, enter, grow, join, leave, shrink, tally};
 use crate::values::replace;
 use crate::walks::{first_past, is_past_all, make_room, name_at, settle};
@@ -179,14 +179,7 @@ impl Tree {
         ensures map { IfOk result (λ index. ⟦<Tree as Ordered>⟧.map index ≡ pairs.now) }
         ensures pins { IfOk result (λ index. (q : ℕ) → ⟦<Tree as Ordered>⟧.pins index q ≡ 0) }
     {
-        let mut entries = Vec::with_capacity(alloc, pairs.len())?;
-        for &(key, value) in pairs {
-            let slot = Slot {
-                value: Some(value),
-                pins: 0,
-            };
-            entries.push((key, slot))?;
-        }
+        let entries = unpinned(alloc, pairs)?;
         let stretches = stretches_of(alloc, pairs)?;
         let slots = tree_of(alloc, entries)?;
         Ok(Tree { slots, stretches })

@@ -30,4 +30,6 @@ pub mod Numbers
 pub mod Retained
 pub mod SortedSearch
 pub mod RisingNumbers
+pub mod RisingKeys
+pub mod Bisection
 pub mod Trees

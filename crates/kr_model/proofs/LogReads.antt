@@ -34,7 +34,7 @@ ReadsAs t h os true =
 pub append_entry : (h : List Entry) (x : Entry) (f : List Entry) → (h ++ x ∷ []) ++ f ≡ h ++ x ∷ f
 append_entry h x f = append_assoc h (x ∷ []) f
 
-append_one : (p : List Answered) (x : Answered) (r : List Answered) → p ++ x ∷ r ≡ (p ++ x ∷ []) ++ r
+pub append_one : (p : List Answered) (x : Answered) (r : List Answered) → p ++ x ∷ r ≡ (p ++ x ∷ []) ++ r
 append_one p x r = sym (append_assoc p (x ∷ []) r)
 
 -- An entry that adds nothing to the operations of t.
@@ -112,7 +112,7 @@ reads_silent t h x os false s r = λ f. ap (operations_of t) (append_entry h x f
 reads_silent t h x os true s (q, lo, hi, a, e, r) =
     (q, lo, hi, a, e, λ f. ap (operations_of t) (append_entry h x f) ∙ r (x ∷ f) ∙ ap₂ (λ b z. q ++ (op.Scan lo hi, b) ∷ z) ((s f).1 a) (s f).0)
 
-own_entry : (t : ℕ) (o : Op) (a : Reply) (f : List Entry) → (is_operation o && is_granted a) ≡ true → operations_of t ((event t o, a) ∷ f) ≡ (o, answer_of t o a f) ∷ operations_of t f
+pub own_entry : (t : ℕ) (o : Op) (a : Reply) (f : List Entry) → (is_operation o && is_granted a) ≡ true → operations_of t ((event t o, a) ∷ f) ≡ (o, answer_of t o a f) ∷ operations_of t f
 own_entry t o a f d = ap₂ (λ b c. cond {A = List Answered} (b && c) ((o, answer_of t o a f) ∷ operations_of t f) (operations_of t f)) (tied t) d
 
 -- An operation has its answer at once.

@@ -1,5 +1,5 @@
 -- The index as a finite map from keys to values, and what its changes were.
-use Rattle.std.specs.Prelude.{ℕ, suc, reverse, not, ◌&&◌, ◌==◌, nat_le, IsTrue, List, [], ◌∷◌, Option, Some, None, filter, if◌then◌else◌}
+use Rattle.std.specs.Prelude.{ℕ, suc, reverse, not, Bool, true, ◌&&◌, ◌==◌, nat_le, nat_lt, IsTrue, List, [], ◌∷◌, Option, Some, None, filter, if◌then◌else◌}
 use Rattle.std.specs.Ordering.{nat_cmp}
 use Rattle.std.specs.FinMap.{find, put, is_sorted}
 use Rattle.kr_model.specs.declared.Name.{Name}
@@ -12,6 +12,16 @@ Map = List (ℕ × ℕ)
 -- The keys rise, so each has one value.
 abbrev pub IsMap : Map → Type 0
 IsMap m = IsTrue (is_sorted nat_cmp m)
+
+-- Whether a key is above the one before it, if there is one.
+abbrev pub is_above : ℕ → Option ℕ → Bool
+is_above k None = true
+is_above k (Some before) = nat_lt before k
+
+-- Whether keys rise, each above the one before it.
+abbrev pub is_rising : Option ℕ → Map → Bool
+is_rising before [] = true
+is_rising before (p ∷ ps) = is_above p.0 before && is_rising (Some p.0) ps
 
 -- The value of a key, or nothing where the key is absent.
 abbrev pub get : Map → ℕ → Option ℕ

@@ -1,5 +1,5 @@
 -- A document that is read token by token, and what it reads as.
-use Rattle.std.proofs.Common.{◌≡◌, ℕ, ◌+◌, ◌-◌, ◌<◌, ◌≤◌, ◌&&◌, List, [], ◌∷◌, ◌++◌, map, length, codes, Bool, true, false, nat_lt, Option, Some, None, Ok, IfSome, ◌==◌, ◌^◌, slice_index, lt-ltb, refl, sym, ap, subst, ◌∙◌, arith}
+use Rattle.std.proofs.Common.{◌≡◌, ℕ, ◌+◌, ◌-◌, ◌<◌, ◌≤◌, List, [], ◌∷◌, ◌++◌, map, length, codes, Bool, true, false, nat_lt, Option, Some, None, Ok, IfSome, ◌==◌, ◌^◌, slice_index, lt-ltb, refl, sym, ap, subst, ◌∙◌, arith}
 use Rattle.std.proofs.lemmas.Bool.Decides.{nat_tests}
 use Rattle.std.proofs.lemmas.Bool.{and_parts}
 use Rattle.std.specs.Prelude.{IsUtf8}
@@ -19,13 +19,13 @@ use Rattle.serde_json.proofs.OnLiterals.{serde_json_on_literals}
 use Rattle.kr_model.specs.declared.Op.{Op}
 use Rattle.kr_model.specs.declared.Op.TheVariants.{Fetch, Scan, Go, Insert, Delete, Update, Commit, Abort, Back}
 use Rattle.kr_model.specs.declared.Event.{Event}
-use Rattle.kr_model.specs.Map.{Map}
+use Rattle.kr_model.specs.Map.{Map, is_above, is_rising}
 use Rattle.kr_script.specs.Json.{whole}
 use Rattle.kr_script.specs.Line.{document_of, format_number}
 use Rattle.kr_script.specs.Pairs.{pair_data, pairs_data}
 use Rattle.kr_script.specs.Script.{Script}
 use Rattle.kr_script.specs.Steps.{event_of, step_of, items_of_op}
-use Rattle.kr_script.specs.Faults.{format_faults, is_two, is_above, opening_faults, step_faults}
+use Rattle.kr_script.specs.Faults.{format_faults, is_two, opening_faults, step_faults}
 use Rattle.kr_script.specs.Reading.{pairs_of, events_of, document, reading_of}
 use Rattle.kr_script.specs.Tokens.{IsNext, AreNext, word_of, behind_word}
 
@@ -105,20 +105,15 @@ array_next depth a b r ds some h e =
 
 -- Pairs --
 
--- keys that rise, from above the one before them
-abbrev pub rises : Option ℕ → Map → Bool
-rises before [] = true
-rises before (p ∷ ps) = is_above p.0 before && rises (Some p.0) ps
-
 -- the key before what comes next
 abbrev pub last_key : Option ℕ → Map → Option ℕ
 last_key before [] = before
 last_key before (p ∷ ps) = last_key (Some p.0) ps
 
-pub rises_further : (before : Option ℕ) (ps : Map) (p : ℕ × ℕ) → rises before ps ≡ true → is_above p.0 (last_key before ps) ≡ true → rises before (ps ++ p ∷ []) ≡ true
+pub rises_further : (before : Option ℕ) (ps : Map) (p : ℕ × ℕ) → is_rising before ps ≡ true → is_above p.0 (last_key before ps) ≡ true → is_rising before (ps ++ p ∷ []) ≡ true
 rises_further before [] p h k = rw k refl
 rises_further before (q ∷ ps) p h k =
-    let parts = and_parts (is_above q.0 before) (rises (Some q.0) ps) h in
+    let parts = and_parts (is_above q.0 before) (is_rising (Some q.0) ps) h in
     rw (parts.0, rises_further (Some q.0) ps p parts.1 k) refl
 
 pub last_of_more : (before : Option ℕ) (ps : Map) (p : ℕ × ℕ) → last_key before (ps ++ p ∷ []) ≡ Some p.0
@@ -126,10 +121,10 @@ last_of_more before [] p = refl
 last_of_more before (q ∷ ps) p = last_of_more (Some q.0) ps p
 
 -- pairs whose keys rise have no fault
-pub no_opening_fault : (i : ℕ) (before : Option ℕ) (ps : Map) → rises before ps ≡ true → opening_faults i before (items_of (map pair_data ps)) ≡ []
+pub no_opening_fault : (i : ℕ) (before : Option ℕ) (ps : Map) → is_rising before ps ≡ true → opening_faults i before (items_of (map pair_data ps)) ≡ []
 no_opening_fault i before [] h = refl
 no_opening_fault i before (p ∷ ps) h =
-    let parts = and_parts (is_above p.0 before) (rises (Some p.0) ps) h in
+    let parts = and_parts (is_above p.0 before) (is_rising (Some p.0) ps) h in
     rw (parts.0, no_opening_fault (i + 1) (Some p.0) ps parts.1) refl
 
 -- pairs read back

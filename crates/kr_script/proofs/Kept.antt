@@ -1,22 +1,14 @@
 -- A document with no faults has rising keys and few elements.
-use Rattle.std.proofs.Common.{◌≡◌, ℕ, ◌+◌, ◌<◌, ◌≤◌, ◌&&◌, List, [], ◌∷◌, ◌++◌, length, Bool, true, false, nat_lt, Option, Some, None, refl, arith, option_map}
-use Rattle.std.specs.Ordering.{nat_cmp, is_lt}
-use Rattle.std.specs.FinMap.{is_sorted}
-use Rattle.std.specs.FinMap.Entries.{below_all}
-use Rattle.std.proofs.lemmas.Bool.{and_parts}
+use Rattle.std.proofs.Common.{◌≡◌, ℕ, ◌+◌, ◌≤◌, List, [], ◌++◌, length, Bool, true, false, nat_lt, Option, Some, None, refl, arith, option_map}
 use Rattle.std.proofs.lemmas.Bool.Decides.{nat_tests}
 use Rattle.serde_json.specs.Data.{Items, no_items, item}
 use Rattle.serde_json.specs.Events.{items_len}
-use Rattle.kr_model.specs.Map.{Map, IsMap}
+use Rattle.kr_model.specs.Map.{IsMap, is_above, is_rising}
 use Rattle.kr_script.specs.Steps.{event_of}
 use Rattle.kr_model.specs.Firsts.{unless}
-use Rattle.kr_script.specs.Faults.{Fault, opening, is_above, pair_of, pair_faults, opening_faults}
+use Rattle.kr_model.proofs.RisingKeys.{sorted_rising}
+use Rattle.kr_script.specs.Faults.{Fault, opening, pair_of, pair_faults, opening_faults}
 use Rattle.kr_script.specs.Reading.{with_some, pairs_of, events_of}
-
--- the keys rise strictly, from above the one before them
-abbrev is_rising : Option ℕ → Map → Bool
-is_rising before [] = true
-is_rising before (p ∷ ps) = is_above p.0 before && is_rising (Some p.0) ps
 
 -- no fault before the rest, and none in it
 none_left : (b : Bool) (f : Fault) (fs : List Fault) → unless b f ++ fs ≡ [] → (b ≡ true) × (fs ≡ [])
@@ -34,27 +26,6 @@ rising_step i before (Some p) ds more h =
 rising_from : (i : ℕ) (before : Option ℕ) (ds : Items) → opening_faults i before ds ≡ [] → is_rising before (pairs_of ds) ≡ true
 rising_from i before no_items h = refl
 rising_from i before (item d ds) h = rising_step i before (pair_of d) ds (λ next. rising_from (i + 1) next ds) h
-
-less : (a b : ℕ) → a < b → is_lt (nat_cmp a b) ≡ true
-less a b h =
-    let e : nat_lt a b ≡ true = grind (arith, nat_tests) in
-    rw e
-
--- keys that rise from above x are all above what is at most x
-below_rising : (k x : ℕ) (ps : Map) → k ≤ x → is_rising (Some x) ps ≡ true → below_all nat_cmp k ps ≡ true
-below_rising k x [] le h = refl
-below_rising k x (p ∷ ps) le h =
-    let parts = and_parts (nat_lt x p.0) (is_rising (Some p.0) ps) h in
-    let lt : k < p.0 = grind (arith, nat_tests, parts.0) in
-    let further : k ≤ p.0 = omega arith in
-    rw (less k p.0 lt, below_rising k p.0 ps further parts.1)
-
-sorted_rising : (before : Option ℕ) (ps : Map) → is_rising before ps ≡ true → is_sorted nat_cmp ps ≡ true
-sorted_rising before [] h = refl
-sorted_rising before (p ∷ ps) h =
-    let parts = and_parts (is_above p.0 before) (is_rising (Some p.0) ps) h in
-    let same : p.0 ≤ p.0 = omega arith in
-    rw (below_rising p.0 p.0 ps same parts.1, sorted_rising (Some p.0) ps parts.1)
 
 -- the pairs of an opening with no faults are an index
 pub rising : (ds : Items) → opening_faults 0 None ds ≡ [] → IsMap (pairs_of ds)

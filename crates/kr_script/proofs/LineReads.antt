@@ -27,14 +27,14 @@ use Rattle.serde_json.proofs.Texts.{print-outline}
 use Rattle.kr_model.specs.declared.Op.{Op}
 use Rattle.kr_model.specs.declared.Op.TheVariants.{Fetch, Scan, Go, Insert, Delete, Update, Commit, Abort, Back}
 use Rattle.kr_model.specs.declared.Event.{Event}
-use Rattle.kr_model.specs.Map.{Map}
+use Rattle.kr_model.specs.Map.{Map, is_rising}
 use Rattle.kr_script.specs.Json.{whole}
 use Rattle.kr_script.specs.Line.{needs_two, format_number, steps_data, document_of, line_text, PairFits, OpFits, EventFits}
 use Rattle.kr_script.specs.Pairs.{pair_data, pairs_data}
 use Rattle.kr_script.specs.Reading.{reading}
 use Rattle.kr_script.specs.Script.{IsScript}
 use Rattle.kr_script.specs.Steps.{is_later, items_of_op, step_of}
-use Rattle.kr_script.proofs.Documents.{ReadBack, rises, no_opening_fault, three_put, document_reads}
+use Rattle.kr_script.proofs.Documents.{ReadBack, no_opening_fault, three_put, document_reads}
 use Rattle.kr_script.proofs.Written.{reads_back}
 
 -- Values whose texts read back --
@@ -202,14 +202,14 @@ above a b h = above_by (nat_lt a b) a b refl h
     above_by true a b e h = e
     above_by false a b e h = grind (arith, nat_tests)
 
-rises_from : (x : ℕ) (ps : Map) → below_all nat_cmp x ps ≡ true → is_sorted nat_cmp ps ≡ true → rises (Some x) ps ≡ true
+rises_from : (x : ℕ) (ps : Map) → below_all nat_cmp x ps ≡ true → is_sorted nat_cmp ps ≡ true → is_rising (Some x) ps ≡ true
 rises_from x [] h k = refl
 rises_from x (p ∷ ps) h k =
     let first = and_parts (is_lt (nat_cmp x p.0)) (below_all nat_cmp x ps) h in
     let rest = and_parts (below_all nat_cmp p.0 ps) (is_sorted nat_cmp ps) k in
     rw (above x p.0 first.0, rises_from p.0 ps rest.0 rest.1) refl
 
-map_rises : (ps : Map) → is_sorted nat_cmp ps ≡ true → rises None ps ≡ true
+map_rises : (ps : Map) → is_sorted nat_cmp ps ≡ true → is_rising None ps ≡ true
 map_rises [] h = refl
 map_rises (p ∷ ps) h = let parts = and_parts (below_all nat_cmp p.0 ps) (is_sorted nat_cmp ps) h in rises_from p.0 ps parts.0 parts.1
 

@@ -1,10 +1,11 @@
 -- The faults of a document, in the order in which they are told.
-use Rattle.std.specs.Prelude.{ℕ, ◌+◌, ◌||◌, ◌==◌, codes, List, [], ◌∷◌, ◌++◌, Bool, true, false, nat_lt, bytes_eq, if◌then◌else◌, Option, Some, None, is_some, option_map, option_and_then, Result, string_bytes}
+use Rattle.std.specs.Prelude.{ℕ, ◌+◌, ◌||◌, ◌==◌, codes, List, [], ◌∷◌, ◌++◌, Bool, false, nat_lt, bytes_eq, if◌then◌else◌, Option, Some, None, is_some, option_map, option_and_then, Result, string_bytes}
 use Rattle.serde_json.specs.Data.{Data, Items, no_items, item, Members, no_members, member}
 use Rattle.serde_json.specs.Find.{as_object}
 use Rattle.serde_json.specs.Events.{items_len}
 use Rattle.kr_model.specs.Firsts as firsts
 use Rattle.kr_model.specs.Firsts.{unless}
+use Rattle.kr_model.specs.Map.{is_above}
 use Rattle.kr_script.specs.declared.faults.ScriptFault.{ScriptFault}
 use Rattle.kr_script.specs.declared.faults.ScriptFault.TheVariants as told_as
 use Rattle.kr_script.specs.Json.{length_of, number_at, both, number_in, list_in, items_in, members_in}
@@ -99,11 +100,6 @@ size_faults name d = unless (nat_lt (items_len (items_in name d)) 100001) (too_m
 -- A key and a value, where an array has just these two.
 abbrev pub pair_of : Data → Option (ℕ × ℕ)
 pair_of d = option_and_then (λ len. if len == 2 then both (number_at 0 d) (number_at 1 d) else None) (length_of d)
-
--- Whether the key is above the one before it, if there is one.
-abbrev pub is_above : ℕ → Option ℕ → Bool
-is_above k None = true
-is_above k (Some before) = nat_lt before k
 
 -- The faults of the element at an index of `opening`, read as a pair, and of the key before it.
 abbrev pub pair_faults : ℕ → Option ℕ → Option (ℕ × ℕ) → List Fault

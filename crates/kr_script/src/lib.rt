@@ -13,7 +13,7 @@ mod steps;
 mod writing;
 
 pub use faults::ScriptFault;
-pub use line::write_script;
+pub use line::{lemma_event_fits, lemma_pairs_fit, write_script};
 pub use parts::{length_of, number_at, word_at};
 pub use reading::{MAX_ELEMENTS, pair_of, pairs_of, read_script};
 pub use replies::{quoted, write_name, write_numbers, write_reply, write_with_numbers};

@@ -45,7 +45,8 @@ fn lemma_op_fits(op: Op)
     }
 }
 
-fn lemma_event_fits(event: Event)
+/// Says of a step that its numbers fit their types.
+pub fn lemma_event_fits(event: Event)
     ensures { EventFits event }
 {
     let _txn = event.txn;
@@ -53,7 +54,7 @@ fn lemma_event_fits(event: Event)
 }
 
 /// Says of each pair that its numbers fit their type.
-fn lemma_pairs_fit(pairs: &[(u64, u64)])
+pub fn lemma_pairs_fit(pairs: &[(u64, u64)])
     ensures { All PairFits pairs.now }
 {
     for pair in pairs {

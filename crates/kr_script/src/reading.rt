@@ -3,6 +3,7 @@ ghost use Rattle.std.specs.Prelude.{◌≡◌, ◌<◌, ◌≤◌, ◌∷◌, Er
 ghost use Rattle.serde_json.specs.Events.{items_len};
 ghost use Rattle.serde_json.specs.View.{view, items_view, members_view};
 ghost use Rattle.kr_model.specs.Firsts.{unless};
+ghost use Rattle.kr_model.specs.Map.{is_above};
 ghost use Rattle.kr_script.specs.declared.faults.ScriptFault.TheVariants as told_as;
 ghost use Rattle.kr_script.specs.Json.{number_in, list_in};
 ghost use Rattle.kr_script.specs.Faults as fault;
@@ -104,7 +105,7 @@ pub fn pair_of(value: &Value) -> Option<(u64, u64)>
 }
 
 pub fn is_above(key: u64, before: Option<u64>) -> bool
-    ensures { result ≡ fault.is_above key before }
+    ensures { result ≡ is_above key before }
 {
     match before {
         None => true,

@@ -18,5 +18,5 @@ pub use line_writing::write_line;
 pub use observed_writing::write_observed;
 pub use parts::PartLines;
 pub use reading::read_line;
-pub use report::{write_judged, write_part};
+pub use report::{write_judged, write_part, write_texts};
 pub use verdict::TraceVerdict;

@@ -1,39 +1,15 @@
 //! The line of a step with its reply.
 ghost use Rattle.std.specs.Prelude.{◌≡◌, ◌<◌, ◌^◌, ◌++◌, All, IfOk, Ok, OnOk, string_bytes, true};
 ghost use Rattle.serde_json.specs.Written.{compact_text};
-ghost use Rattle.kr_script.specs.Line.{EventFits, OpFits, PairFits};
 ghost use Rattle.kr_trace_lines.specs.Lines.{step};
 ghost use Rattle.kr_trace_lines.specs.Reading.{reading_line};
 ghost use Rattle.kr_trace_lines.specs.Steps.{ObservedFits, ToldFits, TxnFits, can_have, step_data, step_text};
 
 use crate::observed_writing::write_observed;
-use kr_model::{Event, Op, Txn};
-use kr_script::write_step;
+use kr_model::{Event, Txn};
+use kr_script::{lemma_event_fits, lemma_pairs_fit, write_step};
 use kr_trace_observed::Observed;
 use std::alloc::{AllocError, Global};
-
-fn lemma_op_fits(op: Op)
-    ensures { OpFits op }
-{
-    match op {
-        Op::Fetch(_key) | Op::Delete(_key) => {}
-        Op::Scan(_key, _value) | Op::Insert(_key, _value) | Op::Update(_key, _value) => {}
-        Op::Go | Op::Commit | Op::Abort | Op::Back => {}
-    }
-}
-
-fn lemma_event_fits(event: Event)
-    ensures { EventFits event }
-{
-    let _txn = event.txn;
-    lemma_op_fits(event.op);
-}
-
-fn lemma_pair_fits(pair: (u64, u64))
-    ensures { PairFits pair }
-{
-    let (_key, _value) = pair;
-}
 
 fn lemma_txn_fits(txn: Txn)
     ensures { TxnFits txn }
@@ -53,15 +29,6 @@ fn lemma_told_fits(told: Option<u64>)
     match told {
         Some(_number) => {}
         None => {}
-    }
-}
-
-/// Says of each pair that its numbers fit their type.
-fn lemma_pairs_fit(pairs: &[(u64, u64)])
-    ensures { All PairFits pairs.now }
-{
-    for pair in pairs {
-        lemma_pair_fits(*pair);
     }
 }
 

@@ -17,8 +17,8 @@ use kr_script::{quoted, separator, write_number, write_reply, write_with_numbers
 use kr_trace_observed::{Deviation, Observed};
 use std::alloc::{AllocError, Global};
 
-/// Writes an array of texts.
-fn write_texts(alloc: Global, out: &mut String, texts: &[String]) -> Result<(), AllocError>
+/// Writes an array of texts behind what the text has. At `Err` memory ran out, and the text may have a part of it.
+pub fn write_texts(alloc: Global, out: &mut String, texts: &[String]) -> Result<(), AllocError>
     ensures { OnOk result (string_bytes out.new ≡ string_bytes out.old
         ++ compact_text (array (items_of (map string (map string_bytes texts.now))))) }
 {

@@ -13,7 +13,8 @@ use Rattle.kr_model.proofs.Actives.{any_add_once}
 use Rattle.kr_model.proofs.Numbers.{Above, Rising, AreBelow, add_once_end, add_once_insert, increasing_add}
 use Rattle.kr_model.proofs.RisingNumbers.{has, same_rising}
 use Rattle.kr_txn.specs.EndedNumbers.{union, AreApart, AreEnded}
-use Rattle.kr_txn.proofs.EndedLaws.{any_at, rise_between}
+use Rattle.kr_model.proofs.Bisection.{rise_between}
+use Rattle.kr_txn.proofs.EndedLaws.{any_at}
 
 or_assoc : (a b c : Bool) → (a || (b || c)) ≡ ((a || b) || c)
 or_assoc true b c = refl

@@ -242,14 +242,14 @@ module _ (p : Protocol) (laws : IsLawful p) (safe : IsSafe p) (opening : Map) (h
     fetch_decided : (k : ℕ) (v : Option ℕ) (bs : List ℕ) → get s.map k ≡ v
         → blockers p s.locks t (requests_of p s.locks t (if is_some v then access row.FetchHit (Some (Key k)) None else access row.FetchMiss None (Some (at s.map k)))) ≡ bs
         → KnownAfter p opening h t (op.Fetch k) (granted_or_blocked p s t (requests_of p s.locks t (if is_some v then access row.FetchHit (Some (Key k)) None else access row.FetchMiss None (Some (at s.map k)))) (fetched s.map (standing s t) v) bs)
-    fetch_decided k v (u ∷ us) e b = stays p opening h s t (op.Fetch k) (reply.Blocked (u ∷ us)) g refl refl refl
+    fetch_decided k v (u ∷ us) e b = stays p opening h s t (op.Fetch k) (reply.Blocked (u ∷ us)) g refl refl
     fetch_decided k (Some w) [] e b = hit (op.Fetch k) (reply.Found w) k w e refl (sym (ap found_or_none e)) (λ q z. z) refl (λ f. refl) refl b
     fetch_decided k None [] e b = miss (op.Fetch k) reply.None k e refl (sym (ap found_or_none e)) (λ q z. z) refl (λ f. refl) refl b
 
     insert_decided : (k v : ℕ) (w : Option ℕ) (bs : List ℕ) → get s.map k ≡ w
         → blockers p s.locks t (requests_of p s.locks t (if is_some w then access row.FetchHit (Some (Key k)) None else access row.Insert (Some (Key k)) (Some (at s.map k)))) ≡ bs
         → KnownAfter p opening h t (op.Insert k v) (granted_or_blocked p s t (requests_of p s.locks t (if is_some w then access row.FetchHit (Some (Key k)) None else access row.Insert (Some (Key k)) (Some (at s.map k)))) (inserted s.map (standing s t) k v w) bs)
-    insert_decided k v w (u ∷ us) e b = stays p opening h s t (op.Insert k v) (reply.Blocked (u ∷ us)) g refl refl refl
+    insert_decided k v w (u ∷ us) e b = stays p opening h s t (op.Insert k v) (reply.Blocked (u ∷ us)) g refl refl
     insert_decided k v (Some w) [] e b =
         hit (op.Insert k v) reply.Duplicate k w e (ap (λ o. (whole_insert s.map k v o).1) e) (sym (ap (λ o. (whole_insert s.map k v o).0) e)) (λ q z. z) refl (λ f. refl) refl b
     insert_decided k v None [] e b = new_key k v e b
@@ -257,7 +257,7 @@ module _ (p : Protocol) (laws : IsLawful p) (safe : IsSafe p) (opening : Map) (h
     delete_decided : (k : ℕ) (w : Option ℕ) (bs : List ℕ) → get s.map k ≡ w
         → blockers p s.locks t (requests_of p s.locks t (if is_some w then access row.Delete (Some (Key k)) (Some (after s.map k)) else access row.FetchMiss None (Some (at s.map k)))) ≡ bs
         → KnownAfter p opening h t (op.Delete k) (granted_or_blocked p s t (requests_of p s.locks t (if is_some w then access row.Delete (Some (Key k)) (Some (after s.map k)) else access row.FetchMiss None (Some (at s.map k)))) (deleted s.map (standing s t) k w) bs)
-    delete_decided k w (u ∷ us) e b = stays p opening h s t (op.Delete k) (reply.Blocked (u ∷ us)) g refl refl refl
+    delete_decided k w (u ∷ us) e b = stays p opening h s t (op.Delete k) (reply.Blocked (u ∷ us)) g refl refl
     delete_decided k (Some w) [] e b = gone_key k w e b
     delete_decided k None [] e b =
         miss (op.Delete k) reply.Absent k e (ap (λ o. (whole_delete s.map k o).1) e) (sym (ap (λ o. (whole_delete s.map k o).0) e)) (λ q z. z) refl (λ f. refl) refl b
@@ -265,7 +265,7 @@ module _ (p : Protocol) (laws : IsLawful p) (safe : IsSafe p) (opening : Map) (h
     update_decided : (k v : ℕ) (w : Option ℕ) (bs : List ℕ) → p.updates ≡ true → get s.map k ≡ w
         → blockers p s.locks t (requests_of p s.locks t (if is_some w then access row.Update (Some (Key k)) None else access row.FetchMiss None (Some (at s.map k)))) ≡ bs
         → KnownAfter p opening h t (op.Update k v) (granted_or_blocked p s t (requests_of p s.locks t (if is_some w then access row.Update (Some (Key k)) None else access row.FetchMiss None (Some (at s.map k)))) (updated s.map (standing s t) k v w) bs)
-    update_decided k v w (u ∷ us) up e b = stays p opening h s t (op.Update k v) (reply.Blocked (u ∷ us)) g refl refl refl
+    update_decided k v w (u ∷ us) up e b = stays p opening h s t (op.Update k v) (reply.Blocked (u ∷ us)) g refl refl
     update_decided k v (Some w) [] up e b = new_value k v w up e b
     update_decided k v None [] up e b =
         miss (op.Update k v) reply.Absent k e (ap (λ o. (whole_update s.map k v o).1) e) (sym (ap (λ o. (whole_update s.map k v o).0) e)) (λ q z. z) refl (λ f. refl) refl b

@@ -14,11 +14,12 @@ use Rattle.kr_model.specs.Run.{Entry, Answered}
 use Rattle.kr_model.specs.Serial.{AreAnswered, map_left}
 use Rattle.kr_model.proofs.Actives.{tied, untied, any_add_once, or_true}
 use Rattle.kr_theorem.proofs.run.Actives.{true_not_false}
+use Rattle.kr_model.proofs.LogReads.{silent_other, silent_by}
 use Rattle.kr_model.proofs.SerialLaws.{answered_append, map_left-append}
 use Rattle.kr_theorem.proofs.step.Parts.{blank, rolling_with, with_part}
 use Rattle.kr_theorem.proofs.step.Invariant.{Invariant}
 use Rattle.kr_theorem.proofs.step.EndKeeps.{commit_keeps, abort_keeps, back_keeps}
-use Rattle.kr_theorem.proofs.run.Reading.{entry, ReadsAs, silent_other, silent_by, reads_silent, committed_append, committed_none}
+use Rattle.kr_theorem.proofs.run.Reading.{entry, ReadsAs, reads_silent, committed_append, committed_none}
 use Rattle.kr_theorem.proofs.run.Programs.{joined, joined_push, txns_push, Fixed, fixed_more, fixed_push}
 use Rattle.std.proofs.Common.{sym, ◌∙◌, ap, subst, ◌≢◌, inl, inr, ⊎_elim}
 use Rattle.kr_model.proofs.UndoLaws.{IsMap-restore_all}
@@ -82,7 +83,7 @@ module _ (p : Protocol) (laws : IsLawful p) (safe : IsSafe p) (opening : Map) (h
 
   -- A change undone.
   pub backs : (changes : Changes) → (standing s t).changes ≡ changes → KnownAfter p opening h t op.Back (one_taken_back s t changes)
-  backs [] e = stays p opening h s t op.Back (reply.Refused refusal.NothingLeft) g refl refl refl
+  backs [] e = stays p opening h s t op.Back (reply.Refused refusal.NothingLeft) g refl refl
   backs (x ∷ cs) e =
       let same = g.stands t live_t in
       let is : (g.part t).changes ≡ x ∷ cs = sym same.changes ∙ e in

@@ -11,15 +11,16 @@ use Rattle.kr_model.specs.Map.{Map}
 use Rattle.kr_model.specs.Locks.{Locks, release}
 use Rattle.kr_model.specs.State.{State, Active, has_ended, idle, standing}
 use Rattle.kr_model.specs.Step.{Outcome, ended_with}
-use Rattle.kr_model.specs.Run.{Entry, committed, is_rows, is_committed, is_granted}
+use Rattle.kr_model.specs.Run.{Entry, committed, is_committed, is_granted}
 use Rattle.kr_model.specs.Serial.{AreAnswered, map_left}
 use Rattle.kr_model.proofs.Guarantees.{In}
+use Rattle.kr_model.proofs.LogReads.{silent_other, silent_refused}
 use Rattle.kr_model.proofs.MapLaws.{sorted_put, sorted_where}
 use Rattle.kr_model.proofs.Actives.{tied, untied, any_add_once, find_put_same, find_put_other, find_filter_other}
 use Rattle.kr_theorem.proofs.run.Actives.{true_not_false, or_left, or_right, or_false, in_put, in_filter}
 use Rattle.kr_theorem.proofs.step.Parts.{Part, Parts, blank, with_part, with_same, with_other}
 use Rattle.kr_theorem.proofs.step.Invariant.{Invariant}
-use Rattle.kr_theorem.proofs.run.Reading.{entry, ReadsAs, silent_other, silent_refused, reads_silent, committed_none}
+use Rattle.kr_theorem.proofs.run.Reading.{entry, ReadsAs, reads_silent, committed_none}
 use Rattle.kr_theorem.proofs.run.Programs.{Stands, Programs, txns, joined, Fixed, fixed_more, state_after}
 use Rattle.kr_theorem.proofs.safe.Shape.{shape}
 use Rattle.kr_theorem.proofs.safe.Holding.{Holds, modes}
@@ -55,8 +56,8 @@ abbrev pub KnownAfter : Protocol → Map → List Entry → ℕ → Op → Outco
 KnownAfter p opening h t o out = Known p opening (h ++ entry t o out.0 ∷ []) out.1
 
 -- A step that changes nothing.
-pub stays : (p : Protocol) (opening : Map) (h : List Entry) (s : State) (t : ℕ) (o : Op) (a : Reply) → Known p opening h s → is_granted a ≡ false → is_rows a ≡ false → is_committed a ≡ false → KnownAfter p opening h t o (a, s)
-stays p opening h s t o a g no_grant no_rows no_commit =
+pub stays : (p : Protocol) (opening : Map) (h : List Entry) (s : State) (t : ℕ) (o : Op) (a : Reply) → Known p opening h s → is_granted a ≡ false → is_committed a ≡ false → KnownAfter p opening h t o (a, s)
+stays p opening h s t o a g no_grant no_commit =
     let x = entry t o a in
     record {
       part = g.part;
@@ -65,10 +66,10 @@ stays p opening h s t o a g no_grant no_rows no_commit =
       hold = g.hold;
       inv = g.inv;
       sim = g.sim;
-      reads = λ u lu ru. reads_silent u h x (g.part u).program (g.part u).scan (silent_refused u x.0 a no_grant no_rows) (g.reads u lu ru);
+      reads = λ u lu ru. reads_silent u h x (g.part u).program (g.part u).scan (silent_refused u x.0 a no_grant) (g.reads u lu ru);
       stands = g.stands;
       over = g.over;
-      fixed = fixed_more g.done h s s x (λ u e. (e, silent_refused u x.0 a no_grant no_rows)) g.fixed;
+      fixed = fixed_more g.done h s s x (λ u e. (e, silent_refused u x.0 a no_grant)) g.fixed;
       order = g.order ∙ sym (committed_none h x no_commit);
       sorted = g.sorted;
       live = g.live;

@@ -212,7 +212,7 @@ module _ (p : Protocol) (laws : IsLawful p) (safe : IsSafe p) (opening : Map) (h
 
   look_decided : (n : Name) (bs : List ℕ) → at s.map from ≡ n → blockers p s.locks t (requests_of p s.locks t (look_access n c.hi)) ≡ bs
       → KnownAfter p opening h t o (granted_or_blocked p s t (requests_of p s.locks t (look_access n c.hi)) (looked s.map (standing s t) c n) bs)
-  look_decided n (u ∷ us) found b = stays p opening h s t o (reply.Blocked (u ∷ us)) g refl refl refl
+  look_decided n (u ∷ us) found b = stays p opening h s t o (reply.Blocked (u ∷ us)) g refl refl
   look_decided End [] found free =
       subst (λ n. blockers p s.locks t (request_at (Some n) (p.ask row.ScanStop Next 0)) ≡ [] → KnownAfter p opening h t o (reply.Rows c.rows, state_after s s.map (kept p s.locks t (request_at (Some n) (p.ask row.ScanStop Next 0))) (put nat_cmp t ended_scan s.active))) found
       (stop (λ x is. absurd (end_not_key x (sym found ∙ is)))) free

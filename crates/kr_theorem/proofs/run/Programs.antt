@@ -7,7 +7,8 @@ use Rattle.kr_model.specs.State.{State, Active, Scan, has_ended}
 use Rattle.kr_model.specs.Step.{name_after}
 use Rattle.kr_model.specs.Run.{Entry, Answered}
 use Rattle.kr_theorem.proofs.step.Parts.{Progress, Part}
-use Rattle.kr_theorem.proofs.run.Reading.{ReadsAs, IsSilent, reads_silent}
+use Rattle.kr_model.proofs.LogReads.{IsSilent}
+use Rattle.kr_theorem.proofs.run.Reading.{ReadsAs, reads_silent}
 
 -- What the state keeps of a transaction, and its part --
 

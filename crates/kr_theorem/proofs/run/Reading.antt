@@ -1,16 +1,16 @@
 -- How a run so far reads: the programs so far, whatever comes after.
-use Rattle.std.specs.Prelude.{◌≡◌, ℕ, Bool, true, false, ◌&&◌, ◌==◌, cond, List, [], ◌∷◌, ◌++◌, Option, Some, None, map, refl, if◌then◌else◌}
+use Rattle.std.specs.Prelude.{◌≡◌, ℕ, Bool, true, false, ◌&&◌, cond, List, [], ◌∷◌, ◌++◌, Option, Some, None, map, refl, if◌then◌else◌}
 use Rattle.std.specs.List.{flat_map, cons_option}
-use Rattle.std.proofs.Common.{sym, ◌∙◌, ap, ap₂, append_assoc, append-nil}
+use Rattle.std.proofs.Common.{sym, ◌∙◌, ap, ap₂, append-nil}
 use Rattle.kr_model.specs.declared.Op.{Op}
 use Rattle.kr_model.specs.declared.Op.TheVariants as op
-use Rattle.kr_model.specs.declared.Event.{Event}
 use Rattle.kr_model.specs.declared.Reply.{Reply}
 use Rattle.kr_model.specs.declared.Reply.TheVariants as reply
-use Rattle.kr_model.specs.Run.{Entry, Answered, Program, operations_of, answer_of, first_rows, committed, programs, is_rows, is_committed, is_operation, is_granted}
+use Rattle.kr_model.specs.Run.{Entry, Answered, Program, operations_of, answer_of, first_rows, committed, programs, is_committed, is_operation, is_granted}
 use Rattle.kr_model.specs.Serial.{all_operations}
 use Rattle.kr_theorem.proofs.step.Parts.{Progress}
 use Rattle.kr_model.proofs.Actives.{tied}
+use Rattle.kr_model.proofs.LogReads.{IsSilent, append_entry, append_one, own_entry, silent_by}
 
 -- An event of t with its reply.
 abbrev pub entry : ℕ → Op → Reply → Entry
@@ -21,48 +21,12 @@ abbrev pub ReadsAs : ℕ → List Entry → List Answered → Option Progress �
 ReadsAs t h p None = (f : List Entry) → operations_of t (h ++ f) ≡ p ++ operations_of t f
 ReadsAs t h p (Some s) = (r : Reply) × ((f : List Entry) → operations_of t (h ++ f) ≡ p ++ (op.Scan s.low s.high, first_rows t r f) ∷ operations_of t f)
 
--- One entry more, before what comes after.
-append_entry : (h : List Entry) (x : Entry) (f : List Entry) → (h ++ x ∷ []) ++ f ≡ h ++ x ∷ f
-append_entry h x f = append_assoc h (x ∷ []) f
-
-append_one : (p : List Answered) (x : Answered) (r : List Answered) → p ++ x ∷ r ≡ (p ++ x ∷ []) ++ r
-append_one p x r = sym (append_assoc p (x ∷ []) r)
-
--- An entry that adds nothing for t --
-
--- It adds no operation of t, and no rows of it.
-abbrev pub IsSilent : ℕ → Entry → Type 0
-IsSilent t x = (f : List Entry) → (operations_of t (x ∷ f) ≡ operations_of t f) × ((r : Reply) → first_rows t r (x ∷ f) ≡ first_rows t r f)
-
--- An event of another is silent, and so are one that is no operation or wasn't granted, and ends no scan.
-pub silent_other : (t : ℕ) (e : Event) (a : Reply) → (e.txn == t) ≡ false → IsSilent t (e, a)
-silent_other t e a d f = (
-  ap (λ b. cond {A = List Answered} (b && (is_operation e.op && is_granted a)) ((e.op, answer_of t e.op a f) ∷ operations_of t f) (operations_of t f)) d,
-  λ r. ap (λ b. cond (b && is_rows a) a (first_rows t r f)) d,
-)
-
-and_false : (b c : Bool) → c ≡ false → (b && c) ≡ false
-and_false true c h = h
-and_false false c h = refl
-
-pub silent_by : (t : ℕ) (e : Event) (a : Reply) → (is_operation e.op && is_granted a) ≡ false → is_rows a ≡ false → IsSilent t (e, a)
-silent_by t e a d g f = (
-  ap (λ b. cond {A = List Answered} b ((e.op, answer_of t e.op a f) ∷ operations_of t f) (operations_of t f)) (and_false (e.txn == t) (is_operation e.op && is_granted a) d),
-  λ r. ap (λ b. cond b a (first_rows t r f)) (and_false (e.txn == t) (is_rows a) g),
-)
-
-pub silent_refused : (t : ℕ) (e : Event) (a : Reply) → is_granted a ≡ false → is_rows a ≡ false → IsSilent t (e, a)
-silent_refused t e a d g = silent_by t e a (and_false (is_operation e.op) (is_granted a) d) g
-
 -- The run reads as before.
 pub reads_silent : (t : ℕ) (h : List Entry) (x : Entry) (p : List Answered) (sc : Option Progress) → IsSilent t x → ReadsAs t h p sc → ReadsAs t (h ++ x ∷ []) p sc
 reads_silent t h x p None s r = λ f. ap (operations_of t) (append_entry h x f) ∙ r (x ∷ f) ∙ ap (λ z. p ++ z) (s f).0
 reads_silent t h x p (Some c) s r = (r.0, λ f. ap (operations_of t) (append_entry h x f) ∙ r.1 (x ∷ f) ∙ ap₂ (λ a z. p ++ (op.Scan c.low c.high, a) ∷ z) ((s f).1 r.0) (s f).0)
 
 -- Entries of t's own --
-
-own_entry : (t : ℕ) (o : Op) (a : Reply) (f : List Entry) → (is_operation o && is_granted a) ≡ true → operations_of t (entry t o a ∷ f) ≡ (o, answer_of t o a f) ∷ operations_of t f
-own_entry t o a f d = ap₂ (λ b c. cond {A = List Answered} (b && c) ((o, answer_of t o a f) ∷ operations_of t f) (operations_of t f)) (tied t) d
 
 -- An operation that has its answer at once.
 pub reads_answer : (t : ℕ) (h : List Entry) (o : Op) (a : Reply) (p : List Answered) → (is_operation o && is_granted a) ≡ true → ((f : List Entry) → answer_of t o a f ≡ a)

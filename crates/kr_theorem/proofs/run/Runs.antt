@@ -124,7 +124,7 @@ module _ (p : Protocol) (laws : IsLawful p) (safe : IsSafe p) (opening : Map) (h
 
   -- A scan goes on.
   go_on : (q : Option Progress) (c : Option Scan) → (g.part t).scan ≡ q → StandsScan q c → KnownAfter p opening h t op.Go (attempted_scan p s t c)
-  go_on q None e z = stays p opening h s t op.Go (reply.Refused refusal.NoScan) g refl refl refl
+  go_on q None e z = stays p opening h s t op.Go (reply.Refused refusal.NoScan) g refl refl
   go_on None (Some c) e z = absurd z
   go_on (Some r) (Some c) e z =
       let reads : ReadsAs t h (g.part t).program (Some r) = subst (λ z. ReadsAs t h (g.part t).program z) e (g.reads t live_t unrolled) in
@@ -174,7 +174,7 @@ module _ (p : Protocol) (laws : IsLawful p) (safe : IsSafe p) (opening : Map) (h
 
 -- Each step, refused or not.
 known_step : (p : Protocol) → IsLawful p → IsSafe p → (opening : Map) (h : List Entry) (s : State) → Known p opening h s → (t : ℕ) (o : Op) (x : Option Refusal) → refusal_of p s t o ≡ x → KnownAfter p opening h t o (unless_refused p s t o x)
-known_step p laws safe opening h s g t o (Some r) e = stays p opening h s t o (reply.Refused r) g refl refl refl
+known_step p laws safe opening h s g t o (Some r) e = stays p opening h s t o (reply.Refused r) g refl refl
 known_step p laws safe opening h s g t o None e = let a = allowed p s t o e in live_step p laws safe opening h s g t a.0 o a.1 a.2 a.3
 
 -- Each run --

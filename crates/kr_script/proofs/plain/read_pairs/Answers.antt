@@ -2,9 +2,9 @@ use Rattle.std.proofs.Common.{◌≡◌, ◌++◌, ◌∷◌, [], map, Some, Non
 use Rattle.std.proofs.lemmas.List.{map-append}
 use Rattle.json.specs.Json.{after_end_array}
 use Rattle.kr_script.specs.Pairs.{pair_data, pairs_data}
-use Rattle.kr_script.specs.Faults.{is_above}
+use Rattle.kr_model.specs.Map.{is_above, is_rising}
 use Rattle.kr_script.specs.Tokens.{IsNext, AreNext}
-use Rattle.kr_script.proofs.Documents.{array_next, one_more_next, rises, last_key, rises_further, last_of_more, no_opening_fault}
+use Rattle.kr_script.proofs.Documents.{array_next, one_more_next, last_key, rises_further, last_of_more, no_opening_fault}
 use Rattle.kr_script.proofs.plain.read_pairs.Goals as goal
 
 pub pairs-preserved : goal.pairs-preserved
@@ -21,7 +21,7 @@ pairs-preserved c =
       next = subst (λ ds. AreNext 125 start ds c.read_pair.new.reader) (sym (ap (map pair_data) items ∙ map-append pair_data before (pair ∷ [])))
           (one_more_next 125 start l.reader c.read_pair.new.reader (map pair_data before) (pair_data pair) l.invariant.next next);
       opened = l.invariant.opened;
-      rising = ap (rises None) items ∙ rises_further None before pair l.invariant.rising above;
+      rising = ap (is_rising None) items ∙ rises_further None before pair l.invariant.rising above;
       last = ap (last_key None) items ∙ last_of_more None before pair;
       few = grind arith;
     }

@@ -1,5 +1,6 @@
 use Rattle.std.proofs.Common.{◌<◌, get_or, ◌∙◌, sym, arith}
-use Rattle.kr_txn.proofs.EndedLaws.{found_at, any-found, none_at}
+use Rattle.kr_model.proofs.Bisection.{found_at}
+use Rattle.kr_txn.proofs.EndedLaws.{any-found, none_at}
 use Rattle.kr_txn.proofs.ended.is_in.Goals as goal
 
 pub returns-then-is_past : goal.returns-then-is_past

@@ -1,7 +1,7 @@
 use Rattle.std.proofs.Common.{ℕ, ◌-◌, ◌<◌, ◌≤◌, length, get_or, nat_lt, arith}
 use Rattle.std.specs.Prelude.{IsTrue}
 use Rattle.std.proofs.lemmas.Bool.Decides.{nat_tests}
-use Rattle.kr_txn.proofs.EndedLaws.{rise_between}
+use Rattle.kr_model.proofs.Bisection.{rise_between}
 use Rattle.kr_txn.proofs.ended.is_past.Goals as goal
 
 is_below : (x t : ℕ) → IsTrue (nat_lt x t) → x < t

@@ -2,8 +2,8 @@ use Rattle.std.specs.List.{insert}
 use Rattle.std.specs.List.Sorted.{IsBinarySearchResult}
 use Rattle.std.specs.Ordering.{nat_cmp}
 use Rattle.std.proofs.Common.{sym, ◌∙◌, subst}
+use Rattle.kr_model.proofs.Bisection.{IsFoundAt, found_at, add_once-missing, add_once-present}
 use Rattle.kr_txn.proofs.Lists.{if_ok}
-use Rattle.kr_txn.proofs.EndedLaws.{IsFoundAt, found_at, add_once-missing, add_once-present}
 use Rattle.kr_txn.proofs.ended.put.Goals as goal
 
 pub returns-in-Err-clause-items : goal.returns-in-Err-clause-items

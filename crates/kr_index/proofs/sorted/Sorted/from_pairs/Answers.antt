@@ -1,5 +1,4 @@
-use Rattle.std.proofs.Common.{◌≡◌, ◌∙◌, ap, sym, subst, arith}
-use Rattle.std.proofs.lemmas.Grind.{common_steps}
+use Rattle.std.proofs.Common.{◌≡◌, ◌∙◌, ap, sym, subst}
 use Rattle.kr_model.specs.Map.{IsMap}
 use Rattle.kr_index.specs.Slots.{pairs_of, pins_of, unpinned, IsInOrder}
 use Rattle.kr_index.proofs.SlotLaws.{in_order-unpinned, pairs-unpinned, pins-unpinned}
@@ -7,23 +6,20 @@ use Rattle.kr_index.proofs.sorted.Sorted.from_pairs.Goals as goal
 
 pub invariant_of-result-clause-sorted : goal.invariant_of-result-clause-sorted
 invariant_of-result-clause-sorted c =
-    let all : c.loop-key.entries.items ≡ unpinned c.args.pairs.now = grind (arith, common_steps) in
+    let all : c.in_ok-entries.entries.items ≡ unpinned c.args.pairs.now = c.in_ok-entries.ensures in
     subst IsInOrder (sym all) (in_order-unpinned c.args.pairs.now c.requires)
 
 pub invariant_of-result-clause-rising : goal.invariant_of-result-clause-rising
 invariant_of-result-clause-rising c =
-    let all : c.loop-key.entries.items ≡ unpinned c.args.pairs.now = grind (arith, common_steps) in
+    let all : c.in_ok-entries.entries.items ≡ unpinned c.args.pairs.now = c.in_ok-entries.ensures in
     subst IsMap (sym (ap pairs_of all ∙ pairs-unpinned c.args.pairs.now)) c.requires
 
 pub returns-clause-map : goal.returns-clause-map
 returns-clause-map c =
-    let all : c.loop-key.entries.items ≡ unpinned c.args.pairs.now = grind (arith, common_steps) in
+    let all : c.in_ok-entries.entries.items ≡ unpinned c.args.pairs.now = c.in_ok-entries.ensures in
     ap pairs_of all ∙ pairs-unpinned c.args.pairs.now
 
 pub returns-clause-pins : goal.returns-clause-pins
 returns-clause-pins c q =
-    let all : c.loop-key.entries.items ≡ unpinned c.args.pairs.now = grind (arith, common_steps) in
+    let all : c.in_ok-entries.entries.items ≡ unpinned c.args.pairs.now = c.in_ok-entries.ensures in
     ap (λ l. pins_of l q) all ∙ pins-unpinned c.args.pairs.now q
-
-pub loop-key-preserved : goal.loop-key-preserved
-loop-key-preserved c = grind (arith, common_steps)

@@ -1,6 +1,6 @@
 use Rattle.std.proofs.Common.{◌≡◌, ◌++◌, drop}
 use Rattle.kr_index.specs.Slots.{unpinned}
-use Rattle.kr_index.proofs.tree.Tree.from_pairs.Given as goal
+use Rattle.kr_index.proofs.slots.unpinned.Given as goal
 
 -- the entries so far, then those of the pairs that are left, are all
 abbrev pub invariant-loop-key : goal.invariant-loop-key
