@@ -6,3 +6,4 @@ pub mod Protects
 pub mod Opens
 pub mod Met
 pub mod Survey
+pub mod Every

@@ -5,6 +5,7 @@
 
 mod absent;
 mod decision;
+mod every;
 mod finding;
 mod met;
 mod moves;
@@ -15,8 +16,9 @@ mod safe;
 mod survey;
 
 pub use decision::{Decision, decide};
+pub use every::pairs_of;
 pub use kr_model::{Cover, GapUse, KeyUse, LockState, Memory, Mode, Row, Side};
-pub use moves::{FREE, after, is_blocked, keeps_out};
+pub use moves::{FREE, after, given, is_blocked, keeps_out, may_ask, may_beside};
 pub use numbers::{STATES, state_number};
 pub use opening::protects;
 pub use pair::{Hole, Pair, Way};

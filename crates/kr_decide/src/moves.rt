@@ -17,7 +17,7 @@ pub const FREE: LockState = LockState {
 };
 
 /// The own mode on the next name that a request goes by.
-pub(crate) fn given(row: Row, side: Side, own: LockState, next: LockState) -> Mode
+pub fn given(row: Row, side: Side, own: LockState, next: LockState) -> Mode
     ensures { result ≡ safe.given row side own next }
 {
     match (row, side) {
@@ -169,7 +169,7 @@ fn may_insert<P: Protocol>(protocol: &P, own: LockState, next: LockState) -> boo
 
 /// Whether a transaction that has `own` on a name, and `next` on the next one, may come to request a lock there at this row and
 /// side.
-pub(crate) fn may_ask<P: Protocol>(
+pub fn may_ask<P: Protocol>(
     protocol: &P,
     row: Row,
     side: Side,
@@ -194,7 +194,7 @@ pub(crate) fn may_ask<P: Protocol>(
 }
 
 /// Whether it may beside another's lock state on the name.
-pub(crate) fn may_beside<P: Protocol>(protocol: &P, row: Row, side: Side, other: LockState) -> bool
+pub fn may_beside<P: Protocol>(protocol: &P, row: Row, side: Side, other: LockState) -> bool
     requires { other.mode ≤ (P.table protocol.now).count }
     ensures { IsTrue result ↔ MayBeside (P.table protocol.now) row side other }
 {
