@@ -1,5 +1,5 @@
 //! What a closed engine shows, and what a seat that left lends to it.
-ghost use Rattle.std.specs.Prelude.{◌≡◌, ◌<◌, true, false, length, map, Some, Err, IfOk, All, slice_get};
+ghost use Rattle.std.specs.Prelude.{◌≡◌, ◌<◌, true, false, length, map, Some, Err, IfOk, OnOk, All, slice_get};
 ghost use Rattle.std.specs.List.{list_all};
 ghost use Rattle.kr_engine.specs.declared.closing.CloseFault.TheVariants as fault;
 ghost use Rattle.kr_model.specs.Run.{programs};
@@ -149,15 +149,32 @@ impl<P: Covered, K: EngineName> Core<P, K> {
         ensures only_place { result ≡ Err fault.Place → list_all (fits self.seats self.entries) shares.now ≡ false }
     {
         self.lemma_invariant();
-        if !self.fits_all(shares) {
-            return Err(CloseFault::Place);
-        }
-        let none = Programs::from_vec(Vec::new(self.alloc));
-        match self.history_with(row, none) {
+        match self.fitting_history(row, shares) {
             Ok(mut history) => {
                 history.programs = self.into_programs();
                 Ok(history)
             }
+            Err(fault) => Err(fault),
+        }
+    }
+
+    /// The history with no programs, where these shares fit.
+    fn fitting_history(&self, row: &PlaceRow, shares: &[Share<K>]) -> Result<History, CloseFault>
+        requires { row.now ≡ K.places }
+        ensures entries { IfOk result (λ h. h.entries.items ≡ self.now.entries) }
+        ensures index { IfOk result (λ h. h.index ≡ self.now.state.map) }
+        ensures unfinished { IfOk result (λ h. h.unfinished ≡ map (λ a. a.0) self.now.state.active) }
+        ensures locks { IfOk result (λ h. h.locks.items ≡ self.now.state.locks) }
+        ensures seats { IfOk result (λ h. h.seats.items ≡ self.now.seats) }
+        ensures stand { OnOk result (All (StandsIn self.now.seats self.now.entries) shares.now) }
+        ensures place { list_all (fits self.now.seats self.now.entries) shares.now ≡ false → result ≡ Err fault.Place }
+        ensures only_place { result ≡ Err fault.Place → list_all (fits self.now.seats self.now.entries) shares.now ≡ false }
+    {
+        if !self.fits_all(shares) {
+            return Err(CloseFault::Place);
+        }
+        match self.without_programs(row) {
+            Ok(history) => Ok(history),
             Err(_) => Err(CloseFault::Memory),
         }
     }
@@ -186,17 +203,35 @@ impl<P: Covered, K: EngineName> Core<P, K> {
         ensures programs { IfOk result (λ h. h.programs ≡ programs) }
         ensures seats { IfOk result (λ h. h.seats.items ≡ self.now.seats) }
     {
-        let entries = copies(self.alloc, row, &self.history)?;
+        match self.without_programs(row) {
+            Ok(mut history) => {
+                history.programs = programs;
+                Ok(history)
+            }
+            Err(_) => Err(AllocError),
+        }
+    }
+
+    /// The same with no programs.
+    fn without_programs(&self, row: &PlaceRow) -> Result<History, AllocError>
+        requires { row.now ≡ K.places }
+        ensures entries { IfOk result (λ h. h.entries.items ≡ self.now.entries) }
+        ensures index { IfOk result (λ h. h.index ≡ self.now.state.map) }
+        ensures unfinished { IfOk result (λ h. h.unfinished ≡ map (λ a. a.0) self.now.state.active) }
+        ensures locks { IfOk result (λ h. h.locks.items ≡ self.now.state.locks) }
+        ensures seats { IfOk result (λ h. h.seats.items ≡ self.now.seats) }
+    {
         let index = self.machine.index()?;
         let unfinished = self.machine.unfinished()?;
         let locks = self.machine.locks()?;
         let seats = self.seats.as_slice().to_vec(self.alloc)?;
+        let entries = copies(self.alloc, row, &self.history)?;
         Ok(History {
             entries,
             index,
             unfinished,
             locks,
-            programs,
+            programs: Programs::from_vec(Vec::new(self.alloc)),
             seats,
         })
     }

@@ -46,8 +46,8 @@ impl<P: Covered, K: EngineName> Engine<P, K> {
         requires table { P.table protocol ≡ K.table }
         requires is_map { IsMap opening.now }
     {
-        let core = Core::new(alloc, protocol, opening, &row)?;
         let queues = Queues::new(alloc)?;
+        let core = Core::new(alloc, protocol, opening, &row)?;
         Ok(Engine {
             alloc,
             row,

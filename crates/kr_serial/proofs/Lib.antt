@@ -1,3 +1,4 @@
 pub mod Replayed
 pub mod Wholes
 pub mod SerialRuns
+pub mod Rising

@@ -1,5 +1,5 @@
 //! Steps with a log of what the transactions did.
-ghost use Rattle.std.specs.Prelude.{◌≡◌, None, IfOk, OnOk};
+ghost use Rattle.std.specs.Prelude.{◌≡◌, [], None, IfOk, OnOk};
 ghost use Rattle.kr_model.specs.Run.{run, replies_of};
 ghost use Rattle.kr_model.specs.Log.{logged, log_after, no_log};
 
@@ -34,20 +34,40 @@ pub(crate) fn log_all<P: Protocol, I: Ordered, L: Holdings>(
     ensures state { OnOk result (let r = run (P.table stepper.old.protocol) stepper.old.state events.now in stepper.new.state ≡ r.state) }
     ensures programs { IfOk result (λ l. let r = run (P.table stepper.old.protocol) stepper.old.state events.now in let log = log_after no_log r.history in l.programs ≡ log.committed) }
 {
-    let mut log = Log::new(alloc);
     let mut replies = Vec::with_capacity(alloc, events.len())?;
+    let mut log = Log::new(alloc);
+    log_each(alloc, stepper, events, &mut log, &mut replies)?;
+    Ok(Logged {
+        replies: Replies::from_vec(replies),
+        programs: log.into_programs(),
+    })
+}
+
+/// The same, with the log and the replies of the caller.
+fn log_each<P: Protocol, I: Ordered, L: Holdings>(
+    alloc: Global,
+    stepper: &mut Stepper<P, I, L>,
+    events: &[Event],
+    log: &mut Log,
+    replies: &mut Vec<Reply>,
+) -> Result<(), Memory>
+    requires at_rest { stepper.old.pending ≡ None }
+    requires none_yet { replies.old.items ≡ [] }
+    ensures at_rest { stepper.new.pending ≡ None }
+    ensures protocol { stepper.new.protocol ≡ stepper.old.protocol }
+    ensures replies { OnOk result (let r = run (P.table stepper.old.protocol) stepper.old.state events.now in replies.new.items ≡ replies_of r.history) }
+    ensures state { OnOk result (let r = run (P.table stepper.old.protocol) stepper.old.state events.now in stepper.new.state ≡ r.state) }
+    ensures log { OnOk result (let r = run (P.table stepper.old.protocol) stepper.old.state events.now in log.new.log ≡ log_after log.old.log r.history) }
+{
     for event in events {
         let reply = stepper.step(event.txn, event.op);
         if lacks_memory(&reply) {
             return Err(AllocError);
         }
-        note(alloc, &mut log, *event, &reply)?;
+        note(alloc, log, *event, &reply)?;
         replies.push(reply)?;
     }
-    Ok(Logged {
-        replies: Replies::from_vec(replies),
-        programs: log.into_programs(),
-    })
+    Ok(())
 }
 
 /// Notes a step with its reply in a log, or fails where a growth is refused.

@@ -43,8 +43,24 @@ pub fn play<P: Protocol>(
 {
     let index = Tree::from_pairs(alloc, opening)?;
     let mut stepper = Stepper::new(alloc, protocol, index, Buckets::new(alloc));
-    let replies = step_all(alloc, &mut stepper, events)?;
-    show(&stepper, replies)
+    play_on(alloc, &mut stepper, events)
+}
+
+/// The same, on a machine at rest.
+fn play_on<P: Protocol, I: Ordered, L: Holdings>(
+    alloc: Global,
+    stepper: &mut Stepper<P, I, L>,
+    events: &[Event],
+) -> Result<Played, Memory>
+    requires { stepper.old.pending ≡ None }
+    ensures replies { IfOk result (λ played. let r = run (P.table stepper.old.protocol) stepper.old.state events.now in played.replies ≡ replies_of r.history) }
+    ensures index { IfOk result (λ played. let r = run (P.table stepper.old.protocol) stepper.old.state events.now in played.index ≡ r.state.map) }
+    ensures locks { IfOk result (λ played. let r = run (P.table stepper.old.protocol) stepper.old.state events.now in played.locks ≡ r.state.locks) }
+    ensures modes { IfOk result (λ played. All (λ l. l.1 ≤ (P.table stepper.old.protocol).count) played.locks) }
+    ensures unfinished { IfOk result (λ played. let r = run (P.table stepper.old.protocol) stepper.old.state events.now in played.unfinished ≡ map (λ a. a.0) r.state.active) }
+{
+    let replies = step_all(alloc, stepper, events)?;
+    show(stepper, replies)
 }
 
 /// Attempts the events one after another, and answers the replies. Ends with `Memory` at the first step that is refused

@@ -1,7 +1,7 @@
 //! The members of a written document but for its rules: names, which modes stand together, and conversions.
 ghost use Rattle.std.specs.Prelude.{◌≡◌, ◌*◌, IfOk, OnOk, length, map, string_bytes};
 ghost use Rattle.toml.specs.View.{view, members_view};
-ghost use Rattle.toml.specs.Data.{array, string as a_text, no_members};
+ghost use Rattle.toml.specs.Data.{array, string as a_text, table as a_table, no_members};
 ghost use Rattle.kr_model.specs.ModeNames.{name_of};
 ghost use Rattle.kr_table.specs.Writing as spec;
 
@@ -80,16 +80,16 @@ pub fn text(alloc: Global, bytes: &str) -> Result<Value, Memory>
 }
 
 /// A pair for each requested mode: the name of the mode in the line.
-fn pairs(alloc: Global, names: &[String], line: &[Mode]) -> Result<Document, Memory>
+fn pairs(alloc: Global, names: &[String], line: &[Mode]) -> Result<Value, Memory>
     requires { length line.now ≡ length names.now }
-    ensures { IfOk result (λ t. members_view t.entries ≡ spec.with_pairs (map string_bytes names.now) (map string_bytes names.now) line.now no_members) }
+    ensures { IfOk result (λ v. view v ≡ a_table (spec.with_pairs (map string_bytes names.now) (map string_bytes names.now) line.now no_members)) }
 {
     let mut entries = Document::new(alloc);
     for (i, requested) in names.iter().enumerate() {
         let converted = text(alloc, name_at(names, line[i]))?;
         put_in(alloc, &mut entries, requested.as_str(), converted)?;
     }
-    Ok(entries)
+    Ok(Value::Table(entries))
 }
 
 /// An entry for each held mode, with its pairs.
@@ -101,7 +101,7 @@ pub fn conversions(alloc: Global, names: &[String], matrix: &[Mode]) -> Result<D
     let mut rest = matrix;
     for held in names {
         let line = &rest[..names.len()];
-        let converted = Value::Table(pairs(alloc, names, line)?);
+        let converted = pairs(alloc, names, line)?;
         put_in(alloc, &mut entries, held.as_str(), converted)?;
         rest = &rest[names.len()..];
     }
