@@ -1,6 +1,4 @@
-pub mod Lawful
 pub mod Sharing
-pub mod Rows
 pub mod Given
 pub mod Three
 pub mod InOrder

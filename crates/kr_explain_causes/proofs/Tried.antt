@@ -5,9 +5,9 @@ use Rattle.std.proofs.lemmas.Bool.Decides.{nat_tests}
 use Rattle.std.proofs.lemmas.List.Elements.{All-append, All-weaker}
 use Rattle.kr_explain_causes.specs.declared.blame.Blame.{Blame}
 use Rattle.kr_explain_causes.specs.declared.blame.Blame.TheVariants.{Place, Request, Conversion, Pair}
-use Rattle.kr_explain_causes.specs.declared.change.Change.{Change}
-use Rattle.kr_explain_causes.specs.declared.change.Change.TheVariants.{Ask, Convert, Apart}
-use Rattle.kr_explain_causes.specs.Changes.{with_mode}
+use Rattle.kr_change.specs.declared.change.Change.{Change}
+use Rattle.kr_change.specs.declared.change.Change.TheVariants as change
+use Rattle.kr_change.specs.Changes.{with_mode}
 use Rattle.kr_explain_causes.specs.Mends.{AreAlike, IsOf}
 use Rattle.kr_explain_causes.proofs.InOrder.{below_none}
 
@@ -28,23 +28,26 @@ passed_other (Some k) m other = step (λ e. other (ap Some e))
 
 -- a change with a mode is alike to that without, and of the same entry
 pub alike_with : (m : ℕ) (t : Change) → AreAlike (with_mode m t) t
-alike_with m (Ask row side own_next mode span) = refl
-alike_with m (Convert held requested mode) = refl
-alike_with m (Apart requested held) = refl
+alike_with m (change.Request row side own_next (Some (mode, span))) = refl
+alike_with m (change.Request row side own_next None) = refl
+alike_with m (change.Convert held requested mode) = refl
+alike_with m (change.Compatible requested held is_compatible) = refl
 
 pub of_with : (b : Blame) (m : ℕ) (t : Change) → IsOf b t → IsOf b (with_mode m t)
-of_with (Place row side) m (Ask r s own_next mode span) is = is
-of_with (Place row side) m (Convert held requested mode) is = absurd is
-of_with (Place row side) m (Apart requested held) is = absurd is
-of_with (Request row side asked) m (Ask r s own_next mode span) is = is
-of_with (Request row side asked) m (Convert held requested mode) is = absurd is
-of_with (Request row side asked) m (Apart requested held) is = absurd is
-of_with (Conversion h q) m (Ask r s own_next mode span) is = absurd is
-of_with (Conversion h q) m (Convert held requested mode) is = is
-of_with (Conversion h q) m (Apart requested held) is = absurd is
-of_with (Pair q h) m (Ask r s own_next mode span) is = absurd is
-of_with (Pair q h) m (Convert held requested mode) is = absurd is
-of_with (Pair q h) m (Apart requested held) is = is
+of_with (Place row side) m (change.Request r s own_next (Some (mode, span))) is = is
+of_with (Place row side) m (change.Request r s own_next None) is = is
+of_with (Place row side) m (change.Convert held requested mode) is = absurd is
+of_with (Place row side) m (change.Compatible requested held is_compatible) is = absurd is
+of_with (Request row side asked) m (change.Request r s own_next (Some (mode, span))) is = is
+of_with (Request row side asked) m (change.Request r s own_next None) is = is
+of_with (Request row side asked) m (change.Convert held requested mode) is = absurd is
+of_with (Request row side asked) m (change.Compatible requested held is_compatible) is = absurd is
+of_with (Conversion h q) m (change.Request r s own_next request) is = absurd is
+of_with (Conversion h q) m (change.Convert held requested mode) is = is
+of_with (Conversion h q) m (change.Compatible requested held is_compatible) is = absurd is
+of_with (Pair q h) m (change.Request r s own_next request) is = absurd is
+of_with (Pair q h) m (change.Convert held requested mode) is = absurd is
+of_with (Pair q h) m (change.Compatible requested held is_compatible) is = is
 
 -- a change is made of one for what is to blame
 pub record IsMadeOf (b : Blame) (t c : Change) : Type 0 where

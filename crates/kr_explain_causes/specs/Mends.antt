@@ -7,12 +7,12 @@ use Rattle.kr_model.specs.Covers.{failed_cases, IsCovered}
 use Rattle.kr_model.specs.Safe.{IsSafe}
 use Rattle.kr_explain_causes.specs.declared.blame.Blame.{Blame}
 use Rattle.kr_explain_causes.specs.declared.blame.Blame.TheVariants.{Place, Request, Conversion, Pair}
-use Rattle.kr_explain_causes.specs.declared.change.Change.{Change}
-use Rattle.kr_explain_causes.specs.declared.change.Change.TheVariants.{Ask, Convert, Apart}
+use Rattle.kr_change.specs.declared.change.Change.{Change}
+use Rattle.kr_change.specs.declared.change.Change.TheVariants as change
 use Rattle.kr_explain_causes.specs.declared.mend.Mend.{Mend}
 use Rattle.kr_explain_causes.specs.declared.mend.Verdict.{Verdict}
 use Rattle.kr_explain_causes.specs.declared.mend.Verdict.TheVariants.{Accepted, Safe, Mended, Neither}
-use Rattle.kr_explain_causes.specs.Changes.{changed, is_change, with_mode}
+use Rattle.kr_change.specs.Changes.{changed, is_change, with_mode}
 
 -- Two failures are of one case: whatever its mode is, and the place that is left open.
 pub record IsSameCase (f g : FailedCase) : Type 0 where
@@ -48,10 +48,10 @@ pub record Mends (p : Protocol) (cases failed : List FailedCase) (c : Change) : 
 
 -- The change is of the entry that is to blame.
 abbrev pub IsOf : Blame → Change → Type 0
-IsOf (Place row side) (Ask r s own_next mode span) = (r ≡ row) × (s ≡ side)
-IsOf (Request row side asked) (Ask r s own_next mode span) = (r ≡ row) × (s ≡ side)
-IsOf (Conversion held requested) (Convert h q mode) = (h ≡ held) × (q ≡ requested)
-IsOf (Pair requested held) (Apart q h) = (q ≡ requested) × (h ≡ held)
+IsOf (Place row side) (change.Request r s own_next request) = (r ≡ row) × (s ≡ side)
+IsOf (Request row side asked) (change.Request r s own_next request) = (r ≡ row) × (s ≡ side)
+IsOf (Conversion held requested) (change.Convert h q mode) = (h ≡ held) × (q ≡ requested)
+IsOf (Pair requested held) (change.Compatible q h is_compatible) = (q ≡ requested) × (h ≡ held)
 IsOf _ _ = ⊥
 
 -- Two changes differ in their mode alone.

@@ -3,16 +3,12 @@
 
 mod blame;
 mod cause;
-mod change;
-mod changed;
 mod mend;
 mod reasons;
 mod trials;
 
 pub use blame::Blame;
 pub use cause::{Cause, causes};
-pub use change::Change;
-pub use changed::Changed;
 pub use kr_cases::{Memory, must_conflict};
 pub use kr_model::{FailedCase, Mode, Row, Side, Span};
 pub use mend::{Mend, mends};

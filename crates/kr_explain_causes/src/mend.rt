@@ -3,14 +3,13 @@ ghost use Rattle.std.specs.Prelude.{◌≡◌, ◌≤◌, ◌⊎◌, ◌↔◌, 
 ghost use Rattle.std.specs.List.{Any};
 ghost use Rattle.kr_model.specs.Covers.{failed_cases, IsCovered};
 ghost use Rattle.kr_model.specs.Safe.{IsSafe};
-ghost use Rattle.kr_explain_causes.specs.Changes.{changed};
+ghost use Rattle.kr_change.specs.Changes.{changed};
 ghost use Rattle.kr_explain_causes.specs.Mends.{IsSameCase, IsAmong, AreMended, AreMends, AreOfOneEntry, Tells};
 
 use crate::cause::Cause;
-use crate::change::Change;
-use crate::changed::Changed;
 use crate::trials::{change_of, trials};
 use kr_cases::{Memory, Rejected, WhyRejected, check};
+use kr_change::{Change, Changed};
 use kr_decide::{Decision, decide};
 use kr_model::FailedCase;
 use kr_protocol::Protocol;

@@ -4,9 +4,9 @@ ghost use Rattle.kr_explain_causes.specs.Mends.{IsOf};
 
 use crate::blame::Blame;
 use crate::cause::Cause;
-use crate::change::Change;
 use crate::reasons::own_next;
 use kr_cases::Memory;
+use kr_change::Change;
 use kr_model::{FailedCase, Mode, Row, Side, Span};
 use kr_protocol::{Protocol, asked};
 use std::alloc::Global;
@@ -50,27 +50,29 @@ pub(crate) fn change_of<P: Protocol>(protocol: &P, cause: &Cause) -> Change
                 Some((_, span)) => span,
                 None => usual_span(row, side),
             };
-            Change::Ask {
+            Change::Request {
                 row,
                 side,
                 own_next: None,
-                mode: 0,
-                span,
+                request: Some((0, span)),
             }
         }
-        Blame::Request { row, side, .. } => Change::Ask {
+        Blame::Request { row, side, .. } => Change::Request {
             row,
             side,
             own_next: own_modes(protocol, row, &cause.cases),
-            mode: 0,
-            span: Span::Commit,
+            request: Some((0, Span::Commit)),
         },
         Blame::Conversion { held, requested } => Change::Convert {
             held,
             requested,
             mode: 0,
         },
-        Blame::Pair { requested, held } => Change::Apart { requested, held },
+        Blame::Pair { requested, held } => Change::Compatible {
+            requested,
+            held,
+            is_compatible: false,
+        },
     }
 }
 

@@ -3,7 +3,7 @@ use Rattle.kr_model.specs.Protocol.{Protocol}
 use Rattle.kr_model.specs.Covers.{IsCovered, failed_cases}
 use Rattle.kr_model.specs.Safe.{IsSafe}
 use Rattle.kr_cases.specs.Told.{Tells}
-use Rattle.kr_explain_causes.specs.Changes.{changed}
+use Rattle.kr_change.specs.Changes.{changed}
 use Rattle.kr_explain_causes.specs.Mends.{AreMended}
 use Rattle.kr_explain_causes.proofs.Given.{at_given}
 use Rattle.kr_explain_causes.proofs.mend.judged.Goals as goal

@@ -1,7 +1,7 @@
 use Rattle.std.proofs.Common.{◌≡◌, ◌+◌, ◌∙◌, [], ◌∷◌, ◌++◌, ap, sym, subst, List, All, length, length-append, arith}
 use Rattle.std.proofs.lemmas.List.Elements.{All-push}
 use Rattle.kr_model.specs.declared.FailedCase.{FailedCase}
-use Rattle.kr_explain_causes.specs.declared.change.Change.{Change}
+use Rattle.kr_change.specs.declared.change.Change.{Change}
 use Rattle.kr_explain_causes.specs.Mends.{Accepts, MakesSafe, Mends, Tells, changes_of}
 use Rattle.kr_explain_causes.proofs.Tried.{IsMadeOf, made_with, all_of, all_alike, each_named, few_named, kept_or_dropped, last_empty}
 use Rattle.kr_explain_causes.proofs.mend.mends.Goals as goal

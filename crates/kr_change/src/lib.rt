@@ -1,0 +1,12 @@
+//! Changes of one entry of a table: a pair of modes that is compatible or not, a conversion, or a request. A protocol with
+//! one of them made, and all of them.
+#![tactic(auto)]
+
+mod change;
+mod changed;
+mod every;
+
+pub use change::Change;
+pub use changed::Changed;
+pub use every::changes_of;
+pub use kr_model::{Memory, Mode, Row, Side, Span};
