@@ -4,6 +4,7 @@
 mod endings;
 mod faults;
 mod files;
+mod laws;
 mod lines;
 mod manual;
 mod questions;
@@ -15,6 +16,7 @@ pub use endings::{Ending, finish};
 pub use files::{
     Disk, FileFault, Files, SCRIPT_BYTES, at_fault, read_file, script_at, unreadable, whole,
 };
+pub use laws::lemma_lawful;
 pub use manual::{Manual, VERSION};
 pub use questions::{Question, question_in};
 pub use reading::first_bytes;
