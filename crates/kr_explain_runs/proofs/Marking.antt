@@ -48,11 +48,11 @@ none_aside p c n k above low = absurd (omega (arith, above, low))
 -- The lock that is too weak --
 
 -- the mode that the holder has before a step
-mode_then : (p : Protocol) (c : Counterexample) (n : Name) (place : ℕ) (m : Moment) → IsMomentAt p c place m → mode_before p c n place ≡ own m.ran.locks c.holder n
-mode_then p c n place m there = subst (λ k. mode_before p c n k ≡ own m.ran.locks c.holder n) there.at (sym (ap (λ h. own h c.holder n) there.moment.locks))
+mode_then : (p : Protocol) (c : Counterexample) (n : Name) (place : ℕ) (m : Moment) → IsMomentAt p c place m → mode_before p c n place ≡ own m.locks c.holder n
+mode_then p c n place m there = subst (λ k. mode_before p c n k ≡ own m.locks c.holder n) there.at (sym (ap (λ h. own h c.holder n) there.moment.locks))
 
 -- the step takes the case's lock
-pub takes_by : (p : Protocol) (f : FailedCase) (c : Counterexample) (n : Name) (side : Side) (m : Moment) → IsMoment p c m → m.txn ≡ c.holder → name_at side (access m.access.0 m.access.1 m.access.2) ≡ Some n → IsRequestOf p f.case f.from m.ran.locks c.holder n side (access m.access.0 m.access.1 m.access.2) → Takes p f c n m.place
+pub takes_by : (p : Protocol) (f : FailedCase) (c : Counterexample) (n : Name) (side : Side) (m : Moment) → IsMoment p c m → m.txn ≡ c.holder → name_at side (access m.access.0 m.access.1 m.access.2) ≡ Some n → IsRequestOf p f.case f.from m.locks c.holder n side (access m.access.0 m.access.1 m.access.2) → Takes p f c n m.place
 takes_by p f c n side m moment own at request = record {
   holders = moment.txn ∙ ap Some own;
   access = access m.access.0 m.access.1 m.access.2;
@@ -63,14 +63,14 @@ takes_by p f c n side m moment own at request = record {
 }
 
 -- the marked step takes the case's lock
-pub cases_taken : (p : Protocol) (f : FailedCase) (c : Counterexample) (m : Marks) → AreMarksOf p f.cover c m → Takes p f c m.name m.own.place → own m.through.ran.locks c.holder m.name ≡ f.mode → IsTaken p f c m.name ⊎ IsChanged p f c m.name
+pub cases_taken : (p : Protocol) (f : FailedCase) (c : Counterexample) (m : Marks) → AreMarksOf p f.cover c m → Takes p f c m.name m.own.place → own m.through.locks c.holder m.name ≡ f.mode → IsTaken p f c m.name ⊎ IsChanged p f c m.name
 cases_taken p f c m marks takes mode = inl (record {
   takes = subst (Takes p f c m.name) marks.own.at takes;
   mode = mode_then p c m.name c.let_in m.through marks.through ∙ mode;
 })
 
 -- the step before it does
-pub cases_changed : (p : Protocol) (f : FailedCase) (c : Counterexample) (m : Marks) (place : ℕ) → AreMarksOf p f.cover c m → place + 1 ≡ c.weak → Takes p f c m.name place → own m.own.ran.locks c.holder m.name ≡ f.mode → own m.through.ran.locks c.holder m.name ≢ f.mode → IsTaken p f c m.name ⊎ IsChanged p f c m.name
+pub cases_changed : (p : Protocol) (f : FailedCase) (c : Counterexample) (m : Marks) (place : ℕ) → AreMarksOf p f.cover c m → place + 1 ≡ c.weak → Takes p f c m.name place → own m.own.locks c.holder m.name ≡ f.mode → own m.through.locks c.holder m.name ≢ f.mode → IsTaken p f c m.name ⊎ IsChanged p f c m.name
 cases_changed p f c m place marks next takes mode other = inr (record {
   place = place;
   next = next;
@@ -84,7 +84,7 @@ pub of_case : (p : Protocol) (f : FailedCase) (near : Fit) (c : Counterexample) 
 of_case p f near c n is lock = subst (λ (x : Fit). IsCasesLock p f x c n) (sym is) lock
 
 -- the holder has the case's mode
-pub of_mode : (p : Protocol) (f : FailedCase) (near : Fit) (c : Counterexample) (m : Marks) → near ≡ fit.Mode → AreMarksOf p f.cover c m → own m.through.ran.locks c.holder m.name ≡ f.mode → IsCasesLock p f near c m.name
+pub of_mode : (p : Protocol) (f : FailedCase) (near : Fit) (c : Counterexample) (m : Marks) → near ≡ fit.Mode → AreMarksOf p f.cover c m → own m.through.locks c.holder m.name ≡ f.mode → IsCasesLock p f near c m.name
 of_mode p f near c m is marks mode = subst (λ (x : Fit). IsCasesLock p f x c m.name) (sym is) (mode_then p c m.name c.let_in m.through marks.through ∙ mode)
 
 -- The marks --

@@ -4,4 +4,3 @@ pub mod Marks
 pub mod Moments
 pub mod Reached
 pub mod Requests
-pub mod Rising

@@ -15,7 +15,7 @@ use Rattle.kr_explain_runs.specs.Requests.{IsOn, name_at, txn_at}
 pub record IsMoment (p : Protocol) (c : Counterexample) (m : Moment) : Type 0 where
   pub txn : txn_at c.events.items m.place ≡ Some m.txn
   pub access : access_at p c.opening.items c.events.items m.place ≡ Some (access m.access.0 m.access.1 m.access.2)
-  pub locks : m.ran.locks ≡ (let s = state_before p c.opening.items c.events.items m.place in s.locks)
+  pub locks : m.locks ≡ (let s = state_before p c.opening.items c.events.items m.place in s.locks)
 
 -- The moment is that of the step at this place.
 pub record IsMomentAt (p : Protocol) (c : Counterexample) (place : ℕ) (m : Moment) : Type 0 where

@@ -1,15 +1,13 @@
 //! Whether a script goes wrong.
 ghost use Rattle.std.specs.Prelude.{◌≡◌, ◌↔◌, IfOk, IsTrue, All};
-ghost use Rattle.kr_model.specs.Map.{IsMap};
 ghost use Rattle.kr_model.specs.Run.{is_granted};
 ghost use Rattle.kr_model.specs.Serial.{AreSerial};
 ghost use Rattle.kr_wrong.specs.Wrong.{GoesWrong};
-ghost use Rattle.kr_explain_runs.specs.Rising.{is_above};
 
 use kr_cases::Memory;
 use kr_model::{Event, Reply};
 use kr_protocol::Protocol;
-use kr_serial::{Ran, judge, run_any};
+use kr_serial::{Ran, is_map, judge, run_any};
 use std::alloc::Global;
 
 /// Whether the script goes wrong under the table. The only fault is that a growth was refused.
@@ -22,7 +20,7 @@ pub(crate) fn goes_wrong<P: Protocol>(
 ) -> Result<bool, Memory>
     ensures { IfOk result (λ wrong. IsTrue wrong → GoesWrong (P.table protocol.now) opening.now events.now) }
 {
-    if !keys_rise(opening) {
+    if !is_map(opening) {
         return Ok(false);
     }
     let ran = run_any(alloc, protocol, opening, events)?;
@@ -39,31 +37,6 @@ fn is_wrong(alloc: Global, ran: &Ran) -> Result<bool, Memory>
         return Ok(false);
     }
     Ok(!judge(alloc, ran)?.is_serial())
-}
-
-/// Whether the keys rise strictly.
-#[tactic(auto, using(crate::proofs::Rising::sorted_rising))]
-pub(crate) fn keys_rise(pairs: &[(u64, u64)]) -> bool
-    ensures { IsTrue result → IsMap pairs.now }
-{
-    let mut before = None;
-    for pair in pairs {
-        if !is_above(pair.0, before) {
-            return false;
-        }
-        before = Some(pair.0);
-    }
-    true
-}
-
-/// Whether a key is above the one before it.
-fn is_above(key: u64, before: Option<u64>) -> bool
-    ensures { result ≡ is_above key before }
-{
-    match before {
-        Some(before) => before < key,
-        None => true,
-    }
 }
 
 /// Whether a reply is neither blocked nor refused.

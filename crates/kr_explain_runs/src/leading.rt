@@ -8,7 +8,7 @@ ghost use Rattle.kr_explain_runs.specs.declared.keys.TheConstants.{A, Y};
 ghost use Rattle.kr_explain_runs.specs.Reached.{AreAlikeAt, IsReached, Leads, index_of, points, standing};
 
 use crate::access::{at, has};
-use crate::judging::{is_granted, keys_rise};
+use crate::judging::is_granted;
 use crate::keys::{A, B, C, K, P, Y};
 use crate::numbers::events_of;
 use crate::reached::Reached;
@@ -17,7 +17,7 @@ use crate::state::State;
 use kr_cases::Memory;
 use kr_model::{Event, Mode, Name, Txn};
 use kr_protocol::Protocol;
-use kr_serial::{Ran, run_any};
+use kr_serial::{Ran, is_map, run_any};
 use std::alloc::{AllocError, Global};
 
 /// The points at and below A that the steps of a script name, and those above the ones that they delete.
@@ -51,7 +51,7 @@ fn leads<T: Protocol>(
 ) -> Result<bool, Memory>
     ensures { IfOk result (λ does. IsTrue does → Leads (T.table protocol.now) opening.now events.now state) }
 {
-    if !keys_rise(opening) {
+    if !is_map(opening) {
         return Ok(false);
     }
     let ran = run_any(alloc, protocol, opening, events)?;

@@ -205,7 +205,7 @@ fn takes_at<P: Protocol>(
 
 /// Whether the holder has the case's mode on the name before a step.
 fn has_mode(case: &FailedCase, script: &Counterexample, name: Name, step: &Moment) -> bool
-    ensures { IsTrue result ↔ (own step.now.ran.locks script.now.holder name ≡ case.now.mode) }
+    ensures { IsTrue result ↔ (own step.now.locks script.now.holder name ≡ case.now.mode) }
 {
     step.mode(script.holder, name) == case.mode
 }
@@ -240,7 +240,7 @@ fn takes_by<P: Protocol>(
     requires { IsMoment (P.table protocol.now) script.now step.now }
     ensures { IsTrue result → Takes (P.table protocol.now) case.now script.now name step.now.place }
 {
-    let (locks, holder) = (step.ran.locks.as_slice(), script.holder);
+    let (locks, holder) = (step.locks.as_slice(), script.holder);
     if step.txn != holder || !is_at(step.access, side, name) {
         return false;
     }

@@ -9,15 +9,16 @@ use crate::leading::own;
 use kr_cases::Memory;
 use kr_model::{Mode, Name, Txn};
 use kr_protocol::Protocol;
-use kr_serial::{Ran, run_any};
+use kr_serial::{Triples, run_any};
 use std::alloc::Global;
 
-/// A step of a script that requests locks: who takes it, what it requests, and the run before it.
+/// A step of a script that requests locks: who takes it, what it requests, and the locks that are held before it.
 #[derive(Drop)]
 pub(crate) struct Moment {
     /// The place of the step, from 0.
     pub place: usize,
-    pub ran: Ran,
+    /// The locks before the step.
+    pub locks: Triples,
     pub txn: Txn,
     pub access: Access,
 }
@@ -25,9 +26,9 @@ pub(crate) struct Moment {
 impl Moment {
     /// The mode that a transaction has on a name before the step.
     pub(crate) fn mode(&self, txn: Txn, name: Name) -> Mode
-        ensures { result ≡ own self.now.ran.locks txn name }
+        ensures { result ≡ own self.now.locks txn name }
     {
-        own(self.ran.locks.as_slice(), txn, name)
+        own(self.locks.as_slice(), txn, name)
     }
 }
 
@@ -45,13 +46,15 @@ pub(crate) fn moment_at<P: Protocol>(
         return Ok(None);
     };
     let ran = run_any(alloc, protocol, opening, &events[..place])?;
-    let Some(access) = access_in(ran.index.as_slice(), event.op) else {
-        return Ok(None);
-    };
-    Ok(Some(Moment {
-        place,
-        ran,
-        txn: event.txn,
-        access,
-    }))
+    let access = access_in(ran.index.as_slice(), event.op);
+    let locks = ran.locks;
+    match access {
+        Some(access) => Ok(Some(Moment {
+            place,
+            locks,
+            txn: event.txn,
+            access,
+        })),
+        None => Ok(None),
+    }
 }

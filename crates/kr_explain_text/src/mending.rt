@@ -6,7 +6,8 @@ ghost use Rattle.kr_explain_text.specs.Edits.{AreChanges, AreFixes, IsFix, IsFix
 use crate::edits::edit_words;
 use crate::wrap::{INDENT, paragraph};
 use kr_cases::Memory;
-use kr_explain_causes::{Change, Mend};
+use kr_change::Change;
+use kr_explain_causes::Mend;
 use kr_protocol::Protocol;
 use std::alloc::Global;
 

@@ -96,7 +96,7 @@ fn lines_of<P: Protocol>(
     let index = Tree::from_pairs(alloc, script.opening.as_slice())?;
     let mut machine = Machine::new(alloc, protocol, index, Buckets::new(alloc));
     let events = script.events.as_slice();
-    let lines = lines_by(
+    lines_by(
         alloc,
         protocol,
         &mut machine,
@@ -104,8 +104,7 @@ fn lines_of<P: Protocol>(
         events,
         script.weak,
         script.let_in,
-    )?;
-    Ok(lines)
+    )
 }
 
 /// How many columns a table with these transactions has: one for the numbers, one for each transaction, and those for the

@@ -54,7 +54,12 @@ pub fn write_verdict<P: Protocol>(
 ) -> Result<(), Memory> {
     let opening = script.opening.as_slice();
     let ran = run_any(alloc, protocol, opening, script.events.as_slice())?;
-    match &judge(alloc, &ran)? {
+    write_judged(alloc, out, &ran)
+}
+
+/// Writes the same of a run.
+fn write_judged(alloc: Global, out: &mut String, ran: &Ran) -> Result<(), Memory> {
+    match &judge(alloc, ran)? {
         Verdict::Serial => Ok(()),
         Verdict::NotSerial {
             txn,
@@ -68,7 +73,7 @@ pub fn write_verdict<P: Protocol>(
                 given,
                 serial,
             };
-            write_difference(alloc, out, &ran, difference)
+            write_difference(alloc, out, ran, difference)
         }
     }
 }

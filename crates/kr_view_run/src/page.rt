@@ -41,9 +41,24 @@ pub fn picture<P: Protocol>(
     ensures covered { IsCovered (P.table protocol.now) → IfOk result (λ told. IsTrue told.1) }
 {
     let ran = run_any(alloc, protocol, script.opening(), script.steps())?;
-    let verdict = judge(alloc, &ran)?;
+    judged(alloc, protocol, table, script, &ran)
+}
+
+/// The page of a script's run, which is judged, and whether it is serializable.
+fn judged<P: Protocol>(
+    alloc: Global,
+    protocol: &P,
+    table: &str,
+    script: &Script,
+    ran: &Ran,
+) -> Result<(String, bool), Memory>
+    ensures page { IfOk result (λ told. IsPage table.now
+        (drawn_steps (P.table protocol.now) script.now.opening script.now.steps) told.1 (string_bytes told.0)) }
+    ensures serial { IfOk result (λ told. IsTrue told.1 ↔ AreSerial ran.now.opening ran.now.programs) }
+{
+    let verdict = judge(alloc, ran)?;
     let is_serial = verdict.is_serial();
-    let page = page(alloc, protocol, table, script, &ran, &verdict, is_serial)?;
+    let page = page(alloc, protocol, table, script, ran, &verdict, is_serial)?;
     Ok((page, is_serial))
 }
 

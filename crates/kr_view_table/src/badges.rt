@@ -1,7 +1,7 @@
 //! Badges: at an entry of a table the numbers of the causes that blame it, as links to them.
 ghost use Rattle.std.specs.Prelude.{◌≡◌, IfOk, string_bytes};
 ghost use Rattle.kr_view_table.specs.Badges.{badge, badge_at, badges, blames, is_same_request};
-ghost use Rattle.kr_explain_causes.specs.Changes.{is_place};
+ghost use Rattle.kr_change.specs.Changes.{is_place};
 
 use kr_explain_causes::Blame;
 use kr_explain_core::Explained;

@@ -5,7 +5,7 @@ ghost use Rattle.kr_cases.specs.Holes.{first_open};
 ghost use Rattle.kr_view_table.specs.declared.covers.TheConstants.{COVERS, OPEN};
 ghost use Rattle.kr_view_table.specs.Covers.{cover_cell, cover_head, covers_words, holding, mode_row};
 
-use kr_cases::first_open;
+use kr_cases::{all_covers, first_open};
 use kr_explain_text::{cover_words, deed_words};
 use kr_model::{Cover, Memory, Mode, Requester};
 use kr_protocol::{Protocol, name_or_empty};
@@ -41,34 +41,12 @@ fn opening() -> &'static str
     COVERS
 }
 
-/// The covers of a table: that of an update only where updates are offered.
-fn covers_of<P: Protocol>(protocol: &P) -> &'static [Cover]
-    ensures { result.now ≡ all_covers (P.table protocol.now) }
-{
-    if protocol.updates() {
-        &[
-            Cover::ReadKey,
-            Cover::ReadGap,
-            Cover::InsertedKey,
-            Cover::DeletedGap,
-            Cover::UpdatedKey,
-        ]
-    } else {
-        &[
-            Cover::ReadKey,
-            Cover::ReadGap,
-            Cover::InsertedKey,
-            Cover::DeletedGap,
-        ]
-    }
-}
-
 /// The head of each column.
 fn cover_heads<P: Protocol>(alloc: Global, protocol: &P) -> Result<String, Memory>
     ensures { IfOk result (λ text. string_bytes text ≡ flat_map cover_head (all_covers (P.table protocol.now))) }
 {
     let mut out = String::new(alloc);
-    for cover in covers_of(protocol) {
+    for cover in all_covers(protocol) {
         let piece = cover_head(alloc, *cover)?;
         out.push_str(piece.as_str())?;
     }
@@ -111,7 +89,7 @@ fn cover_cells<P: Protocol>(alloc: Global, protocol: &P, mode: Mode) -> Result<S
     ensures { IfOk result (λ text. string_bytes text ≡ flat_map (λ c. cover_cell (P.names protocol.now) (first_open (P.table protocol.now) c mode)) (all_covers (P.table protocol.now))) }
 {
     let mut out = String::new(alloc);
-    for cover in covers_of(protocol) {
+    for cover in all_covers(protocol) {
         let piece = cover_cell(alloc, protocol, first_open(protocol, *cover, mode))?;
         out.push_str(piece.as_str())?;
     }
