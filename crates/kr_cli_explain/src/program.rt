@@ -1,7 +1,6 @@
 //! The program over its words, files and streams.
 ghost use Rattle.std.specs.Prelude.{◌≡◌, ◌⊎◌, ◌≤◌, ◌++◌, ℕ, List, true, false, Ok, Err, IfOk, IfErr, OnOk, IsTrue, map, string_bytes};
 ghost use Rattle.std.specs.Io.KnownBytes.{Appends};
-ghost use Rattle.kr_model.specs.Protocol.{IsLawful};
 ghost use Rattle.kr_sink.specs.Puts.{HasCause};
 ghost use Rattle.kr_cli_diagnosis.specs.Finding.{AreLines, AddsLines};
 ghost use Rattle.kr_cli.specs.Endings.{is_output};
@@ -16,18 +15,11 @@ ghost use Rattle.kr_cli_explain.specs.Words.{AskNothingOfTables};
 use crate::explaining::{write_explanation, write_script};
 use crate::manual::{MANUAL, NAME, USAGE, WORDS};
 use crate::words::{Wanted, read_words};
-use kr_cli::{Ending, Files, VERSION, question_in};
+use kr_cli::{Ending, Files, VERSION, lemma_lawful, question_in};
 use kr_cli_diagnosis::table_at;
 use kr_protocol::Protocol;
 use kr_sink::Sink;
 use std::alloc::Global;
-
-/// Does nothing: a protocol is lawful.
-fn are_laws_kept<P: Protocol>(protocol: &P)
-    ensures { IsLawful (P.table protocol.now) }
-{
-    let _ = protocol;
-}
 
 /// Writes what is wanted of a protocol, whose table this word names, and answers whether the table is safe; one of which a
 /// script is written isn't.
@@ -72,7 +64,7 @@ fn explained<R: std::rt::Files + AllocGlobal, F: Files, W: Sink>(
 {
     let asked = read_words(words)?;
     let table = table_at(rt, asked.table, files, help)?;
-    are_laws_kept(&table);
+    lemma_lawful(&table);
     report(rt.alloc(), &table, asked.table, asked.wanted, out)
 }
 

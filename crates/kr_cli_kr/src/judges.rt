@@ -4,7 +4,6 @@ ghost use Rattle.std.specs.List.{list_all};
 ghost use Rattle.std.specs.Io.KnownBytes.{Appends};
 ghost use Rattle.kr_model.specs.Covers.{IsCovered};
 ghost use Rattle.kr_model.specs.Safe.{IsSafe};
-ghost use Rattle.kr_model.specs.Protocol.{IsLawful};
 ghost use Rattle.kr_script.specs.Script.{Script};
 ghost use Rattle.kr_batch.specs.Names.{AreNamed};
 ghost use Rattle.kr_batch.specs.declared.named.JudgeFault.TheVariants as judge_fault;
@@ -13,6 +12,7 @@ ghost use Rattle.kr_cli_kr.specs.Judges.{is_serial, reports_of, lines, judge_lin
 ghost use Rattle.kr_cli_kr.specs.declared.judges.LinesFault.TheVariants as fault;
 
 use kr_batch::{JudgeFault, Texts, judge_texts};
+use kr_cli::lemma_lawful;
 use kr_protocol::Protocol;
 use kr_report::report_verdict;
 use kr_serial::Verdict;
@@ -82,13 +82,6 @@ fn are_serial(verdicts: &[Verdict]) -> bool
     true
 }
 
-/// Does nothing: a protocol is lawful.
-fn are_laws_kept<P: Protocol>(protocol: &P)
-    ensures { IsLawful (P.table protocol.now) }
-{
-    let _ = protocol;
-}
-
 /// Judges the runs of the scripts that names stand for under a protocol, on several threads, writes for each name in their
 /// order the report of the verdict with the name and a line feed, and answers whether all runs are serializable in commit
 /// order; under a safe protocol they are, and so under a covered one. Where a name stands for no script, or a growth was
@@ -110,7 +103,7 @@ pub fn judge_over<P: Protocol + Sync, T: Texts + Sync, W: Sink>(
         (W.taken out.old) (W.taken out.new) (W.failures out.old) (W.failures out.new)) }
     ensures nothing { IfErr result (λ e. (e ≡ fault.Print) ⊎ (out.new ≡ out.old)) }
 {
-    are_laws_kept(protocol);
+    lemma_lawful(protocol);
     let verdicts = judge_texts(rt, alloc, protocol, texts, names)?;
     let text = lines_of(alloc, names, verdicts.as_slice())?;
     put_all(out, text.as_bytes())?;

@@ -18,7 +18,7 @@ use kr_cases::check;
 use kr_protocol::Protocol;
 use kr_report::{report_played, report_run};
 use kr_script::read_script;
-use kr_serial::{Verdict, judge, play, run_any};
+use kr_serial::{Ran, Verdict, judge, play, run_any};
 use kr_sink::{Sink, print};
 use std::alloc::{AllocError, Global};
 
@@ -48,8 +48,17 @@ fn report_judged<P: Protocol>(
     ensures safe { IsSafe (P.table protocol.now) → IfOk result (λ told. IsTrue told.1) }
 {
     let ran = run_any(alloc, protocol, script.opening(), script.steps())?;
-    let verdict = judge(alloc, &ran)?;
-    let text = report_run(alloc, protocol, &ran, &verdict)?;
+    judged(alloc, protocol, &ran)
+}
+
+/// The report of a run, which is judged, and whether it is serializable.
+fn judged<P: Protocol>(alloc: Global, protocol: &P, ran: &Ran) -> Result<(String, bool), AllocError>
+    ensures text { IfOk result (λ told. string_bytes told.0 ≡ run_text (P.names protocol.now) ran.now.index ran.now.locks
+        ran.now.replies ran.now.unfinished (verdict_of (first_difference ran.now.opening ran.now.programs))) }
+    ensures serial { IfOk result (λ told. IsTrue told.1 ↔ AreSerial ran.now.opening ran.now.programs) }
+{
+    let verdict = judge(alloc, ran)?;
+    let text = report_run(alloc, protocol, ran, &verdict)?;
     Ok((text, verdict.is_serial()))
 }
 

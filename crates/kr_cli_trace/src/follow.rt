@@ -1,9 +1,10 @@
 //! A part held against a table.
-ghost use Rattle.std.specs.Prelude.{◌≡◌, ◌↔◌, IsTrue, None, false, map, string_bytes};
+ghost use Rattle.std.specs.Prelude.{◌≡◌, ◌↔◌, ◌++◌, ◌∷◌, [], IfOk, IsTrue, None, false, map, string_bytes};
 ghost use Rattle.std.specs.Option.{option_map};
 ghost use Rattle.kr_trace_follow.specs.Following.{after_lines, begun};
 ghost use Rattle.kr_cli_trace.specs.Followed.{IsFollowed};
-ghost use Rattle.kr_cli_trace.specs.Printed.{IsPrinted, IsSerialVerdict, against};
+ghost use Rattle.kr_trace_lines.specs.Report.{part_text};
+ghost use Rattle.kr_cli_trace.specs.Printed.{IsPrinted, IsSerialVerdict, against, printed};
 
 use crate::asking::{Asks, Part};
 use crate::serial::{Judging, is_serial, verdict_of};
@@ -38,6 +39,31 @@ pub(crate) fn is_well(found: &Option<Deviation>, verdict: &TraceVerdict) -> bool
     found.is_none() && is_serial(verdict)
 }
 
+/// The line of a part that was held against a table, and whether all is well with it.
+fn told<P: Protocol>(
+    alloc: Global,
+    protocol: &P,
+    part: u64,
+    found: &Option<Deviation>,
+    queued: u64,
+    tests: &[String],
+    verdict: &TraceVerdict,
+) -> Result<(Option<String>, bool), Memory>
+    ensures { IfOk result (λ end. (printed end.0 ≡ part_text (P.names protocol.now) part found.now queued (map string_bytes tests.now) verdict.now ++ 10 ∷ [])
+        × (IsTrue end.1 ↔ ((found.now ≡ None) × IsSerialVerdict verdict.now))) }
+{
+    let line = write_part(
+        alloc,
+        protocol,
+        part,
+        found.as_ref(),
+        queued,
+        tests,
+        verdict,
+    )?;
+    Ok((Some(line), is_well(found, verdict)))
+}
+
 impl<'a, P: Protocol> Asks for Against<'a, P> {
     type Part = Followed<'a, P>;
 
@@ -51,12 +77,14 @@ impl<'a, P: Protocol> Asks for Against<'a, P> {
         tests: Vec<String>,
     ) -> Result<Followed<'a, P>, Memory> {
         let _ = number;
+        let judging = Judging::new(alloc, opening.as_slice())?;
+        let follower = Follower::new(alloc, self.protocol, opening.as_slice())?;
         Ok(Followed {
             protocol: self.protocol,
-            follower: Follower::new(alloc, self.protocol, opening.as_slice())?,
+            follower,
             found: None,
             tests,
-            judging: Judging::new(alloc, opening.as_slice())?,
+            judging,
         })
     }
 }
@@ -90,16 +118,16 @@ impl<'a, P: Protocol> Part for Followed<'a, P> {
             judging,
         } = self;
         let verdict = verdict_of(judging.found);
-        let line = write_part(
+        let queued = follower.queued();
+        lines_are_followed();
+        told(
             alloc,
             protocol,
             part,
-            found.as_ref(),
-            follower.queued(),
+            &found,
+            queued,
             tests.as_slice(),
             &verdict,
-        )?;
-        lines_are_followed();
-        Ok((Some(line), is_well(&found, &verdict)))
+        )
     }
 }

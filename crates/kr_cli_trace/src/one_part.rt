@@ -1,12 +1,12 @@
 //! One part of a trace as a text.
-ghost use Rattle.std.specs.Prelude.{ℕ, List, Some, IfOk, IfSome, OnOk, map};
+ghost use Rattle.std.specs.Prelude.{◌≡◌, ℕ, List, Some, IfOk, IfSome, OnOk, map};
 ghost use Rattle.kr_model.specs.Map.{IsMap};
 ghost use Rattle.kr_model.specs.Protocol.{Protocol as TableOf};
 ghost use Rattle.kr_cli_trace.specs.Committed.{IsVerdict};
-ghost use Rattle.kr_cli_trace.specs.OnePart.{IsKeptIfAsked, IsWatched, line_of};
+ghost use Rattle.kr_cli_trace.specs.OnePart.{IsKeptIfAsked, IsWatched, line_of, logged};
 ghost use Rattle.kr_cli_trace.specs.Parts as spec;
 ghost use Rattle.kr_cli_trace.specs.Parts.{begun, with_step};
-ghost use Rattle.kr_cli_trace.specs.Printed.{IsPrinted, one_part, printed};
+ghost use Rattle.kr_cli_trace.specs.Printed.{IsPrinted, deviation_in, one_part, printed};
 ghost use Rattle.kr_cli_trace.specs.Tales.{committed_in};
 
 use crate::asking::{Asks, Part};
@@ -88,21 +88,37 @@ impl<'a, P: Protocol> Watched<'a, P> {
             opening,
             steps,
         } = self;
-        let mut text = part_text(
-            alloc,
-            protocol,
-            part,
-            opening.as_slice(),
-            steps.as_slice(),
-            found.as_ref(),
-        )?;
-        let verdict = judged(alloc, opening.as_slice(), steps)?;
-        let sentence = verdict_text(alloc, &verdict)?;
-        text.push_str("\n")?;
-        text.push_str(sentence.as_str())?;
         lines_are_followed();
-        Ok((text, is_well(&found, &verdict)))
+        text_of(alloc, protocol, part, &found, opening.as_slice(), steps)
     }
+}
+
+/// The text of a part of which this is the first line that deviates, and whether all is well with it.
+fn text_of<P: Protocol>(
+    alloc: Global,
+    protocol: &P,
+    part: u64,
+    found: &Option<Deviation>,
+    opening: &[(u64, u64)],
+    steps: Vec<LoggedStep>,
+) -> Result<(String, bool), Memory>
+    requires { IsMap opening.now }
+    ensures { (s : spec.Part) → found.now ≡ deviation_in (P.table protocol.now) s → opening.now ≡ s.opening → steps.items ≡ map logged s.steps
+        → IfOk result (λ end. IsPrinted (one_part (P.table protocol.now) (P.names protocol.now) part) part s (printed (Some end.0)) end.1) }
+{
+    let mut text = part_text(
+        alloc,
+        protocol,
+        part,
+        opening,
+        steps.as_slice(),
+        found.as_ref(),
+    )?;
+    let verdict = judged(alloc, opening, steps)?;
+    let sentence = verdict_text(alloc, &verdict)?;
+    text.push_str("\n")?;
+    text.push_str(sentence.as_str())?;
+    Ok((text, is_well(found, &verdict)))
 }
 
 /// Whether the committed answers of the steps are serializable in commit order.

@@ -11,7 +11,6 @@ ghost use Rattle.kr_cli.specs.declared.endings.Ending.{Ending};
 ghost use Rattle.kr_cli.specs.declared.endings.Ending.TheVariants as ending;
 ghost use Rattle.kr_cli.specs.declared.questions.Question.{Question};
 ghost use Rattle.kr_cli_trace.specs.Endings.{StopsSo};
-ghost use Rattle.kr_model.specs.Protocol.{IsLawful};
 ghost use Rattle.kr_cli_trace.specs.declared.words.Asked.TheVariants as asked;
 ghost use Rattle.kr_cli_trace.specs.Program.{Answers, AnswersAsked, Explains, Holds, Tells, TellsOnePart, TellsTrace, no_part_text};
 ghost use Rattle.kr_cli_trace.specs.Words.{AskNothing, AskNoTrace};
@@ -25,7 +24,7 @@ use crate::serial::InCommitOrder;
 use crate::source::Traces;
 use crate::trace::read_trace;
 use crate::words::{Asked, read_words};
-use kr_cli::{Ending, FileFault, Files, VERSION, question_in, unreadable};
+use kr_cli::{Ending, FileFault, Files, VERSION, lemma_lawful, question_in, unreadable};
 use kr_cli_diagnosis::table_at;
 use kr_protocol::Protocol;
 use kr_sink::Sink;
@@ -100,13 +99,6 @@ fn read_one<R: std::rt::Files + AllocGlobal, F: Traces<R>, A: Asks, W: Sink>(
     Ok(is_well)
 }
 
-/// Does nothing: a protocol is lawful.
-fn are_laws_kept<P: Protocol>(protocol: &P)
-    ensures { IsLawful (P.table protocol.now) }
-{
-    let _ = protocol;
-}
-
 /// Holds the trace that the second word names against the table that the first names. `help` gets what helps where the first
 /// names none.
 fn hold_against<R: std::rt::Files + AllocGlobal, F: Files + Traces<R>, W: Sink>(
@@ -124,7 +116,7 @@ fn hold_against<R: std::rt::Files + AllocGlobal, F: Files + Traces<R>, W: Sink>(
 {
     let (word, trace) = words;
     let table = table_at(rt, word, files, help)?;
-    are_laws_kept(&table);
+    lemma_lawful(&table);
     read_all(rt, files, trace, &Against { protocol: &table }, out)
 }
 
@@ -146,7 +138,7 @@ fn print_part<R: std::rt::Files + AllocGlobal, F: Files + Traces<R>, W: Sink>(
 {
     let (word, trace) = words;
     let table = table_at(rt, word, files, help)?;
-    are_laws_kept(&table);
+    lemma_lawful(&table);
     let asks = OnePart {
         protocol: &table,
         asked: number as u64,

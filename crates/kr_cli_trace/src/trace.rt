@@ -279,21 +279,30 @@ pub(crate) fn read_trace<A: Asks, L: Lines, W: Sink>(
         lines: PartLines::new(alloc),
         part: None,
     };
+    read_on(alloc, asks, word, &mut reading, lines, out)
+}
+
+/// The same, where nothing is read yet.
+fn read_on<A: Asks, L: Lines, W: Sink>(
+    alloc: Global,
+    asks: &A,
+    word: &str,
+    reading: &mut Reading<A::Part>,
+    lines: &mut L,
+    out: &mut W,
+) -> Result<(u64, bool), Ending>
+    requires { IsRead A.Part.stands_for A.Part.asked (A.is_printed asks.now) [] (W.taken out.old) (W.taken out.old) reading.old.ended reading.old.is_well reading.old.lines reading.old.part }
+    ensures through { IfOk result (λ read. IsThrough (A.is_printed asks.now) (L.may_give lines.old) (W.taken out.old) (W.taken out.new) read.0 read.1) }
+    ensures err { IfErr result (StopsSo (IsStopped (A.is_printed asks.now) (L.may_give lines.old) word.now (W.taken out.old) (W.taken out.new))) }
+    ensures cause { IfErr result (λ e. IsTrue (is_output e) → HasCause (W.failures out.old) (W.failures out.new)) }
+{
     for number in 1..u64::MAX {
         match lines.next_line(alloc) {
             Ok(Some(bytes)) => {
-                read_next(
-                    alloc,
-                    asks,
-                    word,
-                    &mut reading,
-                    number,
-                    bytes.as_slice(),
-                    out,
-                )?;
+                read_next(alloc, asks, word, reading, number, bytes.as_slice(), out)?;
             }
             Ok(None) => {
-                end_part(alloc, &mut reading, out)?;
+                end_part(alloc, reading, out)?;
                 return Ok((reading.ended, reading.is_well));
             }
             Err(fault) => return Err(at_lines_fault(alloc, word, fault, number)),

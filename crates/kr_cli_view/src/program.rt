@@ -1,7 +1,6 @@
 //! The program over its words, files and streams.
 ghost use Rattle.std.specs.Prelude.{◌≡◌, ◌⊎◌, ◌↔◌, ◌≤◌, ◌++◌, ℕ, List, true, false, Ok, Err, IfOk, IfErr, OnOk, IsTrue, map, string_bytes};
 ghost use Rattle.std.specs.Io.KnownBytes.{Appends};
-ghost use Rattle.kr_model.specs.Protocol.{IsLawful};
 ghost use Rattle.kr_model.specs.Covers.{IsCovered};
 ghost use Rattle.kr_model.specs.Safe.{IsSafe};
 ghost use Rattle.kr_sink.specs.Puts.{HasCause};
@@ -20,7 +19,7 @@ ghost use Rattle.kr_cli_view.specs.Program.{EndsSo, Explains, IsSerialScript, Na
 
 use crate::manual::{MANUAL, NAME, USAGE, WORDS};
 use crate::words::{Asked, read_words};
-use kr_cli::{Ending, Files, VERSION, question_in};
+use kr_cli::{Ending, Files, VERSION, lemma_lawful, question_in};
 use kr_cli_diagnosis::{script_at, table_at};
 use kr_protocol::Protocol;
 use kr_script::Script;
@@ -28,13 +27,6 @@ use kr_sink::{Sink, put_all};
 use kr_view_run::picture;
 use kr_view_table::table_page;
 use std::alloc::Global;
-
-/// Does nothing: a protocol is lawful.
-fn are_laws_kept<P: Protocol>(protocol: &P)
-    ensures { IsLawful (P.table protocol.now) }
-{
-    let _ = protocol;
-}
 
 /// Writes the page of a script's run under a protocol, whose table this word names, and answers whether the run is
 /// serializable in commit order; under a safe protocol it is, and so under a covered one. Where a growth was refused,
@@ -99,7 +91,7 @@ fn view_table<R: std::rt::Files + AllocGlobal, F: Files, W: Sink>(
     ensures unhelped { OnOk result (help.new ≡ help.old) }
 {
     let table = table_at(rt, word, files, help)?;
-    are_laws_kept(&table);
+    lemma_lawful(&table);
     write_table_page(rt.alloc(), &table, word, out)
 }
 
@@ -124,7 +116,7 @@ fn view_run<R: std::rt::Files + AllocGlobal, F: Files, W: Sink>(
     let (word, script) = words;
     let table = table_at(rt, word, files, help)?;
     let script = script_at(rt, script, files, help)?;
-    are_laws_kept(&table);
+    lemma_lawful(&table);
     write_page(rt.alloc(), &table, word, &script, out)
 }
 

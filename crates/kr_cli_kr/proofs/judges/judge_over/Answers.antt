@@ -34,7 +34,7 @@ returns-clause-safe g c safe =
     let names = map (λ n. n.now) c.args.names.now in
     let (ss, (are, told)) = c.in_ok-verdicts.ensures.ok in
     let said : c.are_serial.result ≡ list_all is_serial (verdicts_on p ss) = c.are_serial.ensures ∙ ap (list_all is_serial) (c.as_slice-2.ensures.value ∙ told) in
-    said ∙ all_told p ss (all_named p (λ s rising. safe_programs p c.are_laws_kept.ensures safe s.opening s.steps rising) may_be names ss are)
+    said ∙ all_told p ss (all_named p (λ s rising. safe_programs p c.lemma_lawful.ensures safe s.opening s.steps rising) may_be names ss are)
 
 -- So they are under a covered one.
 pub returns-clause-covered : goal.returns-clause-covered
@@ -44,4 +44,4 @@ returns-clause-covered g c covered =
     let names = map (λ n. n.now) c.args.names.now in
     let (ss, (are, told)) = c.in_ok-verdicts.ensures.ok in
     let said : c.are_serial.result ≡ list_all is_serial (verdicts_on p ss) = c.are_serial.ensures ∙ ap (list_all is_serial) (c.as_slice-2.ensures.value ∙ told) in
-    said ∙ all_told p ss (all_named p (λ s rising. covered_programs p c.are_laws_kept.ensures covered s.opening s.steps rising) may_be names ss are)
+    said ∙ all_told p ss (all_named p (λ s rising. covered_programs p c.lemma_lawful.ensures covered s.opening s.steps rising) may_be names ss are)

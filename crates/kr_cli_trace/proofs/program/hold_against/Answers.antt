@@ -23,7 +23,7 @@ returns-clause-answers g c =
     let taken = g.W.Sink.taken in
     let Held : AnyTable → Bool → Type 0 =
     λ u well. (parts : ℕ) × Holds (IsPrinted (against (table_of u) (names_of u))) may_name c.args.words.1.now (taken c.args.out.now) (taken c.read_all.new.out) parts well in
-    table_held (g.F.Files.may_give c.args.files.now) c.args.words.0.now c.in_ok-table.table Held c.read_all.result c.in_ok-table.ensures.table c.are_laws_kept.ensures c.read_all.ensures.holds
+    table_held (g.F.Files.may_give c.args.files.now) c.args.words.0.now c.in_ok-table.table Held c.read_all.result c.in_ok-table.ensures.table c.lemma_lawful.ensures c.read_all.ensures.holds
 
 pub returns-clause-err : goal.returns-clause-err
 returns-clause-err g c =

@@ -21,7 +21,7 @@ returns-in_err-script-clause-err g c =
 pub returns-clause-shows : goal.returns-clause-shows
 returns-clause-shows g c =
     let taken = g.W.Sink.taken in
-    run_shown (g.F.Files.may_give c.args.files.now) c.write_page.result c.in_ok-table.table c.args.words.0.now c.args.words.1.now (taken c.args.out.now) (taken c.write_page.new.out) c.in_ok-script.script c.in_ok-table.ensures.table c.are_laws_kept.ensures c.in_ok-script.ensures.script c.write_page.ensures.page c.write_page.ensures.serial
+    run_shown (g.F.Files.may_give c.args.files.now) c.write_page.result c.in_ok-table.table c.args.words.0.now c.args.words.1.now (taken c.args.out.now) (taken c.write_page.new.out) c.in_ok-script.script c.in_ok-table.ensures.table c.lemma_lawful.ensures c.in_ok-script.ensures.script c.write_page.ensures.page c.write_page.ensures.serial
 
 pub returns-clause-err : goal.returns-clause-err
 returns-clause-err g c = page_fault (TellsWord (g.F.Files.may_give c.args.files.now) c.args.words.0.now c.args.words.1.now) c.write_page.result c.write_page.ensures.err

@@ -12,7 +12,7 @@ returns-in_err-table-clause-err g c =
 pub returns-clause-shows : goal.returns-clause-shows
 returns-clause-shows g c =
     let taken = g.W.Sink.taken in
-    table_shown (g.F.Files.may_give c.args.files.now) c.write_table_page.result c.in_ok-table.table c.args.word.now (taken c.args.out.now) (taken c.write_table_page.new.out) c.in_ok-table.ensures.table c.are_laws_kept.ensures c.write_table_page.ensures.page c.write_table_page.ensures.safe
+    table_shown (g.F.Files.may_give c.args.files.now) c.write_table_page.result c.in_ok-table.table c.args.word.now (taken c.args.out.now) (taken c.write_table_page.new.out) c.in_ok-table.ensures.table c.lemma_lawful.ensures c.write_table_page.ensures.page c.write_table_page.ensures.safe
 
 pub returns-clause-err : goal.returns-clause-err
 returns-clause-err g c = page_fault (TellsNoTable (g.F.Files.may_give c.args.files.now) c.args.word.now) c.write_table_page.result c.write_table_page.ensures.err

@@ -1,7 +1,7 @@
 -- the lines so far were read, and what may be given now may be given behind them
 use Rattle.std.specs.Prelude.{◌≡◌, ℕ, suc, List, ◌++◌, length}
 use Rattle.kr_cli_trace.specs.Reading.{IsRead}
-use Rattle.kr_cli_trace.proofs.trace.read_trace.Given as goal
+use Rattle.kr_cli_trace.proofs.trace.read_on.Given as goal
 
 abbrev pub invariant-loop-number : goal.invariant-loop-number
 invariant-loop-number g l = record {
