@@ -1,0 +1,9 @@
+pub mod Held
+pub mod Codes
+pub mod Answers
+pub mod Names
+pub mod Steps
+pub mod Runs
+pub mod Tested
+pub mod Growing
+pub mod Everything

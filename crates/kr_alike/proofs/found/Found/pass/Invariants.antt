@@ -1,0 +1,11 @@
+use Rattle.std.proofs.Common.{ℕ, ◌<◌, true}
+use Rattle.kr_alike.specs.Marks.{AreMetBeside, modes_of}
+use Rattle.kr_alike.specs.Growth.{IsPassed}
+use Rattle.kr_alike.proofs.found.Found.pass.Given as goal
+
+abbrev pub invariant-loop-code : goal.invariant-loop-code
+invariant-loop-code g l =
+    let p = g.P.Protocol.table l.first in
+    let q = g.Q.Protocol.table l.second in
+    let w = l.coming in
+    IsPassed p q w (λ m. (k : ℕ) → k < l.code → AreMetBeside p q w m (modes_of k)) l.fn.self l.self true

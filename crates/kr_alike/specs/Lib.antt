@@ -1,0 +1,4 @@
+pub mod Alike
+pub mod Closed
+pub mod Marks
+pub mod Growth

@@ -1,0 +1,4 @@
+pub mod Coming
+pub mod Alone
+pub mod Asked
+pub mod Deletes
