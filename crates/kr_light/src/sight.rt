@@ -1,0 +1,96 @@
+//! What a step looks at.
+
+use crate::entry::{Entries, Entry};
+use crate::flat::{Flat, Request};
+use crate::light::Light;
+use crate::seat::Place;
+use kr_model::{Mode, Row, Side};
+
+/// What a step finds: its row, the places of its names, and what it changes.
+#[derive(Clone, Copy)]
+pub struct Sight {
+    /// The row of the table.
+    pub row: Row,
+    /// The place of the key that the step names, where it requests a lock on it.
+    pub current: Option<Place>,
+    /// The place of the next name, where it requests a lock on it.
+    pub next: Option<Place>,
+    /// The key that it changes, and whether the key stands then.
+    pub change: Option<(u64, bool)>,
+}
+
+impl Sight {
+    /// A step that reads or updates the key at a place.
+    pub(crate) fn of_key(row: Row, place: Place) -> Sight {
+        Sight {
+            row,
+            current: Some(place),
+            next: None,
+            change: None,
+        }
+    }
+
+    /// A step that reads the gap below a name.
+    pub(crate) fn of_gap(row: Row, next: Place) -> Sight {
+        Sight {
+            row,
+            current: None,
+            next: Some(next),
+            change: None,
+        }
+    }
+
+    /// The mode by which the row's requests go.
+    pub(crate) fn own_next(&self, light: &Light, seat: usize) -> Mode {
+        match (self.row, self.next) {
+            (Row::Insert | Row::Delete, Some(next)) => light.seat(seat).held(next),
+            _ => 0,
+        }
+    }
+
+    /// The place of the name at a side, and what is requested there.
+    pub(crate) fn at(&self, flat: &Flat, side: Side, own_next: Mode) -> (Option<Place>, Request) {
+        let place = match side {
+            Side::Current => self.current,
+            Side::Next => self.next,
+        };
+        (place, flat.request(self.row, side, own_next))
+    }
+
+    /// The entries that the step of a transaction looks at.
+    pub fn entries(&self, flat: &Flat, light: &Light, seat: usize) -> Entries {
+        let mut entries = Entries::new();
+        let own_next = self.own_next(light, seat);
+        for side in [Side::Current, Side::Next] {
+            if let (Some(place), request) = self.at(flat, side, own_next) {
+                entries.put(Entry::Request(self.row, side, own_next));
+                if let Some((mode, _)) = request {
+                    looked_up(flat, light, seat, place, mode, &mut entries);
+                }
+            }
+        }
+        entries
+    }
+}
+
+/// Puts the entries that a request in a mode on a name looks at.
+fn looked_up(
+    flat: &Flat,
+    light: &Light,
+    seat: usize,
+    place: Place,
+    requested: Mode,
+    entries: &mut Entries,
+) {
+    let own = light.seat(seat).held(place);
+    if own != 0 {
+        entries.put(Entry::Convert(own, requested));
+    }
+    let mode = flat.converted(own, requested);
+    for other in light.others(seat) {
+        let held = other.held(place);
+        if held != 0 {
+            entries.put(Entry::Compatible(mode, held));
+        }
+    }
+}
