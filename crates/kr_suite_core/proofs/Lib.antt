@@ -1,0 +1,4 @@
+pub mod EqualChanges
+pub mod Engines
+pub mod Shared
+pub mod Tried

@@ -1,0 +1,15 @@
+use Rattle.std.proofs.Common.{◌≡◌, ◌∙◌, ap, subst, IfOk, IsTrue}
+use Rattle.std.proofs.lemmas.Result.{IfOk-weaker}
+use Rattle.kr_model.specs.Protocol.{Protocol}
+use Rattle.kr_change.specs.Changes.{changed}
+use Rattle.kr_alike.specs.Alike.{Alike}
+use Rattle.kr_alike_safe.specs.Coming.{AlikeOnMaps}
+use Rattle.kr_suite_core.proofs.judged.is_alike.Goals as goal
+
+pub returns-in-Some : goal.returns-in-Some
+returns-in-Some g c =
+    let p : Protocol = g.P.Protocol.table c.args.protocol.now in
+    let base : g.P.Protocol.table c.in-Some.changed.base.now ≡ p = ap g.P.Protocol.table c.in-Some.ensures.base in
+    let same : changed (g.P.Protocol.table c.in-Some.changed.base.now) c.in-Some.changed.change ≡ changed p c.args.change = ap (λ (q : Protocol). changed q c.in-Some.changed.change) base ∙ ap (changed p) c.in-Some.ensures.change in
+    IfOk-weaker c.alike.result (λ yes. IsTrue yes → Alike p (changed p c.args.change)) (λ yes. IsTrue yes → AlikeOnMaps p (changed p c.args.change)) (λ yes alike h opening events is_map. alike h opening events)
+    (subst (λ (q : Protocol). IfOk c.alike.result (λ yes. IsTrue yes → Alike p q)) same c.alike.ensures.alike)

@@ -1,0 +1,4 @@
+pub mod Equal
+pub mod Judged
+pub mod Suite
+pub mod Tried

@@ -1,0 +1,99 @@
+//! Whether two changes are the same.
+ghost use Rattle.std.specs.Prelude.{◌≡◌};
+ghost use Rattle.kr_change.specs.Changes.{is_place};
+ghost use Rattle.kr_change.specs.Every.{is_same};
+ghost use Rattle.kr_suite_core.specs.Equal.{is_equal, is_same_bool, is_same_own};
+
+use kr_change::Change;
+use kr_model::{Mode, Row, Side, Span};
+
+/// Whether two places of a table are the same.
+fn is_place(row: Row, side: Side, other_row: Row, other_side: Side) -> bool
+    ensures { result ≡ is_place row side other_row other_side }
+{
+    row == other_row && side == other_side
+}
+
+/// Whether two requests are the same.
+fn is_same(request: Option<(Mode, Span)>, other: Option<(Mode, Span)>) -> bool
+    ensures { result ≡ is_same request other }
+{
+    match (request, other) {
+        (Some((mode, span)), Some((other_mode, other_span))) => {
+            mode == other_mode && span == other_span
+        }
+        (None, None) => true,
+        _ => false,
+    }
+}
+
+/// Whether the own modes are the same.
+fn is_same_own(own: Option<u16>, other: Option<u16>) -> bool
+    ensures { result ≡ is_same_own own other }
+{
+    match (own, other) {
+        (Some(modes), Some(other_modes)) => modes == other_modes,
+        (None, None) => true,
+        _ => false,
+    }
+}
+
+/// Whether two changes are the same.
+pub(crate) fn is_equal(one: Change, other: Change) -> bool
+    ensures { result ≡ is_equal one other }
+{
+    match (one, other) {
+        (
+            Change::Request {
+                row,
+                side,
+                own_next,
+                request,
+            },
+            Change::Request {
+                row: other_row,
+                side: other_side,
+                own_next: other_own,
+                request: other_request,
+            },
+        ) => {
+            is_place(row, side, other_row, other_side)
+                && (is_same_own(own_next, other_own) && is_same(request, other_request))
+        }
+        (
+            Change::Convert {
+                held,
+                requested,
+                mode,
+            },
+            Change::Convert {
+                held: other_held,
+                requested: other_requested,
+                mode: other_mode,
+            },
+        ) => held == other_held && (requested == other_requested && mode == other_mode),
+        (
+            Change::Compatible {
+                requested,
+                held,
+                is_compatible,
+            },
+            Change::Compatible {
+                requested: other_requested,
+                held: other_held,
+                is_compatible: is_other,
+            },
+        ) => {
+            requested == other_requested
+                && (held == other_held && is_same_bool(is_compatible, is_other))
+        }
+        _ => false,
+    }
+}
+
+/// Whether both hold, or neither.
+fn is_same_bool(one: bool, other: bool) -> bool
+    ensures { result ≡ is_same_bool one other }
+{
+    if one { other } else { !other }
+}
