@@ -1,0 +1,3 @@
+pub mod Caused
+pub mod Ended
+pub mod Made

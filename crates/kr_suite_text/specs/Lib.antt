@@ -1,0 +1,4 @@
+pub mod Changes
+pub mod Habits
+pub mod Parts
+pub mod Whole
