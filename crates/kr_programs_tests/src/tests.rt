@@ -4,5 +4,6 @@ mod explanation;
 mod picture;
 mod program;
 mod shell;
+mod suite_program;
 mod trace_program;
 mod view_program;

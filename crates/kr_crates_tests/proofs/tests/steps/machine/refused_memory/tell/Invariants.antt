@@ -1,0 +1,6 @@
+use Rattle.std.proofs.Common.{◌≡◌, None}
+use Rattle.kr_crates_tests.proofs.tests.steps.machine.refused_memory.tell.Given as goal
+
+-- No step is pending.
+abbrev pub invariant-loop-line : goal.invariant-loop-line
+invariant-loop-line g l = l.machine.pending ≡ None

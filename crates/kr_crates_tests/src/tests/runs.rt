@@ -1,0 +1,9 @@
+//! Tests of runs, scripts and reports.
+
+mod batch;
+mod counterexample;
+mod follows;
+mod report;
+mod script;
+mod serial;
+mod sink;

@@ -1,0 +1,51 @@
+//! The parts for a table that comes with the checker, and whether one script tells two tables apart.
+use kr_apart::{Flat, parts};
+use kr_change::changes_of;
+use kr_model::{Event, Op};
+use kr_protocol::{Im, Kvl};
+use kr_told_apart::tells_apart;
+use std::test::Fail;
+
+/// The changes of the table without intents: all but the eight that no schedule tells apart are told apart.
+#[test]
+fn changes_are_told_apart(rt: HostRuntime) -> Result<(), Fail> {
+    let flat = Flat::of(&Im);
+    let changes = changes_of(rt.alloc(), &Im)?;
+    let parts = parts(rt.alloc(), &flat, &changes)?;
+    let mut told = vec![in rt.alloc(); false; changes.len()]?;
+    let mut steps: usize = 0;
+    for part in parts.iter() {
+        steps = steps.saturating_add(part.events.len());
+        for number in part.tells.iter() {
+            if let Some(is_told) = told.get_mut(*number) {
+                *is_told = true;
+            }
+        }
+    }
+    let told = told.iter().filter(|is_told| **is_told).count();
+    assert_eq!(rt; (changes.len(), told, parts.len(), steps), (72, 64, 23, 61));
+    Ok(())
+}
+
+/// With intents two may insert into one gap, without them not.
+#[test]
+fn a_script_tells_two_tables_apart(rt: HostRuntime) -> Result<(), Fail> {
+    let alloc = rt.alloc();
+    let opening = [(10, 1)];
+    let script = [
+        Event {
+            txn: 1,
+            op: Op::Insert(8, 2),
+        },
+        Event {
+            txn: 2,
+            op: Op::Insert(6, 3),
+        },
+    ];
+    assert!(rt; tells_apart(alloc, &Im, &Kvl, &opening, &script)?);
+    assert!(rt; tells_apart(alloc, &Kvl, &Im, &opening, &script)?);
+    assert!(rt; !tells_apart(alloc, &Kvl, &Kvl, &opening, &script)?);
+    assert!(rt; !tells_apart(alloc, &Im, &Kvl, &opening, &script[..1])?);
+    assert!(rt; !tells_apart(alloc, &Im, &Kvl, &[(10, 1), (10, 2)], &script)?);
+    Ok(())
+}

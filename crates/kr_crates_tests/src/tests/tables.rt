@@ -1,0 +1,11 @@
+//! Tests of definitions and protocols.
+
+mod alike;
+mod cases;
+mod causes;
+mod decide;
+mod model;
+mod modes;
+mod ordered;
+mod protocol;
+mod table;

@@ -1,6 +1,0 @@
-use Rattle.std.proofs.Common.{◌≡◌, ℕ, ◌≤◌}
-use Rattle.kr_steps_tests.proofs.tests.index.grows.Given as goal
-
--- no key from here on has a pin yet
-abbrev pub invariant-loop-key : goal.invariant-loop-key
-invariant-loop-key g l = (q : ℕ) → l.key ≤ q → g.O.Ordered.pins l.index q ≡ 0

@@ -1,6 +1,0 @@
-use Rattle.std.proofs.Common.{◌≡◌, None}
-use Rattle.kr_steps_tests.proofs.tests.machine.ample.to_its_end.Given as goal
-
--- No step is pending.
-abbrev pub invariant-loop-step : goal.invariant-loop-step
-invariant-loop-step g l = l.machine.pending ≡ None

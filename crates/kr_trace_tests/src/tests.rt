@@ -1,6 +1,0 @@
-mod follow;
-mod given;
-mod judge;
-mod lines;
-mod observed;
-mod text;

@@ -1,0 +1,52 @@
+"""All tables that differ from a table in one entry, each with the name by which docs/SUITE.md has it."""
+
+import copy
+
+from table import NONE, SIDES, Table
+
+MOVING = ('insert', 'delete')  # the rows whose requests may go by the own mode on the next name
+
+
+class Changed(Table):
+    """A table with one entry changed: a pair, a conversion, or what a row requests at a side with an own mode."""
+
+    def __init__(self, table, name, pair=None, conversion=None, request=None):
+        self.__dict__.update(copy.copy(table.__dict__))
+        self.base, self.name, self.request = table, name, request
+        self.compatible = table.compatible ^ {pair} if pair else table.compatible
+        self.conversion = {**table.conversion, **(conversion or {})}
+
+    def ask(self, row, side, own_next):
+        place, asked = self.request or (None, None)
+        return asked if place in ((row, side, own_next), (row, side, None)) else self.base.ask(row, side, own_next)
+
+
+def word_of(table, asked):
+    return f'{table.names[asked[0]]} {asked[1]}' if asked else 'nothing'
+
+
+def requests(table, row, side, own):
+    """The changes of what a row requests at a side with an own mode, or with all of them (None)."""
+    now = table.ask(row, side, own or NONE)
+    place = f'{row} {side}' if own is None else f'{row} {side} own {table.names[own]}'
+    for asked in [None, *((mode, span) for mode in table.modes for span in ('instant', 'commit'))]:
+        if asked != now:
+            yield Changed(table, f'{place}: {word_of(table, asked)}', request=((row, side, own), asked))
+
+
+def changes_of(table):
+    names = table.names
+    for q in table.modes:
+        for h in table.modes:
+            yield Changed(table, f'{names[q]} beside {names[h]}: {"no" if table.ok(q, h) else "yes"}', pair=(q, h))
+    for h in table.modes:
+        for q in table.modes:
+            for mode in table.modes:
+                if mode != table.convert(h, q):
+                    name = f'{names[h]} held, {names[q]} asked: {names[mode]}'
+                    yield Changed(table, name, conversion={(h, q): mode})
+    for row, sides in SIDES.items():
+        if row != 'update' or table.updates:
+            for side in sides:
+                for own in table.with_none if row in MOVING else [None]:
+                    yield from requests(table, row, side, own)
