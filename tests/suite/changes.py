@@ -1,6 +1,7 @@
 """All tables that differ from a table in one entry, each with the name by which docs/SUITE.md has it."""
 
 import copy
+import json
 
 from table import NONE, SIDES, Table
 
@@ -50,3 +51,24 @@ def changes_of(table):
             for side in sides:
                 for own in table.with_none if row in MOVING else [None]:
                     yield from requests(table, row, side, own)
+
+
+def text_of(table):
+    """A table as a file, with a clause for each own mode where a row goes by those."""
+    names, word = table.names, json.dumps
+    row_of = lambda values: '[' + ', '.join(map(word, values)) + ']'
+    lines = [f'format = {2 if table.updates else 1}', f'modes = {row_of(names[it] for it in table.modes)}', '[compatible]']
+    lines += [f'{word(names[q])} = {row_of(names[h] for h in table.modes if table.ok(q, h))}' for q in table.modes]
+    for h in table.modes:
+        lines.append(f'[convert.{word(names[h])}]')
+        lines += [f'{word(names[q])} = {word(names[table.convert(h, q)])}' for q in table.modes]
+    lines.append('[rules]')
+    for row, sides in SIDES.items():
+        for side in sides if row != 'update' or table.updates else ():
+            clauses = []
+            for own in table.with_none if row in MOVING else [NONE]:
+                if asked := table.ask(row, side, own):
+                    of = f', own = [{word(names[own])}]' if row in MOVING else ''
+                    clauses.append(f'{{ mode = {word(names[asked[0]])}, span = {word(asked[1])}{of} }}')
+            lines.append(f'{row}.{side} = [{", ".join(clauses)}]')
+    return '\n'.join(lines) + '\n'

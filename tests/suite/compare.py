@@ -7,7 +7,8 @@ alone. KR_SUITE and KR in the environment are the programs, or else the built on
 
 --stored reads the suites of examples/suites in place of the program's. Of each table:
   each part begins with keys that rise; its replies are those of the machine, with --runs those of `kr run` too; all its steps but
-  the last are granted, and the last is granted or blocked
+  the last are granted, and the last is granted or blocked. With --runs `kr run` also answers as the machine does under each changed
+  table that a part tells apart
   each table that differs in one entry is exactly one of: named by parts, whose last steps are then granted under the one table and
   blocked under the other, all before them answered the same; alike; left; and the last line of --left counts them
   for each that is alike no reply differs in any part, nor in so many random scripts, by default 20
@@ -26,7 +27,7 @@ sys.dont_write_bytecode = True
 TOP = pathlib.Path(__file__).resolve().parents[2]
 sys.path += [str(TOP / 'tests' / it) for it in ('engines', 'second')]
 
-from changes import changes_of
+from changes import changes_of, text_of
 from parts import parts_of
 from program import built
 from runner import Run
@@ -102,8 +103,8 @@ class Held:
         for part in self.parts:
             self.hold_part(part)
             if with_runs:
-                self.hold_run(part)
-        told = self.told()
+                self.hold_run(self.word, part, [reply for _, reply in part.lines])
+        told = self.told(with_runs)
         self.hold_counts(told)
         self.hold_alike(rand, scripts)
         return f'{self.word}: {len(told)} told apart by {len(self.entries())} parts, {", ".join(f"{len(its)} {kind}" for kind, its in self.lists.items())}'
@@ -118,14 +119,22 @@ class Held:
         expect(replies == replies_of(self.table, part.opening, part.script['steps']), f'the replies of {part}')
         expect(all(map(is_granted, replies[:-1])) and replies[-1][0] != 'refused', f'a step of {part} before the last is not granted')
 
-    def hold_run(self, part):
+    def hold_run(self, word, part, replies):
+        """That `kr run` answers so, under the table that a word names."""
         with tempfile.NamedTemporaryFile('w', suffix='.json') as file:
             file.write(json.dumps(part.script))
             file.flush()
-            out = subprocess.run([built('kr'), 'run', self.word, file.name], capture_output=True, text=True, check=True).stdout
-        expect(json.loads(out)['replies'] == [reply for _, reply in part.lines], f'kr run answers {part} otherwise')
+            out = subprocess.run([built('kr'), 'run', word, file.name], capture_output=True, text=True).stdout
+        expect(out and json.loads(out)['replies'] == replies, f'kr run answers {part} otherwise under {word}')
 
-    def told(self):
+    def hold_changed_run(self, change, part, replies):
+        """That `kr run` answers so, under a changed table."""
+        with tempfile.NamedTemporaryFile('w', suffix='.toml') as file:
+            file.write(text_of(change))
+            file.flush()
+            self.hold_run(file.name, part, replies)
+
+    def told(self, with_runs):
         """The names of the changes that parts tell apart."""
         told = set()
         for part in self.entries():
@@ -135,6 +144,8 @@ class Held:
                 steps, plain = part.script['steps'], [reply for _, reply in part.lines]
                 changed = replies_of(self.changes[name], part.opening, steps)
                 expect(differ_last(plain, changed), f'{part} does not tell {name} apart')
+                if with_runs:
+                    self.hold_changed_run(self.changes[name], part, changed)
         return told
 
     def hold_counts(self, told):
