@@ -1,4 +1,5 @@
-//! The parts for a table that comes with the checker, and whether one script tells two tables apart.
+//! The parts for a table, and whether one script tells two tables apart.
+use super::asks_nothing;
 use kr_apart::{Flat, parts};
 use kr_change::changes_of;
 use kr_model::{Event, Op};
@@ -6,11 +7,13 @@ use kr_protocol::{Im, Kvl};
 use kr_told_apart::tells_apart;
 use std::test::Fail;
 
-/// The changes of the table without intents: all but the eight that no schedule tells apart are told apart.
+/// The changes of a table that requests nothing: a lock that one of the eight rows and sides holds to commit is told apart, where its
+/// transaction holds none before.
 #[test]
 fn changes_are_told_apart(rt: HostRuntime) -> Result<(), Fail> {
-    let flat = Flat::of(&Im);
-    let changes = changes_of(rt.alloc(), &Im)?;
+    let table = asks_nothing(rt.alloc())?;
+    let flat = Flat::of(&table);
+    let changes = changes_of(rt.alloc(), &table)?;
     let parts = parts(rt.alloc(), &flat, &changes)?;
     let mut told = vec![in rt.alloc(); false; changes.len()]?;
     let mut steps: usize = 0;
@@ -23,7 +26,7 @@ fn changes_are_told_apart(rt: HostRuntime) -> Result<(), Fail> {
         }
     }
     let told = told.iter().filter(|is_told| **is_told).count();
-    assert_eq!(rt; (changes.len(), told, parts.len(), steps), (72, 64, 23, 61));
+    assert_eq!(rt; (changes.len(), told, parts.len(), steps), (25, 8, 7, 18));
     Ok(())
 }
 

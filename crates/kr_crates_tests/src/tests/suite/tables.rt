@@ -1,7 +1,8 @@
 //! The tests for a table: how many parts and steps they have, and how many of the tables that differ in one entry are told apart,
-//! alike and left. Those for the other tables that come with the checker are in examples/suites, as the program prints them.
+//! alike and left.
+use super::asks_nothing;
 use kr_change::{Change, changes_of};
-use kr_protocol::{Im, Protocol};
+use kr_protocol::Protocol;
 use kr_suite_core::{Suite, suite};
 use std::alloc::Global;
 use std::process::Abort;
@@ -26,7 +27,7 @@ fn is_told(suite: &Suite, change: Change) -> bool {
 }
 
 /// The counts of the tests for a table; and each change is told apart, alike or left.
-fn counts<P: Protocol>(rt: &impl Abort, alloc: Global, protocol: &P) -> Result<Counts, Fail> {
+fn counted<P: Protocol>(rt: &impl Abort, alloc: Global, protocol: &P) -> Result<Counts, Fail> {
     let suite = suite(alloc, protocol)?;
     let mut steps: usize = 0;
     for part in suite.parts.iter() {
@@ -53,11 +54,11 @@ fn counts<P: Protocol>(rt: &impl Abort, alloc: Global, protocol: &P) -> Result<C
     })
 }
 
-/// As many changes are told apart, and as many alike, as a search in another language found; none is left.
+/// The table requests nothing: all changes are alike but those by which a row holds its lock to commit; none is left.
 #[test]
 fn a_table_has_a_suite(rt: HostRuntime) -> Result<(), Fail> {
     #[rattlefmt::skip]
-    let expected = Counts { parts: 23, steps: 61, told: 64, alike: 8, left: 0 };
-    same!(rt; counts(&rt, rt.alloc(), &Im)?, expected);
+    let expected = Counts { parts: 7, steps: 18, told: 8, alike: 17, left: 0 };
+    same!(rt; counted(&rt, rt.alloc(), &asks_nothing(rt.alloc())?)?, expected);
     Ok(())
 }

@@ -101,11 +101,10 @@ fn counts<P: Protocol>(
     Ok((all, coming))
 }
 
-/// The second counts leave no change undecided: scripts tell each of the others apart. examples/suites has those of the other
-/// tables that come with the checker.
+/// The counts leave no change undecided: scripts tell each of the others apart. examples/suites has those of the other tables that
+/// come with the checker; of some of those changes the second call alone finds that they are alike.
 #[test]
 fn changes_that_no_schedule_tells_apart_are_alike(rt: HostRuntime) -> Result<(), Fail> {
     same!(rt; counts(&rt, rt.alloc(), Im)?, (8, 8));
-    same!(rt; counts(&rt, rt.alloc(), Kvl)?, (172, 180));
     Ok(())
 }

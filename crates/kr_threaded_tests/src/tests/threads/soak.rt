@@ -1,4 +1,4 @@
-//! Eight threads of a thousand transactions each, on sixteen keys, of which some are undone one change at a time: the
+//! Eight threads of three hundred transactions each, on sixteen keys, of which some are undone one change at a time: the
 //! closed history is that of one run, and serializable.
 ghost use Rattle.std.specs.Prelude.{◌≡◌};
 ghost use Rattle.kr_model.specs.Map.{IsMap};
@@ -17,6 +17,9 @@ use std::sync::Wait;
 use std::test::Fail;
 use std::thread;
 use std::thread::Threads;
+
+/// How many transactions each thread does. A run under checks takes ten times as long as the program's.
+const EACH: u32 = 300;
 
 /// An operation on one of sixteen keys.
 fn operation_of(number: u64) -> Op {
@@ -68,7 +71,7 @@ fn transact<K: EngineName, R: Wait>(rt: &R, seat: &mut Seat<'_, KvlUpdate, K>, t
     seat.call(rt, Op::Commit).is_ok()
 }
 
-/// A seat, and the first of its thousand numbers.
+/// A seat, and the first of its three hundred numbers.
 #[derive(Drop)]
 struct Job<'a, K: EngineName> {
     first: Txn,
@@ -78,7 +81,7 @@ struct Job<'a, K: EngineName> {
 /// A seat's transactions, one after another. Its share, if each was ended.
 fn work<K: EngineName, R: Wait>(rt: &R, job: Job<'_, K>) -> Option<Share<K>> {
     let Job { first, mut seat } = job;
-    for number in 0..1000u32 {
+    for number in 0..EACH {
         if !transact(rt, &mut seat, first.wrapping_add(number)) {
             return None;
         }
@@ -86,7 +89,7 @@ fn work<K: EngineName, R: Wait>(rt: &R, job: Job<'_, K>) -> Option<Share<K>> {
     Some(seat.leave(rt))
 }
 
-/// Eight seats, with a thousand numbers each.
+/// Eight seats, with so many numbers each.
 fn jobs_of<'a, K: EngineName, R: Wait>(
     rt: &R,
     alloc: Global,
@@ -95,7 +98,7 @@ fn jobs_of<'a, K: EngineName, R: Wait>(
     let mut jobs = Vec::new(alloc);
     for worker in 0..8u32 {
         jobs.push(Job {
-            first: worker * 1000,
+            first: worker * EACH,
             seat: engine.seat(rt)?,
         })?;
     }

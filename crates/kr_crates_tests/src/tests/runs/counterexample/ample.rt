@@ -20,7 +20,7 @@ fn found_again_and_again(rt: HostRuntime) -> Result<(), Fail> {
     let table = table_of(alloc, DELETES_NEXT_INSTANT)?;
     let cases = failed(alloc, &table)?;
     let case = cases.first().ok_or("no case")?;
-    for _ in 0..20 {
+    for _ in 0..4 {
         let closure = Closure::of(alloc, &table)?;
         assert!(rt; closure.is_reached(&table, case));
         let found = closure

@@ -134,37 +134,38 @@ fn are<P: Protocol>(
 }
 
 #[rattlefmt::skip]
-const TWO_MODES: Numbers = Numbers { changes: 32, rejected: 24, shown: 24 };
+const TWO_MODES: Numbers = Numbers { changes: 8, rejected: 5, shown: 5 };
 
 #[rattlefmt::skip]
-const INTENTION_MODES: Numbers = Numbers { changes: 31, rejected: 25, shown: 16 };
+const INTENTION_MODES: Numbers = Numbers { changes: 8, rejected: 6, shown: 4 };
 
 #[rattlefmt::skip]
-const INTENTION_MODES_AND_UPDATES: Numbers = Numbers { changes: 32, rejected: 26, shown: 17 };
+const INTENTION_MODES_AND_UPDATES: Numbers = Numbers { changes: 8, rejected: 7, shown: 4 };
 
 #[rattlefmt::skip]
-const TWO_PARTS: Numbers = Numbers { changes: 31, rejected: 19, shown: 10 };
+const TWO_PARTS: Numbers = Numbers { changes: 7, rejected: 4, shown: 2 };
 
+/// Each fourth change of the table with two modes.
 #[test]
 fn of_two_modes(rt: HostRuntime) -> Result<(), Fail> {
-    are(&rt, rt.alloc(), &Im, IM, 1, TWO_MODES)
+    are(&rt, rt.alloc(), &Im, IM, 4, TWO_MODES)
 }
 
-/// Each sixth change of the table of key-value locking.
+/// Each twenty-fourth change of the table of key-value locking.
 #[test]
 fn of_intention_modes(rt: HostRuntime) -> Result<(), Fail> {
-    are(&rt, rt.alloc(), &Kvl, KVL, 6, INTENTION_MODES)
+    are(&rt, rt.alloc(), &Kvl, KVL, 24, INTENTION_MODES)
 }
 
-/// Each sixth change of that which offers updates.
+/// Each twenty-fourth change of that which offers updates.
 #[test]
 fn of_intention_modes_and_updates(rt: HostRuntime) -> Result<(), Fail> {
     let known = INTENTION_MODES_AND_UPDATES;
-    are(&rt, rt.alloc(), &KvlUpdate, KVL_UPDATE, 6, known)
+    are(&rt, rt.alloc(), &KvlUpdate, KVL_UPDATE, 24, known)
 }
 
-/// Each forty-eighth change of the table with range and key parts.
+/// Each two hundred and fortieth change of the table with range and key parts.
 #[test]
 fn of_two_parts(rt: HostRuntime) -> Result<(), Fail> {
-    are(&rt, rt.alloc(), &RangeKey, RANGE_KEY, 48, TWO_PARTS)
+    are(&rt, rt.alloc(), &RangeKey, RANGE_KEY, 240, TWO_PARTS)
 }
