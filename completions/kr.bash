@@ -1,4 +1,4 @@
-# Completions of kr, kr_explain, kr_view, kr_trace and kr_suite for bash.
+# Completions of kr, kr_explain, kr_view, kr_trace, kr_suite and kr_relax for bash.
 
 _kr_files() { # files of this kind, and folders
   compopt -o filenames
@@ -26,7 +26,7 @@ _kr() {
   kr.3.check | kr.3.run | kr.3.judge | kr.3.threads) _kr_table ;;
   kr.4.run | kr.4.threads | kr.*.judge) _kr_files .json ;;
   kr.5.threads) _kr_words --workers ;;
-  kr_explain.2.* | kr_view.2.* | kr_suite.2.*) _kr_table --help -h --version ;;
+  kr_explain.2.* | kr_view.2.* | kr_suite.2.* | kr_relax.2.*) _kr_table --help -h --version ;;
   kr_explain.3.-*) ;;
   kr_explain.3.*) _kr_words --script ;;
   kr_view.3.-*) ;;
@@ -38,6 +38,8 @@ _kr() {
   kr_trace.4.*) _kr_words --tell ;;
   kr_suite.3.-*) ;;
   kr_suite.3.*) _kr_words --left ;;
+  kr_relax.3.-*) ;;
+  kr_relax.3.*) _kr_words --write ;;
   esac
 }
-complete -F _kr kr kr_explain kr_view kr_trace kr_suite
+complete -F _kr kr kr_explain kr_view kr_trace kr_suite kr_relax

@@ -1,7 +1,7 @@
 #!/usr/bin/env python3
 """Refuses growths, reads and writes of the programs, one by one, and compares what they then do with what they do
-undisturbed: tests/memory/refused-memory.py [PROGRAM..], of kr, kr_view, kr_explain, kr_trace, kr_suite and kr_memory_tests, all where none
-is named. Needs a C compiler, `cc`, for refuse.c beside it. Build first: any run of ./kr, ./kr_view, ./kr_explain, ./kr_trace or ./kr_suite
+undisturbed: tests/memory/refused-memory.py [PROGRAM..], of kr, kr_view, kr_explain, kr_trace, kr_suite, kr_relax and kr_memory_tests, all where none
+is named. Needs a C compiler, `cc`, for refuse.c beside it. Build first: any run of ./kr, ./kr_view, ./kr_explain, ./kr_trace, ./kr_suite or ./kr_relax
 builds that program, and `rt test` in crates/kr_memory_tests its tests.
 
 The words are each form of a program's on the shipped tables and scripts; of those but kr, whose answers are long, a few. For
@@ -29,8 +29,8 @@ import tempfile
 from concurrent.futures import ThreadPoolExecutor
 
 TOP = os.path.dirname(os.path.dirname(os.path.dirname(os.path.abspath(__file__))))
-PROGRAMS = sys.argv[1:] or ["kr", "kr_view", "kr_explain", "kr_trace", "kr_suite", "kr_memory_tests"]
-TESTS = f"{TOP}/crates/kr_memory_tests/out/kr_hostile_tests"
+PROGRAMS = sys.argv[1:] or ["kr", "kr_view", "kr_explain", "kr_trace", "kr_suite", "kr_relax", "kr_memory_tests"]
+TESTS = f"{TOP}/crates/kr_memory_tests/out/kr_memory_tests_tests"
 AT_ONCE = 3
 READER, CLOSED_PIPE = os.pipe()
 os.close(READER)  # before any child is made, which would hold it for a moment
@@ -67,7 +67,7 @@ def is_fault(ended, right):
 def all_words():
     """The words with which the programs are run, each behind the program's name."""
     forms = {"kr": words_of_kr, "kr_view": words_of_view, "kr_explain": words_of_explain, "kr_trace": words_of_trace,
-             "kr_suite": words_of_suite}
+             "kr_suite": words_of_suite, "kr_relax": words_of_relax}
     for name in (it for it in forms if it in PROGRAMS):
         yield from ([name, *words] for words in forms[name]())
 
@@ -90,6 +90,11 @@ def words_of_explain():
 def words_of_suite():
     """A table of two modes, both forms of the words, and words that name none."""
     yield from (["@im"], ["@im", "--left"], ["none.toml"], ["@im", "--lefts"])
+
+
+def words_of_relax():
+    """Two tables of two modes, one of them rejected, both forms of the words, and words that name none."""
+    yield from (["@im"], ["@im", "--write"], ["examples/rejected/delete.toml"], ["none.toml"], ["@im", "--writes"])
 
 
 def words_of_trace():

@@ -15,7 +15,7 @@ the files of the folder in which the programs run:
 More edits and cuts of the same NAME follow one another. Then calls, and below them what each of them prints. Further calls may
 follow, with what they print:
 
-    call    the program, kr, kr_explain, kr_view, kr_trace or kr_suite, and its words; WORDS < NAME reads standard input from a file. A
+    call    the program, kr, kr_explain, kr_view, kr_trace, kr_suite or kr_relax, and its words; WORDS < NAME reads standard input from a file. A
             blank stands before each word, also before an empty one
     status  the status
     out     a line of standard output, or `out: ..` for any text

@@ -3,6 +3,7 @@ mod explain_program;
 mod explanation;
 mod picture;
 mod program;
+mod relax_program;
 mod shell;
 mod suite_program;
 mod trace_program;

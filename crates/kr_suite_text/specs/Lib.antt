@@ -1,4 +1,3 @@
-pub mod Changes
 pub mod Habits
 pub mod Parts
 pub mod Whole

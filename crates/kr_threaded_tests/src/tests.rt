@@ -1,3 +1,4 @@
+mod cycles;
 mod engine;
 mod places;
 mod threads;

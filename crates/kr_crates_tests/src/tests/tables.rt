@@ -8,4 +8,5 @@ mod model;
 mod modes;
 mod ordered;
 mod protocol;
+mod relax;
 mod table;

@@ -23,11 +23,13 @@ fn left_by<R: std::rt::Files + AllocGlobal>(rt: &R, words: &[&str]) -> Result<Le
     Left::on(alloc, status, &out, &err)
 }
 
-/// The first part of the suite of index-specific locking.
+/// The first part of the suite of the table that requests nothing.
 const FIRST_PART: &str =
-    r#"{"format":1,"opening":[[10,1],[20,2],[40,3],[50,4],[60,5]],"tests":["X beside X: yes","insert current own none: nothing","insert current own none: S instant","insert current own none: X instant","delete current own none: nothing"]}
-[[1,"insert",30,6],["done"]]
-[[2,"delete",30],["blocked",[1]]]
+    r#"{"format":1,"opening":[[10,1],[20,2],[30,3],[50,4],[60,5]],"tests":["delete current own none: A commit","delete next own none: A commit"]}
+[[1,"insert",40,6],["done"]]
+[[1,"delete",40],["deleted",6]]
+[[2,"insert",40,7],["done"]]
+[[2,"delete",40],["deleted",7]]
 "#;
 
 /// Its last.
@@ -35,12 +37,13 @@ const LAST_PART: &str =
     r#"{"format":1,"opening":[[10,1],[20,2],[30,3]],"tests":["habit: taking an insert back releases the lock on its key"]}
 [[1,"insert",25,9],["done"]]
 [[1,"back"],["undone",0]]
-[[2,"insert",25,9],["blocked",[1]]]
+[[2,"insert",25,9],["done"]]
+[[2,"fetch",25],["found",9]]
 "#;
 
 #[test]
 fn a_suite_is_printed(rt: HostRuntime) -> Result<(), Fail> {
-    let left = left_by(&rt, ["@im"].as_slice())?;
+    let left = left_by(&rt, ["nothing"].as_slice())?;
     assert!(rt; left.out.starts_with(FIRST_PART.as_bytes()));
     assert!(rt; left.out.ends_with(LAST_PART.as_bytes()));
     assert!(rt; left.err.is_empty());

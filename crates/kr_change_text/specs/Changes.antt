@@ -1,0 +1,53 @@
+-- The name of a change: the entry of the table, with its other value.
+use Rattle.std.specs.Prelude.{ℕ, List, [], ◌++◌, ◌==◌, Bool, true, false, Option, Some, None, codes, flat_map, if◌then◌else◌}
+use Rattle.std.specs.Int.{bit_at}
+use Rattle.kr_model.specs.declared.Row.{Row}
+use Rattle.kr_model.specs.declared.Side.{Side}
+use Rattle.kr_model.specs.declared.Span.{Span}
+use Rattle.kr_model.specs.Protocol.{Protocol}
+use Rattle.kr_model.specs.Covers.{modes_or_none}
+use Rattle.kr_model.specs.ModeNames.{name_of}
+use Rattle.kr_model.specs.Words.{row_word, side_word, span_word}
+use Rattle.kr_change.specs.declared.change.Change.{Change}
+use Rattle.kr_change.specs.declared.change.Change.TheVariants.{Request, Convert, Compatible}
+
+-- Whether two modes are compatible.
+abbrev pub yes_or_no : Bool → List ℕ
+yes_or_no true = codes "yes"
+yes_or_no false = codes "no"
+
+-- A requested mode beside a held one.
+unfoldable pub compatible_words : List (List ℕ) → ℕ → ℕ → Bool → List ℕ
+compatible_words names requested held is_compatible = name_of names requested ++ (codes " beside " ++ (name_of names held ++ (codes ": " ++ yes_or_no is_compatible)))
+
+-- What a held and a requested mode convert to.
+unfoldable pub convert_words : List (List ℕ) → ℕ → ℕ → ℕ → List ℕ
+convert_words names held requested mode = name_of names held ++ (codes " held, " ++ (name_of names requested ++ (codes " asked: " ++ name_of names mode)))
+
+-- A request: its mode, and how long it is held.
+unfoldable pub value_words : List (List ℕ) → Option (ℕ × Span) → List ℕ
+value_words names None = codes "nothing"
+value_words names (Some (mode, span)) = name_of names mode ++ (codes " " ++ span_word span)
+
+-- The name of a mode whose bit is set.
+unfoldable pub own_word : List (List ℕ) → ℕ → ℕ → List ℕ
+own_word names modes o = if bit_at modes o == 1 then codes " " ++ name_of names o else []
+
+-- A text, and behind it the own modes on the next name whose bits are set, none among them.
+abbrev pub listed_words : Protocol → List (List ℕ) → List ℕ → ℕ → List ℕ
+listed_words p names head modes = head ++ flat_map (own_word names modes) (modes_or_none p)
+
+-- For which own modes on the next name an entry is, if not for all.
+abbrev pub owns_words : Protocol → List (List ℕ) → Option ℕ → List ℕ
+owns_words p names None = []
+owns_words p names (Some modes) = listed_words p names (codes " own") modes
+
+-- What a row requests at a side, with some own modes on the next name.
+unfoldable pub entry_words : Protocol → List (List ℕ) → Row → Side → Option ℕ → Option (ℕ × Span) → List ℕ
+entry_words p names row side own_next request = row_word row ++ (codes " " ++ (side_word side ++ (owns_words p names own_next ++ (codes ": " ++ value_words names request))))
+
+-- The name of a change of p, whose modes have these names.
+abbrev pub change_words : Protocol → List (List ℕ) → Change → List ℕ
+change_words p names (Compatible requested held is_compatible) = compatible_words names requested held is_compatible
+change_words p names (Convert held requested mode) = convert_words names held requested mode
+change_words p names (Request row side own_next request) = entry_words p names row side own_next request

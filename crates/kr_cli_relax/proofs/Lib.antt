@@ -1,0 +1,4 @@
+pub mod Caused
+pub mod Ended
+pub mod Made
+pub mod Taken

@@ -1,0 +1,14 @@
+use Rattle.std.proofs.Common.{◌≡◌, ◌==◌, length, rules, string_bytes}
+use Rattle.kr_cli_relax.proofs.Made.{tells_all}
+use Rattle.kr_cli_relax.proofs.making.relaxations_made.Goals as goal
+
+pub returns : goal.returns
+returns g c =
+    let verdict : c.is_empty.result ≡ (length c.in_ok-changes.changes.items == 0) = search (rules, c.is_empty.ensures) in
+    tells_all (g.P.Protocol.table c.args.protocol.now) (g.P.Protocol.names c.args.protocol.now) c.deref.result.now c.in_ok-changes.changes.items c.deref-2.result.now c.in_ok-list.list.items (string_bytes c.in_ok-text.text) c.is_empty.result
+    c.in_ok-changes.ensures.exactly
+    c.deref.ensures.value
+    c.in_ok-list.ensures
+    c.deref-2.ensures.value
+    c.in_ok-text.ensures
+    verdict

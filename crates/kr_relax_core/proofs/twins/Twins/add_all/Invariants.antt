@@ -1,0 +1,11 @@
+use Rattle.kr_relax_core.specs.Twins.{Grows, LeadsAll}
+use Rattle.kr_relax_core.proofs.twins.Twins.add_all.Given as goal
+
+abbrev pub invariant-loop-at : goal.invariant-loop-at
+invariant-loop-at g l =
+    let p = g.P.Protocol.table l.base in
+    let q = g.Q.Protocol.table l.other in
+    record {
+      grows : Grows p q l.fn.self l.self;
+      leads : LeadsAll p q l.self.twins.items l.from l.spots l.at;
+    }

@@ -1,0 +1,33 @@
+-- What a script shows.
+use Rattle.std.proofs.Common.{◌≡◌, ◌<◌, ◌+◌, ◌++◌, ◌∷◌, [], ℕ, List, All, get_or, length, map, arith, subst, take}
+use Rattle.std.proofs.Math.Seq.{take-suc}
+use Rattle.std.proofs.lemmas.List.{map-append}
+use Rattle.std.proofs.lemmas.List.Elements.{All-push}
+use Rattle.std.proofs.lemmas.Grind.{common_steps}
+use Rattle.kr_model.specs.declared.Event.{Event}
+use Rattle.kr_model.specs.Map.{Map}
+use Rattle.kr_model.specs.Protocol.{Protocol}
+use Rattle.kr_change.specs.declared.change.Change.{Change}
+use Rattle.kr_change.specs.Changes.{changed}
+use Rattle.kr_relax_text.specs.declared.scripts.Relaxation.{Relaxation}
+use Rattle.kr_relax_text.specs.Scripts.{AreShown, IsShown, LetsThrough}
+
+-- it shows it of what is equal to the protocol, the change, the opening map and the steps
+pub same_shown : (p q : Protocol) (c d : Change) (m n : Map) (es fs : List Event) → q ≡ p → d ≡ c → m ≡ n → es ≡ fs → LetsThrough p (changed q d) m es → LetsThrough p (changed p c) n fs
+same_shown p q c d m n es fs base change opening events shown =
+    subst (λ (gs : List Event). LetsThrough p (changed p c) n gs) events
+    (subst (λ (o : Map). LetsThrough p (changed p c) o es) opening
+    (subst (λ (e : Change). LetsThrough p (changed p e) m es) change
+    (subst (λ (r : Protocol). LetsThrough p (changed r d) m es) base shown)))
+
+-- the changes of one relaxation more
+changes_more : (cs : List Change) (k : ℕ) (list : List Relaxation) (r : Relaxation) → k < length cs → map (λ s. s.change) list ≡ take k cs → r.change ≡ get_or cs k r.change → map (λ s. s.change) (list ++ (r ∷ [])) ≡ take (k + 1) cs
+changes_more cs k list r within are is = grind (arith, common_steps, take-suc, map-append, within, are, is)
+
+-- and its script
+scripts_more : (p : Protocol) (list : List Relaxation) (r : Relaxation) → All (IsShown p) list → IsShown p r → All (IsShown p) (list ++ (r ∷ []))
+scripts_more p list r are shown = All-push (IsShown p) list r are shown
+
+-- one more change has its script
+pub one_more : (p : Protocol) (cs : List Change) (k : ℕ) (list : List Relaxation) (r : Relaxation) → k < length cs → AreShown p (take k cs) list → r.change ≡ get_or cs k r.change → IsShown p r → AreShown p (take (k + 1) cs) (list ++ (r ∷ []))
+one_more p cs k list r within are is shown = record { changes = changes_more cs k list r within are.changes is; scripts = scripts_more p list r are.scripts shown }

@@ -1,0 +1,114 @@
+//! Scripts that show relaxations.
+ghost use Rattle.std.specs.Prelude.{◌≡◌, ◌↔◌, IsTrue, IfOk, IfSome};
+ghost use Rattle.kr_relax_text.specs.Scripts.{AreShown, IsShown, LetsThrough, Shows};
+
+use crate::replies::{ends_blocked, ends_granted};
+use kr_apart::{Flat, Part, parts};
+use kr_change::{Change, Changed};
+use kr_model::{Event, Memory};
+use kr_protocol::Protocol;
+use kr_serial::{is_map, play};
+use kr_told_apart::tells_apart;
+use std::alloc::Global;
+
+/// A script of which a table grants all steps but the last, which it blocks.
+#[derive(Debug, Drop)]
+pub struct Shown {
+    /// The opening map, keys rising.
+    pub opening: Vec<(u64, u64)>,
+    /// The steps.
+    pub events: Vec<Event>,
+}
+
+/// A change, and a script of which the last step is granted with it, if one is known.
+#[derive(Debug, Drop)]
+pub struct Relaxation {
+    pub change: Change,
+    pub script: Option<Shown>,
+}
+
+/// Whether a script has the same replies under two tables, all granted, up to the last, which the first blocks and the second
+/// grants.
+fn lets_through<P: Protocol, Q: Protocol>(
+    alloc: Global,
+    one: &P,
+    other: &Q,
+    opening: &[(u64, u64)],
+    events: &[Event],
+) -> Result<bool, Memory>
+    ensures { IfOk result (λ is. IsTrue is ↔ LetsThrough (P.table one.now) (Q.table other.now) opening.now events.now) }
+{
+    if !is_map(opening) || !tells_apart(alloc, one, other, opening, events)? {
+        return Ok(false);
+    }
+    let before = play(alloc, one, opening, events)?;
+    let after = play(alloc, other, opening, events)?;
+    Ok(ends_blocked(before.replies.as_slice()) && ends_granted(after.replies.as_slice()))
+}
+
+/// A script that was found for the change of this number, if there is one.
+fn found_for(alloc: Global, found: &[Part], number: usize) -> Result<Option<Shown>, Memory> {
+    match found.iter().find(|part| part.tells.contains(&number)) {
+        Some(part) => Ok(Some(Shown {
+            opening: part.opening.as_slice().to_vec(alloc)?,
+            events: part.events.as_slice().to_vec(alloc)?,
+        })),
+        None => Ok(None),
+    }
+}
+
+/// A script, if it shows a change. It is tried under both tables.
+fn if_shows<P: Protocol>(
+    alloc: Global,
+    protocol: &P,
+    change: Change,
+    shown: Shown,
+) -> Result<Option<Shown>, Memory>
+    ensures { IfOk result (λ script. IfSome script (Shows (P.table protocol.now) change)) }
+{
+    let Some(changed) = Changed::new(protocol, change) else {
+        return Ok(None);
+    };
+    if !lets_through(alloc, protocol, &changed, &shown.opening, &shown.events)? {
+        return Ok(None);
+    }
+    Ok(Some(shown))
+}
+
+/// A change with the script that was found for its number, if that shows it.
+fn with_script<P: Protocol>(
+    alloc: Global,
+    protocol: &P,
+    found: &[Part],
+    number: usize,
+    change: Change,
+) -> Result<Relaxation, Memory>
+    ensures change { IfOk result (λ r. r.change ≡ change) }
+    ensures script { IfOk result (IsShown (P.table protocol.now)) }
+{
+    let script = match found_for(alloc, found, number)? {
+        Some(shown) => if_shows(alloc, protocol, change, shown)?,
+        None => None,
+    };
+    Ok(Relaxation { change, script })
+}
+
+/// The changes, each with a script that shows it, if one is found: under the table with the change the script's last step is
+/// granted, and without it blocked. The error is memory alone.
+pub fn with_scripts<P: Protocol>(
+    alloc: Global,
+    protocol: &P,
+    changes: &[Change],
+) -> Result<Vec<Relaxation>, Memory>
+    ensures { IfOk result (λ list. AreShown (P.table protocol.now) changes.now list.items) }
+{
+    let flat = Flat::of(protocol);
+    let found = parts(alloc, &flat, changes)?;
+    let mut list = Vec::new(alloc);
+    for change in changes {
+        let number = list.len();
+        let one = with_script(alloc, protocol, &found, number, *change)?;
+        list.push(one)?;
+    }
+    Ok(list)
+}

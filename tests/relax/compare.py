@@ -1,0 +1,143 @@
+#!/usr/bin/env python3
+"""Holds what kr_relax prints to what tests/relax/relaxations.py finds by itself. KR_RELAX and KR in the environment are the programs, or
+else the built ones are taken.
+
+    compare.py TABLE..                  words of bundled tables, or files
+    compare.py --random N [--seed N]    so many random tables, drafts of bundled ones with entries changed
+
+A table that isn't safe is a fault, and told so. Of one that is safe
+  the relaxations that are named are those that are found here, or both say that it is tight; the status is 1 or 0
+  `kr run` blocks the last step of each script under the table, and grants it, with all others answered the same, under the changed one
+  --write prints a table that is safe, with the same modes, and that is tight exactly where the status is 0
+Prints a line for each table. Status 1 where something doesn't hold."""
+
+import argparse
+import json
+import pathlib
+import random
+import re
+import subprocess
+import sys
+import tempfile
+
+sys.dont_write_bytecode = True
+TOP = pathlib.Path(__file__).resolve().parents[2]
+sys.path += [str(TOP / 'tests' / it) for it in ('engines', 'exact', 'second', 'suite')]
+
+from changes import changes_of, text_of
+from condition import is_safe
+from program import built
+from relaxations import relaxations
+from samples import Draft
+from table import Table
+
+ENTRY = re.compile(r'(\d+)\. (.*)\n   (.*)\n   (.*)\n')
+TIGHT = 'tight: no single entry can be relaxed\n'
+UNKNOWN = 'no script is known'
+
+
+class Wrong(Exception):
+    pass
+
+
+def expect(holds, said):
+    if not holds:
+        raise Wrong(said)
+
+
+def file_of(word):
+    return TOP / 'tables' / f'{word[1:]}.toml' if word.startswith('@') else pathlib.Path(word)
+
+
+def said_of(*words):
+    ran = subprocess.run([built('kr_relax'), *words], capture_output=True, text=True)
+    return ran.stdout, ran.stderr, ran.returncode
+
+
+def replies_of(text, script, folder):
+    """The replies of `kr run` under a table with this text."""
+    paths = [pathlib.Path(folder) / it for it in ('table.toml', 'script.json')]
+    for path, it in zip(paths, (text, script)):
+        path.write_text(it)
+    ran = subprocess.run([built('kr'), 'run', *map(str, paths)], capture_output=True, text=True)
+    expect(ran.returncode in (0, 1), ran.stderr)
+    return json.loads(ran.stdout)['replies']
+
+
+def hold_script(table, changed, script, folder):
+    before, after = (replies_of(text_of(it), script, folder) for it in (table, changed))
+    expect(before[:-1] == after[:-1], f'{script} is answered otherwise before its last step')
+    expect(before[-1][0] == 'blocked' and after[-1][0] not in ('blocked', 'refused'), f'{script} does not show {changed.name}')
+
+
+def hold_list(table, text, folder):
+    """Holds the list, and says how many relaxations it has, and how many of them a script."""
+    entries = ENTRY.findall(text)
+    expect(''.join(f'{n}. {name}\n   {edit}\n   {script}\n' for n, name, edit, script in entries) == text, 'the text has other lines')
+    expect([int(it[0]) for it in entries] == [*range(1, len(entries) + 1)], 'the numbers do not count up')
+    found, named = {it.name: it for it in relaxations(table)}, [it[1] for it in entries]
+    expect(len(set(named)) == len(named) and {*named} == {*found}, f'named: {named}; found: {[*found]}')
+    shown = [(name, script) for _, name, _, script in entries if script != UNKNOWN]
+    for name, script in shown:
+        hold_script(table, found[name], script, folder)
+    return len(entries), len(shown)
+
+
+def hold_tightest(table, word):
+    out, err, status = said_of(word, '--write')
+    expect(status in (0, 1) and not err, f'--write: status {status} {err}')
+    tightest = Table(out)
+    expect(tightest.names == table.names and tightest.updates == table.updates, '--write: other modes')
+    expect(is_safe(tightest) and (not relaxations(tightest)) == (status == 0), f'--write: not safe, or not tight as status {status} says')
+    return sum(tightest.ask(*it) != table.ask(*it) for it in places_of(table))
+
+
+def places_of(table):
+    return {it.request[0] for it in changes_of(table) if it.request and it.request[0][2] is not None}
+
+
+def hold(word, folder):
+    table = Table(file_of(word).read_text())
+    out, err, status = said_of(word)
+    if not is_safe(table):
+        line = f'kr_relax: {word}: not safe; see kr_explain {word}\n'
+        expect((out, err, status) == ('', line, 2), f'not safe, and said: {status} {out}{err}')
+        return f'{word}: not safe'
+    expect(not err and status == (out != TIGHT), f'status {status} {err}')
+    count, shown = (0, 0) if out == TIGHT else hold_list(table, out, folder)
+    expect(count or not relaxations(table), 'said to be tight')
+    changed = hold_tightest(table, word)
+    return f'{word}: {count} relaxations, {shown} with a script; {changed} requests differ in the tightest table'
+
+
+def random_tables(rand, count, folder):
+    """Files with random tables: bundled ones, of which some entries are changed."""
+    texts = [it.read_text() for it in sorted((TOP / 'tables').glob('*.toml')) if it.name != 'range-key.toml']
+    for number in range(count):
+        draft = Draft.of_text(rand.choice(texts))
+        for _ in range(rand.choice([1, 1, 2, 3])):
+            draft.change(rand)
+        path = folder / f'{number}.toml'
+        path.write_text(draft.text())
+        yield str(path)
+
+
+def main():
+    words = argparse.ArgumentParser(description=__doc__, formatter_class=argparse.RawDescriptionHelpFormatter)
+    words.add_argument('tables', nargs='*', metavar='TABLE')
+    words.add_argument('--random', type=int, default=0)
+    words.add_argument('--seed', type=int, default=1)
+    asked = words.parse_args()
+    rand, failed = random.Random(asked.seed), 0
+    with tempfile.TemporaryDirectory() as folder:
+        for word in [*asked.tables, *random_tables(rand, asked.random, pathlib.Path(folder))]:
+            try:
+                print('compare:', hold(word, folder), flush=True)
+            except Wrong as it:
+                print(f'compare: {word}: {it}', file_of(word).read_text() if asked.random else '', flush=True)
+                failed = 1
+    return failed
+
+
+if __name__ == '__main__':
+    sys.exit(main())
