@@ -39,7 +39,7 @@ _kr() {
   kr_suite.3.-*) ;;
   kr_suite.3.*) _kr_words --left ;;
   kr_relax.3.-*) ;;
-  kr_relax.3.*) _kr_words --write ;;
+  kr_relax.3.*) _kr_words --write --why ;;
   esac
 }
 complete -F _kr kr kr_explain kr_view kr_trace kr_suite kr_relax

@@ -12,3 +12,4 @@ complete -c kr_relax -n '__kr_relax_at 1' -a '(__fish_complete_suffix .toml | st
 complete -c kr_relax -n '__kr_relax_at 1' -s h -l help -d 'print the usage'
 complete -c kr_relax -n '__kr_relax_at 1' -l version -d 'print the version'
 complete -c kr_relax -n '__kr_relax_at 2' -a --write -d 'print the table with one relaxation after another'
+complete -c kr_relax -n '__kr_relax_at 2' -a --why -d 'print what each change of an entry does'

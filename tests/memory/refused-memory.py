@@ -93,8 +93,9 @@ def words_of_suite():
 
 
 def words_of_relax():
-    """Two tables of two modes, one of them rejected, both forms of the words, and words that name none."""
-    yield from (["@im"], ["@im", "--write"], ["examples/rejected/delete.toml"], ["none.toml"], ["@im", "--writes"])
+    """Two tables of two modes, one of them rejected, each form of the words, and words that name none."""
+    yield from (["@im"], ["@im", "--write"], ["@im", "--why", "X beside S"], ["@im", "--why", "a"])
+    yield from (["examples/rejected/delete.toml"], ["none.toml"], ["@im", "--writes"])
 
 
 def words_of_trace():

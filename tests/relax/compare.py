@@ -6,8 +6,10 @@ else the built ones are taken.
     compare.py --random N [--seed N]    so many random tables, drafts of bundled ones with entries changed
 
 A table that isn't safe is a fault, and told so. Of one that is safe
-  the relaxations that are named are those that are found here, or both say that it is tight; the status is 1 or 0
+  the relaxations that are named are those that are found here, in this order, or both say that it is tight; the status is 1 or 0
   `kr run` blocks the last step of each script under the table, and grants it, with all others answered the same, under the changed one
+  the entries that are said to be unused are those that no schedule comes to here
+  --why says of each change of three entries what is found here, and `kr run` finds each of its scripts not serializable
   --write prints a table that is safe, with the same modes, and that is tight exactly where the status is 0
 Prints a line for each table. Status 1 where something doesn't hold."""
 
@@ -25,15 +27,15 @@ TOP = pathlib.Path(__file__).resolve().parents[2]
 sys.path += [str(TOP / 'tests' / it) for it in ('engines', 'exact', 'second', 'suite')]
 
 from changes import changes_of, text_of
-from condition import is_safe
+from condition import Closure, is_safe
 from program import built
-from relaxations import relaxations
+from relaxations import outcome, relaxations, spots, unused
 from samples import Draft
 from table import Table
 
-ENTRY = re.compile(r'(\d+)\. (.*)\n   (.*)\n   (.*)\n')
+ENTRY = re.compile(r'(\d+)\. (.*)\n   (.*)\n   more granted: (\d+)(?:; no script is known|, as (.*)\n   (.*))\n')
+REASON = re.compile(r'(\S.*)\n   (.*?)(?:, as this goes wrong\n   (.*))?\n')
 TIGHT = 'tight: no single entry can be relaxed\n'
-UNKNOWN = 'no script is known'
 
 
 class Wrong(Exception):
@@ -54,33 +56,61 @@ def said_of(*words):
     return ran.stdout, ran.stderr, ran.returncode
 
 
-def replies_of(text, script, folder):
-    """The replies of `kr run` under a table with this text."""
+def report_of(text, script, folder):
+    """The report of `kr run` under a table with this text."""
     paths = [pathlib.Path(folder) / it for it in ('table.toml', 'script.json')]
     for path, it in zip(paths, (text, script)):
         path.write_text(it)
     ran = subprocess.run([built('kr'), 'run', *map(str, paths)], capture_output=True, text=True)
     expect(ran.returncode in (0, 1), ran.stderr)
-    return json.loads(ran.stdout)['replies']
+    return json.loads(ran.stdout)
 
 
-def hold_script(table, changed, script, folder):
-    before, after = (replies_of(text_of(it), script, folder) for it in (table, changed))
+def words_of(script):
+    """The last step, beside those of the other transactions."""
+    said = lambda txn, op, *numbers: f"T{txn}'s {' '.join(map(str, [op, *numbers]))}"
+    *_, last = steps = json.loads(script)['steps']
+    return ' beside '.join(said(*it) for it in [last, *(it for it in steps if it[0] != last[0])])
+
+
+def hold_script(table, changed, words, script, folder):
+    before, after = (report_of(text_of(it), script, folder)['replies'] for it in (table, changed))
     expect(before[:-1] == after[:-1], f'{script} is answered otherwise before its last step')
     expect(before[-1][0] == 'blocked' and after[-1][0] not in ('blocked', 'refused'), f'{script} does not show {changed.name}')
+    expect(words == words_of(script), f'{words} is not {words_of(script)}')
 
 
 def hold_list(table, text, folder):
     """Holds the list, and says how many relaxations it has, and how many of them a script."""
+    found, tail = relaxations(table), unused(table)
+    expect(text.endswith(tail), f'the entries that nothing uses are {tail}')
+    text = text[: len(text) - len(tail)]
+    expect((text == TIGHT) == (not found), 'said to be tight')
     entries = ENTRY.findall(text)
-    expect(''.join(f'{n}. {name}\n   {edit}\n   {script}\n' for n, name, edit, script in entries) == text, 'the text has other lines')
+    expect(text == TIGHT or ''.join(it[0] for it in ENTRY.finditer(text)) == text, 'the text has other lines')
     expect([int(it[0]) for it in entries] == [*range(1, len(entries) + 1)], 'the numbers do not count up')
-    found, named = {it.name: it for it in relaxations(table)}, [it[1] for it in entries]
-    expect(len(set(named)) == len(named) and {*named} == {*found}, f'named: {named}; found: {[*found]}')
-    shown = [(name, script) for _, name, _, script in entries if script != UNKNOWN]
-    for name, script in shown:
-        hold_script(table, found[name], script, folder)
-    return len(entries), len(shown)
+    named = [(int(it[3]), it[1]) for it in entries]
+    expect(named == [(more, it.name) for more, it in found], f'named: {named}; found: {[(more, it.name) for more, it in found]}')
+    for (_, changed), (*_, words, script) in zip(found, entries):
+        if script:
+            hold_script(table, changed, words, script, folder)
+    return len(entries), sum(1 for it in entries if it[5])
+
+
+def hold_why(table, word, entry, folder):
+    """Holds what is said of each change of an entry."""
+    changes = [it for it in changes_of(table) if it.name.split(': ')[0] == entry]
+    out, err, status = said_of(word, '--why', entry)
+    reasons = REASON.findall(out)
+    expect(not err and ''.join(it[0] for it in REASON.finditer(out)) == out, f'--why {entry}: {err}{out}')
+    met = spots(Closure(table))
+    found = [(it.name, outcome(table, it, met)) for it in changes]
+    expect([it[:2] for it in reasons] == found, f'--why {entry}: {reasons}; found: {found}')
+    expect(status == any(what.startswith('a rel') for _, what in found), f'--why {entry}: status {status}')
+    for changed, (_, _, script) in zip(changes, reasons):
+        if script:
+            verdict = report_of(text_of(changed), script, folder)['verdict']
+            expect(verdict[0] == 'not-serial', f'--why {entry}: {script} does not go wrong')
 
 
 def hold_tightest(table, word):
@@ -96,16 +126,18 @@ def places_of(table):
     return {it.request[0] for it in changes_of(table) if it.request and it.request[0][2] is not None}
 
 
-def hold(word, folder):
+def hold(word, rand, folder):
     table = Table(file_of(word).read_text())
     out, err, status = said_of(word)
     if not is_safe(table):
         line = f'kr_relax: {word}: not safe; see kr_explain {word}\n'
         expect((out, err, status) == ('', line, 2), f'not safe, and said: {status} {out}{err}')
         return f'{word}: not safe'
-    expect(not err and status == (out != TIGHT), f'status {status} {err}')
-    count, shown = (0, 0) if out == TIGHT else hold_list(table, out, folder)
-    expect(count or not relaxations(table), 'said to be tight')
+    count, shown = hold_list(table, out, folder)
+    expect(not err and status == (count > 0), f'status {status} {err}')
+    entries = sorted({it.name.split(': ')[0] for it in changes_of(table)})
+    for entry in rand.sample(entries, 3):
+        hold_why(table, word, entry, folder)
     changed = hold_tightest(table, word)
     return f'{word}: {count} relaxations, {shown} with a script; {changed} requests differ in the tightest table'
 
@@ -132,7 +164,7 @@ def main():
     with tempfile.TemporaryDirectory() as folder:
         for word in [*asked.tables, *random_tables(rand, asked.random, pathlib.Path(folder))]:
             try:
-                print('compare:', hold(word, folder), flush=True)
+                print('compare:', hold(word, rand, folder), flush=True)
             except Wrong as it:
                 print(f'compare: {word}: {it}', file_of(word).read_text() if asked.random else '', flush=True)
                 failed = 1

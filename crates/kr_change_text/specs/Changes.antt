@@ -11,23 +11,15 @@ use Rattle.kr_model.specs.Words.{row_word, side_word, span_word}
 use Rattle.kr_change.specs.declared.change.Change.{Change}
 use Rattle.kr_change.specs.declared.change.Change.TheVariants.{Request, Convert, Compatible}
 
--- Whether two modes are compatible.
-abbrev pub yes_or_no : Bool → List ℕ
-yes_or_no true = codes "yes"
-yes_or_no false = codes "no"
+-- Entries --
 
 -- A requested mode beside a held one.
-unfoldable pub compatible_words : List (List ℕ) → ℕ → ℕ → Bool → List ℕ
-compatible_words names requested held is_compatible = name_of names requested ++ (codes " beside " ++ (name_of names held ++ (codes ": " ++ yes_or_no is_compatible)))
+unfoldable pub pair_words : List (List ℕ) → ℕ → ℕ → List ℕ
+pair_words names requested held = name_of names requested ++ (codes " beside " ++ name_of names held)
 
--- What a held and a requested mode convert to.
-unfoldable pub convert_words : List (List ℕ) → ℕ → ℕ → ℕ → List ℕ
-convert_words names held requested mode = name_of names held ++ (codes " held, " ++ (name_of names requested ++ (codes " asked: " ++ name_of names mode)))
-
--- A request: its mode, and how long it is held.
-unfoldable pub value_words : List (List ℕ) → Option (ℕ × Span) → List ℕ
-value_words names None = codes "nothing"
-value_words names (Some (mode, span)) = name_of names mode ++ (codes " " ++ span_word span)
+-- A held mode, and one that is requested.
+unfoldable pub conversion_words : List (List ℕ) → ℕ → ℕ → List ℕ
+conversion_words names held requested = name_of names held ++ (codes " held, " ++ (name_of names requested ++ codes " asked"))
 
 -- The name of a mode whose bit is set.
 unfoldable pub own_word : List (List ℕ) → ℕ → ℕ → List ℕ
@@ -42,12 +34,34 @@ abbrev pub owns_words : Protocol → List (List ℕ) → Option ℕ → List ℕ
 owns_words p names None = []
 owns_words p names (Some modes) = listed_words p names (codes " own") modes
 
--- What a row requests at a side, with some own modes on the next name.
-unfoldable pub entry_words : Protocol → List (List ℕ) → Row → Side → Option ℕ → Option (ℕ × Span) → List ℕ
-entry_words p names row side own_next request = row_word row ++ (codes " " ++ (side_word side ++ (owns_words p names own_next ++ (codes ": " ++ value_words names request))))
+-- A row at a side, with some own modes on the next name.
+unfoldable pub place_words : Protocol → List (List ℕ) → Row → Side → Option ℕ → List ℕ
+place_words p names row side own_next = row_word row ++ (codes " " ++ (side_word side ++ owns_words p names own_next))
+
+-- The name of the entry that a change is of.
+abbrev pub entry_words : Protocol → List (List ℕ) → Change → List ℕ
+entry_words p names (Compatible requested held is_compatible) = pair_words names requested held
+entry_words p names (Convert held requested mode) = conversion_words names held requested
+entry_words p names (Request row side own_next request) = place_words p names row side own_next
+
+-- Values --
+
+-- Whether two modes are compatible.
+abbrev pub yes_or_no : Bool → List ℕ
+yes_or_no true = codes "yes"
+yes_or_no false = codes "no"
+
+-- A request: its mode, and how long it is held.
+unfoldable pub request_words : List (List ℕ) → Option (ℕ × Span) → List ℕ
+request_words names None = codes "nothing"
+request_words names (Some (mode, span)) = name_of names mode ++ (codes " " ++ span_word span)
+
+-- The value that the entry has with a change.
+abbrev pub value_words : List (List ℕ) → Change → List ℕ
+value_words names (Compatible requested held is_compatible) = yes_or_no is_compatible
+value_words names (Convert held requested mode) = name_of names mode
+value_words names (Request row side own_next request) = request_words names request
 
 -- The name of a change of p, whose modes have these names.
-abbrev pub change_words : Protocol → List (List ℕ) → Change → List ℕ
-change_words p names (Compatible requested held is_compatible) = compatible_words names requested held is_compatible
-change_words p names (Convert held requested mode) = convert_words names held requested mode
-change_words p names (Request row side own_next request) = entry_words p names row side own_next request
+unfoldable pub change_words : Protocol → List (List ℕ) → Change → List ℕ
+change_words p names c = entry_words p names c ++ (codes ": " ++ value_words names c)

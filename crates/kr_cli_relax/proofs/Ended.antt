@@ -13,37 +13,35 @@ use Rattle.kr_cli.specs.Questions.{IsNoQuestion}
 use Rattle.kr_cli.specs.Tables.{names_of, table_of}
 use Rattle.kr_cli.specs.Words.{IsPlain}
 use Rattle.kr_cli_relax.specs.Words.{words_of}
-use Rattle.kr_cli_relax.specs.Program.{Answers, Ends, EndsWriting, Writes, unsafe_words}
+use Rattle.kr_cli_relax.specs.Program.{Answers, Ends, EndsWriting, IsUnmade, Writes, unmade_words, unsafe_words}
 use Rattle.kr_cli_relax.specs.declared.words.Wanted.{Wanted}
-use Rattle.kr_cli_relax.specs.declared.words.Wanted.TheVariants as wanted
 
 -- a table that isn't safe
-pub unsafe_ends : (p : Protocol) (word : List ℕ) (w : Wanted) (e : Ending) → (IsSafe p → ⊥) → MemoryOrTold e (λ line. line ≡ told_line word (unsafe_words word)) → EndsWriting p word w e
-unsafe_ends p word w NotUnderstood not_safe told = absurd told
-unsafe_ends p word w Memory not_safe told = tt
-unsafe_ends p word w Place not_safe told = absurd told
-unsafe_ends p word w Output not_safe told = absurd told
-unsafe_ends p word w (Told line) not_safe told = inl (not_safe, told)
+pub unsafe_ends : (p : Protocol) (names : List (List ℕ)) (word : List ℕ) (w : Wanted) (e : Ending) → (IsSafe p → ⊥) → MemoryOrTold e (λ line. line ≡ told_line word (unsafe_words word)) → EndsWriting p names word w e
+unsafe_ends p names word w NotUnderstood not_safe told = absurd told
+unsafe_ends p names word w Memory not_safe told = tt
+unsafe_ends p names word w Place not_safe told = absurd told
+unsafe_ends p names word w Output not_safe told = absurd told
+unsafe_ends p names word w (Told line) not_safe told = inl (not_safe, told)
 
--- a tightest table that isn't written
-pub unwritten_ends : (p : Protocol) (word : List ℕ) (w : Wanted) (e : Ending) → w ≡ wanted.Tightest
-    → MemoryOrTold e (λ line. line ≡ told_line word (codes "the tightest table cannot be written")) → EndsWriting p word w e
-unwritten_ends p word w NotUnderstood is told = absurd told
-unwritten_ends p word w Memory is told = tt
-unwritten_ends p word w Place is told = absurd told
-unwritten_ends p word w Output is told = absurd told
-unwritten_ends p word w (Told line) is told = inr (is, told)
+-- what can't be made
+pub unmade_ends : (p : Protocol) (names : List (List ℕ)) (word : List ℕ) (w : Wanted) (e : Ending) → IsUnmade p names w → MemoryOrTold e (λ line. line ≡ told_line word (unmade_words w)) → EndsWriting p names word w e
+unmade_ends p names word w NotUnderstood is told = absurd told
+unmade_ends p names word w Memory is told = tt
+unmade_ends p names word w Place is told = absurd told
+unmade_ends p names word w Output is told = absurd told
+unmade_ends p names word w (Told line) is told = inr (is, told)
 
 module _ (may_give : List ℕ → Option (List ℕ) → Type 0) (words : List (List ℕ)) (table : List ℕ) (w : Wanted) (are : words ≡ words_of table w) (asked : IsPlain table) where
   -- what ends the writing ends the program
-  ends_at : (t : AnyTable) (e : Ending) → NamesTable may_give table t → EndsWriting (table_of t) table w e → Ends may_give words e
+  ends_at : (t : AnyTable) (e : Ending) → NamesTable may_give table t → EndsWriting (table_of t) (names_of t) table w e → Ends may_give words e
   ends_at t NotUnderstood names ends = absurd ends
   ends_at t Memory names ends = tt
   ends_at t Place names ends = absurd ends
   ends_at t Output names ends = tt
   ends_at t (Told line) names ends = (table, (w, (are, (asked, inr (t, (names, ends))))))
 
-  pub writing_ends : (t : AnyTable) (r : Result Bool Ending) → NamesTable may_give table t → IfErr r (EndsWriting (table_of t) table w) → IfErr r (λ e. IsNoQuestion words → Ends may_give words e)
+  pub writing_ends : (t : AnyTable) (r : Result Bool Ending) → NamesTable may_give table t → IfErr r (EndsWriting (table_of t) (names_of t) table w) → IfErr r (λ e. IsNoQuestion words → Ends may_give words e)
   writing_ends t (Ok tight) names ends = tt
   writing_ends t (Err e) names ends = λ own. ends_at t e names ends
 

@@ -66,12 +66,12 @@ fn take_one(alloc: Global, table: &Table) -> Result<Taken, Memory>
     }
     let first = list[0];
     if is_shown(&with_scripts(alloc, table, &[first])?, 0) {
-        return take(alloc, table, first);
+        return take(alloc, table, first.change);
     }
     let shown = with_scripts(alloc, table, &list)?;
     for at in 0..list.len() {
         if is_shown(&shown, at) {
-            return take(alloc, table, list[at]);
+            return take(alloc, table, list[at].change);
         }
     }
     Ok(Taken::Unshown)

@@ -13,20 +13,22 @@ pub struct Asked<'a> {
     /// The word that names the table.
     pub table: &'a str,
     /// What is printed of it.
-    pub wanted: Wanted,
+    pub wanted: Wanted<'a>,
 }
 
 /// What is printed of a table.
 #[derive(Clone, Copy, Debug, PartialEq, Eq)]
-pub enum Wanted {
+pub enum Wanted<'a> {
     /// Its relaxations, or that there are none.
     Relaxations,
     /// The table that is left where one relaxation after another is taken.
     Tightest,
+    /// What each change of the entry of this name does.
+    Why(&'a str),
 }
 
-/// What the words ask, the program's name left out: `TABLE`, or `TABLE --write`. TABLE doesn't begin with a hyphen. Other words
-/// aren't understood.
+/// What the words ask, the program's name left out: `TABLE`, `TABLE --write`, or `TABLE --why ENTRY`. TABLE doesn't begin with a
+/// hyphen. Other words aren't understood.
 pub fn read_words<'a>(words: &'a [String]) -> Result<Asked<'a>, Ending>
     ensures words { IfOk result (λ a. map string_bytes words.now ≡ words_of a.table.now a.wanted) }
     ensures asked { IfOk result (λ a. IsPlain a.table.now) }
@@ -42,6 +44,12 @@ pub fn read_words<'a>(words: &'a [String]) -> Result<Asked<'a>, Ending>
             table: table.as_str(),
             wanted: Wanted::Tightest,
         }),
+        [table, option, entry] if is_plain(table.as_str()) && option.as_str() == "--why" => {
+            Ok(Asked {
+                table: table.as_str(),
+                wanted: Wanted::Why(entry.as_str()),
+            })
+        }
         _ => Err(Ending::NotUnderstood),
     }
 }

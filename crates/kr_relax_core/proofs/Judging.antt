@@ -1,99 +1,153 @@
--- Whether a change is a relaxation, by where the two tables differ, and a list of those that are.
-use Rattle.std.proofs.Common.{ℕ, suc, true, false, ◌≡◌, ◌≤◌, ◌<◌, ◌+◌, ◌∙◌, ◌⊎◌, inl, inr, List, [], ◌∷◌, ◌++◌, length, get_or, ap, refl, sym, subst, arith}
+-- What a change does, by where the two tables differ, and a list of relaxations.
+use Rattle.std.proofs.Common.{ℕ, true, false, ◌≡◌, ◌<◌, ◌+◌, ◌∙◌, ◌↔◌, List, [], ◌∷◌, ◌++◌, All, length, get_or, take, map, ap, refl, sym, subst, arith}
 use Rattle.std.specs.Prelude.{Contains}
-use Rattle.std.proofs.lemmas.List.{get_or_default}
-use Rattle.std.proofs.lemmas.List.Elements.{Contains-append_left, Contains-push}
+use Rattle.std.specs.List.Sorted.{IsPermutation}
+use Rattle.std.proofs.lemmas.List.{map_push, take_more}
+use Rattle.std.proofs.lemmas.List.Elements.{All-push}
+use Rattle.std.proofs.lemmas.List.Sorted.{All-permutation, Contains-permutation, IsPermutation-map, length_permutation}
 use Rattle.kr_model.specs.Protocol.{Protocol}
 use Rattle.kr_model.specs.Safe.{IsSafe}
 use Rattle.kr_change.specs.declared.change.Change.{Change}
 use Rattle.kr_change.specs.Changes.{changed, is_change}
 use Rattle.kr_change.specs.Every.{changes_of}
+use Rattle.kr_relax_core.specs.declared.outcome.Outcome.{Outcome}
+use Rattle.kr_relax_core.specs.declared.outcome.Outcome.TheVariants as outcome
+use Rattle.kr_relax_core.specs.declared.outcome.Judged.{Judged}
+use Rattle.kr_relax_core.specs.declared.relax.Relaxed.{Relaxed}
 use Rattle.kr_relax_core.specs.Twins.{Differs}
-use Rattle.kr_relax_core.specs.Relaxations.{IsRelaxation, AreRelaxations, IsTight, Selects, none, taken, passed}
+use Rattle.kr_relax_core.specs.Width.{AreGained}
+use Rattle.kr_relax_core.specs.Relaxations.{IsRelaxation, IsRelaxed, IsTight, AreAlike, AreFalling, AreRelaxations, changes_in}
+use Rattle.kr_relax_core.specs.Outcomes.{IsJudged, IsOutcome}
+use Rattle.kr_relax_core.specs.Selects.{Selects}
+use Rattle.kr_relax_core.proofs.Counting.{none_gained, some_gained}
+use Rattle.kr_relax_core.proofs.Selecting.{select_passed, select_taken, selected_all, selected_none}
 
 -- The table that was changed is the one that was given.
 pub same_table : (p q : Protocol) (c d : Change) → q ≡ p → d ≡ c → changed q d ≡ changed p c
 same_table p q c d e f = ap (λ (r : Protocol). changed r d) e ∙ ap (λ (x : Change). changed p x) f
 
--- It blocks somewhere what was granted,
-pub not_weaker : (p q : Protocol) (c : Change) → q ≡ changed p c → Differs p q false → IsRelaxation p c → ⊥
-not_weaker p q c e differs is = is.weaker (subst (λ (r : Protocol). Differs p r false) e differs)
+-- It blocks somewhere what was granted;
+pub blocks_more : (p q : Protocol) (c : Change) → q ≡ changed p c → is_change p c ≡ true → Differs p q false → IsOutcome p c outcome.BlocksMore
+blocks_more p q c e change d = (change, subst (λ (r : Protocol). Differs p r false) e d)
 
--- grants nothing more,
-pub not_more : (p q : Protocol) (c : Change) → q ≡ changed p c → (Differs p q true → ⊥) → IsRelaxation p c → ⊥
-not_more p q c e isnt is = isnt (subst (λ (r : Protocol). Differs p r true) (sym e) is.more)
-
--- or isn't safe;
-pub not_safe : (p q : Protocol) (c : Change) → q ≡ changed p c → (IsSafe q → ⊥) → IsRelaxation p c → ⊥
-not_safe p q c e isnt is = isnt (subst IsSafe (sym e) is.safe)
-
--- else the change is a relaxation.
-pub relaxation : (p q : Protocol) (c : Change) → q ≡ changed p c → is_change p c ≡ true → (Differs p q false → ⊥) → Differs p q true → IsSafe q → IsRelaxation p c
-relaxation p q c e change isnt more safe = record {
+-- else grants nothing more,
+pub lets_nothing_more : (p q : Protocol) (c : Change) (n : ℕ) → q ≡ changed p c → is_change p c ≡ true → (Differs p q false → ⊥) → AreGained p q n → n ≡ 0 → IsOutcome p c outcome.LetsNothingMore
+lets_nothing_more p q c n e change isnt gained none = record {
   change = change;
   weaker = λ d. isnt (subst (λ (r : Protocol). Differs p r false) (sym e) d);
-  more = subst (λ (r : Protocol). Differs p r true) e more;
-  safe = subst IsSafe e safe;
+  no_more = λ d. none_gained p q n gained none (subst (λ (r : Protocol). Differs p r true) (sym e) d);
 }
 
-below_or_last : (k n : ℕ) → k < n + 1 → (k < n) ⊎ (k ≡ n)
-below_or_last k n h = grind arith
+-- or isn't safe;
+pub unsafe_with : (p q : Protocol) (c : Change) (n : ℕ) → q ≡ changed p c → is_change p c ≡ true → (Differs p q false → ⊥) → AreGained p q n → (n ≡ 0 → ⊥) → (IsSafe q → ⊥)
+    → IsOutcome p c outcome.Unsafe
+unsafe_with p q c n e change isnt gained some unsafe = record {
+  change = change;
+  weaker = λ d. isnt (subst (λ (r : Protocol). Differs p r false) (sym e) d);
+  more = subst (λ (r : Protocol). Differs p r true) e (some_gained p q n gained some);
+  unsafe = λ s. unsafe (subst IsSafe (sym e) s);
+}
 
--- Of the first n changes, those that are relaxations are in the list.
-abbrev pub HasFirst : Protocol → List Change → ℕ → List Change → Type 0
-HasFirst p changes n list = (k : ℕ) (d : Change) → k < n → IsRelaxation p (get_or changes k d) → Contains list (get_or changes k d)
+-- else the change is a relaxation.
+pub relaxes : (p q : Protocol) (c : Change) (n : ℕ) → q ≡ changed p c → is_change p c ≡ true → (Differs p q false → ⊥) → AreGained p q n → (n ≡ 0 → ⊥) → IsSafe q
+    → IsOutcome p c (outcome.Relaxes n)
+relaxes p q c n e change isnt gained some safe = (
+  record {
+    change = change;
+    weaker = λ d. isnt (subst (λ (r : Protocol). Differs p r false) (sym e) d);
+    more = subst (λ (r : Protocol). Differs p r true) e (some_gained p q n gained some);
+    safe = subst IsSafe e safe;
+  },
+  subst (λ (r : Protocol). AreGained p r n) e gained,
+)
 
-same_change : (changes : List Change) (k n : ℕ) (d x : Change) → n < length changes → get_or changes n x ≡ x → k ≡ n → get_or changes k d ≡ x
-same_change changes k n d x low is e = ap (λ (i : ℕ). get_or changes i d) e ∙ get_or_default changes n d x low ∙ is
+-- Only of a relaxation is it the outcome.
+pub no_relaxation : (p : Protocol) (c : Change) (o : Outcome) → IsOutcome p c o → ((n : ℕ) → o ≡ outcome.Relaxes n → ⊥) → IsRelaxation p c → ⊥
+no_relaxation p c outcome.NoChange is other r = let h = r.change in absurd (cc)
+no_relaxation p c outcome.BlocksMore is other r = r.weaker is.1
+no_relaxation p c outcome.LetsNothingMore is other r = is.no_more r.more
+no_relaxation p c outcome.Unsafe is other r = is.unsafe r.safe
+no_relaxation p c (outcome.Relaxes n) is other r = other n refl
 
--- One more that is one,
-pub first_taken : (p : Protocol) (changes list new : List Change) (n : ℕ) (x : Change) → n < length changes → get_or changes n x ≡ x
-    → new ≡ list ++ x ∷ [] → HasFirst p changes n list → HasFirst p changes (n + 1) new
-first_taken p changes list new n x low is items old k d below relaxes = split (below_or_last k n below)
-  where
-    split : (k < n) ⊎ (k ≡ n) → Contains new (get_or changes k d)
-    split (inl h) = subst (λ (l : List Change). Contains l (get_or changes k d)) (sym items) (Contains-append_left list (x ∷ []) (get_or changes k d) (old k d h relaxes))
-    split (inr e) =
-        subst (Contains new) (sym (same_change changes k n d x low is e))
-        (subst (λ (l : List Change). Contains l x) (sym items) (Contains-push list x))
+-- One change more is judged.
+pub judged_changes : (changes : List Change) (old new : List Judged) (n : ℕ) (e : Change) (o : Outcome) → n < length changes
+    → new ≡ old ++ (record { change = get_or changes n e; outcome = o }) ∷ [] → map (λ (j : Judged). j.change) old ≡ take n changes → map (λ (j : Judged). j.change) new ≡ take (n + 1) changes
+judged_changes changes old new n e o low items before =
+    let x : Judged = record { change = get_or changes n e; outcome = o } in
+    ap (map (λ (j : Judged). j.change)) items ∙ map_push (λ (j : Judged). j.change) old x ∙ ap (λ (l : List Change). l ++ get_or changes n e ∷ []) before ∙ sym (take_more changes n e low)
 
--- and one more that is none.
-pub first_left : (p : Protocol) (changes list : List Change) (n : ℕ) (x : Change) → n < length changes → get_or changes n x ≡ x
-    → (IsRelaxation p x → ⊥) → HasFirst p changes n list → HasFirst p changes (n + 1) list
-first_left p changes list n x low is isnt old k d below relaxes = split (below_or_last k n below)
-  where
-    split : (k < n) ⊎ (k ≡ n) → Contains list (get_or changes k d)
-    split (inl h) = old k d h relaxes
-    split (inr e) = absurd (isnt (subst (IsRelaxation p) (same_change changes k n d x low is e) relaxes))
+pub judged_right : (p : Protocol) (changes : List Change) (old new : List Judged) (n : ℕ) (e : Change) (o : Outcome)
+    → new ≡ old ++ (record { change = get_or changes n e; outcome = o }) ∷ [] → IsOutcome p (get_or changes n e) o → All (IsJudged p) old → All (IsJudged p) new
+judged_right p changes old new n e o items is before = subst (All (IsJudged p)) (sym items) (All-push (IsJudged p) old (record { change = get_or changes n e; outcome = o }) before is)
 
--- Behind the changes that were judged comes one more that is a relaxation,
-pub order_taken : (p : Protocol) (c : Change) (changes list : List Change) → IsRelaxation p c → Selects p changes list → Selects p (changes ++ c ∷ []) (list ++ c ∷ [])
-order_taken p c _ _ is none = taken c [] [] is none
-order_taken p c _ _ is (taken d changes list one rest) = taken d (changes ++ c ∷ []) (list ++ c ∷ []) one (order_taken p c changes list is rest)
-order_taken p c _ _ is (passed d changes list isnt rest) = passed d (changes ++ c ∷ []) (list ++ c ∷ []) isnt (order_taken p c changes list is rest)
+-- The changes of those that were judged.
+abbrev pub judged_in : List Judged → List Change
+judged_in judged = map (λ j. j.change) judged
 
--- or that is none.
-pub order_passed : (p : Protocol) (c : Change) (changes list : List Change) → (IsRelaxation p c → ⊥) → Selects p changes list → Selects p (changes ++ c ∷ []) list
-order_passed p c _ _ isnt none = passed c [] [] isnt none
-order_passed p c _ _ isnt (taken d changes list one rest) = taken d (changes ++ c ∷ []) list one (order_passed p c changes list isnt rest)
-order_passed p c _ _ isnt (passed d changes list other rest) = passed d (changes ++ c ∷ []) list other (order_passed p c changes list isnt rest)
+-- Of the first n, these are the relaxations.
+pub record AreRelaxed (p : Protocol) (judged : List Judged) (n : ℕ) (list : List Relaxed) : Type 0 where
+  pub each : All (IsRelaxed p) list
+  pub order : Selects (IsRelaxation p) (judged_in (take n judged)) (changes_in list)
 
--- Once all have been judged, the list has all relaxations.
-pub has_all : (p : Protocol) (changes every list : List Change) (n : ℕ) → changes ≡ every → length changes ≤ n → HasFirst p changes n list
-    → (c : Change) → Contains every c → IsRelaxation p c → Contains list c
-has_all p changes every list n same end first c there is =
-    let here : Contains changes c = subst (λ (l : List Change). Contains l c) (sym same) there in
-    subst (Contains list) here.2 (first here.0 c (omega (arith, end, here.1)) (subst (IsRelaxation p) (sym here.2) is))
+judged_more : (judged : List Judged) (n : ℕ) (e : Judged) → n < length judged → judged_in (take n judged) ++ (get_or judged n e).change ∷ [] ≡ judged_in (take (n + 1) judged)
+judged_more judged n e low = sym (ap judged_in (take_more judged n e low) ∙ map_push (λ (j : Judged). j.change) (take n judged) (get_or judged n e))
 
--- What is named first is one of the changes.
-named_first : (p : Protocol) (c : Change) (changes list : List Change) → Selects p changes (c ∷ list) → Contains changes c
-named_first p c _ _ (taken _ changes list is rest) = (0, omega arith, refl)
-named_first p c _ _ (passed d changes _ isnt rest) = let h = named_first p c changes _ rest in (suc h.0, omega arith, h.2)
+-- One more is one,
+pub relaxed_more : (p : Protocol) (judged : List Judged) (n width : ℕ) (e : Judged) (old new : List Relaxed) → n < length judged → All (IsJudged p) judged
+    → (get_or judged n e).outcome ≡ outcome.Relaxes width → new ≡ old ++ (record { change = (get_or judged n e).change; width = width }) ∷ [] → AreRelaxed p judged n old → AreRelaxed p judged (n + 1) new
+relaxed_more p judged n width e old new low right relaxes items before =
+    let j : Judged = get_or judged n e in
+    let x : Relaxed = record { change = j.change; width = width } in
+    let is = subst (IsOutcome p j.change) relaxes (right n e low) in
+    record {
+      each = subst (All (IsRelaxed p)) (sym items) (All-push (IsRelaxed p) old x before.each (record { relaxation = is.0; width = is.1 }));
+      order = subst (λ (l : List Relaxed). Selects (IsRelaxation p) (judged_in (take (n + 1) judged)) (changes_in l)) (sym items)
+          (subst (λ (l : List Change). Selects (IsRelaxation p) (judged_in (take (n + 1) judged)) l) (sym (map_push (λ (y : Relaxed). y.change) old x))
+          (subst (λ (l : List Change). Selects (IsRelaxation p) l (changes_in old ++ j.change ∷ [])) (judged_more judged n e low)
+          (select_taken (IsRelaxation p) j.change (judged_in (take n judged)) (changes_in old) is.0 before.order)));
+    }
 
--- No change is a relaxation exactly where none is named.
-pub tight_if_empty : (p : Protocol) (list : List Change) → AreRelaxations p list → list ≡ [] → IsTight p
-tight_if_empty p list are empty c there is = let h = subst (λ (l : List Change). Contains l c) empty (are.all c there is) in absurd (omega (arith, h.1))
+-- or isn't.
+pub relaxed_same : (p : Protocol) (judged : List Judged) (n : ℕ) (e : Judged) (old new : List Relaxed) → n < length judged → All (IsJudged p) judged
+    → ((width : ℕ) → (get_or judged n e).outcome ≡ outcome.Relaxes width → ⊥) → new ≡ old → AreRelaxed p judged n old → AreRelaxed p judged (n + 1) new
+relaxed_same p judged n e old new low right other items before =
+    let j : Judged = get_or judged n e in
+    let isnt : IsRelaxation p j.change → ⊥ = no_relaxation p j.change j.outcome (right n e low) other in
+    record {
+      each = subst (All (IsRelaxed p)) (sym items) before.each;
+      order = subst (λ (l : List Relaxed). Selects (IsRelaxation p) (judged_in (take (n + 1) judged)) (changes_in l)) (sym items)
+          (subst (λ (l : List Change). Selects (IsRelaxation p) l (changes_in old)) (judged_more judged n e low)
+          (select_passed (IsRelaxation p) j.change (judged_in (take n judged)) (changes_in old) isnt before.order));
+    }
 
-pub empty_if_tight : (p : Protocol) (list : List Change) → AreRelaxations p list → IsTight p → list ≡ []
-empty_if_tight p [] are tight = refl
-empty_if_tight p (c ∷ list) are tight = absurd (tight c (named_first p c (changes_of p) list are.order) (are.each 0 c (omega arith)))
+-- The relaxations in order are the relaxations,
+pub all_relaxations : (p : Protocol) (found list : List Relaxed) → All (IsRelaxed p) found → Selects (IsRelaxation p) (changes_of p) (changes_in found)
+    → IsPermutation found list → AreFalling list → AreAlike list found → AreRelaxations p list
+all_relaxations p found list each order permutation falling alike = record {
+  each = All-permutation (IsRelaxed p) found list permutation each;
+  all = λ c there is.
+      Contains-permutation (changes_in found) (changes_in list) c (IsPermutation-map (λ (x : Relaxed). x.change) found list permutation)
+      (selected_all (IsRelaxation p) (changes_of p) (changes_in found) order c there is);
+  falling = falling;
+  selected = found;
+  order = order;
+  alike = alike;
+}
+
+no_changes : (list : List Relaxed) → changes_in list ≡ [] → list ≡ []
+no_changes [] e = refl
+no_changes (x ∷ list) e = absurd (cc)
+
+empty_if_none : (list : List Relaxed) → length list ≡ 0 → list ≡ []
+empty_if_none [] e = refl
+empty_if_none (x ∷ list) e = absurd (omega arith)
+
+-- and none is there exactly where no change is one.
+pub none_if_tight : (p : Protocol) (found list : List Relaxed) → Selects (IsRelaxation p) (changes_of p) (changes_in found) → IsPermutation found list → AreRelaxations p list
+    → (list ≡ []) ↔ IsTight p
+none_if_tight p found list order permutation are = (
+  λ empty c there is. (let h = subst (λ (l : List Relaxed). Contains (changes_in l) c) empty (are.all c there is) in absurd (omega (arith, h.1))),
+  λ tight.
+      let nothing : found ≡ [] = no_changes found (selected_none (IsRelaxation p) (changes_of p) (changes_in found) order tight) in
+      empty_if_none list (length_permutation found list permutation ∙ ap length nothing),
+)

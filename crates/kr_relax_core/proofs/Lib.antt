@@ -2,4 +2,8 @@ pub mod Growing
 pub mod Closed
 pub mod Differing
 pub mod Meeting
+pub mod Counting
+pub mod Selecting
 pub mod Judging
+pub mod Widest
+pub mod Spotting

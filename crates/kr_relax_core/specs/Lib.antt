@@ -1,3 +1,7 @@
 pub mod Met
 pub mod Twins
+pub mod Selects
+pub mod Width
 pub mod Relaxations
+pub mod Outcomes
+pub mod Unused

@@ -1,11 +1,15 @@
 -- Relaxations of a table: changes of one entry that let more through, and keep the table safe.
-use Rattle.std.specs.Prelude.{◌≡◌, true, List, [], ◌∷◌, All, Contains}
+use Rattle.std.specs.Prelude.{◌≡◌, ℕ, ◌==◌, ◌≤◌, true, List, All, Contains, map, filter}
+use Rattle.std.specs.List.{AllPairs}
 use Rattle.kr_model.specs.Protocol.{Protocol}
 use Rattle.kr_model.specs.Safe.{IsSafe}
 use Rattle.kr_change.specs.declared.change.Change.{Change}
 use Rattle.kr_change.specs.Changes.{changed, is_change}
 use Rattle.kr_change.specs.Every.{changes_of}
+use Rattle.kr_relax_core.specs.declared.relax.Relaxed.{Relaxed}
+use Rattle.kr_relax_core.specs.Selects.{Selects}
 use Rattle.kr_relax_core.specs.Twins.{IsWeaker, GrantsMore}
+use Rattle.kr_relax_core.specs.Width.{IsWidth}
 
 -- The change of one entry makes no lock stronger where that can be seen, lets more through somewhere, and the table with it is safe.
 pub record IsRelaxation (p : Protocol) (c : Change) : Type 0 where
@@ -14,17 +18,36 @@ pub record IsRelaxation (p : Protocol) (c : Change) : Type 0 where
   pub more : GrantsMore p (changed p c)
   pub safe : IsSafe (changed p c)
 
--- Of some changes, in their order, those that are relaxations.
-pub data Selects (p : Protocol) : List Change → List Change → Type 0 where
-  none : Selects p [] []
-  taken : (c : Change) (changes list : List Change) → IsRelaxation p c → Selects p changes list → Selects p (c ∷ changes) (c ∷ list)
-  passed : (c : Change) (changes list : List Change) → (IsRelaxation p c → ⊥) → Selects p changes list → Selects p (c ∷ changes) list
+-- The change is a relaxation, and its width is its width.
+pub record IsRelaxed (p : Protocol) (x : Relaxed) : Type 0 where
+  pub relaxation : IsRelaxation p x.change
+  pub width : IsWidth p x.change x.width
 
--- The list has exactly the changes of one entry that are relaxations, in their order.
-pub record AreRelaxations (p : Protocol) (list : List Change) : Type 0 where
-  pub each : All (IsRelaxation p) list
-  pub all : (c : Change) → Contains (changes_of p) c → IsRelaxation p c → Contains list c
-  pub order : Selects p (changes_of p) list
+-- The changes of a list.
+abbrev pub changes_in : List Relaxed → List Change
+changes_in list = map (λ x. x.change) list
+
+-- The widest come first.
+abbrev pub AreFalling : List Relaxed → Type 0
+AreFalling list = AllPairs (λ x y. y.width ≤ x.width) list
+
+-- Those of one width, in their order.
+abbrev pub of_width : ℕ → List Relaxed → List Relaxed
+of_width w list = filter (λ x. x.width == w) list
+
+-- Of each width, two lists have the same, in the same order.
+abbrev pub AreAlike : List Relaxed → List Relaxed → Type 0
+AreAlike list other = (w : ℕ) → of_width w list ≡ of_width w other
+
+-- The list has exactly the changes of one entry that are relaxations, the widest first, and those of one width in their order.
+pub record AreRelaxations (p : Protocol) (list : List Relaxed) : Type 0 where
+  pub each : All (IsRelaxed p) list
+  pub all : (c : Change) → Contains (changes_of p) c → IsRelaxation p c → Contains (changes_in list) c
+  pub falling : AreFalling list
+  -- the relaxations in the order of the changes
+  pub selected : List Relaxed
+  pub order : Selects (IsRelaxation p) (changes_of p) (changes_in selected)
+  pub alike : AreAlike list selected
 
 -- No change of one entry is a relaxation.
 abbrev pub IsTight : Protocol → Type 0

@@ -67,7 +67,7 @@ fn differs_next<P: Protocol, Q: Protocol>(
 }
 
 /// The same with some twin of its own mode on the name.
-fn differs_own<P: Protocol, Q: Protocol>(
+pub(crate) fn differs_own<P: Protocol, Q: Protocol>(
     base: &P,
     other: &Q,
     twins: &[Twin],

@@ -29,7 +29,7 @@ pub struct Spot {
 }
 
 /// The own mode by which a request goes.
-fn given_mode(request: Request) -> Mode
+pub(crate) fn given_mode(request: Request) -> Mode
     ensures { result ≡ given_mode request.row request.side request.own request.next }
 {
     match (request.row, request.side) {

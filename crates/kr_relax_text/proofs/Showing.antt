@@ -9,6 +9,7 @@ use Rattle.kr_model.specs.Map.{Map}
 use Rattle.kr_model.specs.Protocol.{Protocol}
 use Rattle.kr_change.specs.declared.change.Change.{Change}
 use Rattle.kr_change.specs.Changes.{changed}
+use Rattle.kr_relax_core.specs.declared.relax.Relaxed.{Relaxed}
 use Rattle.kr_relax_text.specs.declared.scripts.Relaxation.{Relaxation}
 use Rattle.kr_relax_text.specs.Scripts.{AreShown, IsShown, LetsThrough}
 
@@ -20,14 +21,14 @@ same_shown p q c d m n es fs base change opening events shown =
     (subst (λ (e : Change). LetsThrough p (changed p e) m es) change
     (subst (λ (r : Protocol). LetsThrough p (changed r d) m es) base shown)))
 
--- the changes of one relaxation more
-changes_more : (cs : List Change) (k : ℕ) (list : List Relaxation) (r : Relaxation) → k < length cs → map (λ s. s.change) list ≡ take k cs → r.change ≡ get_or cs k r.change → map (λ s. s.change) (list ++ (r ∷ [])) ≡ take (k + 1) cs
-changes_more cs k list r within are is = grind (arith, common_steps, take-suc, map-append, within, are, is)
+-- one relaxation more
+relaxed_more : (cs : List Relaxed) (k : ℕ) (list : List Relaxation) (r : Relaxation) → k < length cs → map (λ s. s.relaxed) list ≡ take k cs → r.relaxed ≡ get_or cs k r.relaxed → map (λ s. s.relaxed) (list ++ (r ∷ [])) ≡ take (k + 1) cs
+relaxed_more cs k list r within are is = grind (arith, common_steps, take-suc, map-append, within, are, is)
 
 -- and its script
 scripts_more : (p : Protocol) (list : List Relaxation) (r : Relaxation) → All (IsShown p) list → IsShown p r → All (IsShown p) (list ++ (r ∷ []))
 scripts_more p list r are shown = All-push (IsShown p) list r are shown
 
--- one more change has its script
-pub one_more : (p : Protocol) (cs : List Change) (k : ℕ) (list : List Relaxation) (r : Relaxation) → k < length cs → AreShown p (take k cs) list → r.change ≡ get_or cs k r.change → IsShown p r → AreShown p (take (k + 1) cs) (list ++ (r ∷ []))
-one_more p cs k list r within are is shown = record { changes = changes_more cs k list r within are.changes is; scripts = scripts_more p list r are.scripts shown }
+-- one more has its script
+pub one_more : (p : Protocol) (cs : List Relaxed) (k : ℕ) (list : List Relaxation) (r : Relaxation) → k < length cs → AreShown p (take k cs) list → r.relaxed ≡ get_or cs k r.relaxed → IsShown p r → AreShown p (take (k + 1) cs) (list ++ (r ∷ []))
+one_more p cs k list r within are is shown = record { relaxations = relaxed_more cs k list r within are.relaxations is; scripts = scripts_more p list r are.scripts shown }

@@ -1,2 +1,5 @@
 pub mod Scripts
+pub mod Steps
+pub mod Unused
+pub mod Reasons
 pub mod Whole

@@ -9,6 +9,7 @@ use Rattle.kr_model.specs.State.{start}
 use Rattle.kr_model.specs.Run.{run, replies_of, is_granted}
 use Rattle.kr_change.specs.declared.change.Change.{Change}
 use Rattle.kr_change.specs.Changes.{changed}
+use Rattle.kr_relax_core.specs.declared.relax.Relaxed.{Relaxed}
 use Rattle.kr_told_apart.specs.Apart.{TellsApart, is_blocked}
 use Rattle.kr_relax_text.specs.declared.scripts.Relaxation.{Relaxation}
 use Rattle.kr_relax_text.specs.declared.scripts.Shown.{Shown}
@@ -27,11 +28,11 @@ pub record LetsThrough (p q : Protocol) (opening : Map) (events : List Event) : 
 abbrev pub Shows : Protocol → Change → Shown → Type 0
 Shows p c s = LetsThrough p (changed p c) s.opening.items s.events.items
 
--- Where a change stands with a script, the script shows it.
+-- Where a relaxation has a script, the script shows it.
 abbrev pub IsShown : Protocol → Relaxation → Type 0
-IsShown p r = IfSome r.script (Shows p r.change)
+IsShown p r = IfSome r.script (Shows p r.relaxed.change)
 
--- The list has these changes, in their order, and the script of each shows it.
-pub record AreShown (p : Protocol) (wanted : List Change) (list : List Relaxation) : Type 0 where
-  pub changes : map (λ r. r.change) list ≡ wanted
+-- The list has these relaxations, in their order, and the script of each shows it.
+pub record AreShown (p : Protocol) (wanted : List Relaxed) (list : List Relaxation) : Type 0 where
+  pub relaxations : map (λ r. r.relaxed) list ≡ wanted
   pub scripts : All (IsShown p) list

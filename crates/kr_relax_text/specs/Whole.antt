@@ -2,19 +2,29 @@
 use Rattle.std.specs.Prelude.{ℕ, ◌+◌, List, [], ◌∷◌, ◌++◌, Option, Some, None, codes, decimal}
 use Rattle.kr_model.specs.Protocol.{Protocol}
 use Rattle.kr_script.specs.Line.{line_text}
+use Rattle.kr_change.specs.declared.change.Change.{Change}
 use Rattle.kr_change_text.specs.Changes.{change_words}
 use Rattle.kr_change_text.specs.Edits.{edit_words}
+use Rattle.kr_relax_text.specs.Steps.{last_words}
 use Rattle.kr_relax_text.specs.declared.scripts.Relaxation.{Relaxation}
 use Rattle.kr_relax_text.specs.declared.scripts.Shown.{Shown}
 
--- A script as a line of JSON, or that there is none.
-abbrev pub script_words : Option Shown → List ℕ
-script_words None = codes "no script is known"
-script_words (Some s) = line_text (record { opening = s.opening.items; steps = s.events.items })
+-- What a script shows, and the script as a line of JSON; or that there is none.
+abbrev pub shown_words : Option Shown → List ℕ
+shown_words None = codes "; no script is known"
+shown_words (Some s) = codes ", as " ++ (last_words s.events.items ++ (codes "\n   " ++ line_text (record { opening = s.opening.items; steps = s.events.items })))
 
--- The relaxation of this number: its name, the edit that makes it, and the script.
-abbrev pub relaxation_text : Protocol → List (List ℕ) → ℕ → Relaxation → List ℕ
-relaxation_text p names n r = decimal n ++ (codes ". " ++ (change_words p names r.change ++ (codes "\n   " ++ (edit_words p names r.change ++ (codes "\n   " ++ (script_words r.script ++ codes "\n"))))))
+-- How many requests it grants that are blocked, and a script.
+unfoldable pub gain_words : Relaxation → List ℕ
+gain_words r = codes "more granted: " ++ (decimal r.relaxed.width ++ shown_words r.script)
+
+-- The name of a change, and the edit that makes it.
+unfoldable pub named_edit : Protocol → List (List ℕ) → Change → List ℕ
+named_edit p names c = change_words p names c ++ (codes "\n   " ++ edit_words p names c)
+
+-- The relaxation of this number: its name, the edit that makes it, what it grants more, and a script.
+unfoldable pub relaxation_text : Protocol → List (List ℕ) → ℕ → Relaxation → List ℕ
+relaxation_text p names n r = decimal n ++ (codes ". " ++ (named_edit p names r.relaxed.change ++ (codes "\n   " ++ (gain_words r ++ codes "\n"))))
 
 -- Relaxations, numbered from n.
 abbrev pub text_from : Protocol → List (List ℕ) → ℕ → List Relaxation → List ℕ

@@ -7,6 +7,7 @@ use kr_apart::{Flat, Part, parts};
 use kr_change::{Change, Changed};
 use kr_model::{Event, Memory};
 use kr_protocol::Protocol;
+use kr_relax_core::Relaxed;
 use kr_serial::{is_map, play};
 use kr_told_apart::tells_apart;
 use std::alloc::Global;
@@ -20,10 +21,10 @@ pub struct Shown {
     pub events: Vec<Event>,
 }
 
-/// A change, and a script of which the last step is granted with it, if one is known.
+/// A relaxation, and a script of which the last step is granted with it, if one is known.
 #[derive(Debug, Drop)]
 pub struct Relaxation {
-    pub change: Change,
+    pub relaxed: Relaxed,
     pub script: Option<Shown>,
 }
 
@@ -75,39 +76,51 @@ fn if_shows<P: Protocol>(
     Ok(Some(shown))
 }
 
-/// A change with the script that was found for its number, if that shows it.
+/// A relaxation with the script that was found for its number, if that shows it.
 fn with_script<P: Protocol>(
     alloc: Global,
     protocol: &P,
     found: &[Part],
     number: usize,
-    change: Change,
+    relaxed: Relaxed,
 ) -> Result<Relaxation, Memory>
-    ensures change { IfOk result (λ r. r.change ≡ change) }
+    ensures relaxed { IfOk result (λ r. r.relaxed ≡ relaxed) }
     ensures script { IfOk result (IsShown (P.table protocol.now)) }
 {
     let script = match found_for(alloc, found, number)? {
-        Some(shown) => if_shows(alloc, protocol, change, shown)?,
+        Some(shown) => if_shows(alloc, protocol, relaxed.change, shown)?,
         None => None,
     };
-    Ok(Relaxation { change, script })
+    Ok(Relaxation { relaxed, script })
 }
 
-/// The changes, each with a script that shows it, if one is found: under the table with the change the script's last step is
+/// Scripts that may show relaxations, by their numbers.
+fn search<P: Protocol>(
+    alloc: Global,
+    protocol: &P,
+    relaxations: &[Relaxed],
+) -> Result<Vec<Part>, Memory> {
+    let mut changes = Vec::new(alloc);
+    for relaxed in relaxations {
+        changes.push(relaxed.change)?;
+    }
+    parts(alloc, &Flat::of(protocol), &changes)
+}
+
+/// The relaxations, each with a script that shows it, if one is found: under the table with the change the script's last step is
 /// granted, and without it blocked. The error is memory alone.
 pub fn with_scripts<P: Protocol>(
     alloc: Global,
     protocol: &P,
-    changes: &[Change],
+    relaxations: &[Relaxed],
 ) -> Result<Vec<Relaxation>, Memory>
-    ensures { IfOk result (λ list. AreShown (P.table protocol.now) changes.now list.items) }
+    ensures { IfOk result (λ list. AreShown (P.table protocol.now) relaxations.now list.items) }
 {
-    let flat = Flat::of(protocol);
-    let found = parts(alloc, &flat, changes)?;
+    let found = search(alloc, protocol, relaxations)?;
     let mut list = Vec::new(alloc);
-    for change in changes {
+    for relaxed in relaxations {
         let number = list.len();
-        let one = with_script(alloc, protocol, &found, number, *change)?;
+        let one = with_script(alloc, protocol, &found, number, *relaxed)?;
         list.push(one)?;
     }
     Ok(list)

@@ -24,15 +24,18 @@ fn left_by<R: std::rt::Files + AllocGlobal>(rt: &R, words: &[&str]) -> Result<Le
 }
 
 /// Words that aren't understood.
-const NOT_UNDERSTOOD: &str = "kr_relax: words not understood\nusage: kr_relax TABLE [--write]\n";
+const NOT_UNDERSTOOD: &str = "kr_relax: words not understood\nusage: kr_relax TABLE [--write | --why ENTRY]\n";
 
 /// Words, with the status and what is left on the two streams; of faults the first line.
-const CALLS: [(&[&str], u8, &str, &str); 9] = [
+const CALLS: [(&[&str], u8, &str, &str); 12] = [
     (&["im"], 0, "tight: no single entry can be relaxed\n", ""),
     (&["--version"], 0, "kr_relax 0.9.0\n", ""),
     (&[], 2, "", NOT_UNDERSTOOD),
     (&["--write"], 2, "", NOT_UNDERSTOOD),
     (&["@im", "--writes"], 2, "", NOT_UNDERSTOOD),
+    (&["im", "--why"], 2, "", NOT_UNDERSTOOD),
+    (&["im", "--why", "a b"], 2, "", "kr_relax: im: no entry a b\n"),
+    (&["nothing", "--why", "a b"], 2, "", UNSAFE),
     (&["nothing"], 2, "", UNSAFE),
     (&["nothing", "--write"], 2, "", UNSAFE),
     (&["missing"], 2, "", "kr_relax: missing: cannot be read\n"),
@@ -72,6 +75,15 @@ fn a_tightest_table_is_written(rt: HostRuntime) -> Result<(), Fail> {
 }
 
 #[test]
+fn it_says_why_an_entry_is_as_it_is(rt: HostRuntime) -> Result<(), Fail> {
+    let left = left_by(&rt, ["im", "--why", "X beside S"].as_slice())?;
+    assert!(rt; left.out.starts_with(b"X beside S: yes\n   not safe, as this goes wrong\n   {"));
+    assert!(rt; left.err.is_empty());
+    assert_eq!(rt; left.status, 0);
+    Ok(())
+}
+
+#[test]
 fn output_that_fails(rt: HostRuntime) -> Result<(), Fail> {
     for words in [["im"].as_slice(), ["--help"].as_slice()] {
         let words = owned(rt.alloc(), words)?;
@@ -92,6 +104,12 @@ fn words_are_read(rt: HostRuntime) -> Result<(), Fail> {
     let asked = Asked {
         table: "t",
         wanted: Wanted::Tightest,
+    };
+    assert!(rt; read_words(words.as_slice()).is_ok_and(|it| it == asked));
+    let words = owned(rt.alloc(), ["t", "--why", "--write"].as_slice())?;
+    let asked = Asked {
+        table: "t",
+        wanted: Wanted::Why("--write"),
     };
     assert!(rt; read_words(words.as_slice()).is_ok_and(|it| it == asked));
     Ok(())

@@ -17,4 +17,4 @@ pub returns-clause-unknown : goal.returns-clause-unknown
 returns-clause-unknown g c asks =
     let taken = g.E.Sink.taken in
     let failures = g.E.Sink.failures in
-    not_understood c.answered-done.result c.finish.result _ (taken c.args.err.now) (taken c.finish.new.err) (failures c.args.err.now) (failures c.finish.new.err) (codes "kr_relax") (codes "usage: kr_relax TABLE [--write]") c.new-help.result c.answered-done.new.help c.as_str.result.now (c.answered-done.ensures.unknown asks) c.new-help.ensures.bytes c.as_str.ensures.value c.finish.ensures.within c.finish.ensures.well c.finish.ensures.not_well c.finish.ensures.told
+    not_understood c.answered-done.result c.finish.result _ (taken c.args.err.now) (taken c.finish.new.err) (failures c.args.err.now) (failures c.finish.new.err) (codes "kr_relax") (codes "usage: kr_relax TABLE [--write | --why ENTRY]") c.new-help.result c.answered-done.new.help c.as_str.result.now (c.answered-done.ensures.unknown asks) c.new-help.ensures.bytes c.as_str.ensures.value c.finish.ensures.within c.finish.ensures.well c.finish.ensures.not_well c.finish.ensures.told
