@@ -33,7 +33,7 @@ from relaxations import outcome, relaxations, spots, unused
 from samples import Draft
 from table import Table
 
-ENTRY = re.compile(r'(\d+)\. (.*)\n   (.*)\n   more granted: (\d+)(?:; no script is known|, as (.*)\n   (.*))\n')
+ENTRY = re.compile(r'(\d+)\. (.*)\n   (.*)\n   more granted: (\d+)(?:; no script is known|, among them (.*)\n   (.*))\n')
 REASON = re.compile(r'(\S.*)\n   (.*?)(?:, as this goes wrong\n   (.*))?\n')
 TIGHT = 'tight: no single entry can be relaxed\n'
 

@@ -12,7 +12,7 @@ use Rattle.kr_relax_text.specs.declared.scripts.Shown.{Shown}
 -- What a script shows, and the script as a line of JSON; or that there is none.
 abbrev pub shown_words : Option Shown → List ℕ
 shown_words None = codes "; no script is known"
-shown_words (Some s) = codes ", as " ++ (last_words s.events.items ++ (codes "\n   " ++ line_text (record { opening = s.opening.items; steps = s.events.items })))
+shown_words (Some s) = codes ", among them " ++ (last_words s.events.items ++ (codes "\n   " ++ line_text (record { opening = s.opening.items; steps = s.events.items })))
 
 -- How many requests it grants that are blocked, and a script.
 unfoldable pub gain_words : Relaxation → List ℕ

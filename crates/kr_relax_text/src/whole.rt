@@ -20,7 +20,7 @@ fn shown_text(alloc: Global, script: &Option<Shown>) -> Result<String, Memory>
     };
     let last = last_text(alloc, &shown.events)?;
     let line = write_script(alloc, &shown.opening, &shown.events)?;
-    format!(in alloc; ", as {last}\n   {line}")
+    format!(in alloc; ", among them {last}\n   {line}")
 }
 
 /// How many requests a relaxation grants that the table blocks, and a script.

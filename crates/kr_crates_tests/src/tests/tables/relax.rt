@@ -61,7 +61,7 @@ fn a_needless_lock_is_named(rt: HostRuntime) -> Result<(), Fail> {
 /// The first relaxation, up to its script.
 const FIRST: &str = "1. insert next own none: X instant
    in [rules.insert], next: request X for instant duration where the own mode on the next key is none
-   more granted: 9, as ";
+   more granted: 9, among them T2";
 
 #[test]
 fn a_tight_table_has_none(rt: HostRuntime) -> Result<(), Fail> {
