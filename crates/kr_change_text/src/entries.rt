@@ -8,15 +8,23 @@ use kr_protocol::{Protocol, name_or_empty};
 use std::alloc::Global;
 
 /// The name of the entry that a change is of: what comes before the colon in the change's own name. The error is memory alone.
-pub fn entry_text<P: Protocol>(alloc: Global, protocol: &P, change: Change) -> Result<String, Memory>
+pub fn entry_text<P: Protocol>(
+    alloc: Global,
+    protocol: &P,
+    change: Change,
+) -> Result<String, Memory>
     ensures { IfOk result (λ text. string_bytes text ≡ entry_words (P.table protocol.now) (P.names protocol.now) change) }
 {
     match change {
         Change::Compatible {
-            requested, held, ..
+            requested,
+            held,
+            ..
         } => pair_text(alloc, protocol, requested, held),
         Change::Convert {
-            held, requested, ..
+            held,
+            requested,
+            ..
         } => conversion_text(alloc, protocol, held, requested),
         Change::Request {
             row,

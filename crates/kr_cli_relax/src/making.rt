@@ -10,7 +10,8 @@ use kr_model::Memory;
 use kr_protocol::Protocol;
 use kr_relax_core::{relaxations, unused_entries};
 use kr_relax_text::{
-    changes_of_entry, one_relaxes, reasons_for, reasons_text, relaxed_text, unused_text, with_scripts,
+    changes_of_entry, one_relaxes, reasons_for, reasons_text, relaxed_text, unused_text,
+    with_scripts,
 };
 use kr_table::{Table, WriteFault};
 use std::alloc::{AllocError, Global};
@@ -39,7 +40,11 @@ fn relaxations_made<P: Protocol>(alloc: Global, protocol: &P) -> Result<Made, Me
 }
 
 /// What each change of the entry of a name does; `None` where no entry has the name.
-fn reasons_made<P: Protocol>(alloc: Global, protocol: &P, entry: &str) -> Result<Option<Made>, Memory>
+fn reasons_made<P: Protocol>(
+    alloc: Global,
+    protocol: &P,
+    entry: &str,
+) -> Result<Option<Made>, Memory>
     ensures { IfOk result (λ made. MatchOption made (has_no_entry (P.table protocol.now) (P.names protocol.now) entry.now ≡ true)
         (λ it. TellsReasons (P.table protocol.now) (P.names protocol.now) entry.now (string_bytes it.text) it.is_tight)) }
 {

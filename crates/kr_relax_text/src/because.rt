@@ -37,11 +37,7 @@ fn wrong_text(alloc: Global, script: &Option<String>) -> Result<String, Memory>
 
 /// A change, and what it does.
 #[tactic(auto, unfolding(crate::specs::Reasons::reason_words))]
-fn reason_text<P: Protocol>(
-    alloc: Global,
-    protocol: &P,
-    reason: &Reason,
-) -> Result<String, Memory>
+fn reason_text<P: Protocol>(alloc: Global, protocol: &P, reason: &Reason) -> Result<String, Memory>
     ensures { IfOk result (λ text. string_bytes text ≡ reason_words (P.table protocol.now) (P.names protocol.now) reason.now) }
 {
     let name = change_text(alloc, protocol, reason.judged.change)?;

@@ -24,7 +24,8 @@ fn left_by<R: std::rt::Files + AllocGlobal>(rt: &R, words: &[&str]) -> Result<Le
 }
 
 /// Words that aren't understood.
-const NOT_UNDERSTOOD: &str = "kr_relax: words not understood\nusage: kr_relax TABLE [--write | --why ENTRY]\n";
+const NOT_UNDERSTOOD: &str =
+    "kr_relax: words not understood\nusage: kr_relax TABLE [--write | --why ENTRY]\n";
 
 /// Words, with the status and what is left on the two streams; of faults the first line.
 const CALLS: [(&[&str], u8, &str, &str); 12] = [
@@ -34,7 +35,12 @@ const CALLS: [(&[&str], u8, &str, &str); 12] = [
     (&["--write"], 2, "", NOT_UNDERSTOOD),
     (&["@im", "--writes"], 2, "", NOT_UNDERSTOOD),
     (&["im", "--why"], 2, "", NOT_UNDERSTOOD),
-    (&["im", "--why", "a b"], 2, "", "kr_relax: im: no entry a b\n"),
+    (
+        &["im", "--why", "a b"],
+        2,
+        "",
+        "kr_relax: im: no entry a b\n",
+    ),
     (&["nothing", "--why", "a b"], 2, "", UNSAFE),
     (&["nothing"], 2, "", UNSAFE),
     (&["nothing", "--write"], 2, "", UNSAFE),
@@ -77,7 +83,10 @@ fn a_tightest_table_is_written(rt: HostRuntime) -> Result<(), Fail> {
 #[test]
 fn it_says_why_an_entry_is_as_it_is(rt: HostRuntime) -> Result<(), Fail> {
     let left = left_by(&rt, ["im", "--why", "X beside S"].as_slice())?;
-    assert!(rt; left.out.starts_with(b"X beside S: yes\n   not safe, as this goes wrong\n   {"));
+    assert!(rt;
+        left.out
+            .starts_with(b"X beside S: yes\n   not safe, as this goes wrong\n   {")
+    );
     assert!(rt; left.err.is_empty());
     assert_eq!(rt; left.status, 0);
     Ok(())

@@ -6,7 +6,8 @@ use kr_relax_core::{
     spots_of, twins_of, unused_entries,
 };
 use kr_relax_text::{
-    changes_of_entry, one_relaxes, reasons_for, reasons_text, relaxed_text, unused_text, with_scripts,
+    changes_of_entry, one_relaxes, reasons_for, reasons_text, relaxed_text, unused_text,
+    with_scripts,
 };
 use kr_table::bundled::{IM, KVL, RANGE_KEY};
 use kr_table::{Table, read};
@@ -195,6 +196,7 @@ fn each_change_of_an_entry_has_a_reason(rt: HostRuntime) -> Result<(), Fail> {
 /// The first change of the entry, up to its script, and the last.
 const UNSAFE: &str =
     "insert next own none: nothing\n   not safe, as this goes wrong\n   {\"format\":1,";
+
 const RELAXED: &str = "insert next own none: X instant\n   a relaxation, more granted: 9\n";
 
 #[test]
