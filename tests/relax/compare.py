@@ -28,6 +28,7 @@ sys.path += [str(TOP / 'tests' / it) for it in ('engines', 'exact', 'second', 's
 
 from changes import changes_of, text_of
 from condition import Closure, is_safe
+from holding import Wrong, expect, file_of
 from program import built
 from relaxations import outcome, relaxations, spots, unused
 from samples import Draft
@@ -36,19 +37,6 @@ from table import Table
 ENTRY = re.compile(r'(\d+)\. (.*)\n   (.*)\n   more granted: (\d+)(?:; no script is known|, among them (.*)\n   (.*))\n')
 REASON = re.compile(r'(\S.*)\n   (.*?)(?:, as this goes wrong\n   (.*))?\n')
 TIGHT = 'tight: no single entry can be relaxed\n'
-
-
-class Wrong(Exception):
-    pass
-
-
-def expect(holds, said):
-    if not holds:
-        raise Wrong(said)
-
-
-def file_of(word):
-    return TOP / 'tables' / f'{word[1:]}.toml' if word.startswith('@') else pathlib.Path(word)
 
 
 def said_of(*words):

@@ -28,6 +28,7 @@ TOP = pathlib.Path(__file__).resolve().parents[2]
 sys.path += [str(TOP / 'tests' / it) for it in ('engines', 'second')]
 
 from changes import changes_of, text_of
+from holding import Wrong, expect, file_of
 from parts import parts_of
 from program import built
 from runner import Run
@@ -38,19 +39,6 @@ SUITES = TOP / 'examples' / 'suites'
 BESIDE = ('line: ', 'habit: ')  # what tests begin with that is no entry
 UNREACHED = '. No schedule comes to it.'
 WHYS = (UNREACHED, '. No reply differs.')  # behind an entry that is alike
-
-
-class Wrong(Exception):
-    pass
-
-
-def expect(holds, said):
-    if not holds:
-        raise Wrong(said)
-
-
-def file_of(word):
-    return TOP / 'tables' / f'{word[1:]}.toml' if word.startswith('@') else pathlib.Path(word)
 
 
 def said_of(word, is_stored):
