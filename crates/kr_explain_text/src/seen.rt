@@ -2,19 +2,56 @@
 
 use kr_cases::Memory;
 use kr_explain_runs::{Counterexample, Ending};
-use kr_model::Txn;
 use std::alloc::Global;
 
-/// The key before P.
-const K: u64 = 10;
-/// The point below A that is read or deleted.
-const P: u64 = 15;
-/// A free point between P and A.
-const C: u64 = 17;
-/// The key that the case is about.
+/// The key that a case is about.
 const A: u64 = 20;
 
-/// The key after A in the opening, or the end.
+/// The sentence of an ending, where T stands for the holder, U for the intruder, V for the third transaction, and Y for the name after
+/// 20. The key before a case's point is 10, the point is 15, a free point above it 17, and the key that the case is about 20.
+fn sentence(ending: Ending) -> &'static str {
+    match ending {
+        Ending::ReadKeyGone => "T reads 20 twice, and U deletes it in between.",
+        Ending::ReadKeyUpdated => "T reads 20 twice, and U updates it in between.",
+        Ending::ReadGapFilled => "T looks for 15 twice, and U inserts it in between.",
+        Ending::ReadGapGrown => {
+            "T looks for 15 twice, and has locked the gap at 20. U deletes 20, so that the gap ends at Y, where T has no such lock, and inserts 15."
+        }
+        Ending::InsertFetched => "U reads 20, whose insert T then undoes.",
+        Ending::InsertScanned => "U scans 20, whose insert T then undoes.",
+        Ending::InsertDeleted => "U deletes 20, whose insert T then undoes.",
+        Ending::InsertUpdated => "U updates 20, whose insert T then undoes.",
+        Ending::InsertMissedBelow | Ending::InsertStoppedBelow => {
+            "U looks for 17 twice, and has locked the gap at 20, whose insert T undoes. No lock then blocks V, which inserts 17 in between."
+        }
+        Ending::InsertDeletedBelow => {
+            "U deletes 10, and has locked the gap at 20, whose insert T undoes. No lock then blocks V, which does not find 10, and U undoes the delete."
+        }
+        Ending::InsertDeletedPoint => {
+            "U deletes 15, and has locked the gap at 20, whose insert T undoes. No lock then blocks V, which does not find 15, and U undoes the delete."
+        }
+        Ending::DeleteMissed => "U does not find 15, whose delete T then undoes.",
+        Ending::DeleteScanned | Ending::DeleteStopped => {
+            "U scans without finding 15, whose delete T then undoes."
+        }
+        Ending::DeleteFilled => "U inserts 15, whose delete T then undoes.",
+        Ending::DeleteSplit => {
+            "U inserts 17 into the gap in which T has deleted 15: its lower part ends at 17, where T has no lock. V does not find 15, whose delete T then undoes."
+        }
+        Ending::DeleteGrown => {
+            "T has locked the gap in which it deleted 15 at 20. U deletes 20, so that the gap ends at Y. V does not find 15, whose delete T then undoes."
+        }
+        Ending::DeleteDeletedBelow => {
+            "T has deleted 15. U deletes 10, the key before it, and has locked the gap at 20. T undoes its delete, and the gap below 15 has no lock. V does not find 10, whose delete U then undoes."
+        }
+        Ending::UpdateFetched => "U reads 20 with the value of an update that T then undoes.",
+        Ending::UpdateScanned => "U scans 20 with the value of an update that T then undoes.",
+        Ending::UpdateDeleted => "U deletes 20 with the value of an update that T then undoes.",
+        Ending::UpdateUpdated => "U updates 20 with the value of an update that T then undoes.",
+    }
+}
+
+/// The name after 20 in the opening.
 fn name_after(alloc: Global, opening: &[(u64, u64)]) -> Result<String, Memory> {
     for (key, _) in opening {
         if *key > A {
@@ -24,149 +61,28 @@ fn name_after(alloc: Global, opening: &[(u64, u64)]) -> Result<String, Memory> {
     String::from_str(alloc, "End")
 }
 
+/// Writes what a letter of a sentence stands for.
+fn write_letter(
+    out: &mut String,
+    letter: char,
+    script: &Counterexample,
+    next: &str,
+) -> Result<(), Memory> {
+    match letter {
+        'T' => write!(out, "T{}", script.holder),
+        'U' => write!(out, "T{}", script.intruder),
+        'V' => write!(out, "T{}", script.third.unwrap_or(script.intruder)),
+        'Y' => out.push_str(next),
+        _ => out.push(letter),
+    }
+}
+
 /// What is wrong with a schedule.
 pub fn seen(alloc: Global, script: &Counterexample) -> Result<String, Memory> {
-    let t = script.holder;
-    let u = script.intruder;
-    let v = script.third.unwrap_or(u);
-    match script.ending {
-        Ending::ReadKeyGone
-        | Ending::ReadKeyUpdated
-        | Ending::ReadGapFilled
-        | Ending::ReadGapGrown => {
-            let y = name_after(alloc, script.opening.as_slice())?;
-            seen_by_reader(alloc, script.ending, t, u, y.as_str())
-        }
-        Ending::DeleteMissed
-        | Ending::DeleteScanned
-        | Ending::DeleteStopped
-        | Ending::DeleteFilled => seen_of_deleted(alloc, script.ending, t, u),
-        Ending::DeleteSplit | Ending::DeleteGrown | Ending::DeleteDeletedBelow => {
-            let y = name_after(alloc, script.opening.as_slice())?;
-            seen_by_deleted(alloc, script.ending, t, u, v, y.as_str())
-        }
-        Ending::InsertMissedBelow
-        | Ending::InsertStoppedBelow
-        | Ending::InsertDeletedBelow
-        | Ending::InsertDeletedPoint => seen_below_inserted(alloc, script.ending, t, u, v),
-        Ending::UpdateFetched
-        | Ending::UpdateScanned
-        | Ending::UpdateDeleted
-        | Ending::UpdateUpdated => seen_of_updated(alloc, script.ending, t, u),
-        _ => seen_of_inserted(alloc, script.ending, t, u),
+    let next = name_after(alloc, script.opening.as_slice())?;
+    let mut out = String::new(alloc);
+    for letter in sentence(script.ending).chars() {
+        write_letter(&mut out, letter, script, next.as_str())?;
     }
-}
-
-/// The holder `t` reads again, after the intruder `u`; `y` is the next name.
-fn seen_by_reader(
-    alloc: Global,
-    ending: Ending,
-    t: Txn,
-    u: Txn,
-    y: &str,
-) -> Result<String, Memory> {
-    match ending {
-        Ending::ReadKeyGone => {
-            format!(in alloc; "T{t} reads {A} twice, and T{u} deletes it in between.")
-        }
-        Ending::ReadKeyUpdated => {
-            format!(in alloc; "T{t} reads {A} twice, and T{u} updates it in between.")
-        }
-        Ending::ReadGapFilled => {
-            format!(in alloc; "T{t} looks for {P} twice, and T{u} inserts it in between.")
-        }
-        _ => {
-            format!(in alloc;
-                "T{t} looks for {P} twice, and has locked the gap at {A}. T{u} deletes {A}, so that the gap ends at {y}, where T{t} has no such lock, and inserts {P}."
-            )
-        }
-    }
-}
-
-/// The intruder `u` sees or changes what the holder `t` has inserted.
-fn seen_of_inserted(alloc: Global, ending: Ending, t: Txn, u: Txn) -> Result<String, Memory> {
-    let does = match ending {
-        Ending::InsertFetched => "reads",
-        Ending::InsertScanned => "scans",
-        Ending::InsertUpdated => "updates",
-        _ => "deletes",
-    };
-    format!(in alloc; "T{u} {does} {A}, whose insert T{t} then undoes.")
-}
-
-/// The third `v` comes below what the holder `t` has inserted, where the intruder `u` was.
-fn seen_below_inserted(
-    alloc: Global,
-    ending: Ending,
-    t: Txn,
-    u: Txn,
-    v: Txn,
-) -> Result<String, Memory> {
-    match ending {
-        Ending::InsertMissedBelow | Ending::InsertStoppedBelow => {
-            format!(in alloc;
-                "T{u} looks for {C} twice, and has locked the gap at {A}, whose insert T{t} undoes. No lock then blocks T{v}, which inserts {C} in between."
-            )
-        }
-        _ => {
-            let key = if ending == Ending::InsertDeletedBelow {
-                K
-            } else {
-                P
-            };
-            format!(in alloc;
-                "T{u} deletes {key}, and has locked the gap at {A}, whose insert T{t} undoes. No lock then blocks T{v}, which does not find {key}, and T{u} undoes the delete."
-            )
-        }
-    }
-}
-
-/// The third `v` misses what the holder `t` or the intruder `u` has deleted; `y` is the next name.
-fn seen_by_deleted(
-    alloc: Global,
-    ending: Ending,
-    t: Txn,
-    u: Txn,
-    v: Txn,
-    y: &str,
-) -> Result<String, Memory> {
-    match ending {
-        Ending::DeleteSplit => {
-            format!(in alloc;
-                "T{u} inserts {C} into the gap in which T{t} has deleted {P}: its lower part ends at {C}, where T{t} has no lock. T{v} does not find {P}, whose delete T{t} then undoes."
-            )
-        }
-        Ending::DeleteGrown => {
-            format!(in alloc;
-                "T{t} has locked the gap in which it deleted {P} at {A}. T{u} deletes {A}, so that the gap ends at {y}. T{v} does not find {P}, whose delete T{t} then undoes."
-            )
-        }
-        _ => {
-            format!(in alloc;
-                "T{t} has deleted {P}. T{u} deletes {K}, the key before it, and has locked the gap at {A}. T{t} undoes its delete, and the gap below {P} has no lock. T{v} does not find {K}, whose delete T{u} then undoes."
-            )
-        }
-    }
-}
-
-/// The intruder `u` sees or changes a value that the holder `t` undoes.
-fn seen_of_updated(alloc: Global, ending: Ending, t: Txn, u: Txn) -> Result<String, Memory> {
-    let does = match ending {
-        Ending::UpdateFetched => "reads",
-        Ending::UpdateScanned => "scans",
-        Ending::UpdateDeleted => "deletes",
-        _ => "updates",
-    };
-    format!(in alloc; "T{u} {does} {A} with the value of an update that T{t} then undoes.")
-}
-
-/// The intruder `u` misses what the holder `t` has deleted, or fills its place.
-fn seen_of_deleted(alloc: Global, ending: Ending, t: Txn, u: Txn) -> Result<String, Memory> {
-    let does = match ending {
-        Ending::DeleteMissed => "does not find",
-        Ending::DeleteScanned => "scans without finding",
-        Ending::DeleteStopped => "scans without finding",
-        _ => "inserts",
-    };
-    format!(in alloc; "T{u} {does} {P}, whose delete T{t} then undoes.")
+    Ok(out)
 }

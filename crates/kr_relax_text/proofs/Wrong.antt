@@ -11,7 +11,7 @@ use Rattle.kr_change.specs.declared.change.Change.{Change}
 use Rattle.kr_relax_core.specs.Outcomes.{IsJudged}
 use Rattle.kr_relax_core.specs.declared.outcome.Judged.{Judged}
 use Rattle.kr_relax_text.specs.declared.reasons.Reason.{Reason}
-use Rattle.kr_relax_text.specs.Reasons.{AreReasons, HasWrong, IsWrong, IsWrongLine, judged_in}
+use Rattle.kr_relax_text.specs.Reasons.{AreReasons, HasWrong, IsWrong, IsWrongLine, IsWrongOnly, judged_in}
 
 line_of : (p : Protocol) (n : ℕ) (x : Explanation) (found : Option Run) (line : List ℕ) → IsExplained p x → run_at n x ≡ found → IsScriptOf found (Some line) → IsWrongLine p line
 line_of p n x None line explained has is = absurd is
@@ -32,9 +32,10 @@ same_wrong p q c d r base change wrong =
 
 -- the reasons of changes that were judged
 pub are_reasons : (p : Protocol) (changes : List Change) (judged given : List Judged) (list : List Reason) → map (λ j. j.change) judged ≡ changes → All (IsJudged p) judged → given ≡ judged
-    → judged_in list ≡ given → All (IsWrong p) list → AreReasons p changes list
-are_reasons p changes judged given list are right same these wrong = record {
+    → judged_in list ≡ given → All (IsWrong p) list → All IsWrongOnly list → AreReasons p changes list
+are_reasons p changes judged given list are right same these wrong only = record {
   same = subst (λ (js : List Judged). map (λ j. j.change) js ≡ changes) (sym (these ∙ same)) are;
   judged = subst (λ (js : List Judged). All (IsJudged p) js) (sym (these ∙ same)) right;
   wrong = wrong;
+  only = only;
 }

@@ -39,15 +39,20 @@ HasWrong p c script = IfSome script (λ line. IsWrongLine (changed p c) (string_
 abbrev pub IsWrong : Protocol → Reason → Type 0
 IsWrong p r = HasWrong p r.judged.change r.wrong
 
+-- A reason has a script only where the table with the change isn't safe.
+abbrev pub IsWrongOnly : Reason → Type 0
+IsWrongOnly r = IfSome r.wrong (λ line. r.judged.outcome ≡ Unsafe)
+
 -- What the reasons of a list are of.
 abbrev pub judged_in : List Reason → List Judged
 judged_in list = map (λ r. r.judged) list
 
--- The list says what each of these changes does to p, in their order, and its scripts go wrong.
+-- The list says what each of these changes does to p, in their order, and its scripts go wrong, of changes that aren't safe alone.
 pub record AreReasons (p : Protocol) (changes : List Change) (list : List Reason) : Type 0 where
   pub same : map (λ j. j.change) (judged_in list) ≡ changes
   pub judged : All (IsJudged p) (judged_in list)
   pub wrong : All (IsWrong p) list
+  pub only : All IsWrongOnly list
 
 -- The change of a reason is a relaxation.
 abbrev pub is_relaxation : Outcome → Bool

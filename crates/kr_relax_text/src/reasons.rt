@@ -2,7 +2,7 @@
 ghost use Rattle.std.specs.Prelude.{◌≡◌, ◌<◌, ◌↔◌, All, IfOk, IfSome, IsTrue, string_bytes};
 ghost use Rattle.std.specs.List.{Any};
 ghost use Rattle.kr_explain_core.specs.Explained.{IsExplained};
-ghost use Rattle.kr_relax_text.specs.Reasons.{AreReasons, HasWrong, IsRelaxing, IsWrong, IsWrongLine, changes_of_entry, judged_in, of_entry};
+ghost use Rattle.kr_relax_text.specs.Reasons.{AreReasons, HasWrong, IsRelaxing, IsWrong, IsWrongLine, IsWrongOnly, changes_of_entry, judged_in, of_entry};
 
 use kr_change::{Change, Changed, changes_of};
 use kr_change_text::entry_text;
@@ -107,6 +107,7 @@ fn wrong_with<P: Protocol>(
 fn reason_of<P: Protocol>(alloc: Global, protocol: &P, judged: Judged) -> Result<Reason, Memory>
     ensures judged { IfOk result (λ r. r.judged ≡ judged) }
     ensures wrong { IfOk result (IsWrong (P.table protocol.now)) }
+    ensures only { IfOk result IsWrongOnly }
 {
     let wrong = match judged.outcome {
         Outcome::Unsafe => wrong_with(alloc, protocol, judged.change)?,
@@ -123,6 +124,7 @@ fn reasons_of<P: Protocol>(
 ) -> Result<Vec<Reason>, Memory>
     ensures judged { IfOk result (λ list. judged_in list.items ≡ judged.now) }
     ensures wrong { IfOk result (λ list. All (IsWrong (P.table protocol.now)) list.items) }
+    ensures only { IfOk result (λ list. All IsWrongOnly list.items) }
 {
     let mut list = Vec::new(alloc);
     for one in judged {

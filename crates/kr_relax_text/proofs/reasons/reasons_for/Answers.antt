@@ -9,3 +9,4 @@ returns g c =
     c.deref.ensures.value
     c.in_ok-list.ensures.judged
     c.in_ok-list.ensures.wrong
+    c.in_ok-list.ensures.only
