@@ -1,11 +1,12 @@
 //! The choice of few scripts.
 
+use crate::entry::Entry;
+use crate::flat::Flat;
 use crate::part::{Part, Script};
 use crate::replay::{entries_of, tells};
 use crate::tables::Tables;
 use crate::trail::MOST_STEPS;
 use kr_change::Change;
-use kr_light::{Entry, Flat};
 use kr_model::{Memory, Op};
 use std::alloc::Global;
 

@@ -1,12 +1,12 @@
 //! The states that two transactions can come to.
 
+use crate::flat::Flat;
 use crate::keys::OPENINGS;
 use crate::moves::{Move, changes_beside, moves};
 use crate::node::Node;
 use crate::seen::Seen;
 use crate::signature::Signature;
 use crate::trail::Trail;
-use kr_light::Flat;
 use kr_model::{Memory, Op};
 use std::alloc::Global;
 

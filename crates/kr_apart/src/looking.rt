@@ -1,12 +1,13 @@
 //! What is looked at in a state.
 
 use crate::closure::probes;
+use crate::light::Light;
 use crate::moves::Move;
 use crate::node::Node;
 use crate::pair::{Outcome, Pair};
 use crate::search::{Found, Search};
+use crate::sight::Sight;
 use crate::tables::Tables;
-use kr_light::{Light, Sight};
 use kr_model::{Memory, Op};
 
 /// So many places are remembered, at most, at which a change makes a difference in locks alone.

@@ -1,7 +1,7 @@
 //! What a transaction may do next.
 
 use crate::keys::{A, Y, Z};
-use kr_light::Light;
+use crate::light::Light;
 use kr_model::{Memory, Op};
 use std::alloc::Global;
 

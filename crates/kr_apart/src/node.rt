@@ -1,8 +1,10 @@
 //! A state of two transactions.
 
+use crate::flat::Flat;
 use crate::keys::opening;
+use crate::light::Light;
 use crate::moves::Move;
-use kr_light::{Flat, Light, SEATS, Seat};
+use crate::seat::{SEATS, Seat};
 use kr_model::Txn;
 
 /// A state, and the script that leads to it.

@@ -1,7 +1,7 @@
 //! The changes that no script tells apart yet.
 
+use crate::entry::{ENTRIES, Entry};
 use kr_change::Change;
-use kr_light::{ENTRIES, Entry};
 use kr_model::Memory;
 use std::alloc::Global;
 

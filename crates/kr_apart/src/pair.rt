@@ -1,9 +1,9 @@
 //! A state under two tables.
 
+use crate::light::Light;
 use crate::moves::Move;
 use crate::node::Node;
 use crate::tables::Tables;
-use kr_light::Light;
 use kr_model::Op;
 
 /// A state under a table, and what it is under the other, where the same steps were granted.

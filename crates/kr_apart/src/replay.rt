@@ -1,9 +1,11 @@
 //! A script once more, on light machines.
 
+use crate::entry::ENTRIES;
+use crate::flat::Flat;
 use crate::keys::opening;
+use crate::light::Light;
 use crate::part::Script;
 use crate::tables::Tables;
-use kr_light::{ENTRIES, Flat, Light};
 use kr_model::{Event, Memory, Op, Txn};
 use std::alloc::Global;
 

@@ -2,12 +2,12 @@
 
 use crate::choice::choice;
 use crate::closure::{Closure, MOST_NODES};
+use crate::flat::Flat;
 use crate::open::Open;
 use crate::part::{Part, Script};
 use crate::tables::Tables;
 use crate::trail::Trail;
 use kr_change::Change;
-use kr_light::Flat;
 use kr_model::Memory;
 use std::alloc::Global;
 

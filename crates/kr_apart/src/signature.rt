@@ -1,8 +1,9 @@
 //! When two states are taken for the same.
 
 use crate::keys::{A, LOW, Y, Z};
+use crate::light::Light;
 use crate::node::Node;
-use kr_light::{Light, Place, Seat};
+use crate::seat::{Place, Seat};
 use kr_model::Mode;
 
 /// What is told of a state: states with the same signature are taken for the same.

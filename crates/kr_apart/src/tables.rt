@@ -1,7 +1,7 @@
 //! Two tables that differ in one entry.
 
+use crate::flat::Flat;
 use kr_change::Change;
-use kr_light::Flat;
 
 /// A table, and the same table with one entry changed.
 #[derive(Clone, Copy)]

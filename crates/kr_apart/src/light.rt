@@ -9,7 +9,7 @@ use kr_model::{Op, Row, Side, Span};
 /// An index of at most 15 keys and the end, and four transactions, each with the modes that it holds and what it has
 /// changed. Keys have no values.
 #[derive(Clone, Copy)]
-pub struct Light {
+pub(crate) struct Light {
     /// The key of each place, in the order in which they came; that of the end, and of a place that is free, is the greatest
     /// number, which is no key here.
     keys: [u64; PLACES],
@@ -23,7 +23,7 @@ pub struct Light {
 
 impl Light {
     /// A machine with these keys, and transactions that have done nothing. Past 15 keys the others are left out.
-    pub fn new(opening: &[u64]) -> Light {
+    pub(crate) fn new(opening: &[u64]) -> Light {
         let mut light = Light {
             keys: [u64::MAX; PLACES],
             stands: [false; PLACES],
@@ -38,7 +38,7 @@ impl Light {
     }
 
     /// A transaction, by its seat.
-    pub fn seat(&self, seat: usize) -> &Seat {
+    pub(crate) fn seat(&self, seat: usize) -> &Seat {
         &self.seats[seat % 4]
     }
 
@@ -52,7 +52,7 @@ impl Light {
     }
 
     /// Whether all transactions hold the same locks as in another state with the same places.
-    pub fn holds_as(&self, other: &Light) -> bool {
+    pub(crate) fn holds_as(&self, other: &Light) -> bool {
         self.seats
             .iter()
             .zip(other.seats.iter())
@@ -60,7 +60,7 @@ impl Light {
     }
 
     /// The place of a key that came, whether it stands or not.
-    pub fn place_of(&self, key: u64) -> Option<Place> {
+    pub(crate) fn place_of(&self, key: u64) -> Option<Place> {
         for place in 1..16 {
             if self.key(place) == key && (place as usize) < self.places {
                 return Some(place);
@@ -70,7 +70,7 @@ impl Light {
     }
 
     /// The place of a key that stands.
-    pub fn standing(&self, key: u64) -> Option<Place> {
+    pub(crate) fn standing(&self, key: u64) -> Option<Place> {
         let place = self.place_of(key)?;
         if self.stands[(place % 16) as usize] {
             Some(place)
@@ -97,7 +97,7 @@ impl Light {
     }
 
     /// The greatest key that stands below this one; or 0.
-    pub fn below(&self, key: u64) -> u64 {
+    pub(crate) fn below(&self, key: u64) -> u64 {
         let mut best = 0;
         for place in 1..16 {
             let other = self.key(place);
@@ -110,7 +110,7 @@ impl Light {
 
     /// What a step finds. There is none where it would need a place or a note that there is no room for, and none of an end, a
     /// change taken back, or a scan that goes on.
-    pub fn look(&self, seat: usize, op: Op) -> Option<Sight> {
+    pub(crate) fn look(&self, seat: usize, op: Op) -> Option<Sight> {
         match op {
             Op::Fetch(key) => Some(self.looked_up(Row::FetchHit, key)),
             Op::Update(key, _) => Some(self.looked_up(Row::Update, key)),
@@ -193,7 +193,7 @@ impl Light {
     }
 
     /// Whether the step of a transaction is granted.
-    pub fn grants(&self, flat: &Flat, seat: usize, sight: &Sight) -> bool {
+    pub(crate) fn grants(&self, flat: &Flat, seat: usize, sight: &Sight) -> bool {
         let own = sight.own_next(self, seat);
         self.lets(flat, seat, sight.at(flat, Side::Current, own))
             && self.lets(flat, seat, sight.at(flat, Side::Next, own))
@@ -208,7 +208,7 @@ impl Light {
     }
 
     /// Does the step of a transaction, which is granted.
-    pub fn perform(&mut self, flat: &Flat, seat: usize, sight: &Sight) {
+    pub(crate) fn perform(&mut self, flat: &Flat, seat: usize, sight: &Sight) {
         let own = sight.own_next(self, seat);
         self.take(flat, seat, sight.at(flat, Side::Current, own));
         self.take(flat, seat, sight.at(flat, Side::Next, own));
@@ -257,7 +257,7 @@ impl Light {
 
     /// Attempts a step: whether it is granted, and then it is done. `None` where there is no room for it, or where it goes on
     /// with a scan.
-    pub fn step(&mut self, flat: &Flat, seat: usize, op: Op) -> Option<bool> {
+    pub(crate) fn step(&mut self, flat: &Flat, seat: usize, op: Op) -> Option<bool> {
         match op {
             Op::Commit => self.end(seat, false),
             Op::Abort => self.end(seat, true),

@@ -4,13 +4,13 @@ ghost use Rattle.std.specs.Prelude.{◌≤◌};
 use kr_model::Mode;
 
 /// The place of a lock name in a light machine, below 16: 0 is the end.
-pub type Place = u8;
+pub(crate) type Place = u8;
 
 /// How many places there are.
 pub(crate) const PLACES: usize = 16;
 
 /// How many transactions a light machine has at most.
-pub const SEATS: usize = 4;
+pub(crate) const SEATS: usize = 4;
 
 /// How many changes of one transaction are remembered.
 const CHANGES: usize = 8;
@@ -26,7 +26,7 @@ pub(crate) struct Change {
 
 /// One transaction: what it holds, and what it has changed.
 #[derive(Clone, Copy, PartialEq, Eq)]
-pub struct Seat {
+pub(crate) struct Seat {
     /// The mode held on each name.
     held: [Mode; PLACES],
     /// Its changes in their order.
@@ -53,27 +53,27 @@ impl Seat {
     }
 
     /// The mode held on a name.
-    pub fn held(&self, place: Place) -> Mode {
+    pub(crate) fn held(&self, place: Place) -> Mode {
         self.held[(place % 16) as usize]
     }
 
     /// Whether it holds the same locks as another.
-    pub fn holds_as(&self, other: &Seat) -> bool {
+    pub(crate) fn holds_as(&self, other: &Seat) -> bool {
         self.held == other.held
     }
 
     /// Whether it has taken a change back: then it does this and aborts alone.
-    pub fn rolls_back(&self) -> bool {
+    pub(crate) fn rolls_back(&self) -> bool {
         self.rolls_back
     }
 
     /// Whether it has a change that isn't taken back.
-    pub fn has_changes(&self) -> bool {
+    pub(crate) fn has_changes(&self) -> bool {
         self.changed > 0
     }
 
     /// Whether it holds a lock or has a change.
-    pub fn is_active(&self) -> bool {
+    pub(crate) fn is_active(&self) -> bool {
         self.changed > 0 || self.held.iter().any(|mode| *mode != 0)
     }
 
@@ -83,13 +83,13 @@ impl Seat {
     }
 
     /// The place of the newest change.
-    pub fn newest(&self) -> Option<Place> {
+    pub(crate) fn newest(&self) -> Option<Place> {
         let change = self.changes().last()?;
         Some(change.place)
     }
 
     /// Whether the key at a place stood before its first change of it; `None` where there is none.
-    pub fn stood_first(&self, place: Place) -> Option<bool> {
+    pub(crate) fn stood_first(&self, place: Place) -> Option<bool> {
         for change in self.changes() {
             if change.place == place {
                 return Some(change.stood);

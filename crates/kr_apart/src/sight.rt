@@ -8,7 +8,7 @@ use kr_model::{Mode, Row, Side};
 
 /// What a step finds: its row, the places of its names, and what it changes.
 #[derive(Clone, Copy)]
-pub struct Sight {
+pub(crate) struct Sight {
     /// The row of the table.
     pub row: Row,
     /// The place of the key that the step names, where it requests a lock on it.
@@ -58,7 +58,7 @@ impl Sight {
     }
 
     /// The entries that the step of a transaction looks at.
-    pub fn entries(&self, flat: &Flat, light: &Light, seat: usize) -> Entries {
+    pub(crate) fn entries(&self, flat: &Flat, light: &Light, seat: usize) -> Entries {
         let mut entries = Entries::new();
         let own_next = self.own_next(light, seat);
         for side in [Side::Current, Side::Next] {

@@ -7,7 +7,7 @@ use kr_model::{Mode, Row, Side};
 
 /// An entry of a table.
 #[derive(Clone, Copy, PartialEq, Eq)]
-pub enum Entry {
+pub(crate) enum Entry {
     /// Whether a requested mode is compatible with a held one.
     Compatible(Mode, Mode),
     /// The mode that a held and a requested one make.
@@ -17,7 +17,7 @@ pub enum Entry {
 }
 
 /// How many numbers entries have.
-pub const ENTRIES: usize = 736;
+pub(crate) const ENTRIES: usize = 736;
 
 /// The most entries that one step looks at: at each of two names the request, a conversion, and a compatibility with each of
 /// three others.
@@ -25,7 +25,7 @@ const MOST: usize = 10;
 
 impl Entry {
     /// The entry that a change is of. One of a request concerns the least own mode that it names, or 0.
-    pub fn of(change: Change) -> Entry {
+    pub(crate) fn of(change: Change) -> Entry {
         match change {
             Change::Compatible {
                 requested,
@@ -47,7 +47,7 @@ impl Entry {
     }
 
     /// The number of the entry, below `ENTRIES`: entries that differ have different numbers, where modes are at most 15.
-    pub fn number(self) -> usize
+    pub(crate) fn number(self) -> usize
         ensures { result < 736 }
     {
         match self {
@@ -73,7 +73,7 @@ fn least(own_next: Option<u16>) -> Mode {
 
 /// The entries that one step looks at.
 #[derive(Clone, Copy)]
-pub struct Entries {
+pub(crate) struct Entries {
     list: [Option<Entry>; MOST],
 }
 
@@ -101,7 +101,7 @@ impl Entries {
     }
 
     /// The entry at a place, from 0, of those that there are.
-    pub fn get(&self, place: usize) -> Option<Entry> {
+    pub(crate) fn get(&self, place: usize) -> Option<Entry> {
         self.list.get(place).copied().flatten()
     }
 }
