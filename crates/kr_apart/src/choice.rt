@@ -24,8 +24,21 @@ impl Candidate<'_> {
 
     /// Whether a step takes a change back.
     fn takes_back(&self) -> bool {
-        self.script.events.iter().any(|event| event.op == Op::Back)
+        for event in self.script.events.iter() {
+            if event.op == Op::Back {
+                return true;
+            }
+        }
+        false
     }
+}
+
+/// A candidate that was chosen.
+#[derive(Clone, Copy)]
+struct Picked<'a> {
+    candidate: &'a Candidate<'a>,
+    /// Whether some change is told apart by it alone, of those that are needed.
+    is_needed: bool,
 }
 
 /// Few of the scripts that tell apart all that they tell together: one after another that which tells most of what is left
@@ -51,9 +64,9 @@ fn choose<'a>(
     for script in scripts {
         put_candidate(alloc, flat, changes, script, candidates)?;
     }
-    let chosen = chosen(alloc, candidates, changes.len())?;
-    let needed = needed(alloc, candidates, &chosen, changes.len())?;
-    parts_of(alloc, candidates, &needed)
+    let mut chosen = chosen(alloc, candidates, changes.len())?;
+    mark_needless(alloc, &mut chosen, changes.len())?;
+    parts_of(alloc, &chosen)
 }
 
 /// Puts a script behind the candidates, if it isn't one of them.
@@ -64,7 +77,7 @@ fn put_candidate<'a>(
     script: &'a Script,
     candidates: &mut Vec<Candidate<'a>>,
 ) -> Result<(), Memory> {
-    if candidates.iter().any(|other| other.script == script) {
+    if has(candidates, script) {
         return Ok(());
     }
     let tells = told_by(alloc, flat, changes, script)?;
@@ -72,21 +85,37 @@ fn put_candidate<'a>(
     Ok(())
 }
 
-/// The parts of the candidates at these places: those that take changes back come last.
-fn parts_of(
-    alloc: Global,
-    candidates: &[Candidate<'_>],
-    places: &[usize],
-) -> Result<Vec<Part>, Memory> {
-    let mut parts = Vec::new(alloc);
-    for takes_back in [false, true] {
-        for candidate in places.iter().filter_map(|place| candidates.get(*place)) {
-            if candidate.takes_back() == takes_back {
-                put_part(alloc, candidate, &mut parts)?;
-            }
+/// Whether a script is one of the candidates.
+fn has(candidates: &[Candidate<'_>], script: &Script) -> bool {
+    for candidate in candidates {
+        if candidate.script == script {
+            return true;
         }
     }
+    false
+}
+
+/// The parts of those that are needed: those that take changes back come last.
+fn parts_of(alloc: Global, chosen: &[Picked<'_>]) -> Result<Vec<Part>, Memory> {
+    let mut parts = Vec::new(alloc);
+    put_parts(alloc, chosen, false, &mut parts)?;
+    put_parts(alloc, chosen, true, &mut parts)?;
     Ok(parts)
+}
+
+/// Puts the parts of those that are needed behind the others: of those that take changes back, or of those that don't.
+fn put_parts(
+    alloc: Global,
+    chosen: &[Picked<'_>],
+    takes_back: bool,
+    parts: &mut Vec<Part>,
+) -> Result<(), Memory> {
+    for one in chosen {
+        if one.is_needed && one.candidate.takes_back() == takes_back {
+            put_part(alloc, one.candidate, parts)?;
+        }
+    }
+    Ok(())
 }
 
 /// Puts the part of a candidate behind the others.
@@ -119,7 +148,7 @@ fn put_told(
 ) -> Result<(), Memory> {
     let mut tables = Tables::new(flat);
     for (number, change) in changes.iter().enumerate() {
-        if marks.get(Entry::of(*change).number()) == Some(&true) {
+        if matches!(marks.get(Entry::of(*change).number()), Some(true)) {
             tables.change(*change);
             if tells(&tables, script) {
                 told.push(number)?;
@@ -129,22 +158,26 @@ fn put_told(
     Ok(())
 }
 
-/// The places of scripts that together tell apart all that is told: again and again the best of them.
-fn chosen(
+/// Scripts that together tell apart all that is told: again and again the best of them.
+fn chosen<'a>(
     alloc: Global,
-    candidates: &[Candidate<'_>],
+    candidates: &'a [Candidate<'a>],
     changes: usize,
-) -> Result<Vec<usize>, Memory> {
+) -> Result<Vec<Picked<'a>>, Memory> {
     let mut left = vec![in alloc; true; changes]?;
     let mut chosen = Vec::new(alloc);
     for _ in 0..candidates.len() {
         let Some(place) = best(candidates, &left) else {
             break;
         };
-        chosen.push(place)?;
-        if let Some(candidate) = candidates.get(place) {
-            mark_told(&mut left, candidate);
-        }
+        let Some(candidate) = candidates.get(place) else {
+            break;
+        };
+        mark_told(&mut left, candidate);
+        chosen.push(Picked {
+            candidate,
+            is_needed: true,
+        })?;
     }
     Ok(chosen)
 }
@@ -184,52 +217,32 @@ fn best(candidates: &[Candidate<'_>], left: &[bool]) -> Option<usize> {
 fn gain(candidate: &Candidate<'_>, left: &[bool]) -> usize {
     let mut gain: usize = 0;
     for number in candidate.tells.iter() {
-        if left.get(*number) == Some(&true) {
+        if matches!(left.get(*number), Some(true)) {
             gain = gain.saturating_add(1);
         }
     }
     gain
 }
 
-/// Those of the chosen without which some change isn't told apart: the longest are left out first.
-fn needed(
-    alloc: Global,
-    candidates: &[Candidate<'_>],
-    chosen: &[usize],
-    changes: usize,
-) -> Result<Vec<usize>, Memory> {
-    let mut dropped = vec![in alloc; false; candidates.len()]?;
+/// Marks the chosen that the others make needless, the longest first. How often a change is told apart is counted.
+fn mark_needless(alloc: Global, chosen: &mut [Picked<'_>], changes: usize) -> Result<(), Memory> {
     let mut times: Vec<usize> = vec![in alloc; 0; changes]?;
-    drop_needless(candidates, chosen, &mut times, &mut dropped);
-    chosen
-        .iter()
-        .copied()
-        .filter(|place| dropped.get(*place) == Some(&false))
-        .collect(alloc)
-}
-
-/// Marks the chosen that the others make needless, the longest first. How often a change is told apart is counted, from 0.
-fn drop_needless(
-    candidates: &[Candidate<'_>],
-    chosen: &[usize],
-    times: &mut Vec<usize>,
-    dropped: &mut Vec<bool>,
-) {
-    for candidate in chosen.iter().filter_map(|place| candidates.get(*place)) {
-        count_all(times, candidate, true);
+    for one in chosen.iter() {
+        count_all(&mut times, one.candidate, true);
     }
     for shorter in 0..MOST_STEPS {
-        for place in chosen {
-            let Some(candidate) = candidates.get(*place) else {
-                continue;
-            };
-            if candidate.len() == MOST_STEPS - shorter && is_needless(candidate, times) {
-                count_all(times, candidate, false);
-                if let Some(is_dropped) = dropped.get_mut(*place) {
-                    *is_dropped = true;
-                }
-            }
+        for one in chosen.iter_mut() {
+            drop_needless(one, MOST_STEPS - shorter, &mut times);
         }
+    }
+    Ok(())
+}
+
+/// Marks one of the chosen, if it has this length and the others make it needless.
+fn drop_needless(one: &mut Picked<'_>, length: usize, times: &mut Vec<usize>) {
+    if one.candidate.len() == length && is_needless(one.candidate, times) {
+        count_all(times, one.candidate, false);
+        one.is_needed = false;
     }
 }
 
@@ -253,5 +266,13 @@ fn count(times: &mut Vec<usize>, number: usize, is_more: bool) {
 
 /// Whether each change that a script tells apart is told apart by another too.
 fn is_needless(candidate: &Candidate<'_>, times: &[usize]) -> bool {
-    candidate.tells.iter().all(|number| times.get(*number).is_some_and(|times| *times > 1))
+    for number in candidate.tells.iter() {
+        let Some(times) = times.get(*number) else {
+            return false;
+        };
+        if *times < 2 {
+            return false;
+        }
+    }
+    true
 }

@@ -2,7 +2,7 @@
 
 use crate::flat::Flat;
 use crate::keys::OPENINGS;
-use crate::moves::{Move, changes_beside, moves};
+use crate::moves::{MOST_MOVES, Move, Moves, changes_beside, put_usual};
 use crate::node::Node;
 use crate::seen::Seen;
 use crate::signature::Signature;
@@ -16,7 +16,6 @@ pub(crate) const MOST_NODES: usize = 20000;
 /// States, breadth first, as they are found.
 #[derive(Drop)]
 pub(crate) struct Closure {
-    alloc: Global,
     /// Whether changes are taken back.
     backs: bool,
     nodes: Vec<Node>,
@@ -27,7 +26,6 @@ impl Closure {
     /// The openings.
     pub(crate) fn new(alloc: Global, backs: bool) -> Result<Closure, Memory> {
         let mut closure = Closure {
-            alloc,
             backs,
             nodes: Vec::new(alloc),
             seen: Seen::new(alloc)?,
@@ -61,10 +59,14 @@ impl Closure {
         if self.nodes.len() >= MOST_NODES {
             return Ok(());
         }
-        for (seat, by) in moves_on(self.alloc, flat, node, self.backs)?.iter() {
-            if let Some(mut after) = node.after(flat, *seat, *by) {
+        let moves = moves_on(flat, node, self.backs);
+        for place in 0..MOST_MOVES {
+            let Some((seat, by)) = moves.get(place) else {
+                break;
+            };
+            if let Some(mut after) = node.after(flat, seat, by) {
                 if self.is_new(&after) {
-                    after.last = trail.put(node.last, node.txn(*seat), *by)?;
+                    after.last = trail.put(node.last, node.txn(seat), by)?;
                     self.nodes.push(after)?;
                 }
             }
@@ -74,68 +76,48 @@ impl Closure {
 }
 
 /// The moves by which a state goes on: those of the two, their ends, and what one more changes and commits.
-pub(crate) fn moves_on(
-    alloc: Global,
-    flat: &Flat,
-    node: &Node,
-    backs: bool,
-) -> Result<Vec<(usize, Move)>, Memory> {
-    let usual = moves(alloc, &node.light, flat.updates())?;
-    let mut list = Vec::new(alloc);
-    put_moves(&mut list, node, &node.pair, &usual, backs)?;
-    put_ends(&mut list, node)?;
-    Ok(list)
+pub(crate) fn moves_on(flat: &Flat, node: &Node, backs: bool) -> Moves {
+    let mut list = Moves::new();
+    for place in node.pair {
+        put_moves(&mut list, flat, node, place, backs);
+    }
+    put_ends(&mut list, node);
+    list
 }
 
 /// The moves that are tried at a state: those of one that has done nothing, and those of the two.
-pub(crate) fn probes(
-    alloc: Global,
-    flat: &Flat,
-    node: &Node,
-    backs: bool,
-) -> Result<Vec<(usize, Move)>, Memory> {
-    let usual = moves(alloc, &node.light, flat.updates())?;
+pub(crate) fn probes(flat: &Flat, node: &Node, backs: bool) -> Moves {
     let [one, two] = node.pair;
-    let mut list = Vec::new(alloc);
-    put_moves(&mut list, node, &[node.fresh, one, two], &usual, backs)?;
-    Ok(list)
+    let mut list = Moves::new();
+    for place in [node.fresh, one, two] {
+        put_moves(&mut list, flat, node, place, backs);
+    }
+    list
 }
 
-/// Puts the usual moves of these transactions into the list, and that they take a change back.
-fn put_moves(
-    list: &mut Vec<(usize, Move)>,
-    node: &Node,
-    places: &[usize],
-    usual: &[Move],
-    backs: bool,
-) -> Result<(), Memory> {
-    for place in places {
-        let seat = node.seat(*place);
-        if !seat.rolls_back() {
-            for by in usual {
-                list.push((*place, *by))?;
-            }
-        }
-        if backs && seat.has_changes() {
-            list.push((*place, Move::one(Op::Back)))?;
-        }
+/// Puts the usual moves of a transaction into the list, and that it takes a change back.
+fn put_moves(list: &mut Moves, flat: &Flat, node: &Node, place: usize, backs: bool) {
+    let seat = node.seat(place);
+    if !seat.rolls_back() {
+        put_usual(list, place, &node.light, flat.updates());
     }
-    Ok(())
+    if backs && seat.has_changes() {
+        list.put(place, Move::one(Op::Back));
+    }
 }
 
 /// Puts the ends of the two into the list, and what one more changes and commits.
-fn put_ends(list: &mut Vec<(usize, Move)>, node: &Node) -> Result<(), Memory> {
+fn put_ends(list: &mut Moves, node: &Node) {
     for place in node.pair {
         let seat = node.seat(place);
         if seat.is_active() {
-            list.push((place, Move::one(Op::Abort)))?;
+            list.put(place, Move::one(Op::Abort));
             if !seat.rolls_back() {
-                list.push((place, Move::one(Op::Commit)))?;
+                list.put(place, Move::one(Op::Commit));
             }
         }
     }
     for by in changes_beside(&node.light) {
-        list.push((node.fresh, by))?;
+        list.put(node.fresh, by);
     }
-    Ok(())
 }

@@ -2,7 +2,7 @@
 ghost use Rattle.std.specs.Prelude.{◌≤◌};
 
 use crate::flat::{Flat, Request};
-use crate::seat::{Change, PLACES, Place, SEATS, Seat};
+use crate::seat::{CHANGES, Change, PLACES, Place, SEATS, Seat};
 use crate::sight::Sight;
 use kr_model::{Op, Row, Side, Span};
 
@@ -53,10 +53,12 @@ impl Light {
 
     /// Whether all transactions hold the same locks as in another state with the same places.
     pub(crate) fn holds_as(&self, other: &Light) -> bool {
-        self.seats
-            .iter()
-            .zip(other.seats.iter())
-            .all(|(one, another)| one.holds_as(another))
+        for seat in 0..SEATS {
+            if !self.seats[seat].holds_as(&other.seats[seat]) {
+                return false;
+            }
+        }
+        true
     }
 
     /// The place of a key that came, whether it stands or not.
@@ -187,9 +189,12 @@ impl Light {
             return true;
         };
         let mode = flat.converted(self.seat(seat).held(place), requested);
-        self.others(seat)
-            .iter()
-            .all(|other| flat.is_compatible(mode, other.held(place)))
+        for other in self.others(seat) {
+            if !flat.is_compatible(mode, other.held(place)) {
+                return false;
+            }
+        }
+        true
     }
 
     /// Whether the step of a transaction is granted.
@@ -237,18 +242,17 @@ impl Light {
         Some(place)
     }
 
-    /// Ends a transaction.
+    /// Ends a transaction. One that aborts takes all its changes back first.
     fn end(&mut self, seat: usize, aborts: bool) {
         if aborts {
-            let ended = self.seats[seat % 4];
-            for change in ended.changes().iter().rev() {
-                self.stands[(change.place % 16) as usize] = change.stood;
+            for _ in 0..CHANGES {
+                self.back(seat);
             }
         }
         self.seats[seat % 4] = Seat::new();
     }
 
-    /// Takes the newest change of a transaction back.
+    /// Takes the newest change of a transaction back, if there is one.
     fn back(&mut self, seat: usize) {
         if let Some(change) = self.seats[seat % 4].take_back() {
             self.stands[(change.place % 16) as usize] = change.stood;

@@ -2,7 +2,7 @@
 
 use crate::closure::probes;
 use crate::light::Light;
-use crate::moves::Move;
+use crate::moves::{MOST_MOVES, Move};
 use crate::node::Node;
 use crate::pair::{Outcome, Pair};
 use crate::search::{Found, Search};
@@ -81,8 +81,12 @@ impl Search<'_> {
 
     /// Looks at each step that may be taken in a state, and at each change of an entry that the step looks at.
     pub(crate) fn look_at(&mut self, looking: &mut Looking, node: &Node) -> Result<(), Memory> {
-        for (seat, by) in probes(self.alloc, &self.tables.one, node, self.backs)?.iter() {
-            self.look_along(looking, node, *seat, *by)?;
+        let moves = probes(&self.tables.one, node, self.backs);
+        for place in 0..MOST_MOVES {
+            let Some((seat, by)) = moves.get(place) else {
+                break;
+            };
+            self.look_along(looking, node, seat, by)?;
         }
         Ok(())
     }
@@ -97,8 +101,11 @@ impl Search<'_> {
     ) -> Result<(), Memory> {
         let mut light = node.light;
         let mut place = 0;
-        for op in by.steps().iter().flatten() {
-            if let Some(sight) = light.look(seat, *op) {
+        for op in by.steps() {
+            let Some(op) = op else {
+                break;
+            };
+            if let Some(sight) = light.look(seat, op) {
                 let stand = Stand {
                     node,
                     light: &light,
@@ -108,7 +115,7 @@ impl Search<'_> {
                 };
                 self.consider_all(looking, stand)?;
             }
-            if light.step(&self.tables.one, seat, *op) != Some(true) {
+            if light.step(&self.tables.one, seat, op) != Some(true) {
                 break;
             }
             place = 1;
@@ -191,9 +198,13 @@ impl Search<'_> {
     /// Whether one more move tells the change apart.
     pub(crate) fn tell_after(&mut self, number: usize, pair: &Pair) -> Result<bool, Memory> {
         let node = &pair.node;
-        for (seat, by) in probes(self.alloc, &self.tables.one, node, false)?.iter() {
-            if let Some(by) = pair.told_by(&self.tables, *seat, *by) {
-                let last = self.trail.put(node.last, node.txn(*seat), by)?;
+        let moves = probes(&self.tables.one, node, false);
+        for place in 0..MOST_MOVES {
+            let Some((seat, by)) = moves.get(place) else {
+                break;
+            };
+            if let Some(by) = pair.told_by(&self.tables, seat, by) {
+                let last = self.trail.put(node.last, node.txn(seat), by)?;
                 self.tell(
                     number,
                     Found {

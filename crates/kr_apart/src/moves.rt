@@ -2,11 +2,10 @@
 
 use crate::keys::{A, Y, Z};
 use crate::light::Light;
-use kr_model::{Memory, Op};
-use std::alloc::Global;
+use kr_model::Op;
 
 /// One or two steps of a transaction.
-#[derive(Clone, Copy, PartialEq, Eq)]
+#[derive(Clone, Copy)]
 pub(crate) struct Move {
     pub first: Op,
     pub second: Option<Op>,
@@ -58,80 +57,92 @@ fn between(light: &Light, key: u64) -> u64 {
     light.below(key).saturating_add(key) / 2
 }
 
-/// What a transaction may do that isn't rolling back.
-pub(crate) fn moves(alloc: Global, light: &Light, with_updates: bool) -> Result<Vec<Move>, Memory> {
-    let mut list = Vec::new(alloc);
-    put_below(&mut list, light)?;
-    put_at(&mut list, light, A, with_updates)?;
-    put_at(&mut list, light, Y, with_updates)?;
-    put_gaps(&mut list, light)?;
-    Ok(list)
+/// How many moves there is room for: at most 21 of each of three transactions are tried at a state.
+pub(crate) const MOST_MOVES: usize = 64;
+
+/// Moves, each with the seat of the transaction that takes it.
+#[derive(Clone, Copy)]
+pub(crate) struct Moves {
+    list: [Option<(usize, Move)>; MOST_MOVES],
+    /// How many there are.
+    count: usize,
 }
 
-/// Puts moves behind those of the list.
-fn put_all(list: &mut Vec<Move>, moves: &[Move]) -> Result<(), Memory> {
-    for one in moves {
-        list.push(*one)?;
+impl Moves {
+    /// None.
+    pub(crate) fn new() -> Moves {
+        Moves {
+            list: [None; MOST_MOVES],
+            count: 0,
+        }
     }
-    Ok(())
+
+    /// Puts a move behind the others, if there is room.
+    pub(crate) fn put(&mut self, seat: usize, by: Move) {
+        if let Some(place) = self.list.get_mut(self.count) {
+            *place = Some((seat, by));
+            self.count = self.count.saturating_add(1);
+        }
+    }
+
+    /// The move at a place, from 0, of those that there are.
+    pub(crate) fn get(&self, place: usize) -> Option<(usize, Move)> {
+        self.list.get(place).copied().flatten()
+    }
 }
 
-/// What a transaction may do below the first landmark.
-fn put_below(list: &mut Vec<Move>, light: &Light) -> Result<(), Memory> {
+/// Puts what a transaction may do that isn't rolling back into the list.
+pub(crate) fn put_usual(list: &mut Moves, seat: usize, light: &Light, with_updates: bool) {
+    put_below(list, seat, light);
+    put_at(list, seat, light, A, with_updates);
+    put_at(list, seat, light, Y, with_updates);
+    put_gaps(list, seat, light);
+}
+
+/// What it may do below the first landmark.
+fn put_below(list: &mut Moves, seat: usize, light: &Light) {
     let gap = between(light, A);
-    let in_it = [
-        Move::one(Op::Fetch(gap)),
-        Move::one(Op::Scan(gap, gap)),
-        Move::one(Op::Insert(gap, 0)),
-    ];
-    put_all(list, &in_it)?;
+    list.put(seat, Move::one(Op::Fetch(gap)));
+    list.put(seat, Move::one(Op::Scan(gap, gap)));
+    list.put(seat, Move::one(Op::Insert(gap, 0)));
     let low = light.below(A);
     if low > 0 {
-        list.push(Move::one(Op::Delete(low)))?;
+        list.put(seat, Move::one(Op::Delete(low)));
     }
-    Ok(())
 }
 
 /// What it may do at a landmark.
-fn put_at(list: &mut Vec<Move>, light: &Light, key: u64, with_updates: bool) -> Result<(), Memory> {
+fn put_at(list: &mut Moves, seat: usize, light: &Light, key: u64, with_updates: bool) {
     if light.standing(key).is_none() {
-        return put_all(list, &[Move::one(Op::Insert(key, 0))]);
+        list.put(seat, Move::one(Op::Insert(key, 0)));
+        return;
     }
-    let at_it = [
-        Move::one(Op::Fetch(key)),
-        Move::one(Op::Scan(between(light, key), key)),
-        Move::one(Op::Delete(key)),
-    ];
-    put_all(list, &at_it)?;
+    list.put(seat, Move::one(Op::Fetch(key)));
+    list.put(seat, Move::one(Op::Scan(between(light, key), key)));
+    list.put(seat, Move::one(Op::Delete(key)));
     if with_updates {
-        list.push(Move::one(Op::Update(key, 0)))?;
+        list.put(seat, Move::one(Op::Update(key, 0)));
     }
-    Ok(())
 }
 
 /// What it may do above a landmark, if that stands: it leaves the gap empty.
-fn put_gaps(list: &mut Vec<Move>, light: &Light) -> Result<(), Memory> {
+fn put_gaps(list: &mut Moves, seat: usize, light: &Light) {
     if light.standing(A).is_some() {
-        put_all(list, &in_gap(between(light, Y)))?;
+        put_gap(list, seat, between(light, Y));
     }
-    if light.standing(Y).is_none() {
-        return Ok(());
+    if light.standing(Y).is_some() {
+        let gap = between(light, Z);
+        put_gap(list, seat, gap);
+        list.put(seat, Move::one(Op::Fetch(Z)));
+        list.put(seat, Move::one(Op::Scan(gap, Z)));
     }
-    let gap = between(light, Z);
-    put_all(list, &in_gap(gap))?;
-    put_all(
-        list,
-        &[Move::one(Op::Fetch(Z)), Move::one(Op::Scan(gap, Z))],
-    )
 }
 
 /// What it may do in a gap.
-fn in_gap(gap: u64) -> [Move; 3] {
-    [
-        Move::one(Op::Fetch(gap)),
-        Move::one(Op::Scan(gap, gap)),
-        Move::two(Op::Insert(gap, 0), Op::Delete(gap)),
-    ]
+fn put_gap(list: &mut Moves, seat: usize, gap: u64) {
+    list.put(seat, Move::one(Op::Fetch(gap)));
+    list.put(seat, Move::one(Op::Scan(gap, gap)));
+    list.put(seat, Move::two(Op::Insert(gap, 0), Op::Delete(gap)));
 }
 
 /// What one more transaction may do and commit at once.

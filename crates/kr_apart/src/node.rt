@@ -49,8 +49,11 @@ impl Node {
     /// The state after a move, if each of its steps is granted.
     pub(crate) fn after(&self, flat: &Flat, seat: usize, by: Move) -> Option<Node> {
         let mut node = *self;
-        for op in by.steps().iter().flatten() {
-            if node.light.step(flat, seat, *op) != Some(true) {
+        for op in by.steps() {
+            let Some(op) = op else {
+                break;
+            };
+            if node.light.step(flat, seat, op) != Some(true) {
                 return None;
             }
         }

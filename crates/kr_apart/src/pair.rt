@@ -14,7 +14,7 @@ pub(crate) struct Pair {
 }
 
 /// What becomes of a move under two tables.
-#[derive(Clone, Copy, PartialEq, Eq)]
+#[derive(Clone, Copy)]
 pub(crate) enum Outcome {
     /// The step at this place of it is granted under one of the tables alone.
     Apart(usize),
@@ -28,9 +28,12 @@ impl Pair {
     /// Takes a move under both tables, as far as it goes.
     pub(crate) fn take(&mut self, tables: &Tables, seat: usize, by: Move) -> Outcome {
         let mut place = 0;
-        for op in by.steps().iter().flatten() {
-            let one = self.node.light.step(&tables.one, seat, *op);
-            let other = self.other.step(&tables.other, seat, *op);
+        for op in by.steps() {
+            let Some(op) = op else {
+                break;
+            };
+            let one = self.node.light.step(&tables.one, seat, op);
+            let other = self.other.step(&tables.other, seat, op);
             let (Some(one), Some(other)) = (one, other) else {
                 return Outcome::Not;
             };

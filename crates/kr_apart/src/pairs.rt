@@ -2,6 +2,7 @@
 
 use crate::closure::moves_on;
 use crate::looking::Looking;
+use crate::moves::MOST_MOVES;
 use crate::pair::{Outcome, Pair};
 use crate::search::Search;
 use crate::seen::Seen;
@@ -83,12 +84,15 @@ impl Search<'_> {
 
     /// Goes on from a state by each move.
     fn grow(&mut self, pair: &Pair, pairs: &mut Pairs) -> Result<(), Memory> {
-        for (seat, by) in moves_on(self.alloc, &self.tables.one, &pair.node, self.backs)?.iter() {
+        let moves = moves_on(&self.tables.one, &pair.node, self.backs);
+        for place in 0..MOST_MOVES {
+            let Some((seat, by)) = moves.get(place) else {
+                break;
+            };
             let mut after = *pair;
-            if after.take(&self.tables, *seat, *by) == Outcome::Granted
-                && pairs.is_new(&after, self.backs)
-            {
-                after.node.last = self.trail.put(pair.node.last, pair.node.txn(*seat), *by)?;
+            let outcome = after.take(&self.tables, seat, by);
+            if matches!(outcome, Outcome::Granted) && pairs.is_new(&after, self.backs) {
+                after.node.last = self.trail.put(pair.node.last, pair.node.txn(seat), by)?;
                 pairs.list.push(after)?;
             }
         }

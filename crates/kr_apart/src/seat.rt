@@ -13,10 +13,10 @@ pub(crate) const PLACES: usize = 16;
 pub(crate) const SEATS: usize = 4;
 
 /// How many changes of one transaction are remembered.
-const CHANGES: usize = 8;
+pub(crate) const CHANGES: usize = 8;
 
 /// A change of a key.
-#[derive(Clone, Copy, PartialEq, Eq)]
+#[derive(Clone, Copy)]
 pub(crate) struct Change {
     /// The key's place.
     pub place: Place,
@@ -25,7 +25,7 @@ pub(crate) struct Change {
 }
 
 /// One transaction: what it holds, and what it has changed.
-#[derive(Clone, Copy, PartialEq, Eq)]
+#[derive(Clone, Copy)]
 pub(crate) struct Seat {
     /// The mode held on each name.
     held: [Mode; PLACES],
@@ -74,7 +74,7 @@ impl Seat {
 
     /// Whether it holds a lock or has a change.
     pub(crate) fn is_active(&self) -> bool {
-        self.changed > 0 || self.held.iter().any(|mode| *mode != 0)
+        self.changed > 0 || self.held != [0; PLACES]
     }
 
     /// Whether there is room for one more change.

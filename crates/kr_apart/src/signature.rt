@@ -119,7 +119,10 @@ fn mode_bits(seat: &Seat, place: Option<Place>) -> u64 {
 
 /// Whether the key of a place stood before its first change: 2 bits.
 fn first_change(seat: &Seat, place: Option<Place>) -> u64 {
-    match place.and_then(|place| seat.stood_first(place)) {
+    let Some(place) = place else {
+        return 2;
+    };
+    match seat.stood_first(place) {
         Some(true) => 1,
         Some(false) => 0,
         None => 2,

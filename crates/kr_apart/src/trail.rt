@@ -36,8 +36,11 @@ impl Trail {
         by: Move,
     ) -> Result<Option<usize>, Memory> {
         let mut last = before;
-        for op in by.steps().iter().flatten() {
-            let event = Event { txn, op: *op };
+        for op in by.steps() {
+            let Some(op) = op else {
+                break;
+            };
+            let event = Event { txn, op };
             let at = self.links.len();
             self.links.push(Link {
                 before: last,
@@ -53,7 +56,10 @@ impl Trail {
         let mut script = Vec::new(alloc);
         let mut at = last;
         for _ in 0..MOST_STEPS {
-            let Some(link) = at.and_then(|place| self.links.get(place)) else {
+            let Some(place) = at else {
+                break;
+            };
+            let Some(link) = self.links.get(place) else {
                 break;
             };
             script.push(link.event)?;
