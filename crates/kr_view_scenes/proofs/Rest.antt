@@ -1,8 +1,8 @@
 -- The scenes of a run whose first steps are done.
-use Rattle.std.specs.Prelude.{◌≡◌, ℕ, List, [], ◌∷◌, ◌+◌, ◌-◌, ◌++◌, drop, length, map, Result, Ok, Err, IfOk}
+use Rattle.std.specs.Prelude.{◌≡◌, ℕ, List, [], ◌∷◌, ◌+◌, ◌-◌, ◌<◌, ◌++◌, drop, length, map, Result, Ok, Err, IfOk}
 use Rattle.std.specs.List.{enumerate_from}
-use Rattle.std.proofs.Common.{ap, sym, ◌∙◌, arith, append_assoc}
-use Rattle.std.proofs.lemmas.List.{map-append}
+use Rattle.std.proofs.Common.{ap, get_or, subst, sym, ◌∙◌, arith, append_assoc}
+use Rattle.std.proofs.lemmas.List.{drop_more, map-append}
 use Rattle.kr_model.specs.declared.Event.{Event}
 use Rattle.kr_model.specs.Protocol.{Protocol}
 use Rattle.kr_model.specs.Map.{Map}
@@ -32,6 +32,18 @@ one_more p first one all now next e left scenes scene after rest shows is_after 
     let scenes_with : map step_of (scenes ++ scene ∷ []) ≡ map step_of scenes ++ here ∷ [] = map-append step_of scenes (scene ∷ []) ∙ ap (λ (x : NumberedStep). map step_of scenes ++ x ∷ []) shows in
     record { scenes_are = ap (λ (s : State). map step_of (scenes ++ scene ∷ []) ++ numbered p s (next + 1) left) is_after ∙ ap (λ (xs : List NumberedStep). xs ++ tail) scenes_with ∙ append_assoc (map step_of scenes) (here ∷ []) tail ∙ rest.scenes_are }
 
+-- the scene of the step at a place, behind the scenes so far
+pub one_shown : (p q : Protocol) (first : State) (one : ℕ) (all : List Event) (now after : State) (next i : ℕ) (d : Event) (scenes more : List Scene) (scene : Scene) → q ≡ p → i < length all
+    → IsRest p first one all now next (drop i all) scenes → (let e = get_or all i d in step_of scene ≡ (next, (e, (step q now e.txn e.op).0))) → (let e = get_or all i d in after ≡ (step q now e.txn e.op).1)
+    → more ≡ scenes ++ scene ∷ [] → IsRest p first one all after (next + 1) (drop (i + 1) all) more
+one_shown p q first one all now after next i d scenes more scene same within rest shows is_after items =
+    let e = get_or all i d in
+    let left = drop (i + 1) all in
+    let here : IsRest p first one all now next (e ∷ left) scenes = subst (λ (es : List Event). IsRest p first one all now next es scenes) (drop_more all i d within) rest in
+    let shown : step_of scene ≡ (next, (e, (step p now e.txn e.op).0)) = shows ∙ ap (λ (t : Protocol). (next, (e, (step t now e.txn e.op).0))) same in
+    let left_is : after ≡ (step p now e.txn e.op).1 = is_after ∙ ap (λ (t : Protocol). (step t now e.txn e.op).1) same in
+    subst (λ (xs : List Scene). IsRest p first one all after (next + 1) left xs) (sym items) (one_more p first one all now next e left scenes scene after here shown left_is)
+
 -- the steps of a run behind the first ones are those of the run from where these end, numbered on
 steps_behind : (p : Protocol) (s : State) (earlier later : List Event) (n : ℕ) → drop (length earlier) (numbered p s n (earlier ++ later)) ≡ numbered p (run p s earlier).state (n + length earlier) later
 steps_behind p s [] later n = ap (λ (k : ℕ). numbered p s k later) (omega arith)
@@ -54,3 +66,9 @@ drawn_are p opening steps earlier drawn now shown long split same are =
 pub same_steps : {E : Type 0} (r : Result Drawn E) (a b : List NumberedStep) → a ≡ b → IfOk r (λ drawn. map step_of drawn.scenes.items ≡ a) → IfOk r (λ drawn. map step_of drawn.scenes.items ≡ b)
 same_steps (Ok drawn) a b same are = are ∙ same
 same_steps (Err e) a b same are = tt
+
+-- the same, where they are those of a run, by the table and the state that it begins with
+pub same_run : {E : Type 0} (r : Result Drawn E) (p q : Protocol) (s t : State) (n : ℕ) (events : List Event) → p ≡ q → s ≡ t
+    → IfOk r (λ drawn. map step_of drawn.scenes.items ≡ numbered p s n events) → IfOk r (λ drawn. map step_of drawn.scenes.items ≡ numbered q t n events)
+same_run (Ok drawn) p q s t n events table state are = are ∙ ap (λ (x : Protocol). numbered x s n events) table ∙ ap (λ (x : State). numbered q x n events) state
+same_run (Err e) p q s t n events table state are = tt

@@ -21,7 +21,7 @@ pub struct Asked {
 }
 
 /// How far a scan is.
-#[derive(Clone, Copy, Debug, PartialEq, Eq)]
+#[derive(Clone, Copy)]
 struct Scan {
     /// The key that it read last.
     read: u64,
@@ -72,8 +72,27 @@ impl Scans {
         }
     }
 
+    /// Takes note of a step and its reply, and answers what it requested, if it is blocked.
+    pub(crate) fn take<P: Protocol>(
+        &mut self,
+        alloc: Global,
+        protocol: &P,
+        pairs: &[(u64, u64)],
+        held: &[((Name, Txn), Mode)],
+        event: Event,
+        reply: &Reply,
+    ) -> Result<Vec<Asked>, Memory>
+        requires { IsMap pairs.now }
+    {
+        if let Reply::Blocked(_) = reply {
+            return self.asked(alloc, protocol, pairs, held, event);
+        }
+        self.note(event, reply)?;
+        Ok(Vec::new(alloc))
+    }
+
     /// What a step requests on an index with these locks, and whose locks conflict with it.
-    pub(crate) fn asked<P: Protocol>(
+    fn asked<P: Protocol>(
         &self,
         alloc: Global,
         protocol: &P,

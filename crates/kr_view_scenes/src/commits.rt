@@ -33,7 +33,7 @@ pub fn write_commits(run: &Run<'_>, out: &mut Html) -> Result<(), AllocError> {
         if at >= hidden {
             write_program(program, difference, differed, out)?;
         }
-        differed = differed || difference.is_some_and(|d| d.txn == program.txn);
+        differed = differed || matches!(difference, Some(d) if d.txn == program.txn);
     }
     out.mark(Mark::EndTable)?;
     if differed {
@@ -58,17 +58,11 @@ fn write_headings(hidden: usize, out: &mut Html) -> Result<(), AllocError> {
             Part::Mark(Mark::EndParagraph),
         ])?;
     }
-    out.put(&[
-        Part::Mark(Mark::Table),
-        Part::Text("Transaction"),
-        Part::Mark(Mark::NextHeading),
-        Part::Text("Operation"),
-        Part::Mark(Mark::NextHeading),
-        Part::Text("Answer given"),
-        Part::Mark(Mark::NextHeading),
-        Part::Text("Answer of a serial run"),
-        Part::Mark(Mark::EndHeadings),
-    ])
+    out.put(&[Part::Mark(Mark::Table), Part::Text("Transaction")])?;
+    for heading in &["Operation", "Answer given", "Answer of a serial run"] {
+        out.put(&[Part::Mark(Mark::NextHeading), Part::Text(*heading)])?;
+    }
+    out.mark(Mark::EndHeadings)
 }
 
 /// Writes the rows of a program, which stands behind the first difference or not.
@@ -87,12 +81,15 @@ fn write_program(
     let mut number: u64 = 0;
     for (at, (op, given)) in operations.iter().enumerate() {
         number = number.saturating_add(1);
-        let here = difference.filter(|d| d.txn == program.txn && d.operation == number);
+        let serial = match difference {
+            Some(d) if d.txn == program.txn && d.operation == number => Some(d.serial),
+            _ => None,
+        };
         if at >= hidden {
             write_asked(program.txn, number, *op, out)?;
-            write_answers(given, here.map(|d| d.serial), differed, out)?;
+            write_answers(given, serial, differed, out)?;
         }
-        differed = differed || here.is_some();
+        differed = differed || serial.is_some();
     }
     Ok(())
 }

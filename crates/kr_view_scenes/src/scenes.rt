@@ -167,30 +167,44 @@ fn scene_of<P: Protocol, I: Ordered, L: Holdings>(
     if matches!(reply, Reply::Refused(Refusal::Memory)) {
         return Err(AllocError);
     }
+    scene_left(
+        alloc,
+        protocol,
+        &*machine,
+        before.as_slice(),
+        (number, event, reply),
+        columns,
+        scans,
+    )
+}
+
+/// The scene of a step that a machine has done, from these pairs on.
+fn scene_left<P: Protocol, I: Ordered, L: Holdings>(
+    alloc: Global,
+    protocol: &P,
+    machine: &Machine<&P, I, L>,
+    before: &[(u64, u64)],
+    step: (u64, Event, Reply),
+    columns: &Columns,
+    scans: &mut Scans,
+) -> Result<Scene, Memory>
+    requires { machine.now.pending ≡ None }
+    ensures { IfOk result (λ scene. step_of scene ≡ (step.0, (step.1, step.2))) }
+{
     let after = machine.index()?;
     let locks = machine.locks()?;
-    let asked = match &reply {
-        Reply::Blocked(_) => scans.asked(
-            alloc,
-            protocol,
-            after.as_slice(),
-            locks.as_slice(),
-            event,
-        )?,
-        _ => Vec::new(alloc),
-    };
-    scans.note(event, &reply)?;
     let standing = Standing {
-        before: before.as_slice(),
+        before,
         after: after.as_slice(),
         locks: locks.as_slice(),
     };
-    Scene::new(
+    let asked = scans.take(
         alloc,
         protocol,
-        columns,
-        (number, event, reply),
-        standing,
-        asked,
-    )
+        standing.after,
+        standing.locks,
+        step.1,
+        &step.2,
+    )?;
+    Scene::new(alloc, protocol, columns, step, standing, asked)
 }

@@ -70,14 +70,11 @@ fn write_difference(
     if let Some(op) = operation_of(run, difference.asked) {
         write_op(out, op)?;
     }
-    out.text(" (")?;
-    run.write_step(out, difference.asked)?;
-    out.text("), was answered ")?;
+    write_placed(run, difference.asked, out)?;
+    out.text(", was answered ")?;
     write_strong(out, difference.given)?;
     if difference.answered != difference.asked {
-        out.text(" (")?;
-        run.write_step(out, difference.answered)?;
-        out.text(")")?;
+        write_placed(run, difference.answered, out)?;
     }
     out.text(". After the transactions that committed before it, the answer is ")?;
     write_strong(out, difference.serial)?;
@@ -88,6 +85,13 @@ fn write_difference(
     ])?;
     run.write_step(out, difference.committed)?;
     write_end(out)
+}
+
+/// Writes the name of a step in brackets.
+fn write_placed(run: &Run<'_>, number: u64, out: &mut Html) -> Result<(), AllocError> {
+    out.text(" (")?;
+    run.write_step(out, number)?;
+    out.text(")")
 }
 
 /// Writes an answer that stands out.

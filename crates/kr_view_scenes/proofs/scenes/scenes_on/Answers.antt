@@ -1,17 +1,12 @@
 use Rattle.std.specs.Prelude.{◌+◌, length}
-use Rattle.std.proofs.Common.{ap, ◌∙◌}
+use Rattle.std.proofs.Common.{ap}
 use Rattle.kr_model.specs.Run.{run}
-use Rattle.kr_view_scenes.proofs.Rest.{numbered, same_steps}
+use Rattle.kr_view_scenes.proofs.Rest.{same_run}
 use Rattle.kr_view_scenes.proofs.scenes.scenes_on.Goals as goal
 
 pub returns : goal.returns
 returns g c =
     let table = g.P.Protocol.table in
-    let old = c.args.machine.now in
-    let new = c.replay.new.machine in
-    let p = table old.protocol.now in
-    let n = length c.args.earlier.now + 1 in
-    let steps = c.args.steps.now in
-    let behind = (run p old.state c.args.earlier.now).state in
-    same_steps c.drawn_behind.result (numbered (table new.protocol.now) new.state n steps) (numbered p behind n steps)
-    (ap (λ q. numbered (table q.now) new.state n steps) c.in_ok-replies.ensures.protocol ∙ ap (λ s. numbered p s n steps) c.in_ok-replies.ensures.state) c.drawn_behind.ensures
+    let p = table c.args.machine.now.protocol.now in
+    same_run c.drawn_behind.result (table c.replay.new.machine.protocol.now) p c.replay.new.machine.state (run p c.args.machine.now.state c.args.earlier.now).state (length c.args.earlier.now + 1) c.args.steps.now
+    (ap (λ q. table q.now) c.in_ok-replies.ensures.protocol) c.in_ok-replies.ensures.state c.drawn_behind.ensures
