@@ -3,6 +3,7 @@
 #![tactic(auto)]
 
 mod asking;
+mod faults;
 mod follow;
 mod lines;
 mod manual;

@@ -1,13 +1,11 @@
 //! A trace, line by line: its parts, and the first fault.
-ghost use Rattle.std.specs.Prelude.{◌≡◌, ◌≢◌, ◌⊎◌, ◌<◌, ◌≤◌, ◌^◌, ◌-◌, ◌+◌, Option, ◌++◌, ◌∷◌, [], ℕ, suc, List, IfOk, IfErr, OnOk, OnErr, IsTrue, Some, None, Ok, false, length, map, string_bytes};
-ghost use Rattle.kr_cli.specs.Endings.{MemoryOrTold, is_output};
-ghost use Rattle.kr_cli.specs.Lines.{told_line, unreadable_line};
+ghost use Rattle.std.specs.Prelude.{◌≡◌, ◌⊎◌, ◌<◌, ◌≤◌, ◌^◌, ◌-◌, ◌+◌, Option, ◌++◌, ◌∷◌, [], ℕ, suc, List, IfOk, IfErr, OnOk, OnErr, IsTrue, Some, None, Ok, false, length, map, string_bytes};
+ghost use Rattle.kr_cli.specs.Endings.{is_output};
+ghost use Rattle.kr_cli.specs.Lines.{told_line};
 ghost use Rattle.kr_cli.specs.declared.endings.Ending.TheVariants as ending;
 ghost use Rattle.kr_sink.specs.Puts.{HasCause};
-ghost use Rattle.kr_trace_lines.specs.declared.faults.LineFault.TheVariants as line_fault;
 ghost use Rattle.kr_trace_lines.specs.Lines.{seen};
 ghost use Rattle.kr_trace_lines.specs.Reading.{reading_line};
-ghost use Rattle.kr_cli_trace.specs.declared.source.LinesFault.TheVariants as lines_fault;
 ghost use Rattle.kr_cli_trace.specs.Endings.{IsStopped, IsThrough, StopsSo, line_fault_text};
 ghost use Rattle.kr_cli_trace.specs.Lines as spec;
 ghost use Rattle.std.specs.Io.KnownBytes.{Appends};
@@ -19,13 +17,14 @@ ghost use Rattle.std.specs.Option.{option_map, option_to_list};
 ghost use Rattle.kr_trace_lines.specs.declared.faults.LineFault.{LineFault};
 
 use crate::asking::{Asks, Part};
-use crate::source::{Lines, LinesFault};
+use crate::faults::{at_line_fault, at_lines_fault};
+use crate::source::Lines;
 use kr_cli::{Ending, unreadable};
 use kr_model::{Event, Memory, Pairs, Txns};
 use kr_sink::{PrintFault, Sink, print};
-use kr_trace_lines::{Line, LineFault, PartLines, read_line};
+use kr_trace_lines::{Line, PartLines, read_line};
 use kr_trace_observed::Observed;
-use std::alloc::{AllocError, Global};
+use std::alloc::Global;
 
 /// How far a trace is read.
 #[derive(Drop)]
@@ -57,43 +56,6 @@ fn is_blank_byte(byte: u8) -> bool
     ensures { result ≡ spec.is_blank_byte byte }
 {
     byte == b' ' || byte == b'\t' || byte == b'\r'
-}
-
-/// What is printed of the fault of a line, which has this number: the number and the name of the fault, and the line's number.
-fn line_fault_text(alloc: Global, fault: LineFault, number: u64) -> Result<String, AllocError>
-    ensures { IfOk result (λ text. string_bytes text ≡ line_fault_text fault number) }
-{
-    let kind = fault.number();
-    let name = fault.name();
-    format!(in alloc; "fault {kind} {name} at {number}")
-}
-
-/// How the program ends at a fault of a line, which has this number, of the trace that a word names.
-fn at_line_fault(alloc: Global, word: &str, fault: LineFault, number: u64) -> Ending
-    ensures line { MemoryOrTold result (λ line. line ≡ told_line word.now (line_fault_text fault number)) }
-    ensures memory { fault ≡ line_fault.Memory → result ≡ ending.Memory }
-    ensures other { is_output result ≡ false }
-{
-    if matches!(fault, LineFault::Memory) {
-        return Ending::Memory;
-    }
-    match line_fault_text(alloc, fault, number) {
-        Ok(what) => Ending::told(alloc, word, what.as_str()),
-        Err(_) => Ending::Memory,
-    }
-}
-
-/// How the program ends where the next line, which has this number, isn't given.
-fn at_lines_fault(alloc: Global, word: &str, fault: LinesFault, number: u64) -> Ending
-    ensures line { MemoryOrTold result (λ line. ((fault ≡ lines_fault.TooLong) × (line ≡ told_line word.now (line_fault_text line_fault.TooLong number)))
-        ⊎ (line ≡ unreadable_line word.now)) }
-    ensures other { is_output result ≡ false }
-{
-    match fault {
-        LinesFault::TooLong => at_line_fault(alloc, word, LineFault::TooLong, number),
-        LinesFault::Unreadable => unreadable(alloc, word),
-        LinesFault::Memory => Ending::Memory,
-    }
 }
 
 /// Prints a text with a line feed behind it, if there is one.
