@@ -1,8 +1,9 @@
 //! One part of a trace as a text.
-ghost use Rattle.std.specs.Prelude.{◌≡◌, ℕ, List, Some, IfOk, IfSome, OnOk, map};
-ghost use Rattle.kr_model.specs.Map.{IsMap};
+ghost use Rattle.std.specs.Prelude.{◌≡◌, ℕ, List, [], Some, IfOk, IfSome, OnOk, map};
+ghost use Rattle.kr_model.specs.Map.{Map, IsMap};
 ghost use Rattle.kr_model.specs.Protocol.{Protocol as TableOf};
 ghost use Rattle.kr_cli_trace.specs.Committed.{IsVerdict};
+ghost use Rattle.kr_cli_trace.specs.Judged.{AreJudged};
 ghost use Rattle.kr_cli_trace.specs.OnePart.{IsKeptIfAsked, IsWatched, line_of, logged};
 ghost use Rattle.kr_cli_trace.specs.Parts as spec;
 ghost use Rattle.kr_cli_trace.specs.Parts.{begun, with_step};
@@ -131,10 +132,19 @@ fn judged(
     ensures { IfOk result (IsVerdict opening.now (committed_in (map line_of steps.items))) }
 {
     let mut judging = Judging::new(alloc, opening)?;
+    take_all(alloc, &mut judging, steps)?;
+    Ok(verdict_of(judging.found))
+}
+
+/// Judges the steps, of which none was judged before.
+fn take_all(alloc: Global, judging: &mut Judging, steps: Vec<LoggedStep>) -> Result<(), Memory>
+    ensures { (opening : Map) → AreJudged opening [] judging.old.tales judging.old.judge.map judging.old.found
+        → OnOk result (AreJudged opening (map line_of steps.items) judging.new.tales judging.new.judge.map judging.new.found) }
+{
     for step in steps {
         judging.take(alloc, step.event, step.observed)?;
     }
-    Ok(verdict_of(judging.found))
+    Ok(())
 }
 
 impl<'a, P: Protocol> Asks for OnePart<'a, P> {

@@ -1,36 +1,10 @@
-use Rattle.std.proofs.Common.{◌≡◌, ◌∷◌, [], ◌++◌, List, length, map, sym, ap, subst, ◌∙◌, append_assoc, append-nil, arith}
-use Rattle.std.proofs.lemmas.List.{map-append}
-use Rattle.std.specs.Vec.Iter.{into_iter_items}
-use Rattle.kr_trace_follow.specs.Lines.{Line}
-use Rattle.kr_trace_text.specs.declared.steps.LoggedStep.{LoggedStep}
-use Rattle.kr_cli_trace.specs.Committed.{IsFirstFound}
-use Rattle.kr_cli_trace.specs.Judged.{AreJudged}
+use Rattle.std.proofs.Common.{map}
 use Rattle.kr_cli_trace.specs.OnePart.{line_of}
 use Rattle.kr_cli_trace.specs.Tales.{committed_in}
-use Rattle.kr_cli_trace.proofs.OnePartLaws.{nothing_left}
 use Rattle.kr_cli_trace.proofs.one_part.judged.Goals as goal
-
-pub loop-step-preserved : goal.loop-step-preserved
-loop-step-preserved c =
-    let at = c.loop-step in
-    let x = c.in-Some.step in
-    let steps : into_iter_items at.step-iterator ≡ x ∷ into_iter_items c.next.new.self = c.in-Some.ensures.steps.0 in
-    record {
-      split = append_assoc at.yielded (x ∷ []) (into_iter_items c.next.new.self) ∙ ap (λ (ls : List LoggedStep). at.yielded ++ ls) (sym steps) ∙ at.invariant.split;
-      count = (let was = at.invariant.count in
-          let gone = c.in-Some.ensures.steps.1 in
-          let short = ap length steps in
-          omega (arith, was, gone, short));
-      judged = subst (λ (ls : List Line). AreJudged c.args.opening.now ls c.take.new.self.tales c.take.new.self.judge.map c.take.new.self.found) (sym (map-append line_of at.yielded (x ∷ [])))
-          (c.in_ok-take.ensures c.args.opening.now (map line_of at.yielded) x.number at.invariant.judged);
-    }
 
 pub returns : goal.returns
 returns c =
-    let at = c.loop-step in
-    let none = c.in-None.ensures.steps in
-    let empty : into_iter_items at.step-iterator ≡ [] = nothing_left _ (sym at.invariant.count ∙ none.0) in
-    let all : at.yielded ≡ c.args.steps.items =
-    sym (append-nil at.yielded) ∙ ap (λ (ls : List LoggedStep). at.yielded ++ ls) (sym empty) ∙ at.invariant.split ∙ c.into_iter-step-iterator.ensures.into_iter_gives.0 in
-    c.verdict_of.ensures c.args.opening.now (committed_in (map line_of c.args.steps.items))
-    (subst (λ (ls : List LoggedStep). IsFirstFound c.args.opening.now (committed_in (map line_of ls)) at.judging.found) all at.invariant.judged.first)
+    let opening = c.args.opening.now in
+    let are = c.in_ok-take_all.ensures opening c.in_ok-judging.ensures in
+    c.verdict_of.ensures opening (committed_in (map line_of c.args.steps.items)) are.first
