@@ -1,6 +1,5 @@
 //! Tables that read as TOML.
 
-use crate::toml_paths::path_of;
 use crate::toml_places::{Found, find};
 use std::alloc::{AllocError, Global};
 use toml::Value;
@@ -14,12 +13,12 @@ pub struct Document<'a> {
 
 impl Document<'_> {
     /// Where a path leads.
-    pub fn find(&self, alloc: Global, path: &[String]) -> Result<Found, AllocError> {
+    pub fn find(&self, alloc: Global, path: &[&str]) -> Result<Found, AllocError> {
         find(alloc, self.text, path)
     }
 
     /// The key or the element at a path, where the path leads all the way.
-    pub fn key(&self, alloc: Global, path: &[String]) -> Result<Option<usize>, AllocError> {
+    pub fn key(&self, alloc: Global, path: &[&str]) -> Result<Option<usize>, AllocError> {
         let found = self.find(alloc, path)?;
         Ok(if found.depth == path.len() {
             Some(found.key)
@@ -29,7 +28,7 @@ impl Document<'_> {
     }
 
     /// The value at a path, or the key where the value has no place of its own.
-    pub fn place(&self, alloc: Global, path: &[String]) -> Result<Option<usize>, AllocError> {
+    pub fn place(&self, alloc: Global, path: &[&str]) -> Result<Option<usize>, AllocError> {
         let found = self.find(alloc, path)?;
         Ok(if found.depth == path.len() {
             Some(found.value.unwrap_or(found.key))
@@ -39,7 +38,7 @@ impl Document<'_> {
     }
 
     /// The last key or element on a path.
-    pub fn nearby(&self, alloc: Global, path: &[String]) -> Result<Option<usize>, AllocError> {
+    pub fn nearby(&self, alloc: Global, path: &[&str]) -> Result<Option<usize>, AllocError> {
         let found = self.find(alloc, path)?;
         Ok(if found.depth > 0 {
             Some(found.key)
@@ -50,17 +49,23 @@ impl Document<'_> {
 
     /// The value of a member.
     pub fn member(&self, alloc: Global, name: &str) -> Result<Option<usize>, AllocError> {
-        self.place(alloc, path_of(alloc, &[name])?.as_slice())
+        self.place(alloc, &[name])
+    }
+
+    /// The elements of `modes`: none where it is no array.
+    pub fn mode_list(&self) -> &[Value] {
+        match self.value.get("modes") {
+            Some(Value::Array(list)) => list.as_slice(),
+            _ => &[],
+        }
     }
 
     /// The names of the modes, as far as they are texts.
     pub fn modes(&self, alloc: Global) -> Result<Vec<&str>, AllocError> {
         let mut names = Vec::new(alloc);
-        if let Some(list) = self.value.get("modes").and_then(Value::as_array) {
-            for item in list {
-                if let Some(name) = item.as_str() {
-                    names.push(name)?;
-                }
+        for item in self.mode_list() {
+            if let Some(name) = item.as_str() {
+                names.push(name)?;
             }
         }
         Ok(names)

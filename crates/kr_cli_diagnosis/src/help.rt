@@ -79,6 +79,21 @@ impl Help {
     }
 }
 
+/// The lines that are printed of a fault of the text that the word names: none where nothing is said of it.
+pub fn print_said(
+    alloc: Global,
+    word: &str,
+    text: &[u8],
+    said: Option<Help>,
+) -> Result<String, AllocError>
+    ensures { IfOk result (λ lines. IsHelp word.now text.now (string_bytes lines)) }
+{
+    match said {
+        Some(help) => help.print(alloc, word, text),
+        None => Ok(String::new(alloc)),
+    }
+}
+
 /// A text, of which a part is shown where it is very long.
 fn cut_short(alloc: Global, text: &str) -> Result<String, AllocError> {
     let mut short = String::new(alloc);
@@ -199,10 +214,10 @@ fn push_placed(
     ensures { OnOk result (PutsPlace word.now text.now what.now (string_bytes lines.old) (string_bytes lines.new)) }
 {
     let place = place_at(text, offset);
-    let (before, after) = quoted(alloc, text, offset)?;
-    let caret = caret_of(alloc, place, before.as_str())?;
     push_place(alloc, lines, word, place, what)?;
+    let (before, after) = quoted(alloc, text, offset)?;
     push_quote(alloc, lines, place, before.as_str(), after.as_str())?;
+    let caret = caret_of(alloc, place, before.as_str())?;
     push_line(alloc, lines, caret.as_str())?;
     Ok(())
 }

@@ -194,9 +194,11 @@ pub fn not_json(alloc: Global, text: &[u8]) -> Result<Option<Help>, AllocError> 
 
 /// What is said of a text that is no value of JSON.
 fn not_value(alloc: Global, text: &[u8]) -> Result<Option<Help>, AllocError> {
-    match Value::from_slice(alloc, text) {
-        Ok(_) => Ok(None),
-        Err(e) if e.is_memory() => Err(AllocError),
-        Err(e) => Ok(Some(of_error(alloc, text, &e)?)),
+    let Err(e) = Value::from_slice(alloc, text) else {
+        return Ok(None);
+    };
+    if e.is_memory() {
+        return Err(AllocError);
     }
+    Ok(Some(of_error(alloc, text, &e)?))
 }

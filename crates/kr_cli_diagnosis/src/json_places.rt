@@ -83,8 +83,9 @@ fn space_end(text: &[u8], from: usize) -> usize {
 
 /// The members of this name in the object that a text is.
 pub fn members_of(alloc: Global, text: &[u8], name: &str) -> Result<Option<Members>, AllocError> {
-    let mut last: Option<Members> = None;
+    let mut last = None;
     let mut walk = Walk::new();
+    let mut count: usize = 0;
     let mut key = 0;
     for (i, byte) in text.iter().enumerate() {
         let next = walk.next(*byte);
@@ -96,8 +97,9 @@ pub fn members_of(alloc: Global, text: &[u8], name: &str) -> Result<Option<Membe
             && *byte == b':'
             && writes(alloc, part(text, key, i), name)?
         {
+            count = count.saturating_add(1);
             last = Some(Members {
-                count: last.map_or(0, |m| m.count).saturating_add(1),
+                count,
                 key,
                 value: space_end(text, i.saturating_add(1)),
             });
@@ -107,8 +109,9 @@ pub fn members_of(alloc: Global, text: &[u8], name: &str) -> Result<Option<Membe
     Ok(last)
 }
 
-/// Where the element at an index of an array stands, which begins at an offset.
-pub fn element(text: &[u8], array: usize, index: usize) -> Option<usize> {
+/// Where the element at an index of an array stands, which begins at an offset, where that is known.
+pub fn element(text: &[u8], array: Option<usize>, index: usize) -> Option<usize> {
+    let array = array?;
     if array >= text.len() {
         return None;
     }

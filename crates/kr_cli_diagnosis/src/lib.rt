@@ -11,6 +11,7 @@ mod json_faults;
 mod json_places;
 mod kinds;
 mod lines;
+mod names;
 mod nearest;
 mod place;
 mod repeated;

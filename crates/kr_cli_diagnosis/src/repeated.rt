@@ -3,27 +3,31 @@ ghost use Rattle.std.specs.Prelude.{◌≡◌, [], false, IfOk, string_bytes};
 ghost use Rattle.kr_cli_diagnosis.specs.Help.{IsHelp, AreThreeHelps};
 ghost use Rattle.kr_cli_diagnosis.specs.Repeated.{HasNoMemberTwice};
 
-use crate::help::Help;
+use crate::help::{Help, print_said};
 use crate::json_places::{Members, members_of};
-use json::{Error, Scratch, Value};
+use json::{Error, Scratch, Tape};
 use std::alloc::{AllocError, Global};
 use std::str;
 
-/// The warning of a member that stands more than once.
-fn warning(alloc: Global, name: &str, found: Members) -> Result<Help, AllocError> {
-    let count = found.count;
-    let what = format!(in alloc; "warning: \"{name}\" stands {count} times, and the last counts")?;
-    Ok(Help::new(alloc, Some(found.key), what))
+/// What is said of the members of a name: nothing where there is one or none.
+fn said_of(alloc: Global, bytes: &[u8], name: &str) -> Result<Option<Help>, AllocError> {
+    match members_of(alloc, bytes, name)? {
+        Some(Members { count, key, .. }) if count > 1 => {
+            let what = format!(in alloc;
+                "warning: \"{name}\" stands {count} times, and the last counts"
+            )?;
+            Ok(Some(Help::new(alloc, Some(key), what)))
+        }
+        _ => Ok(None),
+    }
 }
 
-/// What is said of the members of a name: nothing where there is one or none.
+/// The warning of the members of a name: empty where there is one or none.
 fn warning_of(alloc: Global, word: &str, bytes: &[u8], name: &str) -> Result<String, AllocError>
     ensures { IfOk result (λ text. IsHelp word.now bytes.now (string_bytes text)) }
 {
-    match members_of(alloc, bytes, name)? {
-        Some(found) if found.count > 1 => warning(alloc, name, found)?.print(alloc, word, bytes),
-        _ => Ok(String::new(alloc)),
-    }
+    let said = said_of(alloc, bytes, name)?;
+    print_said(alloc, word, bytes, said)
 }
 
 /// Whether some object of a JSON text has two members of one name.
@@ -34,7 +38,7 @@ fn has_member_twice(alloc: Global, bytes: &[u8]) -> Result<bool, AllocError>
         return Ok(false);
     };
     let mut scratch = Scratch::new(alloc);
-    match Value::parse_strict(alloc, text, &mut scratch) {
+    match Tape::parse_strict(text, &mut scratch, Vec::new(alloc)) {
         Ok(_) | Err(Error::Invalid | Error::TooLong) => Ok(false),
         Err(Error::DuplicateKey) => Ok(true),
         Err(Error::OutOfMemory) => Err(AllocError),
@@ -49,9 +53,8 @@ pub fn repeated_help(alloc: Global, word: &str, bytes: &[u8]) -> Result<String, 
     if !has_member_twice(alloc, bytes)? {
         return Ok(String::new(alloc));
     }
-    let format = warning_of(alloc, word, bytes, "format")?;
-    let opening = warning_of(alloc, word, bytes, "opening")?;
-    let steps = warning_of(alloc, word, bytes, "steps")?;
-    let text = format!(in alloc; "{format}{opening}{steps}")?;
+    let mut text = warning_of(alloc, word, bytes, "format")?;
+    text.push_str(warning_of(alloc, word, bytes, "opening")?.as_str())?;
+    text.push_str(warning_of(alloc, word, bytes, "steps")?.as_str())?;
     Ok(text)
 }

@@ -3,9 +3,9 @@
 use crate::help::Help;
 use crate::json_places::element;
 use crate::kinds::json_kind;
+use crate::names::{no_member, wrong_member};
 use crate::script_steps::number_fault;
-use crate::source::{MEMBERS, Source};
-use serde_json::Value;
+use crate::source::{MEMBERS, Source, elements};
 use std::alloc::{AllocError, Global};
 
 /// What is said of a script that is too long.
@@ -40,29 +40,20 @@ pub fn field_fault(alloc: Global, source: &Source, name: &str) -> Result<Help, A
         return no_object(alloc, source);
     }
     if !MEMBERS.contains(&name) {
-        return no_member(alloc, source, name);
+        let place = source.key_of(alloc, name)?;
+        return no_member(alloc, place, "a script", name, &MEMBERS);
     }
     member_fault(alloc, source, name)
-}
-
-fn no_member(alloc: Global, source: &Source, name: &str) -> Result<Help, AllocError> {
-    let place = source.key_of(alloc, name)?;
-    let what = format!(in alloc; "a script has no member \"{name}\"")?;
-    Help::new(alloc, place, what).name(alloc, name, &MEMBERS)
 }
 
 /// What is said of a member that is missing, or isn't what it is to be.
 fn member_fault(alloc: Global, source: &Source, name: &str) -> Result<Help, AllocError> {
     let place = source.value_of(alloc, name)?;
-    let kind = member_kind(name);
-    let what = match source.value.get(name) {
-        Some(value) => {
-            let is = json_kind(value);
-            format!(in alloc; "\"{name}\" is to be {kind}, and is {is}")?
-        }
-        None => format!(in alloc; "the member \"{name}\" is missing: {kind}")?,
+    let is = match source.value.get(name) {
+        Some(value) => Some(json_kind(value)),
+        None => None,
     };
-    Ok(Help::new(alloc, place, what))
+    wrong_member(alloc, place, name, member_kind(name), is)
 }
 
 /// What is said of a pair of the opening whose two are whole numbers.
@@ -73,8 +64,7 @@ fn key_fault(alloc: Global, place: Option<usize>) -> Result<Help, AllocError> {
 
 pub fn opening_fault(alloc: Global, source: &Source, index: usize) -> Result<Help, AllocError> {
     let place = source.element_of(alloc, "opening", index)?;
-    let pair = source.element("opening", index);
-    let Some([key, value]) = pair.and_then(Value::as_array).map(|list| list.as_slice()) else {
+    let [key, value] = elements(source.element("opening", index)) else {
         return Help::of(alloc, place, "expected a pair [key, value]");
     };
     let (name, index, part) = if key.as_u64().is_none() {
@@ -84,15 +74,13 @@ pub fn opening_fault(alloc: Global, source: &Source, index: usize) -> Result<Hel
     } else {
         return key_fault(alloc, place);
     };
-    let at = place.and_then(|place| element(source.text, place, index));
+    let at = element(source.text, place, index);
     number_fault(alloc, source.text, at, name, part)
 }
 
 pub fn too_many(alloc: Global, source: &Source, name: &str) -> Result<Help, AllocError> {
-    let count = match source.value.get(name).and_then(Value::as_array) {
-        Some(list) => list.len(),
-        None => 0,
-    };
+    let place = source.value_of(alloc, name)?;
+    let count = elements(source.value.get(name)).len();
     let what = format!(in alloc; "\"{name}\" has at most 100000 elements, and this has {count}")?;
-    Ok(Help::new(alloc, source.value_of(alloc, name)?, what))
+    Ok(Help::new(alloc, place, what))
 }

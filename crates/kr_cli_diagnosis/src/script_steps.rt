@@ -3,6 +3,8 @@
 use crate::help::Help;
 use crate::json_places::{element, token};
 use crate::kinds::json_kind;
+use crate::names::no_such;
+use crate::source::elements;
 use serde_json::Value;
 use std::alloc::{AllocError, Global};
 
@@ -77,12 +79,6 @@ fn transaction_fault(
     Help::of(alloc, place, "a transaction's number is at most 4294967295")
 }
 
-/// What is said of a word that is no operation.
-fn operation_fault(alloc: Global, place: Option<usize>, word: &str) -> Result<Help, AllocError> {
-    let what = format!(in alloc; "there is no operation \"{word}\"")?;
-    Help::new(alloc, place, what).name(alloc, word, &OPERATIONS)
-}
-
 /// What is said of a step of format 2 in a script of format 1.
 fn later_fault(alloc: Global, place: Option<usize>, word: &str) -> Result<Help, AllocError> {
     let what = format!(in alloc; "\"{word}\" is in format 2 alone")?;
@@ -100,7 +96,7 @@ fn parts_fault(
 ) -> Result<Help, AllocError> {
     for (i, part) in list.iter().enumerate() {
         if i >= 2 && part.as_u64().is_none() {
-            let at = place.and_then(|place| element(text, place, i));
+            let at = element(text, place, i);
             let name = if i == 2 || word == "scan" {
                 "a key"
             } else {
@@ -122,9 +118,9 @@ fn form_fault(
     word: &str,
     list: &[Value],
 ) -> Result<Help, AllocError> {
-    let at = place.and_then(|place| element(text, place, 1));
+    let at = element(text, place, 1);
     let Some((form, count)) = form_of(word) else {
-        return operation_fault(alloc, at, word);
+        return no_such(alloc, at, "operation", word, &OPERATIONS);
     };
     if !is_later && (word == "update" || word == "back") {
         return later_fault(alloc, at, word);
@@ -145,27 +141,24 @@ pub fn step_fault(
     is_later: bool,
     step: Option<&Value>,
 ) -> Result<Help, AllocError> {
-    let list = match step.and_then(Value::as_array) {
-        Some(list) => list.as_slice(),
-        None => &[],
-    };
+    let list = elements(step);
     let Some(first) = list.first() else {
         let help = Help::of(alloc, place, "a step is an array")?;
         return hint_form(alloc, help, "a step, as [1,\"fetch\",10]");
     };
-    if !first.as_u64().is_some_and(|number| number < 1 << 32) {
-        let at = place.and_then(|place| element(text, place, 0));
+    if !matches!(first.as_u64(), Some(number) if number < 1 << 32) {
+        let at = element(text, place, 0);
         return transaction_fault(alloc, text, at, first);
     }
-    match list.get(1).and_then(Value::as_str) {
-        Some(word) => form_fault(alloc, text, place, is_later, word, list),
-        None => no_word(alloc, text, place),
+    match list.get(1) {
+        Some(Value::String(word)) => form_fault(alloc, text, place, is_later, word.as_str(), list),
+        _ => no_word(alloc, text, place),
     }
 }
 
 /// What is said of a step without a word behind its number.
 fn no_word(alloc: Global, text: &[u8], place: Option<usize>) -> Result<Help, AllocError> {
-    let at = place.and_then(|place| element(text, place, 1));
+    let at = element(text, place, 1);
     let what = "behind the transaction's number stands an operation";
     Help::of(alloc, at.or(place), what)?.name(alloc, "", &OPERATIONS)
 }

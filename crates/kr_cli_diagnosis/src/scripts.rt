@@ -2,7 +2,7 @@
 ghost use Rattle.std.specs.Prelude.{◌≡◌, IfOk, string_bytes};
 ghost use Rattle.kr_cli_diagnosis.specs.Help.{IsHelp};
 
-use crate::help::Help;
+use crate::help::{Help, print_said};
 use crate::json_faults::not_json;
 use crate::script_members::{field_fault, format_fault, opening_fault, too_long, too_many};
 use crate::script_steps::step_fault;
@@ -64,8 +64,6 @@ pub fn script_help(
 ) -> Result<String, AllocError>
     ensures { IfOk result (λ text. IsHelp word.now bytes.now (string_bytes text)) }
 {
-    match help_of(alloc, bytes, fault)? {
-        Some(help) => help.print(alloc, word, bytes),
-        None => Ok(String::new(alloc)),
-    }
+    let said = help_of(alloc, bytes, fault)?;
+    print_said(alloc, word, bytes, said)
 }

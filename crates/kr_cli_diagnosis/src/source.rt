@@ -17,12 +17,18 @@ pub struct Source<'a> {
 impl Source<'_> {
     /// Where the value of a member stands.
     pub fn value_of(&self, alloc: Global, name: &str) -> Result<Option<usize>, AllocError> {
-        Ok(members_of(alloc, self.text, name)?.map(|m| m.value))
+        match members_of(alloc, self.text, name)? {
+            Some(found) => Ok(Some(found.value)),
+            None => Ok(None),
+        }
     }
 
     /// Where the name of a member stands.
     pub fn key_of(&self, alloc: Global, name: &str) -> Result<Option<usize>, AllocError> {
-        Ok(members_of(alloc, self.text, name)?.map(|m| m.key))
+        match members_of(alloc, self.text, name)? {
+            Some(found) => Ok(Some(found.key)),
+            None => Ok(None),
+        }
     }
 
     /// Where an element of a member stands.
@@ -33,16 +39,27 @@ impl Source<'_> {
         index: usize,
     ) -> Result<Option<usize>, AllocError> {
         let array = self.value_of(alloc, name)?;
-        Ok(array.and_then(|array| element(self.text, array, index)))
+        Ok(element(self.text, array, index))
     }
 
     /// The element of a member.
     pub fn element(&self, name: &str, index: usize) -> Option<&Value> {
-        self.value.get(name).and_then(|list| list.get(index))
+        self.value.get(name)?.get(index)
     }
 
     /// Whether the format is 2.
     pub fn is_later(&self) -> bool {
-        self.value.get("format").and_then(Value::as_u64) == Some(2)
+        match self.value.get("format") {
+            Some(format) => format.as_u64() == Some(2),
+            None => false,
+        }
+    }
+}
+
+/// The elements of an array: none where this is no array.
+pub fn elements(value: Option<&Value>) -> &[Value] {
+    match value {
+        Some(Value::Array(list)) => list.as_slice(),
+        _ => &[],
     }
 }

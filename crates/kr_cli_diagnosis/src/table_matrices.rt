@@ -3,7 +3,7 @@
 use crate::document::Document;
 use crate::help::Help;
 use crate::kinds::toml_kind;
-use crate::toml_paths::{at_step, steps_of, with_step};
+use crate::toml_paths::{at_path, steps_of, with_step};
 use std::alloc::{AllocError, Global};
 use toml::Value;
 
@@ -22,7 +22,7 @@ pub fn unknown_mode(
 pub fn wrong_kind(
     alloc: Global,
     document: &Document,
-    path: &[String],
+    path: &[&str],
     kind: &str,
     value: &Value,
 ) -> Result<Help, AllocError> {
@@ -32,10 +32,10 @@ pub fn wrong_kind(
     Ok(Help::new(alloc, place, what))
 }
 
-/// Whether a value is the name of a mode, of those that may stand there.
-pub fn is_mode(value: &Value, modes: &[&str]) -> bool {
+/// Whether a value is one of the names that may stand there.
+pub fn is_one_of(value: &Value, names: &[&str]) -> bool {
     match value.as_str() {
-        Some(name) => modes.contains(&name),
+        Some(name) => names.contains(&name),
         None => false,
     }
 }
@@ -44,7 +44,7 @@ pub fn is_mode(value: &Value, modes: &[&str]) -> bool {
 pub fn no_mode(
     alloc: Global,
     document: &Document,
-    path: &[String],
+    path: &[&str],
     value: &Value,
     modes: &[&str],
 ) -> Result<Help, AllocError> {
@@ -58,12 +58,12 @@ pub fn no_mode(
 pub fn element_fault(
     alloc: Global,
     document: &Document,
-    path: &[String],
+    path: &[&str],
     list: &[Value],
     modes: &[&str],
 ) -> Result<Option<Help>, AllocError> {
     for (i, item) in list.iter().enumerate() {
-        if !is_mode(item, modes) {
+        if !is_one_of(item, modes) {
             let step = format!(in alloc; "{i}")?;
             let whole = with_step(alloc, path, step.as_str())?;
             return Ok(Some(no_mode(alloc, document, whole.as_slice(), item, modes)?));
@@ -76,7 +76,7 @@ pub fn element_fault(
 fn missing_entry(
     alloc: Global,
     document: &Document,
-    steps: &[String],
+    steps: &[&str],
     name: &str,
 ) -> Result<Help, AllocError> {
     let place = document.nearby(alloc, steps)?;
@@ -89,7 +89,7 @@ fn missing_entry(
 fn list_fault(
     alloc: Global,
     document: &Document,
-    steps: &[String],
+    steps: &[&str],
     name: &str,
     list: &[Value],
 ) -> Result<Option<Help>, AllocError> {
@@ -105,7 +105,7 @@ fn list_fault(
 fn entry_fault(
     alloc: Global,
     document: &Document,
-    steps: &[String],
+    steps: &[&str],
     name: &str,
     entry: &Value,
 ) -> Result<Help, AllocError> {
@@ -118,14 +118,13 @@ fn entry_fault(
 }
 
 /// What is said of what these steps lead to in `compatible`.
-fn compatible_at(alloc: Global, document: &Document, steps: &[String]) -> Result<Help, AllocError> {
+fn compatible_at(alloc: Global, document: &Document, steps: &[&str]) -> Result<Help, AllocError> {
     let [_, name] = steps else {
         return Help::of(alloc, None, "an entry of \"compatible\" is at fault");
     };
-    let entries = document.value.get("compatible");
-    match entries.and_then(|entries| entries.get(name.as_str())) {
-        Some(entry) => entry_fault(alloc, document, steps, name.as_str(), entry),
-        None => missing_entry(alloc, document, steps, name.as_str()),
+    match at_path(&document.value, steps) {
+        Some(entry) => entry_fault(alloc, document, steps, name, entry),
+        None => missing_entry(alloc, document, steps, name),
     }
 }
 
@@ -143,7 +142,7 @@ pub fn compatible_fault(
 fn held_fault(
     alloc: Global,
     document: &Document,
-    steps: &[String],
+    steps: &[&str],
     held: &str,
     entry: &Value,
 ) -> Result<Help, AllocError> {
@@ -158,7 +157,7 @@ fn held_fault(
 fn pair_fault(
     alloc: Global,
     document: &Document,
-    steps: &[String],
+    steps: &[&str],
     requested: &str,
     value: &Value,
 ) -> Result<Help, AllocError> {
@@ -171,22 +170,14 @@ fn pair_fault(
 }
 
 /// What is said of what these steps lead to in `convert`.
-fn convert_at(alloc: Global, document: &Document, steps: &[String]) -> Result<Help, AllocError> {
-    let entries = document.value.get("convert");
-    match steps {
-        [_, held] => match entries.and_then(|entries| at_step(entries, held.as_str())) {
-            Some(entry) => held_fault(alloc, document, steps, held.as_str(), entry),
-            None => missing_pair(alloc, document, steps, held.as_str()),
-        },
-        [_, held, requested] => {
-            let pairs = entries.and_then(|entries| at_step(entries, held.as_str()));
-            match pairs.and_then(|pairs| at_step(pairs, requested.as_str())) {
-                Some(value) => pair_fault(alloc, document, steps, requested.as_str(), value),
-                None => {
-                    let pair = format!(in alloc; "{held}.{requested}")?;
-                    missing_pair(alloc, document, steps, pair.as_str())
-                }
-            }
+fn convert_at(alloc: Global, document: &Document, steps: &[&str]) -> Result<Help, AllocError> {
+    match (steps, at_path(&document.value, steps)) {
+        ([_, held], Some(entry)) => held_fault(alloc, document, steps, held, entry),
+        ([_, held], None) => missing_pair(alloc, document, steps, held),
+        ([_, _, requested], Some(value)) => pair_fault(alloc, document, steps, requested, value),
+        ([_, held, requested], None) => {
+            let pair = format!(in alloc; "{held}.{requested}")?;
+            missing_pair(alloc, document, steps, pair.as_str())
         }
         _ => Help::of(alloc, None, "an entry of \"convert\" is at fault"),
     }
@@ -201,7 +192,7 @@ pub fn convert_fault(alloc: Global, document: &Document, path: &str) -> Result<H
 fn missing_pair(
     alloc: Global,
     document: &Document,
-    steps: &[String],
+    steps: &[&str],
     pair: &str,
 ) -> Result<Help, AllocError> {
     let place = document.nearby(alloc, steps)?;

@@ -3,7 +3,7 @@
 use crate::document::Document;
 use crate::help::Help;
 use crate::kinds::toml_kind;
-use crate::toml_paths::path_of;
+use crate::names::{no_member, wrong_member};
 use std::alloc::{AllocError, Global};
 use toml::Value;
 
@@ -38,38 +38,27 @@ fn member_kind(name: &str) -> &'static str {
 
 pub fn field_fault(alloc: Global, document: &Document, name: &str) -> Result<Help, AllocError> {
     if !MEMBERS.contains(&name) {
-        return no_member(alloc, document, name);
+        let place = document.key(alloc, &[name])?;
+        return no_member(alloc, place, "a table", name, &MEMBERS);
     }
     member_fault(alloc, document, name)
-}
-
-fn no_member(alloc: Global, document: &Document, name: &str) -> Result<Help, AllocError> {
-    let key = document.key(alloc, path_of(alloc, &[name])?.as_slice())?;
-    let what = format!(in alloc; "a table has no member \"{name}\"")?;
-    Help::new(alloc, key, what).name(alloc, name, &MEMBERS)
 }
 
 /// What is said of a member that is missing, or isn't what it is to be.
 fn member_fault(alloc: Global, document: &Document, name: &str) -> Result<Help, AllocError> {
     let place = document.member(alloc, name)?;
-    let kind = member_kind(name);
-    let what = match document.value.get(name) {
-        Some(value) => {
-            let is = toml_kind(value);
-            format!(in alloc; "\"{name}\" is to be {kind}, and is {is}")?
-        }
-        None => format!(in alloc; "the member \"{name}\" is missing: {kind}")?,
+    let is = match document.value.get(name) {
+        Some(value) => Some(toml_kind(value)),
+        None => None,
     };
-    Ok(Help::new(alloc, place, what))
+    wrong_member(alloc, place, name, member_kind(name), is)
 }
 
 pub fn count_fault(alloc: Global, document: &Document) -> Result<Help, AllocError> {
-    let count = match document.value.get("modes").and_then(Value::as_array) {
-        Some(list) => list.len(),
-        None => 0,
-    };
+    let place = document.member(alloc, "modes")?;
+    let count = document.mode_list().len();
     let what = format!(in alloc; "a table has 1 to 15 modes, and this has {count}")?;
-    Ok(Help::new(alloc, document.member(alloc, "modes")?, what))
+    Ok(Help::new(alloc, place, what))
 }
 
 fn is_printable(name: &str) -> bool {
@@ -78,9 +67,10 @@ fn is_printable(name: &str) -> bool {
 
 /// Why an element of `modes` is no name of a mode.
 fn mode_reason(value: Option<&Value>) -> &'static str {
-    let Some(name) = value.and_then(Value::as_str) else {
+    let Some(Value::String(name)) = value else {
         return "the name of a mode is a text";
     };
+    let name = name.as_str();
     if name.is_empty() {
         "the name of a mode has 1 to 24 bytes, and this has none"
     } else if name == "none" {
@@ -96,8 +86,6 @@ fn mode_reason(value: Option<&Value>) -> &'static str {
 
 pub fn mode_fault(alloc: Global, document: &Document, index: usize) -> Result<Help, AllocError> {
     let step = format!(in alloc; "{index}")?;
-    let place = document.place(alloc, path_of(alloc, &["modes", step.as_str()])?.as_slice())?;
-    let modes = document.value.get("modes").and_then(Value::as_array);
-    let what = mode_reason(modes.and_then(|list| list.get(index)));
-    Help::of(alloc, place, what)
+    let place = document.place(alloc, &["modes", step.as_str()])?;
+    Help::of(alloc, place, mode_reason(document.mode_list().get(index)))
 }

@@ -2,7 +2,8 @@
 
 use crate::document::Document;
 use crate::help::Help;
-use crate::table_matrices::{element_fault, is_mode, no_mode, wrong_kind};
+use crate::names::{no_member, no_such};
+use crate::table_matrices::{element_fault, is_one_of, no_mode, wrong_kind};
 use crate::toml_paths::{at_path, steps_of, with_step};
 use std::alloc::{AllocError, Global};
 use toml::Value;
@@ -23,8 +24,8 @@ const SPANS: [&str; 2] = ["instant", "commit"];
 
 /// The rows that a table of the format has.
 fn rows(document: &Document) -> &'static [&'static str] {
-    match document.value.get("format").and_then(Value::as_integer) {
-        Some(2) => &ROWS,
+    match document.value.get("format") {
+        Some(Value::Integer(2)) => &ROWS,
         _ => &[
             "fetch-hit",
             "fetch-miss",
@@ -48,7 +49,7 @@ fn sides(row: &str) -> &'static [&'static str] {
 fn row_fault(
     alloc: Global,
     document: &Document,
-    path: &[String],
+    path: &[&str],
     row: &str,
     value: &Value,
 ) -> Result<Help, AllocError> {
@@ -60,14 +61,13 @@ fn row_fault(
         let what = "a row \"update\" is in format 2 alone";
         return Help::of(alloc, place, what)?.hint_of(alloc, "write format = 2");
     }
-    let what = format!(in alloc; "there is no row \"{row}\"")?;
-    Help::new(alloc, place, what).name(alloc, row, rows(document))
+    no_such(alloc, place, "row", row, rows(document))
 }
 
 fn side_fault(
     alloc: Global,
     document: &Document,
-    path: &[String],
+    path: &[&str],
     row: &str,
     side: &str,
     value: &Value,
@@ -81,23 +81,22 @@ fn side_fault(
 }
 
 /// What is said of a name that no member of a clause has.
-fn no_member(
+fn unknown_word(
     alloc: Global,
     document: &Document,
-    path: &[String],
+    path: &[&str],
     word: &str,
 ) -> Result<Help, AllocError> {
     let whole = with_step(alloc, path, word)?;
     let place = document.key(alloc, whole.as_slice())?;
-    let what = format!(in alloc; "a clause has no member \"{word}\"")?;
-    Help::new(alloc, place, what).name(alloc, word, &CLAUSE)
+    no_member(alloc, place, "a clause", word, &CLAUSE)
 }
 
 /// What is said of a member of a clause that no clause has.
 fn word_fault(
     alloc: Global,
     document: &Document,
-    path: &[String],
+    path: &[&str],
     clause: &Value,
 ) -> Result<Option<Help>, AllocError> {
     let Some(members) = clause.as_table() else {
@@ -105,7 +104,7 @@ fn word_fault(
     };
     for (word, _) in members.iter() {
         if !CLAUSE.contains(&word.as_str()) {
-            return Ok(Some(no_member(alloc, document, path, word.as_str())?));
+            return Ok(Some(unknown_word(alloc, document, path, word.as_str())?));
         }
     }
     Ok(None)
@@ -115,7 +114,7 @@ fn word_fault(
 fn missing_word(
     alloc: Global,
     document: &Document,
-    path: &[String],
+    path: &[&str],
     word: &str,
 ) -> Result<Help, AllocError> {
     let place = document.place(alloc, path)?;
@@ -129,7 +128,7 @@ fn missing_word(
 fn mode_fault(
     alloc: Global,
     document: &Document,
-    path: &[String],
+    path: &[&str],
     clause: &Value,
 ) -> Result<Option<Help>, AllocError> {
     let Some(value) = clause.get("mode") else {
@@ -143,11 +142,11 @@ fn mode_fault(
 fn mode_fault_at(
     alloc: Global,
     document: &Document,
-    path: &[String],
+    path: &[&str],
     value: &Value,
 ) -> Result<Option<Help>, AllocError> {
     let modes = document.modes(alloc)?;
-    if is_mode(value, modes.as_slice()) {
+    if is_one_of(value, modes.as_slice()) {
         return Ok(None);
     }
     let help = no_mode(alloc, document, path, value, modes.as_slice())?;
@@ -158,12 +157,12 @@ fn mode_fault_at(
 fn span_fault(
     alloc: Global,
     document: &Document,
-    path: &[String],
+    path: &[&str],
     clause: &Value,
 ) -> Result<Option<Help>, AllocError> {
     match clause.get("span") {
         None => Ok(Some(missing_word(alloc, document, path, "span")?)),
-        Some(value) if value.as_str().is_some_and(|word| SPANS.contains(&word)) => Ok(None),
+        Some(value) if is_one_of(value, &SPANS) => Ok(None),
         Some(value) => Ok(Some(no_span(alloc, document, path, value)?)),
     }
 }
@@ -172,7 +171,7 @@ fn span_fault(
 fn no_span(
     alloc: Global,
     document: &Document,
-    path: &[String],
+    path: &[&str],
     value: &Value,
 ) -> Result<Help, AllocError> {
     let whole = with_step(alloc, path, "span")?;
@@ -181,45 +180,44 @@ fn no_span(
         return wrong_kind(alloc, document, whole.as_slice(), kind, value);
     };
     let place = document.place(alloc, whole.as_slice())?;
-    let what = format!(in alloc; "there is no span \"{word}\"")?;
-    Help::new(alloc, place, what).name(alloc, word, &SPANS)
+    no_such(alloc, place, "span", word, &SPANS)
 }
 
 /// What is said of a clause's `own`.
 fn own_list_fault(
     alloc: Global,
     document: &Document,
-    path: &[String],
+    path: &[&str],
     clause: &Value,
 ) -> Result<Option<Help>, AllocError> {
     let Some(value) = clause.get("own") else {
         return Ok(None);
     };
     let whole = with_step(alloc, path, "own")?;
-    let Some(list) = value.as_array() else {
-        let kind = "an array of names of modes and of \"none\"";
-        return Ok(Some(wrong_kind(alloc, document, whole.as_slice(), kind, value)?));
-    };
-    own_element_fault(alloc, document, whole.as_slice(), list.as_slice())
+    own_list_fault_at(alloc, document, whole.as_slice(), value)
 }
 
-/// What is said of the elements of a clause's `own`, which stands at this path.
-fn own_element_fault(
+/// What is said of a value at this path, which is to be an array of names of modes and of "none".
+fn own_list_fault_at(
     alloc: Global,
     document: &Document,
-    path: &[String],
-    list: &[Value],
+    path: &[&str],
+    value: &Value,
 ) -> Result<Option<Help>, AllocError> {
+    let Some(list) = value.as_array() else {
+        let kind = "an array of names of modes and of \"none\"";
+        return Ok(Some(wrong_kind(alloc, document, path, kind, value)?));
+    };
     let mut names = document.modes(alloc)?;
     names.push("none")?;
-    element_fault(alloc, document, path, list, names.as_slice())
+    element_fault(alloc, document, path, list.as_slice(), names.as_slice())
 }
 
 /// What is said of a clause.
 fn clause_fault(
     alloc: Global,
     document: &Document,
-    path: &[String],
+    path: &[&str],
     clause: &Value,
 ) -> Result<Help, AllocError> {
     if clause.as_table().is_none() {
@@ -240,7 +238,7 @@ fn clause_fault(
 fn member_fault(
     alloc: Global,
     document: &Document,
-    path: &[String],
+    path: &[&str],
     clause: &Value,
 ) -> Result<Option<Help>, AllocError> {
     if let Some(help) = word_fault(alloc, document, path, clause)? {
@@ -271,21 +269,21 @@ pub fn rule_fault(alloc: Global, document: &Document, path: &str) -> Result<Help
 fn part_fault(
     alloc: Global,
     document: &Document,
-    path: &[String],
+    path: &[&str],
     value: &Value,
 ) -> Result<Help, AllocError> {
     match path {
-        [_, row] => row_fault(alloc, document, path, row.as_str(), value),
-        [_, row, side] => side_fault(alloc, document, path, row.as_str(), side.as_str(), value),
+        [_, row] => row_fault(alloc, document, path, row, value),
+        [_, row, side] => side_fault(alloc, document, path, row, side, value),
         _ => clause_fault(alloc, document, path, value),
     }
 }
 
 /// What is said of an `own` where none is allowed.
 pub fn own_fault(alloc: Global, document: &Document, path: &str) -> Result<Help, AllocError> {
-    let steps = steps_of(alloc, &document.value, path)?;
-    let whole = with_step(alloc, steps.as_slice(), "own")?;
-    let place = document.nearby(alloc, whole.as_slice())?;
+    let mut steps = steps_of(alloc, &document.value, path)?;
+    steps.push("own")?;
+    let place = document.nearby(alloc, steps.as_slice())?;
     let what = "only clauses of \"insert\" and \"delete\" have an \"own\"";
     Help::of(alloc, place, what)?.hint_of(alloc, "leave it out")
 }

@@ -3,7 +3,7 @@ ghost use Rattle.std.specs.Prelude.{◌≡◌, IfOk, string_bytes};
 ghost use Rattle.kr_cli_diagnosis.specs.Help.{IsHelp};
 
 use crate::document::Document;
-use crate::help::Help;
+use crate::help::{Help, print_said};
 use crate::table_matrices::{compatible_fault, convert_fault};
 use crate::table_members::{count_fault, field_fault, format_fault, mode_fault, too_long};
 use crate::table_rules::{own_fault, rule_fault};
@@ -69,8 +69,6 @@ pub fn table_help(
 ) -> Result<String, AllocError>
     ensures { IfOk result (λ text. IsHelp word.now bytes.now (string_bytes text)) }
 {
-    match help_of(alloc, bytes, fault)? {
-        Some(help) => help.print(alloc, word, bytes),
-        None => Ok(String::new(alloc)),
-    }
+    let said = help_of(alloc, bytes, fault)?;
+    print_said(alloc, word, bytes, said)
 }

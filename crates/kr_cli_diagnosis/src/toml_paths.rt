@@ -27,12 +27,12 @@ fn split_step<'a>(value: &'a Value, path: &'a str) -> (&'a str, &'a str) {
 }
 
 /// The number that a step is.
-pub fn index_of(step: &str) -> Option<usize> {
+fn index_of(step: &str) -> Option<usize> {
     step.parse::<usize>().ok()
 }
 
 /// What stands at a step of a path.
-pub fn at_step<'a>(value: &'a Value, step: &str) -> Option<&'a Value> {
+fn at_step<'a>(value: &'a Value, step: &str) -> Option<&'a Value> {
     match value {
         Value::Array(list) => list.get(index_of(step)?),
         _ => value.get(step),
@@ -40,36 +40,35 @@ pub fn at_step<'a>(value: &'a Value, step: &str) -> Option<&'a Value> {
 }
 
 /// What stands at the end of a path.
-pub fn at_path<'a>(value: &'a Value, path: &[String]) -> Option<&'a Value> {
+pub fn at_path<'a>(value: &'a Value, path: &[&str]) -> Option<&'a Value> {
     let mut value = value;
     for step in path {
-        value = at_step(value, step.as_str())?;
+        value = at_step(value, step)?;
     }
     Some(value)
 }
 
-/// The path of these steps.
-pub fn path_of(alloc: Global, steps: &[&str]) -> Result<Vec<String>, AllocError> {
-    let mut path = Vec::new(alloc);
-    for step in steps {
-        path.push(String::from_str(alloc, step)?)?;
-    }
-    Ok(path)
-}
-
 /// A path with a step more.
-pub fn with_step(alloc: Global, path: &[String], step: &str) -> Result<Vec<String>, AllocError> {
+pub fn with_step<'a>(
+    alloc: Global,
+    path: &[&'a str],
+    step: &'a str,
+) -> Result<Vec<&'a str>, AllocError> {
     let mut whole = Vec::new(alloc);
     for earlier in path {
-        whole.push(String::from_str(alloc, earlier.as_str())?)?;
+        whole.push(*earlier)?;
     }
-    whole.push(String::from_str(alloc, step)?)?;
+    whole.push(step)?;
     Ok(whole)
 }
 
 /// The steps of a path into a document, four at most. A name may have points of its own: a step is the name of a member
 /// where one leads on, and else all that is left.
-pub fn steps_of(alloc: Global, document: &Value, path: &str) -> Result<Vec<String>, AllocError> {
+pub fn steps_of<'a>(
+    alloc: Global,
+    document: &'a Value,
+    path: &'a str,
+) -> Result<Vec<&'a str>, AllocError> {
     let mut steps = Vec::new(alloc);
     let mut value = document;
     let mut rest = path;
@@ -78,7 +77,7 @@ pub fn steps_of(alloc: Global, document: &Value, path: &str) -> Result<Vec<Strin
             break;
         }
         let (step, others) = split_step(value, rest);
-        steps.push(String::from_str(alloc, step)?)?;
+        steps.push(step)?;
         rest = others;
         match at_step(value, step) {
             Some(next) => value = next,

@@ -35,7 +35,7 @@ enum Header {
 #[derive(Drop)]
 struct Walk<'a> {
     text: &'a [u8],
-    path: &'a [String],
+    path: &'a [&'a str],
     found: Found,
     frames: Vec<Frame>,
     header: Header,
@@ -76,7 +76,7 @@ fn names(alloc: Global, text: &[u8], token: Token, name: &str) -> Result<bool, A
 }
 
 impl<'a> Walk<'a> {
-    fn new(alloc: Global, text: &'a [u8], path: &'a [String]) -> Walk<'a> {
+    fn new(alloc: Global, text: &'a [u8], path: &'a [&'a str]) -> Walk<'a> {
         Walk {
             text,
             path,
@@ -106,7 +106,7 @@ impl<'a> Walk<'a> {
     /// The step of the path behind so many.
     fn step(&self, matched: Option<usize>) -> Option<&'a str> {
         match matched {
-            Some(m) if m < self.path.len() => Some(self.path[m].as_str()),
+            Some(m) if m < self.path.len() => Some(self.path[m]),
             _ => None,
         }
     }
@@ -257,7 +257,7 @@ impl<'a> Walk<'a> {
 }
 
 /// Where a path leads in a document.
-pub fn find(alloc: Global, text: &[u8], path: &[String]) -> Result<Found, AllocError> {
+pub fn find(alloc: Global, text: &[u8], path: &[&str]) -> Result<Found, AllocError> {
     let tokens = tokens_of(alloc, text)?;
     let mut walk = Walk::new(alloc, text, path);
     for token in &tokens {

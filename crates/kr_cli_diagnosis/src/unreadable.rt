@@ -2,8 +2,7 @@
 ghost use Rattle.std.specs.Prelude.{[], IfOk, string_bytes};
 ghost use Rattle.kr_cli_diagnosis.specs.Help.{IsHelp};
 
-use crate::bundled::BUNDLED;
-use crate::help::Help;
+use crate::bundled::near_help;
 use kr_cli::FileFault;
 use std::alloc::{AllocError, Global};
 
@@ -22,6 +21,5 @@ fn said(fault: FileFault) -> &'static str {
 pub fn file_help(alloc: Global, word: &str, fault: FileFault) -> Result<String, AllocError>
     ensures help { IfOk result (λ text. IsHelp word.now [] (string_bytes text)) }
 {
-    let help = Help::of(alloc, None, said(fault))?.near(alloc, word, &BUNDLED)?;
-    help.print(alloc, word, &[])
+    near_help(alloc, word, said(fault))
 }

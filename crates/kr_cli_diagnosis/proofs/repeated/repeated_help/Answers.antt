@@ -5,14 +5,14 @@ use Rattle.kr_cli_diagnosis.proofs.repeated.repeated_help.Goals as goal
 
 pub returns-clause-helps : goal.returns-clause-helps
 returns-clause-helps c = (
-  string_bytes c.in_ok-format.format,
+  string_bytes c.in_ok-text.text,
   (
-    c.in_ok-format.ensures,
+    c.in_ok-text.ensures,
     (
-      string_bytes c.in_ok-opening.opening,
+      string_bytes c.in_ok-warning_of.field-0,
       (
-        c.in_ok-opening.ensures,
-        (string_bytes c.in_ok-steps.steps, (c.in_ok-steps.ensures, grind (arith, common_steps, c.in_ok-text.ensures))),
+        c.in_ok-warning_of.ensures,
+        (string_bytes c.in_ok-warning_of-2.field-0, (c.in_ok-warning_of-2.ensures, grind (arith, common_steps))),
       ),
     ),
   ),

@@ -1,6 +1,6 @@
 use Rattle.std.proofs.Common.{arith}
 use Rattle.std.proofs.lemmas.Grind.{common_steps}
-use Rattle.kr_cli_diagnosis.proofs.tables.table_help.Goals as goal
+use Rattle.kr_cli_diagnosis.proofs.help.print_said.Goals as goal
 
 pub returns-in-Some : goal.returns-in-Some
 returns-in-Some c = grind (arith, common_steps)

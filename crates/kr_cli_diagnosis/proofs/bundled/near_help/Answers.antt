@@ -1,6 +1,6 @@
 use Rattle.std.proofs.Common.{arith}
 use Rattle.std.proofs.lemmas.Grind.{common_steps}
-use Rattle.kr_cli_diagnosis.proofs.unreadable.file_help.Goals as goal
+use Rattle.kr_cli_diagnosis.proofs.bundled.near_help.Goals as goal
 
 pub returns : goal.returns
 returns c = grind (arith, common_steps)
