@@ -5,7 +5,7 @@ ghost use Rattle.kr_cli_diagnosis.specs.Repeated.{HasNoMemberTwice};
 
 use crate::help::{Help, print_said};
 use crate::json_places::{Members, members_of};
-use json::{Error, Scratch, Tape};
+use json::{Error, Scratch, Value};
 use std::alloc::{AllocError, Global};
 use std::str;
 
@@ -38,7 +38,7 @@ fn has_member_twice(alloc: Global, bytes: &[u8]) -> Result<bool, AllocError>
         return Ok(false);
     };
     let mut scratch = Scratch::new(alloc);
-    match Tape::parse_strict(text, &mut scratch, Vec::new(alloc)) {
+    match Value::parse_strict(alloc, text, &mut scratch) {
         Ok(_) | Err(Error::Invalid | Error::TooLong) => Ok(false),
         Err(Error::DuplicateKey) => Ok(true),
         Err(Error::OutOfMemory) => Err(AllocError),
