@@ -29,7 +29,7 @@ fn not_alike(alloc: Global, table: &Table) -> Result<Vec<Change>, Fail> {
 fn changes_are_told_apart(rt: HostRuntime) -> Result<(), Fail> {
     let table = asks_nothing(rt.alloc())?;
     let flat = Flat::of(&table);
-    let changes = changes_of(rt.alloc(), &table)?;
+    let changes = not_alike(rt.alloc(), &table)?;
     let parts = parts(rt.alloc(), &flat, &changes)?;
     let mut told = vec![in rt.alloc(); false; changes.len()]?;
     let mut steps: usize = 0;
