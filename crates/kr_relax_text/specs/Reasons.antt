@@ -47,7 +47,7 @@ IsWrongOnly r = IfSome r.wrong (λ line. r.judged.outcome ≡ Unsafe)
 abbrev pub judged_in : List Reason → List Judged
 judged_in list = map (λ r. r.judged) list
 
--- The list says what each of these changes does to p, in their order, and its scripts go wrong, of changes that aren't safe alone.
+-- The list says what each of these changes does to p, in their order; its scripts go wrong, and only a change that leaves p unsafe has one.
 pub record AreReasons (p : Protocol) (changes : List Change) (list : List Reason) : Type 0 where
   pub same : map (λ j. j.change) (judged_in list) ≡ changes
   pub judged : All (IsJudged p) (judged_in list)
