@@ -13,7 +13,7 @@ use std::alloc::Global;
 
 /// A row and a side with the lock state of a requester on the name, and the mode that it holds on the next name, where the
 /// request goes by that.
-#[derive(Clone, Copy, Debug)]
+#[derive(Clone, Copy)]
 struct Asker {
     row: Row,
     side: Side,

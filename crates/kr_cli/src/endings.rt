@@ -11,7 +11,7 @@ use kr_sink::{PrintFault, Sink, print, put_all};
 use std::alloc::{AllocError, Global};
 
 /// Why a program ends without its output, or with a prefix of it. Each is told on one line.
-#[derive(Debug, Drop)]
+#[derive(Drop)]
 pub enum Ending {
     /// The words are of no form.
     NotUnderstood,

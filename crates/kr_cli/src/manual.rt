@@ -12,7 +12,7 @@ use kr_sink::{PrintFault, Sink, print, put_all};
 pub const VERSION: &str = "0.9.0";
 
 /// What a program says of itself.
-#[derive(Clone, Copy, Debug, PartialEq, Eq)]
+#[derive(Clone, Copy, PartialEq, Eq)]
 pub struct Manual<'a> {
     /// The program's name.
     pub name: &'a str,

@@ -3,7 +3,7 @@ ghost use Rattle.std.specs.Prelude.{◌≡◌, IfSome, IfNone, map, string_bytes
 ghost use Rattle.kr_cli.specs.Questions.{IsQuestion, IsNoQuestion};
 
 /// What a program may be asked about itself.
-#[derive(Clone, Copy, Debug, PartialEq, Eq)]
+#[derive(Clone, Copy, PartialEq, Eq)]
 pub enum Question {
     /// How it is used.
     Help,

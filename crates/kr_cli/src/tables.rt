@@ -20,7 +20,7 @@ use std::alloc::Global;
 pub const TABLE_BYTES: usize = 65_537;
 
 /// One of the tables that the programs bring, or one that was read.
-#[derive(Debug, Drop)]
+#[derive(Drop)]
 pub enum AnyTable {
     /// `@kvl`
     Kvl,

@@ -7,7 +7,7 @@ ghost use Rattle.kr_cli_explain.specs.declared.words.Wanted.{Wanted};
 use kr_cli::{Ending, is_plain, number_of};
 
 /// What is asked.
-#[derive(Clone, Copy, Debug, PartialEq, Eq)]
+#[derive(Clone, Copy, PartialEq, Eq)]
 pub struct Asked<'a> {
     /// The word that names the table.
     pub table: &'a str,
@@ -16,7 +16,7 @@ pub struct Asked<'a> {
 }
 
 /// What is printed of a table.
-#[derive(Clone, Copy, Debug, PartialEq, Eq)]
+#[derive(Clone, Copy, PartialEq, Eq)]
 pub enum Wanted {
     /// The explanation: status 0 where the table is safe, accepted or not, and else 1.
     Explanation,

@@ -29,7 +29,7 @@ pub enum Task<'a> {
 }
 
 /// How many workers there are: 1 to 64.
-#[derive(Clone, Copy, Debug, PartialEq, Eq)]
+#[derive(Clone, Copy, PartialEq, Eq)]
 pub struct Workers {
     count: usize,
     ghost bounds: { (0 < count) × (count ≤ 64) },

@@ -8,7 +8,7 @@ ghost use Rattle.kr_cli_suite.specs.declared.words.Wanted.{Wanted};
 use kr_cli::{Ending, is_plain};
 
 /// What is asked.
-#[derive(Clone, Copy, Debug, PartialEq, Eq)]
+#[derive(Clone, Copy, PartialEq, Eq)]
 pub struct Asked<'a> {
     /// The word that names the table.
     pub table: &'a str,
@@ -17,7 +17,7 @@ pub struct Asked<'a> {
 }
 
 /// What is printed of a table.
-#[derive(Clone, Copy, Debug, PartialEq, Eq)]
+#[derive(Clone, Copy, PartialEq, Eq)]
 pub enum Wanted {
     /// The suite, as a trace with the table's replies.
     Suite,

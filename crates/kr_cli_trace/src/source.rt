@@ -14,7 +14,7 @@ use std::io::{Error, ErrorKind};
 pub const LINE_BYTES: usize = 16_777_216;
 
 /// Why the next line isn't given.
-#[derive(Clone, Copy, Debug, PartialEq, Eq)]
+#[derive(Clone, Copy, PartialEq, Eq)]
 pub enum LinesFault {
     /// The line has more bytes than a line may have.
     TooLong,

@@ -6,7 +6,7 @@ ghost use Rattle.kr_cli_trace.specs.Words.{AskNoTrace, IsAsked, words_of};
 use kr_cli::{Ending, is_plain, number_of};
 
 /// What is asked of the trace that a word names.
-#[derive(Clone, Copy, Debug, PartialEq, Eq)]
+#[derive(Clone, Copy, PartialEq, Eq)]
 pub enum Asked<'a> {
     /// Whether its replies are those of the table that the first word names, and whether its committed answers are serializable
     /// in commit order.

@@ -6,7 +6,7 @@ ghost use Rattle.kr_cli_view.specs.Words.{AskNoPage, IsAsked, words_of};
 use kr_cli::{Ending, is_plain};
 
 /// What is asked.
-#[derive(Clone, Copy, Debug, PartialEq, Eq)]
+#[derive(Clone, Copy, PartialEq, Eq)]
 pub enum Asked<'a> {
     /// The page of the table that this word names.
     Table(&'a str),

@@ -15,7 +15,7 @@ use kr_protocol::Protocol;
 use std::alloc::Global;
 
 /// Failed cases with what is to blame for them.
-#[derive(Debug, Drop)]
+#[derive(Drop)]
 pub struct Cause {
     /// A reason of each of the cases.
     pub blame: Blame,
@@ -24,14 +24,14 @@ pub struct Cause {
 }
 
 /// A failed case that has no cause yet.
-#[derive(Clone, Copy, Debug)]
+#[derive(Clone, Copy)]
 struct Suspect {
     case: FailedCase,
     reasons: Reasons,
 }
 
 /// How many reasons name something, and the first case that has one of them.
-#[derive(Clone, Copy, Debug)]
+#[derive(Clone, Copy)]
 struct Tally {
     blame: Blame,
     count: usize,
@@ -139,7 +139,7 @@ fn leader(alloc: Global, suspects: &[Suspect]) -> Result<Tally, Memory>
 }
 
 /// The cases that something explains, and the suspects that are left.
-#[derive(Debug, Drop)]
+#[derive(Drop)]
 struct Parted {
     explained: Vec<FailedCase>,
     left: Vec<Suspect>,

@@ -16,7 +16,7 @@ use kr_protocol::Protocol;
 use std::alloc::{AllocError, Global};
 
 /// Changes that mend the cases of a cause, each by itself: at most 15, which differ in their mode alone.
-#[derive(Debug, Drop)]
+#[derive(Drop)]
 pub struct Mend {
     /// With each of these the table is accepted.
     pub accepted: Vec<Change>,

@@ -13,7 +13,7 @@ use kr_model::{Cover, FailedCase, Mode, Origin, Requester, Row, Rule, Side, Span
 use kr_protocol::{Protocol, asked};
 
 /// What may be to blame for a failed case.
-#[derive(Clone, Copy, Debug, PartialEq, Eq)]
+#[derive(Clone, Copy, PartialEq, Eq)]
 pub(crate) struct Reasons {
     pub(crate) first: Blame,
     pub(crate) others: [Option<Blame>; 3],

@@ -20,7 +20,7 @@ pub const MOST_STAGED_RUNS: usize = 10;
 pub const MOST_MENDED: usize = 16;
 
 /// What may still be tried for the cases of a cause.
-#[derive(Clone, Copy, Debug, PartialEq, Eq)]
+#[derive(Clone, Copy, PartialEq, Eq)]
 pub struct Effort {
     /// How many states may be looked at.
     states: usize,

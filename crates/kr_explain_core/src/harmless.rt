@@ -9,7 +9,7 @@ use kr_model::{Cover, FailedCase, Mode};
 use kr_protocol::Protocol;
 
 /// Why no schedule goes wrong by a cause, though cases fail by it.
-#[derive(Clone, Copy, Debug, PartialEq, Eq)]
+#[derive(Clone, Copy, PartialEq, Eq)]
 pub enum Harmless {
     /// No transaction can hold the mode of one of its cases on a name where it has the case's cover to protect.
     NeverHeld,

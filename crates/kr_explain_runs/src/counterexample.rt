@@ -7,7 +7,7 @@ use crate::ending::Ending;
 use kr_model::{Event, Row, Side, Txn};
 
 /// A script that goes wrong under a table, and how it was put together.
-#[derive(Debug, Drop)]
+#[derive(Drop)]
 pub struct Counterexample {
     /// The opening map: keys rise strictly.
     pub opening: Vec<(u64, u64)>,

@@ -7,7 +7,7 @@ use kr_model::{FailedCase, Origin, Row, Rule, Side};
 use kr_protocol::Protocol;
 
 /// How near a script has to be to the case.
-#[derive(Clone, Copy, Debug, PartialEq, Eq)]
+#[derive(Clone, Copy)]
 pub enum Fit {
     /// The holder comes to the case's mode as the case says.
     Case,

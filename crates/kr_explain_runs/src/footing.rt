@@ -10,7 +10,7 @@ use kr_protocol::Protocol;
 use std::alloc::{AllocError, Global};
 
 /// What an intruder has on the name above A: on Y, beside what another has there; or on a key of its own between A and Y.
-#[derive(Clone, Copy, Debug, PartialEq, Eq)]
+#[derive(Clone, Copy)]
 pub(crate) struct Footing {
     pub state: LockState,
     /// Whether it has put a key in between.

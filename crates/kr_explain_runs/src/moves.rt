@@ -8,7 +8,7 @@ use kr_protocol::Protocol;
 use std::alloc::AllocError;
 
 /// How a state comes from another.
-#[derive(Clone, Copy, Debug, PartialEq, Eq)]
+#[derive(Clone, Copy, PartialEq, Eq)]
 pub(crate) enum Move {
     /// A step of the holder.
     Own(Op),
@@ -19,7 +19,7 @@ pub(crate) enum Move {
 }
 
 /// A move and the state that it leads to.
-#[derive(Clone, Copy, Debug, PartialEq, Eq)]
+#[derive(Clone, Copy)]
 pub(crate) struct Moved {
     pub by: Move,
     pub to: State,

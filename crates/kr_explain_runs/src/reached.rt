@@ -7,7 +7,7 @@ use crate::state::State;
 pub(crate) const MOST_STATES: usize = 20_000;
 
 /// The opening map of a script: K, and Y or what stands for it one name up.
-#[derive(Clone, Copy, Debug, PartialEq, Eq)]
+#[derive(Clone, Copy)]
 pub(crate) struct World {
     /// Whether P stands in the opening.
     pub p: bool,
@@ -18,14 +18,14 @@ pub(crate) struct World {
 }
 
 /// The move that led to a state, from the state at this place in the closure.
-#[derive(Clone, Copy, Debug, PartialEq, Eq)]
+#[derive(Clone, Copy)]
 pub(crate) struct Last {
     pub before: usize,
     pub by: Move,
 }
 
 /// A state, the world that its script begins in, and its last move, if it has one.
-#[derive(Clone, Copy, Debug, PartialEq, Eq)]
+#[derive(Clone, Copy)]
 pub(crate) struct Reached {
     pub state: State,
     pub world: World,

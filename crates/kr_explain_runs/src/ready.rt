@@ -8,7 +8,7 @@ use std::alloc::{AllocError, Global};
 const WAYS: u8 = 2;
 
 /// A state in which K, P and A stand as in the opening, and the modes that are held in it, not both none.
-#[derive(Clone, Copy, Debug, PartialEq, Eq)]
+#[derive(Clone, Copy)]
 pub(crate) struct Ready {
     pub on_a: Mode,
     pub on_y: Mode,

@@ -19,7 +19,7 @@ pub(crate) const READS: [Request; 5] = [
 ];
 
 /// The keys of a step: the name that its lock is on, a free point in the gap below that name, and the key before it.
-#[derive(Clone, Copy, Debug, PartialEq, Eq)]
+#[derive(Clone, Copy)]
 pub(crate) struct Spot {
     pub key: u64,
     pub free: u64,

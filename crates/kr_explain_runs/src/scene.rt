@@ -6,7 +6,7 @@ use kr_model::{KeyUse, LockState};
 
 /// What transactions have on A: two of them where A is present all the while and Y has no lock; or one that is alone, on A
 /// and on Y.
-#[derive(Clone, Copy, Debug, PartialEq, Eq)]
+#[derive(Clone, Copy)]
 pub(crate) struct Scene {
     /// What the first has on A.
     pub first: LockState,

@@ -13,7 +13,7 @@ use std::alloc::{AllocError, Global};
 pub(crate) const MOST_SCENES: usize = 40_000;
 
 /// A scene, and the last turn that leads there, from the scene at a place of the list.
-#[derive(Clone, Copy, Debug, PartialEq, Eq)]
+#[derive(Clone, Copy)]
 pub(crate) struct Reach {
     pub scene: Scene,
     pub last: Option<(usize, Turn)>,

@@ -5,7 +5,7 @@ use crate::deed::Deed;
 use kr_model::Mode;
 
 /// Which keys stand, the holder's modes, and what it did.
-#[derive(Clone, Copy, Debug, PartialEq, Eq)]
+#[derive(Clone, Copy)]
 pub(crate) struct State {
     pub k: bool,
     pub b: bool,

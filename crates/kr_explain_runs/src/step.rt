@@ -4,7 +4,7 @@ use crate::keys::one_up;
 use kr_model::Op;
 
 /// Who takes a step.
-#[derive(Clone, Copy, Debug, PartialEq, Eq)]
+#[derive(Clone, Copy, PartialEq, Eq)]
 pub(crate) enum Actor {
     /// The one whose lock is too weak.
     Holder,
@@ -19,7 +19,7 @@ pub(crate) enum Actor {
 }
 
 /// A step of a script. Where it inserts or updates, its value is 0 until the script is whole.
-#[derive(Clone, Copy, Debug, PartialEq, Eq)]
+#[derive(Clone, Copy)]
 pub(crate) struct Step {
     pub by: Actor,
     pub op: Op,

@@ -9,7 +9,7 @@ use kr_protocol::Protocol;
 use std::alloc::AllocError;
 
 /// A step of a scene's script.
-#[derive(Clone, Copy, Debug, PartialEq, Eq)]
+#[derive(Clone, Copy)]
 pub(crate) struct Turn {
     /// Whether the second takes it.
     pub by_second: bool,
@@ -19,7 +19,7 @@ pub(crate) struct Turn {
 }
 
 /// A turn, and the scene to which it leads.
-#[derive(Clone, Copy, Debug, PartialEq, Eq)]
+#[derive(Clone, Copy)]
 pub(crate) struct Turned {
     pub by: Turn,
     pub to: Scene,

@@ -17,7 +17,7 @@ use std::alloc::Global;
 const WAYS_AGAIN: usize = 6;
 
 /// What was found for a failed case.
-#[derive(Debug, Drop)]
+#[derive(Drop)]
 pub struct Sought {
     /// The first script that goes wrong, or `None` where none is known.
     pub script: Option<Counterexample>,

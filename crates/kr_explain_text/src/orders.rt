@@ -10,7 +10,7 @@ use std::alloc::Global;
 const MOST_PROGRAMS: usize = 7;
 
 /// What is known of the orders of the committed programs.
-#[derive(Debug, Drop)]
+#[derive(Drop)]
 pub enum OtherOrders {
     /// Run one after another in this order, the programs give the answers of the run.
     Gives(Vec<Txn>),

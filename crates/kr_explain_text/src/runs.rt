@@ -16,7 +16,7 @@ use kr_protocol::Protocol;
 use std::alloc::Global;
 
 /// How many of a cause's cases were tried.
-#[derive(Clone, Copy, Debug, PartialEq, Eq)]
+#[derive(Clone, Copy, PartialEq, Eq)]
 pub struct Tries {
     /// How many cases the cause has.
     pub cases: usize,

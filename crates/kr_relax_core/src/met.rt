@@ -10,7 +10,7 @@ use kr_protocol::{Protocol, is_open, mode_after};
 use std::alloc::Global;
 
 /// A request by the modes of who makes it. A mode is at most the protocol's count, and that is at most 15.
-#[derive(Clone, Copy, Debug, PartialEq, Eq)]
+#[derive(Clone, Copy, PartialEq, Eq)]
 pub struct Request {
     pub row: Row,
     pub side: Side,
@@ -21,7 +21,7 @@ pub struct Request {
 }
 
 /// A request beside another transaction's lock on the requested name.
-#[derive(Clone, Copy, Debug, PartialEq, Eq)]
+#[derive(Clone, Copy, PartialEq, Eq)]
 pub struct Spot {
     pub request: Request,
     /// The mode of the other transaction's lock, 0 for none.

@@ -30,7 +30,7 @@ pub enum Outcome {
 }
 
 /// A change, and what it does.
-#[derive(Clone, Copy, Debug, PartialEq, Eq)]
+#[derive(Clone, Copy, PartialEq, Eq)]
 pub struct Judged {
     pub change: Change,
     pub outcome: Outcome,

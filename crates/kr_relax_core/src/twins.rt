@@ -11,7 +11,7 @@ use std::alloc::Global;
 
 /// The mode of a transaction on a name under one protocol, and its mode there under another, by the same requests: 0 for no
 /// lock, and at most the protocols' count.
-#[derive(Clone, Copy, Debug, PartialEq, Eq)]
+#[derive(Clone, Copy, PartialEq, Eq)]
 pub struct Twin {
     pub mode: Mode,
     pub twin: Mode,

@@ -13,7 +13,7 @@ use kr_relax_core::{Judged, Outcome, outcomes_of};
 use std::alloc::Global;
 
 /// What a change does to a table, and where the table with it isn't safe a script that goes wrong under it, if one is known.
-#[derive(Debug, Drop)]
+#[derive(Drop)]
 pub struct Reason {
     pub judged: Judged,
     /// The script, as a line of JSON with no line feed.

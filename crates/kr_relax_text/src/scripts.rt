@@ -13,7 +13,7 @@ use kr_told_apart::tells_apart;
 use std::alloc::Global;
 
 /// A script of which a table grants all steps but the last, which it blocks.
-#[derive(Debug, Drop)]
+#[derive(Drop)]
 pub struct Shown {
     /// The opening map, keys rising.
     pub opening: Vec<(u64, u64)>,
@@ -22,7 +22,7 @@ pub struct Shown {
 }
 
 /// A relaxation, and a script of which the last step is granted with it, if one is known.
-#[derive(Debug, Drop)]
+#[derive(Drop)]
 pub struct Relaxation {
     pub relaxed: Relaxed,
     pub script: Option<Shown>,

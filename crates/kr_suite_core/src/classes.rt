@@ -6,7 +6,7 @@ use kr_change::Change;
 
 /// The tests for a table. Each table that differs in one entry is exactly one of: told apart by a part that names it, alike,
 /// or left. Those that are alike, and those that are left, come in the order of `changes_of`.
-#[derive(Debug, Drop)]
+#[derive(Drop)]
 pub struct Suite {
     /// The scripts; those that take changes back come last.
     pub parts: Vec<Tested>,

@@ -12,7 +12,7 @@ use kr_protocol::Protocol;
 use std::alloc::Global;
 
 /// A change, and whether the table with it is known to be alike.
-#[derive(Clone, Copy, Debug)]
+#[derive(Clone, Copy)]
 pub(crate) struct Judged {
     pub change: Change,
     pub is_alike: bool,

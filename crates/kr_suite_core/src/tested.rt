@@ -18,7 +18,7 @@ use std::alloc::Global;
 /// A script with the table's replies, all of which but the last are granted, and changes that it tells apart: under the
 /// table with each of these the replies are the same up to the last, which is granted under one of the two and blocked under
 /// the other.
-#[derive(Debug, Drop)]
+#[derive(Drop)]
 pub struct Tested {
     /// The opening map, keys rising.
     pub opening: Vec<(u64, u64)>,

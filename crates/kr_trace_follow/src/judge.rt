@@ -12,7 +12,7 @@ use std::collections::BTreeMap;
 use std::marker::Model;
 
 /// An answer that isn't that of the serial run.
-#[derive(Debug, Drop)]
+#[derive(Drop)]
 pub struct Difference {
     /// The number of the operation in its program, from 1.
     pub operation: u64,

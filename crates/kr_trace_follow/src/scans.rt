@@ -6,7 +6,7 @@ use kr_index::Memory;
 use kr_model::{Op, Reply, Txn};
 
 /// How far the scan of a transaction is.
-#[derive(Clone, Copy, Debug, PartialEq, Eq)]
+#[derive(Clone, Copy, PartialEq, Eq)]
 pub(crate) struct Progress {
     pub(crate) txn: Txn,
     /// The lower end of its range.

@@ -13,7 +13,7 @@ use std::alloc::Global;
 const COLUMNS: usize = 5;
 
 /// A step of a part, as its line has it.
-#[derive(Debug, Drop)]
+#[derive(Drop)]
 pub struct LoggedStep {
     /// The number of the line in its file, from 1.
     pub number: u64,

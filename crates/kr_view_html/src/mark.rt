@@ -4,7 +4,7 @@ ghost use Rattle.kr_view_html.specs.Marks.{mark_bytes};
 
 /// A mark: a fixed piece of a page. Some begin an element and some end one, and some stand between the values of its
 /// attributes. None begins a section, so no `Html` can look like the band of a step.
-#[derive(Clone, Copy, Debug, PartialEq, Eq)]
+#[derive(Clone, Copy, PartialEq, Eq)]
 pub enum Mark {
     // Paragraphs, headings and links.
     Paragraph,

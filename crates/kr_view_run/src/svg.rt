@@ -4,7 +4,7 @@ use kr_view_html::{Html, Mark, Part};
 use std::alloc::AllocError;
 
 /// A place in a drawing.
-#[derive(Clone, Copy, Debug, PartialEq, Eq)]
+#[derive(Clone, Copy, PartialEq, Eq)]
 pub struct Point {
     pub x: u64,
     pub y: u64,

@@ -12,7 +12,7 @@ use std::alloc::Global;
 use std::collections::BTreeMap;
 
 /// A lock that a step requested, and the transactions whose locks conflicted with it.
-#[derive(Debug, Drop)]
+#[derive(Drop)]
 pub struct Asked {
     pub name: Name,
     pub mode: Mode,

@@ -12,7 +12,7 @@ use std::alloc::Global;
 const COLOURS: u32 = 6;
 
 /// The line of a bar: those of a transaction are below each other, so that no bar covers another.
-#[derive(Clone, Copy, Debug, PartialEq, Eq, PartialOrd, Ord)]
+#[derive(Clone, Copy, PartialEq, Eq, PartialOrd, Ord)]
 pub struct BarLine {
     pub txn: Txn,
     /// 0 for bars on present names, and 2 for a request of what its transaction holds already in another mode; 1 more for
@@ -21,7 +21,7 @@ pub struct BarLine {
 }
 
 /// A lock, or a request that wasn't granted, on the name of a column.
-#[derive(Debug, Drop)]
+#[derive(Drop)]
 pub struct Bar {
     pub line: BarLine,
     pub column: usize,
@@ -49,7 +49,7 @@ impl Bar {
 }
 
 /// What a bar is.
-#[derive(Clone, Copy, Debug, PartialEq, Eq)]
+#[derive(Clone, Copy, PartialEq, Eq)]
 pub enum BarKind {
     /// A lock.
     Held,

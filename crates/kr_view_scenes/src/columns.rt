@@ -9,7 +9,7 @@ use std::collections::BTreeSet;
 pub const NAMES_DRAWN: usize = 60;
 
 /// The keys that have a column, rising. The last column is that of the end.
-#[derive(Debug, Drop)]
+#[derive(Drop)]
 pub struct Columns {
     pub keys: Vec<u64>,
     /// How many keys are there that have no column.

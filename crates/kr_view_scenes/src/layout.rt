@@ -15,7 +15,7 @@ const FREE: u64 = 8;
 const BESIDE: u64 = 14;
 
 /// How wide the columns of a page are, and the room at their left, where the transactions of the rows stand.
-#[derive(Clone, Copy, Debug, PartialEq, Eq)]
+#[derive(Clone, Copy, PartialEq, Eq)]
 pub struct Layout {
     pub left: u64,
     pub width: u64,

@@ -11,7 +11,7 @@ use std::alloc::Global;
 use std::collections::BTreeSet;
 
 /// A key of a column, as a step left it.
-#[derive(Clone, Copy, Debug, PartialEq, Eq)]
+#[derive(Clone, Copy, PartialEq, Eq)]
 pub enum KeyState {
     /// It has the value that it had.
     Kept(u64),
@@ -61,7 +61,7 @@ impl KeyState {
 }
 
 /// A step with what it left.
-#[derive(Debug, Drop)]
+#[derive(Drop)]
 pub struct Scene {
     /// Its number, from 1.
     pub number: u64,

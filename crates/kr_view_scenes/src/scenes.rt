@@ -19,7 +19,7 @@ use kr_serial::replay;
 use std::alloc::{AllocError, Global};
 
 /// The steps of a run that are drawn, and the columns of their keys.
-#[derive(Debug, Drop)]
+#[derive(Drop)]
 pub struct Drawn {
     pub columns: Columns,
     /// A scene for each of the steps, in order.

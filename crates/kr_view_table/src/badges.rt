@@ -9,7 +9,7 @@ use kr_model::{Memory, Mode, Row, Side, Span};
 use std::alloc::Global;
 
 /// An entry of a table.
-#[derive(Clone, Copy, Debug, PartialEq, Eq)]
+#[derive(Clone, Copy, PartialEq, Eq)]
 pub enum Entry {
     /// Whether two modes are compatible.
     Pair {

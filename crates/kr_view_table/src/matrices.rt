@@ -12,7 +12,7 @@ use kr_view_html::escape;
 use std::alloc::Global;
 
 /// A matrix of a table.
-#[derive(Clone, Copy, Debug, PartialEq, Eq)]
+#[derive(Clone, Copy, PartialEq, Eq)]
 pub enum Matrix {
     /// Whether the requested mode of a row is compatible with the held one of a column.
     Compatible,
