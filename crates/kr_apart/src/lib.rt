@@ -12,6 +12,7 @@
 mod choice;
 mod closure;
 mod entry;
+mod flags;
 mod flat;
 mod keys;
 mod light;
@@ -30,9 +31,11 @@ mod seen;
 mod sight;
 mod signature;
 mod tables;
+mod tells;
 mod trail;
 
 pub use flat::Flat;
 pub use kr_change::Change;
 pub use part::Part;
 pub use search::parts;
+pub use tells::tells_apart;

@@ -1,2 +1,4 @@
 pub mod Changes
 pub mod Every
+pub mod ChangeNames
+pub mod Edits

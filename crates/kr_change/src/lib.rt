@@ -4,9 +4,15 @@
 
 mod change;
 mod changed;
+mod edits;
+mod entries;
 mod every;
+mod names;
 
 pub use change::Change;
 pub use changed::Changed;
+pub use edits::edit_text;
+pub use entries::{conversion_text, entry_text, pair_text, place_text};
 pub use every::changes_of;
 pub use kr_model::{Memory, Mode, Row, Side, Span};
+pub use names::change_text;

@@ -4,7 +4,7 @@ use Rattle.std.specs.Fmt.{decimal}
 use Rattle.std.specs.Io.KnownBytes.{Appends}
 use Rattle.kr_model.specs.Protocol.{Protocol, IsLawful}
 use Rattle.kr_model.specs.Safe.{IsSafe}
-use Rattle.kr_wrong.specs.Wrong.{GoesWrong}
+use Rattle.kr_theorem.specs.Wrong.{GoesWrong}
 use Rattle.kr_explain_core.specs.Explained.{IsExplained, is_safe, run_at}
 use Rattle.kr_explain_core.specs.Told.{IsText}
 use Rattle.kr_explain_core.specs.Lines.{IsLineOf}

@@ -8,7 +8,7 @@ use Rattle.kr_change.specs.declared.change.Change.{Change}
 use Rattle.kr_change.specs.Changes.{changed}
 use Rattle.kr_table.specs.declared.table.Table.{Table}
 use Rattle.kr_table.specs.Answer.{table_data}
-use Rattle.kr_table_copy.specs.Same.{IsCopy}
+use Rattle.kr_relax_text.specs.Same.{IsCopy}
 use Rattle.kr_relax_core.specs.Relaxations.{AreRelaxations, IsRelaxation, IsRelaxed, IsTight, changes_in}
 use Rattle.kr_relax_core.specs.declared.relax.Relaxed.{Relaxed}
 use Rattle.kr_cli_relax.specs.Tightest.{Relaxes, RelaxedFrom, protocol_in}

@@ -7,7 +7,7 @@ use Rattle.kr_change.specs.Changes.{changed}
 use Rattle.kr_table.specs.declared.table.Table.{Table}
 use Rattle.kr_table.specs.Answer.{table_data}
 use Rattle.kr_table.specs.Tables.{protocol_of}
-use Rattle.kr_table_copy.specs.Same.{IsCopy}
+use Rattle.kr_relax_text.specs.Same.{IsCopy}
 use Rattle.kr_relax_core.specs.Relaxations.{IsRelaxation, IsTight}
 use Rattle.kr_cli_relax.specs.declared.tightest.Taken.{Taken}
 use Rattle.kr_cli_relax.specs.declared.tightest.Taken.TheVariants.{Tight, Unshown, Relaxed, Unwritten}

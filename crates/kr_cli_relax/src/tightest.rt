@@ -10,7 +10,7 @@ use kr_protocol::Protocol;
 use kr_relax_core::relaxations;
 use kr_relax_text::{Relaxation, with_scripts};
 use kr_table::Table;
-use kr_table_copy::copy_of;
+use kr_relax_text::copy_of;
 use std::alloc::Global;
 
 /// What becomes of a table where a relaxation of it is taken that a script shows.

@@ -4,7 +4,7 @@ use Rattle.std.specs.BTreeMap.{BTreeMap}
 use Rattle.kr_model.specs.declared.Event.{Event}
 use Rattle.kr_model.specs.Map.{Map}
 use Rattle.kr_model.specs.Protocol.{Protocol}
-use Rattle.kr_trace_observed.specs.declared.observed.Observed.{Observed}
+use Rattle.kr_trace_lines.specs.declared.observed.Observed.{Observed}
 use Rattle.kr_trace_follow.specs.Following.{Following, after_lines, begun, next}
 use Rattle.kr_trace_follow.specs.Lines.{Line}
 use Rattle.kr_cli_trace.specs.Followed.{IsFollowed}
@@ -12,7 +12,7 @@ use Rattle.kr_cli_trace.specs.Judged.{AreJudged}
 use Rattle.kr_cli_trace.specs.Parts.{Part, with_step}
 use Rattle.kr_cli_trace.specs.declared.tales.Tale.{Tale}
 use Rattle.std.proofs.Common.{ap, ◌∙◌, sym}
-use Rattle.kr_trace_observed.specs.declared.deviation.Deviation.{Deviation}
+use Rattle.kr_trace_lines.specs.declared.deviation.Deviation.{Deviation}
 use Rattle.kr_trace_lines.specs.Report.{part_text}
 use Rattle.kr_trace_lines.specs.declared.verdict.TraceVerdict.{TraceVerdict}
 use Rattle.kr_cli_trace.specs.Printed.{IsSerialVerdict}

@@ -2,7 +2,7 @@
 use Rattle.std.specs.Prelude.{◌≡◌, ℕ, List, [], ◌∷◌, ◌++◌, Option, Some, None, map}
 use Rattle.kr_model.specs.Map.{Map}
 use Rattle.kr_model.specs.declared.Reply.{Reply}
-use Rattle.kr_trace_observed.specs.declared.observed.Observed.{Observed}
+use Rattle.kr_trace_lines.specs.declared.observed.Observed.{Observed}
 use Rattle.kr_trace_follow.specs.Given.{Given, AreAnsweredWhereGiven, AreSerialWhereGiven, IsFirstDifference, map_after}
 use Rattle.kr_trace_lines.specs.declared.verdict.TraceVerdict.{TraceVerdict}
 use Rattle.kr_trace_lines.specs.declared.verdict.TraceVerdict.TheVariants as verdict

@@ -3,7 +3,7 @@ use Rattle.std.specs.Prelude.{◌≡◌, ℕ, suc, false, List, [], ◌∷◌, �
 use Rattle.std.specs.Option.{option_map, option_to_list}
 use Rattle.kr_model.specs.declared.Event.{Event}
 use Rattle.kr_model.specs.Map.{Map}
-use Rattle.kr_trace_observed.specs.declared.observed.Observed.{Observed}
+use Rattle.kr_trace_lines.specs.declared.observed.Observed.{Observed}
 use Rattle.kr_trace_follow.specs.Lines.{Line}
 use Rattle.kr_trace_lines.specs.declared.faults.LineFault.{LineFault}
 use Rattle.kr_trace_lines.specs.Lines.{TraceLine, head, step, order}

@@ -3,8 +3,8 @@ use Rattle.std.specs.Prelude.{◌≡◌, ◌≢◌, ◌⊎◌, ◌↔◌, ◌<�
 use Rattle.std.specs.Global.{Global}
 use Rattle.std.specs.Io.KnownBytes.{Appends}
 use Rattle.kr_model.specs.Protocol.{Protocol}
-use Rattle.kr_trace_observed.specs.declared.deviation.Deviation.{Deviation}
-use Rattle.kr_trace_observed.specs.declared.observed.Observed.{Observed}
+use Rattle.kr_trace_lines.specs.declared.deviation.Deviation.{Deviation}
+use Rattle.kr_trace_lines.specs.declared.observed.Observed.{Observed}
 use Rattle.kr_model.specs.declared.Reply.{Reply}
 use Rattle.kr_trace_follow.specs.Following.{at_start, after_lines, begun, deviation}
 use Rattle.kr_trace_lines.specs.Parts.{are_distinct, is_order_of}

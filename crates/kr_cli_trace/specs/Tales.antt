@@ -3,8 +3,8 @@ use Rattle.std.specs.Prelude.{ℕ, List, [], ◌∷◌, ◌++◌, Option, Some, 
 use Rattle.std.specs.BTreeMap.{BTreeMap, get}
 use Rattle.std.specs.Ordering.{nat_cmp}
 use Rattle.kr_model.specs.declared.Event.{Event}
-use Rattle.kr_trace_observed.specs.declared.observed.Observed.{Observed}
-use Rattle.kr_trace_observed.specs.declared.observed.Observed.TheVariants as observed
+use Rattle.kr_trace_lines.specs.declared.observed.Observed.{Observed}
+use Rattle.kr_trace_lines.specs.declared.observed.Observed.TheVariants as observed
 use Rattle.kr_trace_follow.specs.Lines.{Line}
 use Rattle.kr_trace_follow.specs.Programs.{Tale, tales_after, no_tale}
 use Rattle.kr_trace_follow.specs.Given.{Given}

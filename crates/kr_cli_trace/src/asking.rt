@@ -6,7 +6,7 @@ ghost use Rattle.kr_cli_trace.specs.Parts as spec;
 ghost use Rattle.kr_cli_trace.specs.Printed.{CommitsOnce, printed};
 
 use kr_model::{Event, Memory, Pairs, Txns};
-use kr_trace_observed::Observed;
+use kr_trace_lines::Observed;
 use std::alloc::Global;
 
 /// A part of a trace, line by line.

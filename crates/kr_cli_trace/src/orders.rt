@@ -14,7 +14,7 @@ use crate::serial::is_serial;
 use crate::tales::{Tale, note};
 use kr_model::{Event, Items, Memory, Pairs, Txn, Txns};
 use kr_trace_lines::{TraceVerdict, write_judged};
-use kr_trace_observed::Observed;
+use kr_trace_lines::Observed;
 use std::alloc::Global;
 use std::collections::BTreeMap;
 

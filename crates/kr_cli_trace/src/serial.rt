@@ -5,7 +5,7 @@ ghost use Rattle.kr_trace_follow.specs.Judged.{judged};
 ghost use Rattle.kr_trace_follow.specs.Lines.{Line};
 ghost use Rattle.kr_trace_follow.specs.Given.{IsFirstDifference, Given};
 ghost use Rattle.kr_model.specs.declared.Op.{Op};
-ghost use Rattle.kr_trace_observed.specs.declared.observed.Observed.{Observed};
+ghost use Rattle.kr_trace_lines.specs.declared.observed.Observed.{Observed};
 ghost use Rattle.kr_cli_trace.specs.Committed.{Committed, IsFirstFound, IsFound, IsVerdict, or_later};
 ghost use Rattle.kr_cli_trace.specs.Judged.{AreJudged};
 ghost use Rattle.kr_cli_trace.specs.Printed.{IsPrinted, IsSerialVerdict, in_commit_order};
@@ -15,7 +15,7 @@ use crate::tales::{Answered, Tale, note};
 use kr_model::{Event, Memory, Pairs, Txn, Txns};
 use kr_trace_follow::{Difference, Judge, differences_are_first};
 use kr_trace_lines::{TraceVerdict, write_judged};
-use kr_trace_observed::Observed;
+use kr_trace_lines::Observed;
 use std::alloc::Global;
 use std::collections::BTreeMap;
 

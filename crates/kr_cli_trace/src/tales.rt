@@ -6,7 +6,7 @@ ghost use Rattle.kr_trace_follow.specs.Programs.{no_tale};
 ghost use Rattle.kr_cli_trace.specs.Tales.{noted, program_committed, shown, told_of};
 
 use kr_model::{Event, Memory, Op, Txn};
-use kr_trace_observed::Observed;
+use kr_trace_lines::Observed;
 use std::alloc::Global;
 use std::collections::BTreeMap;
 

@@ -7,3 +7,4 @@ pub mod Covered
 pub mod Marks
 pub mod Marked
 pub mod Surveyed
+pub mod Parts

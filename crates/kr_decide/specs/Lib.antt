@@ -7,3 +7,4 @@ pub mod Opens
 pub mod Met
 pub mod Survey
 pub mod Every
+pub mod Rising

@@ -2,7 +2,7 @@
 use Rattle.std.specs.Prelude.{◌≡◌, ◌↔◌, ℕ, Bool, List, Option, Some, None, IsTrue}
 use Rattle.kr_model.specs.Protocol.{Protocol}
 use Rattle.kr_model.specs.Safe.{IsSafe}
-use Rattle.kr_wrong.specs.Wrong.{GoesWrong}
+use Rattle.kr_theorem.specs.Wrong.{GoesWrong}
 use Rattle.kr_explain_core.specs.Explained.{IsExplained, is_safe, run_at}
 use Rattle.kr_explain_core.specs.Told.{IsText}
 use Rattle.kr_explain_core.specs.Lines.{IsLineOf}

@@ -13,7 +13,7 @@ use Rattle.kr_explain_runs.specs.declared.fit.Fit.{Fit}
 use Rattle.kr_explain_runs.specs.declared.fit.Fit.TheVariants.{Case, Mode}
 use Rattle.kr_explain_runs.specs.Comes.{CanComeTo}
 use Rattle.kr_explain_runs.specs.Marks.{AreMarked}
-use Rattle.kr_wrong.specs.Wrong.{GoesWrong}
+use Rattle.kr_theorem.specs.Wrong.{GoesWrong}
 use Rattle.kr_explain_core.specs.declared.run.Run.{Run}
 use Rattle.kr_explain_core.specs.declared.told_run.ToldRun.{ToldRun}
 use Rattle.kr_explain_core.specs.Tried.{AreAtLeast, AreTried, HasSchedule, IsRunOf, IsScheduleOf, fit_of}

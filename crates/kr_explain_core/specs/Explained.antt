@@ -12,8 +12,8 @@ use Rattle.kr_explain_causes.specs.Causes.{ShareOut}
 use Rattle.kr_explain_causes.specs.Mends.{AreMends, AreOfOneEntry}
 use Rattle.kr_explain_causes.specs.Shares.{IsCause}
 use Rattle.kr_decide.specs.Survey.{IsSurvey}
-use Rattle.kr_exact.specs.Ordered.{IsOrdered}
-use Rattle.kr_wrong.specs.Wrong.{GoesWrong}
+use Rattle.kr_theorem.specs.Ordered.{IsOrdered}
+use Rattle.kr_theorem.specs.Wrong.{GoesWrong}
 use Rattle.kr_explain_core.specs.Harmless.{IsHarmless, IsReason}
 use Rattle.kr_explain_core.specs.Tried.{AreTried, IsUntried}
 use Rattle.kr_explain_core.specs.declared.run.Run.{Run}

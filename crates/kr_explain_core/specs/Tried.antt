@@ -8,7 +8,7 @@ use Rattle.kr_explain_runs.specs.declared.fit.Fit.{Fit}
 use Rattle.kr_explain_runs.specs.declared.fit.Fit.TheVariants.{Case, Mode}
 use Rattle.kr_explain_runs.specs.Comes.{CanComeTo}
 use Rattle.kr_explain_runs.specs.Marks.{AreMarked}
-use Rattle.kr_wrong.specs.Wrong.{GoesWrong}
+use Rattle.kr_theorem.specs.Wrong.{GoesWrong}
 use Rattle.kr_explain_core.specs.declared.run.Run.{Run}
 
 -- How near the script of a run is to its case.

@@ -16,7 +16,7 @@ use kr_decide::Survey;
 use kr_explain_causes::{Blame, Cause, Mend, causes, mends};
 use kr_explain_runs::{Closure, Scenes};
 use kr_model::FailedCase;
-use kr_ordered::is_ordered;
+use kr_decide::is_ordered;
 use kr_protocol::Protocol;
 use std::alloc::{AllocError, Global};
 

@@ -8,7 +8,7 @@ use Rattle.kr_model.specs.Run.{is_granted}
 use Rattle.kr_model.specs.Serial.{AreSerial}
 use Rattle.kr_serial.specs.Ran.{IsRanUnder}
 use Rattle.kr_serial.specs.declared.ran.Ran.{Ran}
-use Rattle.kr_wrong.specs.Wrong.{GoesWrong}
+use Rattle.kr_theorem.specs.Wrong.{GoesWrong}
 
 -- the run is that of the script
 pub wrong_ran : (p : Protocol) (opening : Map) (events : List Event) (ran : Ran) → IsMap opening → IsRanUnder p opening events ran → All (λ r. IsTrue (is_granted r)) ran.replies → (AreSerial ran.opening ran.programs → ⊥) → GoesWrong p opening events

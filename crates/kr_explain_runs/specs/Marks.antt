@@ -14,7 +14,7 @@ use Rattle.kr_model.specs.Run.{run}
 use Rattle.kr_explain_runs.specs.declared.counterexample.Counterexample.{Counterexample}
 use Rattle.kr_explain_runs.specs.declared.fit.Fit.{Fit}
 use Rattle.kr_explain_runs.specs.declared.fit.Fit.TheVariants as fit
-use Rattle.kr_wrong.specs.Wrong.{GoesWrong}
+use Rattle.kr_theorem.specs.Wrong.{GoesWrong}
 use Rattle.kr_explain_runs.specs.Requests.{IsOn, IsRequestOf, access_in, name_at, txn_at}
 
 -- Steps --

@@ -1,7 +1,7 @@
 //! The order in which scripts are tried.
 ghost use Rattle.std.specs.Prelude.{IfOk, IfSome};
 ghost use Rattle.kr_explain_runs.specs.declared.fit.Fit.TheVariants as fit;
-ghost use Rattle.kr_wrong.specs.Wrong.{GoesWrong};
+ghost use Rattle.kr_theorem.specs.Wrong.{GoesWrong};
 ghost use Rattle.kr_explain_runs.specs.Marks.{AreMarked, IsShown};
 
 use crate::closure::Closure;

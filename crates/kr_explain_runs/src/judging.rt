@@ -2,7 +2,7 @@
 ghost use Rattle.std.specs.Prelude.{◌≡◌, ◌↔◌, IfOk, IsTrue, All};
 ghost use Rattle.kr_model.specs.Run.{is_granted};
 ghost use Rattle.kr_model.specs.Serial.{AreSerial};
-ghost use Rattle.kr_wrong.specs.Wrong.{GoesWrong};
+ghost use Rattle.kr_theorem.specs.Wrong.{GoesWrong};
 
 use kr_cases::Memory;
 use kr_model::{Event, Reply};

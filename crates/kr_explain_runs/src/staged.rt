@@ -1,6 +1,6 @@
 //! Looking for a script among scenes.
 ghost use Rattle.std.specs.Prelude.{◌≡◌, ◌≤◌, IfOk, IfSome};
-ghost use Rattle.kr_wrong.specs.Wrong.{GoesWrong};
+ghost use Rattle.kr_theorem.specs.Wrong.{GoesWrong};
 ghost use Rattle.kr_explain_runs.specs.Marks.{AreMarked, IsShown};
 
 use crate::counterexample::Counterexample;

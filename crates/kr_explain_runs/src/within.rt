@@ -1,7 +1,7 @@
 //! Looking for a script with so many runs at most.
 ghost use Rattle.std.specs.Prelude.{◌≡◌, ◌≤◌, IfOk, IfSome, vec_len};
 ghost use Rattle.kr_explain_runs.specs.declared.fit.Fit.TheVariants as fit;
-ghost use Rattle.kr_wrong.specs.Wrong.{GoesWrong};
+ghost use Rattle.kr_theorem.specs.Wrong.{GoesWrong};
 ghost use Rattle.kr_explain_runs.specs.Marks.{AreMarked, IsShown};
 
 use crate::closure::Closure;

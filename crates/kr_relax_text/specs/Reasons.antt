@@ -4,11 +4,11 @@ use Rattle.std.specs.Global.{Global}
 use Rattle.kr_model.specs.declared.Event.{Event}
 use Rattle.kr_model.specs.Map.{Map}
 use Rattle.kr_model.specs.Protocol.{Protocol}
-use Rattle.kr_wrong.specs.Wrong.{GoesWrong}
+use Rattle.kr_theorem.specs.Wrong.{GoesWrong}
 use Rattle.kr_change.specs.declared.change.Change.{Change}
 use Rattle.kr_change.specs.Changes.{changed}
 use Rattle.kr_change.specs.Every.{changes_of}
-use Rattle.kr_change_text.specs.Changes.{change_words, entry_words}
+use Rattle.kr_change.specs.ChangeNames.{change_words, entry_words}
 use Rattle.kr_explain_core.specs.Lines.{IsLineOf}
 use Rattle.kr_relax_core.specs.declared.outcome.Judged.{Judged}
 use Rattle.kr_relax_core.specs.declared.outcome.Outcome.{Outcome}

@@ -10,7 +10,7 @@ use Rattle.kr_model.specs.Run.{run, replies_of, is_granted}
 use Rattle.kr_change.specs.declared.change.Change.{Change}
 use Rattle.kr_change.specs.Changes.{changed}
 use Rattle.kr_relax_core.specs.declared.relax.Relaxed.{Relaxed}
-use Rattle.kr_told_apart.specs.Apart.{TellsApart, is_blocked}
+use Rattle.kr_apart.specs.Apart.{TellsApart, is_blocked}
 use Rattle.kr_relax_text.specs.declared.scripts.Relaxation.{Relaxation}
 use Rattle.kr_relax_text.specs.declared.scripts.Shown.{Shown}
 

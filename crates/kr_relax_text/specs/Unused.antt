@@ -9,7 +9,7 @@ use Rattle.kr_model.specs.Protocol.{Protocol}
 use Rattle.kr_model.specs.Covers.{modes}
 use Rattle.kr_model.specs.ModeNames.{name_of}
 use Rattle.kr_change.specs.Changes.{is_place}
-use Rattle.kr_change_text.specs.Changes.{place_words}
+use Rattle.kr_change.specs.ChangeNames.{place_words}
 use Rattle.kr_relax_core.specs.declared.unused.Entry.{Entry}
 use Rattle.kr_relax_core.specs.declared.unused.Entry.TheVariants as entry
 use Rattle.kr_relax_text.specs.declared.unused.Group.{Group}

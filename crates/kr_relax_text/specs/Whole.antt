@@ -3,8 +3,8 @@ use Rattle.std.specs.Prelude.{ℕ, ◌+◌, List, [], ◌∷◌, ◌++◌, Optio
 use Rattle.kr_model.specs.Protocol.{Protocol}
 use Rattle.kr_script.specs.Line.{line_text}
 use Rattle.kr_change.specs.declared.change.Change.{Change}
-use Rattle.kr_change_text.specs.Changes.{change_words}
-use Rattle.kr_change_text.specs.Edits.{edit_words}
+use Rattle.kr_change.specs.ChangeNames.{change_words}
+use Rattle.kr_change.specs.Edits.{edit_words}
 use Rattle.kr_relax_text.specs.Steps.{last_words}
 use Rattle.kr_relax_text.specs.declared.scripts.Relaxation.{Relaxation}
 use Rattle.kr_relax_text.specs.declared.scripts.Shown.{Shown}

@@ -3,7 +3,7 @@ ghost use Rattle.std.specs.Prelude.{◌≡◌, IfOk, string_bytes};
 ghost use Rattle.kr_relax_text.specs.Reasons.{outcome_words, reason_words, reasons_words, wrong_words};
 
 use crate::reasons::Reason;
-use kr_change_text::change_text;
+use kr_change::change_text;
 use kr_model::Memory;
 use kr_protocol::Protocol;
 use kr_relax_core::Outcome;

@@ -3,14 +3,18 @@
 #![tactic(auto)]
 
 mod because;
+mod copying;
+mod draft;
 mod reasons;
 mod replies;
+mod same;
 mod scripts;
 mod steps;
 mod unused;
 mod whole;
 
 pub use because::reasons_text;
+pub use copying::copy_of;
 pub use reasons::{Reason, changes_of_entry, one_relaxes, reasons_for};
 pub use scripts::{Relaxation, Shown, with_scripts};
 pub use unused::unused_text;

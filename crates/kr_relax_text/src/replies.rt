@@ -1,7 +1,7 @@
 //! The last of some replies.
 ghost use Rattle.std.specs.Prelude.{◌≡◌};
 ghost use Rattle.kr_model.specs.Run.{is_granted};
-ghost use Rattle.kr_told_apart.specs.Apart.{is_blocked};
+ghost use Rattle.kr_apart.specs.Apart.{is_blocked};
 ghost use Rattle.kr_relax_text.specs.Scripts.{last_is};
 
 use kr_model::Reply;

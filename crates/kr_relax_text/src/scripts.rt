@@ -9,7 +9,7 @@ use kr_model::{Event, Memory};
 use kr_protocol::Protocol;
 use kr_relax_core::Relaxed;
 use kr_serial::{is_map, play};
-use kr_told_apart::tells_apart;
+use kr_apart::tells_apart;
 use std::alloc::Global;
 
 /// A script of which a table grants all steps but the last, which it blocks.

@@ -2,7 +2,7 @@
 ghost use Rattle.std.specs.Prelude.{◌≡◌, ◌≤◌, IfOk, string_bytes};
 ghost use Rattle.kr_relax_text.specs.Unused.{by_mode_words, entry_word, foot_words, group_line, group_of, head_words, members_words, mode_in, places_words, unused_words};
 
-use kr_change_text::place_text;
+use kr_change::place_text;
 use kr_model::{Memory, Mode, Row, Side};
 use kr_protocol::{Protocol, name_or_empty};
 use kr_relax_core::Entry;

@@ -1,3 +1,6 @@
 pub mod Report
 pub mod CheckReport
 pub mod ThreadsReport
+pub mod Follows
+pub mod Dealt
+pub mod Fates

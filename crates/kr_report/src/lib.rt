@@ -2,13 +2,21 @@
 #![tactic(auto)]
 
 mod check_reports;
+mod dealt;
+mod faults;
+mod following;
 mod replies;
 mod reports;
 mod threaded;
 mod threads_reports;
+mod undoing;
+mod wanted;
 mod writing;
 
 pub use check_reports::report_check;
+pub use dealt::Dealt;
+pub use faults::{StepFault, WhyNotDone};
+pub use following::follows;
 pub use reports::{report_played, report_run, report_verdict};
 pub use threaded::{Answered, Threaded};
 pub use threads_reports::report_threads;

@@ -6,7 +6,7 @@ ghost use Rattle.kr_report.specs.ThreadsReport.{answered_data, history_data, cau
 use crate::replies::write_verdict;
 use crate::threaded::{Answered, Threaded};
 use crate::writing::write_place;
-use kr_projection::{StepFault, WhyNotDone};
+use crate::{StepFault, WhyNotDone};
 use kr_script::{
     separator, write_numbers, write_pairs, write_reply, write_step, write_with_numbers,
 };

@@ -13,8 +13,8 @@ use Rattle.kr_change.specs.declared.change.Change.{Change}
 use Rattle.kr_change.specs.Changes.{changed}
 use Rattle.kr_change.specs.Every.{changes_of}
 use Rattle.kr_alike_safe.specs.Coming.{AlikeOnMaps}
-use Rattle.kr_told_apart.specs.Apart.{is_blocked, PartAtTheLast, TellsApart}
-use Rattle.kr_told_apart.proofs.Parts.{not_granted}
+use Rattle.kr_apart.specs.Apart.{is_blocked, PartAtTheLast, TellsApart}
+use Rattle.kr_apart.proofs.ScriptParts.{not_granted}
 use Rattle.kr_suite_core.specs.Equal.{is_equal}
 use Rattle.kr_suite_core.specs.Judged.{IsJudged, changes_in, alike_of, left_of, is_named, is_told}
 use Rattle.kr_suite_core.specs.Suite.{IsTested, IsTold, IsSharedOut, IsSuite}

@@ -8,7 +8,7 @@ use Rattle.kr_model.specs.Map.{Map, IsMap}
 use Rattle.kr_change.specs.declared.change.Change.{Change}
 use Rattle.kr_change.specs.declared.change.Change.TheVariants.{Compatible}
 use Rattle.kr_change.specs.Changes.{changed}
-use Rattle.kr_told_apart.specs.Apart.{TellsApart}
+use Rattle.kr_apart.specs.Apart.{TellsApart}
 use Rattle.kr_suite_core.specs.Judged.{changes_in, other_of}
 use Rattle.kr_suite_core.specs.Suite.{IsTested, replies_under}
 use Rattle.kr_suite_core.specs.Tried.{IsNamed}

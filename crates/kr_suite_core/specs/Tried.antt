@@ -7,7 +7,7 @@ use Rattle.kr_model.specs.Protocol.{Protocol}
 use Rattle.kr_change.specs.declared.change.Change.{Change}
 use Rattle.kr_change.specs.Changes.{changed}
 use Rattle.kr_change.specs.Every.{changes_of}
-use Rattle.kr_told_apart.specs.Apart.{TellsApart}
+use Rattle.kr_apart.specs.Apart.{TellsApart}
 
 -- The change is one of p, and the script tells it apart.
 pub record IsNamed (p : Protocol) (opening : Map) (events : List Event) (c : Change) : Type 0 where

@@ -3,7 +3,7 @@ ghost use Rattle.std.specs.Prelude.{◌≡◌, ◌<◌, ◌↔◌, IsTrue, IfOk,
 ghost use Rattle.std.specs.List.{Contains};
 ghost use Rattle.kr_change.specs.Changes.{changed};
 ghost use Rattle.kr_change.specs.Every.{changes_of};
-ghost use Rattle.kr_told_apart.specs.Apart.{TellsApart};
+ghost use Rattle.kr_apart.specs.Apart.{TellsApart};
 ghost use Rattle.kr_suite_core.specs.Tried.{IsNamed};
 ghost use Rattle.kr_suite_core.specs.Suite.{IsTested};
 
@@ -12,7 +12,7 @@ use kr_change::{Change, Changed};
 use kr_model::{Event, Memory, Reply};
 use kr_protocol::Protocol;
 use kr_serial::play;
-use kr_told_apart::tells_apart;
+use kr_apart::tells_apart;
 use std::alloc::Global;
 
 /// A script with the table's replies, all of which but the last are granted, and changes that it tells apart: under the

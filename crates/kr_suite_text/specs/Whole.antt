@@ -13,7 +13,7 @@ use Rattle.kr_suite_core.specs.declared.tested.Tested.{Tested}
 use Rattle.kr_suite_text.specs.declared.habits.Habit.{Habit}
 use Rattle.kr_suite_text.specs.declared.left.Verdict.{Verdict}
 use Rattle.kr_suite_text.specs.declared.left.Verdict.TheVariants.{Alike, Left}
-use Rattle.kr_change_text.specs.Changes.{change_words}
+use Rattle.kr_change.specs.ChangeNames.{change_words}
 use Rattle.kr_suite_text.specs.Habits.{all_habits, habit_steps, habit_words, is_tried, opening}
 use Rattle.kr_suite_text.specs.Parts.{part_text}
 

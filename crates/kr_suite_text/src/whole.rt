@@ -1,7 +1,7 @@
 //! The text of a suite: a trace with a table's replies.
 ghost use Rattle.std.specs.Prelude.{◌≡◌, ◌∷◌, [], IfOk, map, string_bytes};
 ghost use Rattle.kr_model.specs.Map.{IsMap};
-ghost use Rattle.kr_change_text.specs.Changes.{change_words};
+ghost use Rattle.kr_change.specs.ChangeNames.{change_words};
 ghost use Rattle.kr_suite_text.specs.Habits.{habit_words, opening};
 ghost use Rattle.kr_suite_text.specs.Whole.{all_tested, all_tried, habit_text, suite_text, tested_text, tried_text};
 
@@ -9,7 +9,7 @@ use crate::habits::{Habit, all_habits, habit_words, is_tried, opening};
 use crate::parts::part_text;
 use crate::scripts::habit_steps;
 use kr_change::Change;
-use kr_change_text::change_text;
+use kr_change::change_text;
 use kr_model::Memory;
 use kr_protocol::Protocol;
 use kr_serial::play;

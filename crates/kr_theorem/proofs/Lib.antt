@@ -2,3 +2,15 @@ pub mod gaps
 pub mod step
 pub mod safe
 pub mod run
+pub mod Recorded
+pub mod Unblocked
+pub mod Follow
+pub mod Chains
+pub mod Fixed
+pub mod Order
+pub mod Held
+pub mod Repeats
+pub mod Holes
+pub mod Tested
+pub mod unreached
+pub mod Argued

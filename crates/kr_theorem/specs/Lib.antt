@@ -1,3 +1,9 @@
 pub mod Passes
 pub mod Needed
 pub mod Worked
+pub mod Wrong
+pub mod Fixed
+pub mod Schedules
+pub mod Ordered
+pub mod Unreached
+pub mod Argued

@@ -24,6 +24,12 @@ ghost use Rattle.kr_model.specs.declared.Cover.TheVariants.{ReadKey, ReadGap, In
 ghost use Rattle.kr_theorem.specs.Passes.{IsSplitting, IsMerging, RunsOfAreSerial};
 ghost use Rattle.kr_theorem.specs.Needed.{IsNeeded};
 ghost use Rattle.kr_theorem.specs.Worked.{IsSafeUncovered, IsUnsafe, six_to_is, six_beside_ix, insert_beside_read, requests_nothing, miss_at_once};
+ghost use Rattle.kr_theorem.specs.Wrong.{GoesWrong, GoesWrongUnder};
+ghost use Rattle.kr_theorem.specs.Fixed.{FixedHole};
+ghost use Rattle.kr_theorem.specs.Schedules.{opening, schedule};
+ghost use Rattle.kr_theorem.specs.Ordered.{IsOrdered};
+ghost use Rattle.kr_theorem.specs.Unreached.{unreached};
+ghost use Rattle.kr_theorem.specs.Argued.{IsUnsafeUnordered, next_blocks, key_gone};
 
 /// Under a lawful and covered protocol every run of fetches, inserts and commits is serializable in commit order, and the
 /// index with the unfinished rolled back, in any order, is the map that the committed transactions leave.
@@ -150,4 +156,44 @@ pub fn changes_cover_reads()
     ensures serves_gap { (p : Protocol) (mode : ℕ) → IsTrue (serves p DeletedGap mode) → IsTrue (serves p ReadGap mode) }
     ensures serves_update { (p : Protocol) (mode : ℕ) → IsTrue p.updates
         → IsTrue (serves p UpdatedKey mode) → IsTrue (serves p ReadKey mode) }
+{}
+
+/// Under every lawful protocol the schedule of each of its fixed holes goes wrong: each step is granted, and the
+/// transactions that commit aren't serializable in commit order. So some schedule goes wrong wherever there is such a hole.
+pub fn fixed_goes_wrong()
+    ensures by_schedule { (p : Protocol) → IsLawful p → (hole : FixedHole p) → GoesWrong p (opening hole) (schedule hole) }
+    ensures by_some { (p : Protocol) → IsLawful p → FixedHole p → GoesWrongUnder p }
+{}
+
+/// A lawful and ordered protocol is safe where no fixed schedule goes wrong.
+pub fn fixed_or_safe()
+    ensures { (p : Protocol) → IsLawful p → IsOrdered p → (FixedHole p → ⊥) → IsSafe p }
+{}
+
+/// So under a lawful and ordered protocol every run is serializable in commit order only where the protocol is safe: with
+/// the main theorem, exactly where it is.
+pub fn exact_on_ordered()
+    ensures { (p : Protocol) → IsLawful p → IsOrdered p → RunsAreSerial p → IsSafe p }
+{}
+
+/// The bundled tables are ordered.
+pub fn bundled_are_ordered()
+    ensures kvl { IsOrdered kvl }
+    ensures kvl_update { IsOrdered kvl_update }
+    ensures im { IsOrdered im }
+    ensures range_key { IsOrdered range_key }
+{}
+
+/// For lawful protocols that aren't ordered the converse of the main theorem is false: this one is lawful and isn't safe,
+/// and every run under it is serializable in commit order. So for such protocols the condition can be too strict, and not
+/// every protocol that isn't safe has a schedule that goes wrong.
+pub fn converse_is_false()
+    ensures { IsLawful unreached × (IsSafe unreached → ⊥) × RunsAreSerial unreached }
+{}
+
+/// Two more lawful protocols are neither safe nor ordered. That no schedule goes wrong under them is argued in
+/// `docs/HEADLINE.md`, and isn't proved.
+pub fn neither_safe_nor_ordered()
+    ensures next { IsUnsafeUnordered next_blocks }
+    ensures gone { IsUnsafeUnordered key_gone }
 {}

@@ -11,7 +11,7 @@ use Rattle.kr_model.specs.Map.{Map}
 use Rattle.kr_model.specs.Run as model
 use Rattle.kr_history.specs.declared.name.Entry.{Entry}
 use Rattle.kr_engine.specs.Histories.{events_with_replies}
-use Rattle.kr_projection.specs.declared.faults.StepFault.{StepFault}
+use Rattle.kr_report.specs.declared.faults.StepFault.{StepFault}
 use Rattle.kr_threads.specs.declared.left_out.LeftOut.{LeftOut}
 use Rattle.kr_threads.specs.Placed.{done_by, missed_before, IsPast, IsUpTo, AreDoneUpTo, AreDoneBefore, IsBetween}
 use Rattle.kr_threads.specs.Told.{IsTold, IsLeftOut, AreTold}

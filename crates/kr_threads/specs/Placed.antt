@@ -5,8 +5,8 @@ use Rattle.std.specs.BTreeMap.{BTreeMap, get}
 use Rattle.std.specs.Ordering.{nat_cmp}
 use Rattle.kr_model.specs.declared.Event.{Event}
 use Rattle.kr_model.specs.Run as model
-use Rattle.kr_projection.specs.declared.faults.StepFault.{StepFault}
-use Rattle.kr_projection.specs.Dealt.{txn_at}
+use Rattle.kr_report.specs.declared.faults.StepFault.{StepFault}
+use Rattle.kr_report.specs.Dealt.{txn_at}
 use Rattle.kr_threads.specs.declared.left_out.LeftOut.{LeftOut}
 
 -- How many of the events are of this transaction.

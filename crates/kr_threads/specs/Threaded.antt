@@ -8,7 +8,7 @@ use Rattle.kr_model.specs.Serial.{AreSerial}
 use Rattle.kr_model.specs.Run as model
 use Rattle.kr_history.specs.declared.name.Entry.{Entry}
 use Rattle.kr_serial.specs.declared.ran.Ran.{Ran}
-use Rattle.kr_projection.specs.Follows.{Follows}
+use Rattle.kr_report.specs.Follows.{Follows}
 use Rattle.kr_report.specs.declared.threaded.Answered.{Answered}
 use Rattle.kr_report.specs.declared.threaded.Threaded.{Threaded}
 use Rattle.kr_threads.specs.Told.{IsTold}

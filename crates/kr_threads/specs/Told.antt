@@ -17,9 +17,9 @@ use Rattle.kr_history.specs.declared.name.Entry.{Entry}
 use Rattle.kr_engine.specs.Seats.{Held}
 use Rattle.kr_engine.specs.declared.closing.History.{History}
 use Rattle.kr_engine.specs.Closed.{Lent, IsClosed}
-use Rattle.kr_projection.specs.declared.faults.WhyNotDone.{WhyNotDone}
-use Rattle.kr_projection.specs.declared.faults.WhyNotDone.TheVariants.{Deadlock, Refused}
-use Rattle.kr_projection.specs.declared.faults.StepFault.{StepFault}
+use Rattle.kr_report.specs.declared.faults.WhyNotDone.{WhyNotDone}
+use Rattle.kr_report.specs.declared.faults.WhyNotDone.TheVariants.{Deadlock, Refused}
+use Rattle.kr_report.specs.declared.faults.StepFault.{StepFault}
 use Rattle.kr_threads.specs.declared.left_out.LeftOut.{LeftOut}
 use Rattle.kr_threads.specs.Placed.{done_by, missed_before, IsPast, IsUpTo}
 

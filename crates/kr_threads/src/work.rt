@@ -14,7 +14,7 @@ use crate::run::RunFault;
 use crate::turn::{MOST_CALLS, Turn};
 use kr_engine::{EngineFault, EngineName, Receipt, Seat};
 use kr_model::{Op, Txn};
-use kr_projection::{Dealt, StepFault, WhyNotDone};
+use kr_report::{Dealt, StepFault, WhyNotDone};
 use kr_protocol::Covered;
 use std::alloc::AllocError;
 use std::marker::Model;

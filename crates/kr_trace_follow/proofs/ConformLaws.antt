@@ -8,12 +8,12 @@ use Rattle.kr_model.specs.Protocol.{Protocol}
 use Rattle.kr_model.specs.State.{State}
 use Rattle.kr_model.specs.Step.{step}
 use Rattle.kr_model.specs.Run.{run, is_granted}
-use Rattle.kr_trace_observed.specs.declared.deviation.Conflict.{Conflict}
-use Rattle.kr_trace_observed.specs.declared.deviation.Deviation.{Deviation}
-use Rattle.kr_trace_observed.specs.declared.deviation.DeviationKind.{DeviationKind}
-use Rattle.kr_trace_observed.specs.declared.observed.Observed.{Observed}
-use Rattle.kr_trace_observed.specs.declared.observed.Observed.TheVariants as observed
-use Rattle.kr_trace_observed.specs.Fits.{fits}
+use Rattle.kr_trace_lines.specs.declared.deviation.Conflict.{Conflict}
+use Rattle.kr_trace_lines.specs.declared.deviation.Deviation.{Deviation}
+use Rattle.kr_trace_lines.specs.declared.deviation.DeviationKind.{DeviationKind}
+use Rattle.kr_trace_lines.specs.declared.observed.Observed.{Observed}
+use Rattle.kr_trace_lines.specs.declared.observed.Observed.TheVariants as observed
+use Rattle.kr_trace_lines.specs.Fits.{fits}
 use Rattle.kr_trace_follow.specs.Conflicts.{conflicts_of, ahead_of}
 use Rattle.kr_trace_follow.specs.Conforms.{AllFit}
 use Rattle.kr_trace_follow.specs.Deviates.{kind_where_granted, kind_of, since_left, kind_at, deviation_at, is_queued}

@@ -8,9 +8,9 @@ use Rattle.kr_model.specs.Protocol.{Protocol}
 use Rattle.kr_model.specs.Locks.{Locks, Holder}
 use Rattle.kr_model.specs.State.{State}
 use Rattle.kr_model.specs.Step.{Outcome}
-use Rattle.kr_trace_observed.specs.declared.deviation.Deviation.{Deviation}
-use Rattle.kr_trace_observed.specs.declared.deviation.DeviationKind.{DeviationKind}
-use Rattle.kr_trace_observed.specs.declared.observed.Observed.{Observed}
+use Rattle.kr_trace_lines.specs.declared.deviation.Deviation.{Deviation}
+use Rattle.kr_trace_lines.specs.declared.deviation.DeviationKind.{DeviationKind}
+use Rattle.kr_trace_lines.specs.declared.observed.Observed.{Observed}
 use Rattle.kr_trace_follow.specs.Conflicts.{conflicts_of, ahead_of}
 use Rattle.kr_trace_follow.specs.Deviates.{since_left, kind_of, deviation_at, is_queued, is_queued_at}
 use Rattle.kr_trace_follow.specs.Lines.{Line, Attempt}

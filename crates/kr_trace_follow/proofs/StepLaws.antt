@@ -13,7 +13,7 @@ use Rattle.kr_model.specs.Locks.{Locks}
 use Rattle.kr_model.specs.Run.{run}
 use Rattle.kr_model.specs.State.{Scan, State, standing}
 use Rattle.kr_model.specs.Step.{Outcome, step}
-use Rattle.kr_trace_observed.specs.declared.observed.Observed.{Observed}
+use Rattle.kr_trace_lines.specs.declared.observed.Observed.{Observed}
 use Rattle.kr_trace_follow.specs.declared.scans.Progress.{Progress}
 use Rattle.kr_trace_follow.specs.Conflicts.{ahead_of, is_behind}
 use Rattle.kr_trace_follow.specs.Lines.{Attempt}

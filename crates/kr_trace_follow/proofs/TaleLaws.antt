@@ -9,8 +9,8 @@ use Rattle.kr_model.specs.Log.{last_answered}
 use Rattle.kr_model.specs.Run.{Answered}
 use Rattle.kr_model.specs.Serial.{whole, AreAnswered, map_left}
 use Rattle.kr_model.specs.State.{Scan}
-use Rattle.kr_trace_observed.specs.declared.observed.Observed.{Observed}
-use Rattle.kr_trace_observed.specs.Fits.{fits}
+use Rattle.kr_trace_lines.specs.declared.observed.Observed.{Observed}
+use Rattle.kr_trace_lines.specs.Fits.{fits}
 use Rattle.kr_trace_follow.specs.Programs.{Tale, given}
 use Rattle.kr_trace_follow.specs.Given.{Given, AreAnsweredWhereGiven, map_after}
 

@@ -19,9 +19,9 @@ use Rattle.kr_model.specs.State.{Scan, State, start, standing}
 use Rattle.kr_model.specs.Step.{Outcome, step}
 use Rattle.kr_model.proofs.LogLaws.{log_of_run}
 use Rattle.kr_model.proofs.LogReads.{event}
-use Rattle.kr_trace_observed.specs.declared.observed.Observed.{Observed}
-use Rattle.kr_trace_observed.specs.declared.observed.Observed.TheVariants as observed
-use Rattle.kr_trace_observed.specs.Fits.{fits}
+use Rattle.kr_trace_lines.specs.declared.observed.Observed.{Observed}
+use Rattle.kr_trace_lines.specs.declared.observed.Observed.TheVariants as observed
+use Rattle.kr_trace_lines.specs.Fits.{fits}
 use Rattle.kr_trace_follow.specs.declared.conflict.Tested.{Tested}
 use Rattle.kr_trace_follow.specs.Conflicts.{tests_of, waits_ahead, waits_for_conflicts, conflicts_of, ahead_of, is_behind}
 use Rattle.kr_trace_follow.specs.Deviates.{since_left, kind_at, deviation_at}

@@ -17,9 +17,9 @@ use Rattle.kr_model.proofs.Actives.{tied, untied, find_put_same, find_put_other,
 use Rattle.kr_model.proofs.KindsOfSteps.{IsGranted, IsEnd, IsBack, Kind, kind_of}
 use Rattle.kr_model.proofs.LogReads.{event}
 use Rattle.kr_model.proofs.LogSteps.{logged_silent}
-use Rattle.kr_trace_observed.specs.declared.observed.Observed.{Observed}
-use Rattle.kr_trace_observed.specs.declared.observed.Observed.TheVariants as observed
-use Rattle.kr_trace_observed.specs.Fits.{fits}
+use Rattle.kr_trace_lines.specs.declared.observed.Observed.{Observed}
+use Rattle.kr_trace_lines.specs.declared.observed.Observed.TheVariants as observed
+use Rattle.kr_trace_lines.specs.Fits.{fits}
 use Rattle.kr_trace_follow.specs.Programs.{Tale, Tales, no_tale, tale_after, with_tale, tales_after}
 use Rattle.kr_trace_follow.specs.Given.{Given}
 use Rattle.kr_trace_follow.proofs.ScanSteps.{GoesOn, Leaves, step_leaves}

@@ -10,9 +10,9 @@ use Rattle.kr_model.specs.Log.{with_step}
 use Rattle.kr_model.specs.Run.{Answered, is_granted}
 use Rattle.kr_model.specs.State.{Scan, State, standing}
 use Rattle.kr_model.specs.Step.{Outcome, step, refusal_of, goes_on}
-use Rattle.kr_trace_observed.specs.declared.observed.Observed.{Observed}
-use Rattle.kr_trace_observed.specs.declared.observed.Observed.TheVariants as observed
-use Rattle.kr_trace_observed.specs.Fits.{fits}
+use Rattle.kr_trace_lines.specs.declared.observed.Observed.{Observed}
+use Rattle.kr_trace_lines.specs.declared.observed.Observed.TheVariants as observed
+use Rattle.kr_trace_lines.specs.Fits.{fits}
 use Rattle.kr_trace_follow.specs.Programs.{Tale, given, scan_given, tale_after}
 use Rattle.kr_trace_follow.specs.Steps.{is_going}
 use Rattle.kr_trace_follow.proofs.ScanSteps.{HasRange, GoesOn, Leaves, step_leaves}

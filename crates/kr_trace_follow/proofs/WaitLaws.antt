@@ -4,8 +4,8 @@ use Rattle.std.proofs.Common.{sym, subst, append-nil}
 use Rattle.std.proofs.lemmas.List.Elements.{All-filter, All-append, All-map}
 use Rattle.kr_model.specs.Locks.{Locks, Lock, holder_of, mode_held, release}
 use Rattle.kr_model.specs.Protocol.{Protocol}
-use Rattle.kr_trace_observed.specs.declared.observed.Observed.{Observed}
-use Rattle.kr_trace_observed.specs.declared.observed.Observed.TheVariants as observed
+use Rattle.kr_trace_lines.specs.declared.observed.Observed.{Observed}
+use Rattle.kr_trace_lines.specs.declared.observed.Observed.TheVariants as observed
 use Rattle.kr_trace_follow.specs.declared.conflict.Tested.{Tested}
 use Rattle.kr_trace_follow.specs.Conflicts.{wanted}
 use Rattle.kr_trace_follow.specs.Lines.{Attempt}

@@ -8,9 +8,9 @@ use Rattle.kr_model.specs.Run.{Answered}
 use Rattle.kr_model.specs.Serial.{whole, AreAnswered}
 use Rattle.kr_model.specs.Difference.{same_reply}
 use Rattle.kr_model.proofs.SerialLaws.{reply_of_test, reply_same}
-use Rattle.kr_trace_observed.specs.declared.observed.Observed.{Observed}
-use Rattle.kr_trace_observed.specs.declared.observed.Observed.TheVariants as observed
-use Rattle.kr_trace_observed.specs.Fits.{fits}
+use Rattle.kr_trace_lines.specs.declared.observed.Observed.{Observed}
+use Rattle.kr_trace_lines.specs.declared.observed.Observed.TheVariants as observed
+use Rattle.kr_trace_lines.specs.Fits.{fits}
 use Rattle.kr_trace_follow.specs.Given.{Given, AreAnsweredWhereGiven}
 use Rattle.kr_trace_follow.specs.Whole.{IsGivenWhole, AreGivenWhole}
 

@@ -5,7 +5,7 @@ use Rattle.kr_model.specs.Map.{Map}
 use Rattle.kr_model.specs.Run.{run, programs}
 use Rattle.kr_model.specs.Serial.{AreSerial}
 use Rattle.kr_model.specs.State.{start}
-use Rattle.kr_trace_observed.specs.Fits.{fits}
+use Rattle.kr_trace_lines.specs.Fits.{fits}
 use Rattle.kr_trace_follow.specs.Deviates.{is_queued_at}
 use Rattle.kr_trace_follow.specs.Following.{Point, at_start, point_after, point_left, steps_in}
 use Rattle.kr_trace_follow.specs.Lines.{Line}

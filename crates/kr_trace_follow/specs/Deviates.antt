@@ -8,13 +8,13 @@ use Rattle.kr_model.specs.Protocol.{Protocol}
 use Rattle.kr_model.specs.Locks.{Locks, Holder}
 use Rattle.kr_model.specs.Run.{is_granted}
 use Rattle.kr_model.specs.State.{State}
-use Rattle.kr_trace_observed.specs.declared.deviation.Conflict.{Conflict}
-use Rattle.kr_trace_observed.specs.declared.deviation.Deviation.{Deviation}
-use Rattle.kr_trace_observed.specs.declared.deviation.DeviationKind.{DeviationKind}
-use Rattle.kr_trace_observed.specs.declared.deviation.DeviationKind.TheVariants as kind
-use Rattle.kr_trace_observed.specs.declared.observed.Observed.{Observed}
-use Rattle.kr_trace_observed.specs.declared.observed.Observed.TheVariants as observed
-use Rattle.kr_trace_observed.specs.Fits.{fits}
+use Rattle.kr_trace_lines.specs.declared.deviation.Conflict.{Conflict}
+use Rattle.kr_trace_lines.specs.declared.deviation.Deviation.{Deviation}
+use Rattle.kr_trace_lines.specs.declared.deviation.DeviationKind.{DeviationKind}
+use Rattle.kr_trace_lines.specs.declared.deviation.DeviationKind.TheVariants as kind
+use Rattle.kr_trace_lines.specs.declared.observed.Observed.{Observed}
+use Rattle.kr_trace_lines.specs.declared.observed.Observed.TheVariants as observed
+use Rattle.kr_trace_lines.specs.Fits.{fits}
 use Rattle.kr_trace_follow.specs.Conflicts.{conflicts_of, ahead_of}
 use Rattle.kr_trace_follow.specs.Lines.{Line}
 use Rattle.kr_trace_follow.specs.Since.{Since, since_along, line_of}

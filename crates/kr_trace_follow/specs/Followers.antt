@@ -8,7 +8,7 @@ use Rattle.kr_model.specs.Protocol.{Protocol}
 use Rattle.kr_model.specs.Locks.{Locks, mode_held}
 use Rattle.kr_model.specs.State.{State}
 use Rattle.kr_model.specs.WellFormed.{IsState}
-use Rattle.kr_trace_observed.specs.declared.deviation.Deviation.{Deviation}
+use Rattle.kr_trace_lines.specs.declared.deviation.Deviation.{Deviation}
 use Rattle.kr_trace_follow.specs.Following.{Following}
 use Rattle.kr_trace_follow.specs.Scans.{AreNoted}
 use Rattle.kr_trace_follow.specs.Since.{IsSince, last_noted, lines_of}

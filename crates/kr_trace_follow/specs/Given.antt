@@ -5,8 +5,8 @@ use Rattle.kr_model.specs.declared.Op.{Op}
 use Rattle.kr_model.specs.declared.Reply.{Reply}
 use Rattle.kr_model.specs.Map.{Map}
 use Rattle.kr_model.specs.Serial.{whole}
-use Rattle.kr_trace_observed.specs.declared.observed.Observed.{Observed}
-use Rattle.kr_trace_observed.specs.Fits.{fits}
+use Rattle.kr_trace_lines.specs.declared.observed.Observed.{Observed}
+use Rattle.kr_trace_lines.specs.Fits.{fits}
 use Rattle.kr_trace_follow.specs.declared.judge.Difference.{Difference}
 
 -- An operation with the answer that was observed.

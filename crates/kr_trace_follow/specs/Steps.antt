@@ -9,8 +9,8 @@ use Rattle.kr_model.specs.Protocol.{Protocol}
 use Rattle.kr_model.specs.Locks.{Locks}
 use Rattle.kr_model.specs.State.{Scan, State, standing}
 use Rattle.kr_model.specs.Step.{Outcome, step}
-use Rattle.kr_trace_observed.specs.declared.observed.Observed.{Observed}
-use Rattle.kr_trace_observed.specs.declared.observed.Observed.TheVariants as observed
+use Rattle.kr_trace_lines.specs.declared.observed.Observed.{Observed}
+use Rattle.kr_trace_lines.specs.declared.observed.Observed.TheVariants as observed
 use Rattle.kr_trace_follow.specs.Lines.{Line, Attempt}
 use Rattle.kr_trace_follow.specs.Conflicts.{is_behind}
 

@@ -8,7 +8,7 @@ use crate::since::{Notes, since};
 use kr_index::Memory;
 use kr_model::{Mode, Name, Txn};
 use kr_protocol::Protocol;
-use kr_trace_observed::Conflict;
+use kr_trace_lines::Conflict;
 use std::alloc::Global;
 
 /// A lock that is held or waited for: its name, its transaction, and the mode.

@@ -16,7 +16,7 @@ use kr_locks::{Buckets, Holdings};
 use kr_machine::Stepper;
 use kr_model::Event;
 use kr_protocol::Protocol;
-use kr_trace_observed::{Deviation, Observed};
+use kr_trace_lines::{Deviation, Observed};
 use std::alloc::{AllocError, Global};
 use std::collections::BTreeMap;
 use std::marker::Model;

@@ -6,7 +6,7 @@ ghost use Rattle.kr_trace_follow.specs.Given.{difference_at, difference_in, map_
 use kr_index::Memory;
 use kr_model::{Op, Reply};
 use kr_serial::{answer, follow, map_of};
-use kr_trace_observed::{Observed, fits};
+use kr_trace_lines::{Observed, fits};
 use std::alloc::{AllocError, Global};
 use std::collections::BTreeMap;
 use std::marker::Model;

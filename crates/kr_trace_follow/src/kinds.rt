@@ -5,7 +5,7 @@ ghost use Rattle.kr_trace_follow.specs.Deviates.{misnamed, kind_where_misnamed, 
 
 use kr_index::Memory;
 use kr_model::{Reply, Txn, Txns};
-use kr_trace_observed::{Deviation, DeviationKind, Observed, fits};
+use kr_trace_lines::{Deviation, DeviationKind, Observed, fits};
 use std::alloc::Global;
 
 /// The transactions that are named as blockers, and neither are blockers nor wait ahead, in the order in which they are

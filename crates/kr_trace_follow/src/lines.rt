@@ -20,7 +20,7 @@ use kr_locks::Holdings;
 use kr_machine::Stepper;
 use kr_model::{Event, Reply, Txn};
 use kr_protocol::Protocol;
-use kr_trace_observed::{Deviation, DeviationKind, Observed};
+use kr_trace_lines::{Deviation, DeviationKind, Observed};
 
 /// How what was observed differs from the table's reply to a step, if it does. Of a step that is blocked, which changes
 /// nothing, the conflicts are those in the present state.

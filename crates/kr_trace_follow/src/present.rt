@@ -13,7 +13,7 @@ use kr_locks::Holdings;
 use kr_machine::Stepper;
 use kr_model::{Items, Op, Txn};
 use kr_protocol::Protocol;
-use kr_trace_observed::Conflict;
+use kr_trace_lines::Conflict;
 
 /// The held locks that conflict with a step that is attempted in the present state.
 pub(crate) fn conflicts_now<P: Protocol, Q: Protocol, I: Ordered, L: Holdings>(

@@ -19,7 +19,7 @@ use kr_locks::Holdings;
 use kr_machine::Stepper;
 use kr_model::{Event, Mode, Name, Op, Refusal, Reply, Txn};
 use kr_protocol::Protocol;
-use kr_trace_observed::Observed;
+use kr_trace_lines::Observed;
 use std::alloc::AllocError;
 
 /// What the engine did: an abort, where it aborted the transaction in place of the operation.

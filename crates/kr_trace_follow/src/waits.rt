@@ -13,7 +13,7 @@ use kr_locks::Holdings;
 use kr_machine::Stepper;
 use kr_model::{Op, Txn};
 use kr_protocol::Protocol;
-use kr_trace_observed::Observed;
+use kr_trace_lines::Observed;
 
 /// The locks that a step may have to wait behind: none, where the engine doesn't block it.
 pub(crate) fn queue_for<'a>(observed: &Observed, waiting: &'a [Lock]) -> &'a [Lock]

@@ -10,7 +10,7 @@ use Rattle.kr_script.specs.Faults.{Fault, opening_faults}
 use Rattle.kr_script.specs.Json.{items_in, list_in, members_in, number_in}
 use Rattle.kr_script.specs.Reading.{document}
 use Rattle.kr_script.proofs.Kept.{rising}
-use Rattle.kr_trace_observed.specs.declared.observed.Observed.{Observed}
+use Rattle.kr_trace_lines.specs.declared.observed.Observed.{Observed}
 use Rattle.kr_trace_lines.specs.declared.faults.LineFault.{LineFault}
 use Rattle.kr_trace_lines.specs.declared.faults.LineFault.TheVariants as fault
 use Rattle.kr_trace_lines.specs.declared.line.Line.{Line}

@@ -28,8 +28,8 @@ use Rattle.kr_script.specs.Pairs.{pair_data}
 use Rattle.kr_script.specs.Replies.{after_word}
 use Rattle.kr_script.specs.Steps.{items_of_op, step_of}
 use Rattle.kr_script.proofs.Written.{reads_back}
-use Rattle.kr_trace_observed.specs.declared.observed.Observed.{Observed}
-use Rattle.kr_trace_observed.specs.declared.observed.Observed.TheVariants as observed
+use Rattle.kr_trace_lines.specs.declared.observed.Observed.{Observed}
+use Rattle.kr_trace_lines.specs.declared.observed.Observed.TheVariants as observed
 use Rattle.kr_trace_lines.specs.Lines.{step}
 use Rattle.kr_trace_lines.specs.Reading.{event_in, reading_line, with_answer, with_event}
 use Rattle.kr_trace_lines.specs.Replies.{each_of, observed_data, reply_in, txn_of}

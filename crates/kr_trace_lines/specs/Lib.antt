@@ -5,3 +5,4 @@ pub mod Reading
 pub mod Parts
 pub mod Report
 pub mod Steps
+pub mod Fits

@@ -2,7 +2,7 @@
 use Rattle.std.specs.Prelude.{ℕ, List, map, string_bytes}
 use Rattle.kr_model.specs.declared.Event.{Event}
 use Rattle.kr_model.specs.Map.{Map}
-use Rattle.kr_trace_observed.specs.declared.observed.Observed.{Observed}
+use Rattle.kr_trace_lines.specs.declared.observed.Observed.{Observed}
 use Rattle.kr_trace_lines.specs.declared.line.Line.{Line}
 use Rattle.kr_trace_lines.specs.declared.line.Line.TheVariants as line
 

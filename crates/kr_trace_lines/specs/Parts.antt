@@ -2,8 +2,8 @@
 use Rattle.std.specs.Prelude.{◌≡◌, ℕ, ◌==◌, ◌&&◌, Bool, true, false, not, List, [], ◌∷◌, length, if◌then◌else◌, Option, Some, None}
 use Rattle.std.specs.List.{list_any}
 use Rattle.kr_model.specs.Locks.{add_once}
-use Rattle.kr_trace_observed.specs.declared.observed.Observed.{Observed}
-use Rattle.kr_trace_observed.specs.declared.observed.Observed.TheVariants as observed
+use Rattle.kr_trace_lines.specs.declared.observed.Observed.{Observed}
+use Rattle.kr_trace_lines.specs.declared.observed.Observed.TheVariants as observed
 use Rattle.kr_trace_lines.specs.declared.faults.LineFault.{LineFault}
 use Rattle.kr_trace_lines.specs.declared.faults.LineFault.TheVariants as fault
 use Rattle.kr_trace_lines.specs.Lines.{TraceLine, head, step, order}

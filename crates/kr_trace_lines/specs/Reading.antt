@@ -13,7 +13,7 @@ use Rattle.kr_script.specs.Json.{length_of, number_in, list_in, items_in, member
 use Rattle.kr_script.specs.Steps.{event_of}
 use Rattle.kr_script.specs.Faults.{opening_faults}
 use Rattle.kr_script.specs.Reading.{document, pairs_of}
-use Rattle.kr_trace_observed.specs.declared.observed.Observed.{Observed}
+use Rattle.kr_trace_lines.specs.declared.observed.Observed.{Observed}
 use Rattle.kr_trace_lines.specs.declared.faults.LineFault.{LineFault}
 use Rattle.kr_trace_lines.specs.declared.faults.LineFault.TheVariants as fault
 use Rattle.kr_trace_lines.specs.declared.line.Line.{Line}

@@ -8,8 +8,8 @@ use Rattle.kr_script.specs.Json.{whole, length_of, number_at, word_at}
 use Rattle.kr_script.specs.Faults.{pair_of}
 use Rattle.kr_script.specs.Pairs.{pairs_data}
 use Rattle.kr_script.specs.Replies.{after_word, numbers_data}
-use Rattle.kr_trace_observed.specs.declared.observed.Observed.{Observed}
-use Rattle.kr_trace_observed.specs.declared.observed.Observed.TheVariants as observed
+use Rattle.kr_trace_lines.specs.declared.observed.Observed.{Observed}
+use Rattle.kr_trace_lines.specs.declared.observed.Observed.TheVariants as observed
 
 -- From value to reply --
 

@@ -8,10 +8,10 @@ use Rattle.kr_model.specs.declared.Reply.TheVariants as reply
 use Rattle.kr_model.specs.ModeNames.{name_of}
 use Rattle.kr_script.specs.Json.{whole}
 use Rattle.kr_script.specs.Replies.{after_word, numbers_data, reply_data, name_data}
-use Rattle.kr_trace_observed.specs.declared.deviation.Conflict.{Conflict}
-use Rattle.kr_trace_observed.specs.declared.deviation.Deviation.{Deviation}
-use Rattle.kr_trace_observed.specs.declared.deviation.DeviationKind.{DeviationKind}
-use Rattle.kr_trace_observed.specs.declared.deviation.DeviationKind.TheVariants as kind
+use Rattle.kr_trace_lines.specs.declared.deviation.Conflict.{Conflict}
+use Rattle.kr_trace_lines.specs.declared.deviation.Deviation.{Deviation}
+use Rattle.kr_trace_lines.specs.declared.deviation.DeviationKind.{DeviationKind}
+use Rattle.kr_trace_lines.specs.declared.deviation.DeviationKind.TheVariants as kind
 use Rattle.kr_trace_lines.specs.declared.verdict.TraceVerdict.{TraceVerdict}
 use Rattle.kr_trace_lines.specs.declared.verdict.TraceVerdict.TheVariants as verdict
 use Rattle.kr_trace_lines.specs.Replies.{observed_data}

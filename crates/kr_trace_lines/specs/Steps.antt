@@ -7,8 +7,8 @@ use Rattle.kr_model.specs.declared.Op.TheVariants.{Fetch, Scan, Go, Insert, Dele
 use Rattle.kr_model.specs.declared.Event.{Event}
 use Rattle.kr_script.specs.Line.{PairFits}
 use Rattle.kr_script.specs.Steps.{step_of}
-use Rattle.kr_trace_observed.specs.declared.observed.Observed.{Observed}
-use Rattle.kr_trace_observed.specs.declared.observed.Observed.TheVariants as observed
+use Rattle.kr_trace_lines.specs.declared.observed.Observed.{Observed}
+use Rattle.kr_trace_lines.specs.declared.observed.Observed.TheVariants as observed
 use Rattle.kr_trace_lines.specs.Replies.{may_block, observed_data}
 
 -- A step, and behind it its reply.

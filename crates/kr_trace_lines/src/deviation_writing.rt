@@ -12,7 +12,7 @@ use kr_protocol::{Protocol, name_or_empty};
 use kr_script::{
     quoted, separator, write_name, write_number, write_numbers, write_reply, write_with_numbers,
 };
-use kr_trace_observed::{Conflict, Deviation, DeviationKind};
+use crate::{Conflict, Deviation, DeviationKind};
 use std::alloc::{AllocError, Global};
 
 /// Writes the name of a mode in quotes.

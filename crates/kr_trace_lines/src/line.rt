@@ -1,7 +1,7 @@
 //! Lines of a trace.
 
 use kr_model::{Event, Pairs, Txns};
-use kr_trace_observed::Observed;
+use crate::Observed;
 
 /// A line of a trace.
 #[derive(Debug, Drop)]

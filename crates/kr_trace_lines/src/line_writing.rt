@@ -8,7 +8,7 @@ ghost use Rattle.kr_trace_lines.specs.Steps.{ObservedFits, ToldFits, TxnFits, ca
 use crate::observed_writing::write_observed;
 use kr_model::{Event, Txn};
 use kr_script::{lemma_event_fits, lemma_pairs_fit, write_step};
-use kr_trace_observed::Observed;
+use crate::Observed;
 use std::alloc::{AllocError, Global};
 
 fn lemma_txn_fits(txn: Txn)

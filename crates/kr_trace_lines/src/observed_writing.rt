@@ -5,7 +5,7 @@ ghost use Rattle.kr_trace_lines.specs.Replies.{blocked_data, observed_data, told
 
 use kr_model::Txn;
 use kr_script::{write_pairs, write_with_number, write_with_numbers};
-use kr_trace_observed::Observed;
+use crate::Observed;
 use std::alloc::AllocError;
 
 /// Writes the beginning of an array, and behind it the number that is told, if one is.

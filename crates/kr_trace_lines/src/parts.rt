@@ -7,7 +7,7 @@ ghost use Rattle.kr_trace_lines.specs.Parts.{after_line, fault_behind, has, with
 
 use crate::{Line, LineFault};
 use kr_model::{Event, Txn};
-use kr_trace_observed::Observed;
+use crate::Observed;
 use kr_txn::Ended;
 use std::alloc::{AllocError, Global};
 use std::marker::Model;

@@ -9,7 +9,7 @@ ghost use Rattle.kr_trace_lines.specs.Replies.{each_of};
 
 use kr_model::{Items, Op, Pairs, Txn, Txns};
 use kr_script::{length_of, number_at, pair_of, word_at};
-use kr_trace_observed::Observed;
+use crate::Observed;
 use serde_json::Value;
 use std::alloc::{AllocError, Global};
 

@@ -14,7 +14,7 @@ use crate::observed_writing::write_observed;
 use kr_model::{Reply, Txn};
 use kr_protocol::Protocol;
 use kr_script::{quoted, separator, write_number, write_reply, write_with_numbers};
-use kr_trace_observed::{Deviation, Observed};
+use crate::{Deviation, Observed};
 use std::alloc::{AllocError, Global};
 
 /// Writes an array of texts behind what the text has. At `Err` memory ran out, and the text may have a part of it.

@@ -1,7 +1,7 @@
 //! The verdict on a part's committed transactions.
 
 use kr_model::{Reply, Txn, Txns};
-use kr_trace_observed::Observed;
+use crate::Observed;
 
 /// Whether the committed transactions of a part are serializable, as far as their answers are given.
 #[derive(Debug, Drop)]

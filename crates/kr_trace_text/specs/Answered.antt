@@ -1,8 +1,8 @@
 -- What an engine answered, in words.
 use Rattle.std.specs.Prelude.{ℕ, List, [], ◌∷◌, ◌++◌, Option, Some, None, codes, decimal}
 use Rattle.kr_explain_text.specs.Spoken.{op_words, rows_words, txns_words}
-use Rattle.kr_trace_observed.specs.declared.observed.Observed.{Observed}
-use Rattle.kr_trace_observed.specs.declared.observed.Observed.TheVariants as observed
+use Rattle.kr_trace_lines.specs.declared.observed.Observed.{Observed}
+use Rattle.kr_trace_lines.specs.declared.observed.Observed.TheVariants as observed
 use Rattle.kr_trace_text.specs.declared.steps.LoggedStep.{LoggedStep}
 
 -- A word, and behind it the number that the engine gives, if it gives one.

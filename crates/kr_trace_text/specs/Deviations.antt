@@ -4,9 +4,9 @@ use Rattle.kr_model.specs.declared.Refusal.{Refusal}
 use Rattle.kr_model.specs.declared.Refusal.TheVariants as refusal
 use Rattle.kr_model.specs.ModeNames.{name_of}
 use Rattle.kr_explain_text.specs.Spoken.{name_words, reply_words, txns_words}
-use Rattle.kr_trace_observed.specs.declared.deviation.Conflict.{Conflict}
-use Rattle.kr_trace_observed.specs.declared.deviation.DeviationKind.{DeviationKind}
-use Rattle.kr_trace_observed.specs.declared.deviation.DeviationKind.TheVariants as kind
+use Rattle.kr_trace_lines.specs.declared.deviation.Conflict.{Conflict}
+use Rattle.kr_trace_lines.specs.declared.deviation.DeviationKind.{DeviationKind}
+use Rattle.kr_trace_lines.specs.declared.deviation.DeviationKind.TheVariants as kind
 use Rattle.kr_trace_text.specs.declared.steps.LoggedStep.{LoggedStep}
 use Rattle.kr_trace_text.specs.Answered.{answered_words}
 

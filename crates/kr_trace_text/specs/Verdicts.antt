@@ -2,7 +2,7 @@
 use Rattle.std.specs.Prelude.{ℕ, List, ◌++◌, codes, decimal}
 use Rattle.kr_model.specs.declared.Reply.{Reply}
 use Rattle.kr_explain_text.specs.Spoken.{reply_words, txns_words}
-use Rattle.kr_trace_observed.specs.declared.observed.Observed.{Observed}
+use Rattle.kr_trace_lines.specs.declared.observed.Observed.{Observed}
 use Rattle.kr_trace_lines.specs.declared.verdict.TraceVerdict.{TraceVerdict}
 use Rattle.kr_trace_lines.specs.declared.verdict.TraceVerdict.TheVariants as verdict
 use Rattle.kr_trace_text.specs.Answered.{observed_words}

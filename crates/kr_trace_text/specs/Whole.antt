@@ -2,7 +2,7 @@
 use Rattle.std.specs.Prelude.{ℕ, List, [], ◌∷◌, ◌++◌, ◌==◌, Option, Some, None, codes, decimal, flat_map, if◌then◌else◌}
 use Rattle.std.specs.Option.{option_map}
 use Rattle.kr_explain_text.specs.Spoken.{pairs_words}
-use Rattle.kr_trace_observed.specs.declared.deviation.Deviation.{Deviation}
+use Rattle.kr_trace_lines.specs.declared.deviation.Deviation.{Deviation}
 use Rattle.kr_trace_text.specs.declared.steps.LoggedStep.{LoggedStep}
 use Rattle.kr_trace_text.specs.Deviations.{deviation_words}
 use Rattle.kr_trace_text.specs.Steps.{steps_text}

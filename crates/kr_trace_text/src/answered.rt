@@ -5,7 +5,7 @@ ghost use Rattle.kr_trace_text.specs.Answered.{answered_words, blocked_words, nu
 use crate::steps::LoggedStep;
 use kr_explain_text::{op_text, rows_text, txns_text};
 use kr_model::{Memory, Txn};
-use kr_trace_observed::Observed;
+use kr_trace_lines::Observed;
 use std::alloc::Global;
 
 /// A word, and behind it the number that the engine gives, if it gives one.

@@ -7,7 +7,7 @@ use crate::steps::LoggedStep;
 use kr_explain_text::{answer_text, lock_name, txns_text};
 use kr_model::{Memory, Refusal, Txn};
 use kr_protocol::{Protocol, name_or_empty};
-use kr_trace_observed::{Conflict, DeviationKind};
+use kr_trace_lines::{Conflict, DeviationKind};
 use std::alloc::Global;
 
 /// The converted mode in which a request is tested, if it isn't the mode that is requested.

@@ -6,7 +6,7 @@ ghost use Rattle.kr_trace_text.specs.Steps.{head_cells, is_marked, step_cells, s
 use crate::answered::observed_text;
 use kr_explain_text::{op_text, write_rows};
 use kr_model::{Event, Memory};
-use kr_trace_observed::Observed;
+use kr_trace_lines::Observed;
 use std::alloc::Global;
 
 /// So many columns has the table of a part: for the line, the transaction, the operation, the answer and the mark.

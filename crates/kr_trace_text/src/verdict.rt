@@ -6,7 +6,7 @@ use crate::answered::observed_text;
 use kr_explain_text::{answer_text, txns_text};
 use kr_model::{Memory, Reply, Txn};
 use kr_trace_lines::TraceVerdict;
-use kr_trace_observed::Observed;
+use kr_trace_lines::Observed;
 use std::alloc::Global;
 
 /// An answer, and the serial one.

@@ -8,7 +8,7 @@ use crate::steps::{LoggedStep, write_steps};
 use kr_explain_text::pairs_text;
 use kr_model::Memory;
 use kr_protocol::Protocol;
-use kr_trace_observed::Deviation;
+use kr_trace_lines::Deviation;
 use std::alloc::Global;
 
 /// The index with which a part begins.

@@ -3,8 +3,8 @@ use Rattle.std.specs.Prelude.{ℕ, List, [], ◌∷◌, ◌++◌, ◌≡◌, Boo
 use Rattle.std.specs.Str.{chars}
 use Rattle.std.proofs.Common.{ap, sym, subst, ◌∙◌, append_assoc, Global}
 use Rattle.std.proofs.lemmas.List.{append-nil}
-use Rattle.kr_view_html.specs.Escape.{escaped, unescaped}
-use Rattle.kr_view_html.specs.Parts.{IsMadeOfParts}
+use Rattle.kr_view_scenes.specs.Escape.{escaped, unescaped}
+use Rattle.kr_view_scenes.specs.Parts.{IsMadeOfParts}
 use Rattle.kr_view_scenes.specs.Scenes.{NumberedStep}
 use Rattle.kr_view_run.specs.declared.frame.TheConstants.{BAND_END, STEP_IDS}
 use Rattle.kr_view_run.specs.Page.{AreBands, band_head, band_of, IsPage, page_of}

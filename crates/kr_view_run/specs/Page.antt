@@ -1,8 +1,8 @@
 -- What the page of a run is.
 use Rattle.std.specs.Prelude.{ℕ, List, [], ◌∷◌, ◌++◌, Bool, Some, ◌≡◌, codes, decimal, if◌then◌else◌}
 use Rattle.std.specs.Str.{chars}
-use Rattle.kr_view_html.specs.Escape.{escaped, unescaped}
-use Rattle.kr_view_html.specs.Parts.{IsMadeOfParts}
+use Rattle.kr_view_scenes.specs.Escape.{escaped, unescaped}
+use Rattle.kr_view_scenes.specs.Parts.{IsMadeOfParts}
 use Rattle.kr_view_scenes.specs.Scenes.{NumberedStep}
 use Rattle.kr_view_scenes.specs.Words.{op_words, reply_words, kind_word}
 use Rattle.kr_view_run.specs.declared.frame.TheConstants.{HEAD, STYLE, LOOK, BODY, NAME, BEHIND_NAME, RUN, SERIAL, NOT_SERIAL, STEP_IDS, BAND_END, END}

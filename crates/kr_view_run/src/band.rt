@@ -9,7 +9,7 @@ use crate::frame::BAND_END;
 use kr_locks::Memory;
 use kr_model::{Op, Reply, Span};
 use kr_protocol::{Protocol, name_or_empty};
-use kr_view_html::{Html, Mark, Part};
+use kr_view_scenes::{Html, Mark, Part};
 use kr_view_scenes::{
     Asked, Columns, Difference, Layout, Scene, kind_of, write_name, write_numbers, write_op,
     write_reply,

@@ -12,7 +12,7 @@ use kr_locks::Memory;
 use kr_model::Event;
 use kr_protocol::Protocol;
 use kr_serial::{Ran, Verdict, judge, run_any};
-use kr_view_html::{Html, Mark, Part};
+use kr_view_scenes::{Html, Mark, Part};
 use kr_view_scenes::{
     Drawn, Layout, Run, STEPS_DRAWN, Scene, scenes_of, write_commits, write_summary,
 };

@@ -3,7 +3,7 @@
 use crate::svg;
 use crate::svg::at;
 use kr_locks::Memory;
-use kr_view_html::{Html, Mark, Part};
+use kr_view_scenes::{Html, Mark, Part};
 use kr_view_scenes::{
     Bar, BarKind, BarLine, Columns, KeyState, Layout, Scene, bar_width, colour_of,
 };

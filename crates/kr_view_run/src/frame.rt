@@ -1,9 +1,9 @@
 //! What a page begins and ends with: its head with its look, and its heading. And the page of a run around its bands.
 ghost use Rattle.std.specs.Prelude.{◌≡◌, IfOk, OnOk, string_bytes};
-ghost use Rattle.kr_view_html.specs.Parts.{IsMadeOfParts};
+ghost use Rattle.kr_view_scenes.specs.Parts.{IsMadeOfParts};
 ghost use Rattle.kr_view_run.specs.Page.{page_head, page_of};
 
-use kr_view_html::Html;
+use kr_view_scenes::Html;
 use std::alloc::{AllocError, Global};
 
 /// Up to the title.

@@ -12,5 +12,5 @@ mod svg;
 pub use bands::bands_of_run;
 pub use frame::{END, LOOK, page_head};
 pub use kr_locks::Memory;
-pub use kr_view_html::escape;
+pub use kr_view_scenes::escape;
 pub use page::picture;

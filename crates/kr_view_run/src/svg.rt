@@ -1,6 +1,6 @@
 //! A writer of SVG. Lengths are pixels.
 
-use kr_view_html::{Html, Mark, Part};
+use kr_view_scenes::{Html, Mark, Part};
 use std::alloc::AllocError;
 
 /// A place in a drawing.

@@ -1,1 +1,4 @@
 pub mod Rest
+pub mod Escaped
+pub mod Escapes
+pub mod More

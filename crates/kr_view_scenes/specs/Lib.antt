@@ -1,2 +1,5 @@
 pub mod Scenes
 pub mod Words
+pub mod Escape
+pub mod Marks
+pub mod Parts

@@ -3,7 +3,7 @@
 use crate::run::{Difference, Run};
 use crate::words::{write_op, write_reply};
 use kr_model::{Op, Program, Reply, Txn};
-use kr_view_html::{Html, Mark, Part};
+use crate::{Html, Mark, Part};
 use std::alloc::AllocError;
 
 /// How many programs are shown, and how many operations of each, the last ones.

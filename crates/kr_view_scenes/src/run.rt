@@ -2,7 +2,7 @@
 
 use kr_model::{Event, Op, Program, Reply, Txn};
 use kr_serial::Verdict;
-use kr_view_html::{Html, Mark, Part};
+use crate::{Html, Mark, Part};
 use std::alloc::AllocError;
 
 /// How many steps are drawn.

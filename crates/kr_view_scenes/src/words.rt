@@ -1,10 +1,10 @@
 //! Operations, replies and refusals in words.
 ghost use Rattle.std.specs.Prelude.{◌≡◌, ◌++◌, ◌∷◌, ◌≤◌, OnOk, codes, decimal, drop, flat_map, length, map};
-ghost use Rattle.kr_view_html.specs.Escape.{escaped};
+ghost use Rattle.kr_view_scenes.specs.Escape.{escaped};
 ghost use Rattle.kr_view_scenes.specs.Words.{op_words, commas, pair_words, shown_pairs, pairs_words, reason_words, reply_words, kind_word};
 
 use kr_model::{Name, Op, Refusal, Reply};
-use kr_view_html::{Html, Part};
+use crate::{Html, Part};
 use std::alloc::AllocError;
 
 /// How many pairs of a list are shown, the last ones.

@@ -1,7 +1,7 @@
 -- A page and a block, by what their parts are.
 use Rattle.std.specs.Prelude.{◌≡◌, ℕ, List, ◌++◌, Bool, codes, decimal}
 use Rattle.std.proofs.Common.{ap, ◌∙◌}
-use Rattle.kr_view_html.specs.Escape.{escaped}
+use Rattle.kr_view_scenes.specs.Escape.{escaped}
 use Rattle.kr_view_table.specs.Page.{page_of}
 
 -- a page of parts that are these

@@ -1,8 +1,8 @@
 -- The causes of a table, as they stand in its page.
 use Rattle.std.specs.Prelude.{◌≡◌, ℕ, ◌==◌, Bool, true, false, List, [], ◌++◌, Option, Some, None, nat_le, codes, decimal, if◌then◌else◌}
 use Rattle.kr_model.specs.Protocol.{Protocol}
-use Rattle.kr_view_html.specs.Escape.{escaped}
-use Rattle.kr_view_html.specs.Parts.{IsMadeOfParts}
+use Rattle.kr_view_scenes.specs.Escape.{escaped}
+use Rattle.kr_view_scenes.specs.Parts.{IsMadeOfParts}
 use Rattle.kr_view_scenes.specs.Scenes.{drawn_steps}
 use Rattle.kr_view_run.specs.Page.{AreBands}
 use Rattle.kr_explain_text.specs.Titles.{IsTitle}

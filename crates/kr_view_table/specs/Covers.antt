@@ -6,7 +6,7 @@ use Rattle.kr_model.specs.ModeNames.{name_of}
 use Rattle.kr_model.specs.Protocol.{Protocol}
 use Rattle.kr_model.specs.Covers.{all_covers, modes}
 use Rattle.kr_cases.specs.Holes.{first_open}
-use Rattle.kr_view_html.specs.Escape.{escaped}
+use Rattle.kr_view_scenes.specs.Escape.{escaped}
 use Rattle.kr_explain_text.specs.Words.{cover_words, deed_words}
 use Rattle.kr_view_table.specs.declared.covers.TheConstants.{COVERS, WHOLE, OPEN}
 

@@ -3,7 +3,7 @@ use Rattle.std.specs.Prelude.{ℕ, Bool, true, false, List, ◌++◌, codes, fla
 use Rattle.kr_model.specs.ModeNames.{name_of}
 use Rattle.kr_model.specs.Protocol.{Protocol}
 use Rattle.kr_model.specs.Covers.{modes}
-use Rattle.kr_view_html.specs.Escape.{escaped}
+use Rattle.kr_view_scenes.specs.Escape.{escaped}
 use Rattle.kr_explain_core.specs.declared.explanation.Explanation.{Explanation}
 use Rattle.kr_view_table.specs.declared.badges.Entry.TheVariants as entry
 use Rattle.kr_view_table.specs.declared.matrices.Matrix.{Matrix}

@@ -2,7 +2,7 @@
 use Rattle.std.specs.Prelude.{◌≡◌, ℕ, Bool, List, ◌++◌, Some, length, if◌then◌else◌}
 use Rattle.std.specs.Str.{chars}
 use Rattle.kr_model.specs.Protocol.{Protocol}
-use Rattle.kr_view_html.specs.Escape.{escaped, unescaped}
+use Rattle.kr_view_scenes.specs.Escape.{escaped, unescaped}
 use Rattle.kr_view_run.specs.declared.frame.TheConstants.{END}
 use Rattle.kr_view_run.specs.Page.{page_head}
 use Rattle.kr_explain_core.specs.Explained.{IsExplained, is_safe}

@@ -1,13 +1,13 @@
 //! The causes for which cases of a table fail, with what mends each and its schedule.
 ghost use Rattle.std.specs.Prelude.{◌≡◌, ◌++◌, IfOk, string_bytes};
-ghost use Rattle.kr_view_html.specs.Parts.{IsMadeOfParts};
+ghost use Rattle.kr_view_scenes.specs.Parts.{IsMadeOfParts};
 ghost use Rattle.kr_view_table.specs.Causes.{AreCauses, IsCauseBlock, causes_heading};
 
 use crate::schedule::schedule;
 use kr_explain_core::{Explained, fixes_text, prose_text, title_text};
 use kr_model::Memory;
 use kr_protocol::Protocol;
-use kr_view_html::{Html, Mark, Part, escape};
+use kr_view_scenes::{Html, Mark, Part, escape};
 use std::alloc::Global;
 
 /// What stands before the causes, where there are some.

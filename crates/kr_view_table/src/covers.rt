@@ -9,7 +9,7 @@ use kr_cases::{all_covers, first_open};
 use kr_explain_text::{cover_words, deed_words};
 use kr_model::{Cover, Memory, Mode, Requester};
 use kr_protocol::{Protocol, name_or_empty};
-use kr_view_html::escape;
+use kr_view_scenes::escape;
 use std::alloc::Global;
 
 /// What stands before the heads of the columns.

@@ -8,7 +8,7 @@ use crate::told::{causes_of, is_apart, is_unasked};
 use kr_explain_core::Explanation;
 use kr_model::{Memory, Mode};
 use kr_protocol::{Protocol, name_or_empty};
-use kr_view_html::escape;
+use kr_view_scenes::escape;
 use std::alloc::Global;
 
 /// A matrix of a table.

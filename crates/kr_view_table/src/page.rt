@@ -12,7 +12,7 @@ use crate::told::causes_of;
 use kr_explain_core::{Explanation, explain, verdict_text};
 use kr_model::Memory;
 use kr_protocol::Protocol;
-use kr_view_html::escape;
+use kr_view_scenes::escape;
 use std::alloc::Global;
 
 /// The page of a protocol, whose table has this name, and whether the table is safe, accepted or not.

@@ -10,7 +10,7 @@ use kr_explain_core::Explained;
 use kr_explain_text::modes_listed;
 use kr_model::{Memory, Mode, Row, Side, Span, row_word};
 use kr_protocol::{Protocol, name_or_empty};
-use kr_view_html::escape;
+use kr_view_scenes::escape;
 use std::alloc::Global;
 
 /// What stands before the rows of the rules.

@@ -1,7 +1,7 @@
 use Rattle.std.proofs.Common.{rules}
 use Rattle.kr_table.specs.Answer.{table_data}
 use Rattle.kr_change.specs.Changes.{changed}
-use Rattle.kr_table_copy.specs.Same.{IsCopy}
+use Rattle.kr_relax_text.specs.Same.{IsCopy}
 use Rattle.kr_cli_relax.specs.Tightest.{protocol_in}
 use Rattle.kr_cli_relax.proofs.Taken.{takes}
 use Rattle.kr_cli_relax.proofs.tightest.take.Goals as goal

@@ -1,6 +1,6 @@
 use Rattle.std.specs.Prelude.{◌++◌, ◌∷◌, [], ℕ, List, Option, map, string_bytes}
 use Rattle.std.proofs.Common.{ap, ◌∙◌}
-use Rattle.kr_trace_observed.specs.declared.deviation.Deviation.{Deviation}
+use Rattle.kr_trace_lines.specs.declared.deviation.Deviation.{Deviation}
 use Rattle.kr_trace_lines.specs.Report.{part_text}
 use Rattle.kr_cli_trace.proofs.follow.told.Goals as goal
 

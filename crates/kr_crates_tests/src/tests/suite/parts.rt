@@ -6,7 +6,7 @@ use kr_change::{Change, Changed, changes_of};
 use kr_model::{Event, Op};
 use kr_protocol::{Im, Kvl};
 use kr_table::Table;
-use kr_told_apart::tells_apart;
+use kr_apart::tells_apart;
 use std::alloc::Global;
 use std::test::Fail;
 

@@ -11,7 +11,7 @@ use kr_relax_text::{
 };
 use kr_table::bundled::{IM, KVL, RANGE_KEY};
 use kr_table::{Table, read};
-use kr_table_copy::copy_of;
+use kr_relax_text::copy_of;
 use std::alloc::Global;
 use std::test::Fail;
 

@@ -7,7 +7,7 @@ use crate::tests::trace::given::Given;
 use kr_model::{Event, Op, Txn};
 use kr_protocol::Kvl;
 use kr_trace_follow::Follower;
-use kr_trace_observed::Deviation;
+use kr_trace_lines::Deviation;
 use rows::{ROWS, Row};
 use since::SINCE_ROWS;
 use std::alloc::{AllocError, Global};

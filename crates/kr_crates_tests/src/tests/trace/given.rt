@@ -1,6 +1,6 @@
 //! Observed replies as they stand in rows.
 use kr_model::{Pairs, Txn, Txns};
-use kr_trace_observed::Observed;
+use kr_trace_lines::Observed;
 use std::alloc::{AllocError, Global};
 
 /// An observed reply.

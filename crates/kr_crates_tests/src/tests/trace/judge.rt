@@ -2,7 +2,7 @@
 use crate::tests::trace::given::Given;
 use kr_model::{Op, Reply};
 use kr_trace_follow::Judge;
-use kr_trace_observed::Observed;
+use kr_trace_lines::Observed;
 use std::alloc::{AllocError, Global};
 use std::test::Fail;
 

@@ -1,7 +1,7 @@
 //! Whether a reply is the one that was observed.
 use crate::tests::trace::given::Given;
 use kr_model::{Pairs, Refusal, Reply, Txns};
-use kr_trace_observed::fits;
+use kr_trace_lines::fits;
 use std::test::Fail;
 
 #[test]

@@ -4,7 +4,7 @@ use Rattle.kr_model.specs.declared.Event.{Event}
 use Rattle.kr_model.specs.Protocol.{Protocol}
 use Rattle.kr_model.specs.Map.{Map}
 use Rattle.kr_change.specs.Changes.{changed}
-use Rattle.kr_told_apart.specs.Apart.{TellsApart}
+use Rattle.kr_apart.specs.Apart.{TellsApart}
 use Rattle.kr_suite_core.proofs.tested.is_told_apart.Goals as goal
 
 pub returns-in-Some : goal.returns-in-Some

@@ -1,6 +1,6 @@
 -- the changes so far have their names
 use Rattle.std.proofs.Common.{◌≡◌, map, take, string_bytes}
-use Rattle.kr_change_text.specs.Changes.{change_words}
+use Rattle.kr_change.specs.ChangeNames.{change_words}
 use Rattle.kr_suite_text.proofs.whole.names_of.Given as goal
 
 abbrev pub invariant-loop-change : goal.invariant-loop-change

@@ -1,6 +1,6 @@
 use Rattle.std.proofs.Common.{◌<◌, ◌-◌, map, take}
 use Rattle.std.specs.Prelude.{All}
-use Rattle.kr_projection.specs.Follows.{AreRising}
+use Rattle.kr_report.specs.Follows.{AreRising}
 use Rattle.kr_threads.specs.Placed.{IsStart, IsBetween, missed_before}
 use Rattle.kr_threads.proofs.placing.are_placed.Given as goal
 

@@ -3,8 +3,8 @@ use Rattle.std.specs.Prelude.{All}
 use Rattle.kr_model.specs.declared.Event.{Event}
 use Rattle.kr_history.specs.declared.name.Entry.{Entry}
 use Rattle.kr_engine.specs.Histories.{events_with_replies}
-use Rattle.kr_projection.specs.Follows.{Follows, AreRising}
-use Rattle.kr_projection.specs.declared.faults.StepFault.{StepFault}
+use Rattle.kr_report.specs.Follows.{Follows, AreRising}
+use Rattle.kr_report.specs.declared.faults.StepFault.{StepFault}
 use Rattle.kr_threads.specs.declared.left_out.LeftOut.{LeftOut}
 use Rattle.kr_threads.specs.Placed.{IsBetween, missed_before}
 use Rattle.kr_threads.specs.Threaded.{answered}

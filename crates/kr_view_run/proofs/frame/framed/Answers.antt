@@ -1,7 +1,7 @@
 use Rattle.std.proofs.Common.{rules}
 use Rattle.std.specs.Prelude.{ℕ, List}
 use Rattle.std.proofs.Common.{subst}
-use Rattle.kr_view_html.specs.Parts.{IsMadeOfParts}
+use Rattle.kr_view_scenes.specs.Parts.{IsMadeOfParts}
 use Rattle.kr_view_run.proofs.frame.framed.Goals as goal
 
 pub returns-clause-before : goal.returns-clause-before

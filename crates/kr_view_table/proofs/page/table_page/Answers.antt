@@ -1,7 +1,7 @@
 use Rattle.std.specs.Prelude.{◌≡◌, ◌↔◌, ℕ, List, Bool, Some, IsTrue, string_bytes}
 use Rattle.std.specs.Str.{chars}
 use Rattle.std.proofs.Common.{ap, subst, sym, ◌∙◌}
-use Rattle.kr_view_html.specs.Escape.{escaped, unescaped}
+use Rattle.kr_view_scenes.specs.Escape.{escaped, unescaped}
 use Rattle.kr_model.specs.Safe.{IsSafe}
 use Rattle.kr_explain_core.specs.declared.explanation.Explained.{Explained}
 use Rattle.kr_view_table.specs.Causes.{AreCauses}

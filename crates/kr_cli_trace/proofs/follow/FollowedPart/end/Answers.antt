@@ -1,7 +1,7 @@
 use Rattle.std.specs.Prelude.{◌≡◌, ◌↔◌, ◌++◌, ◌∷◌, [], ℕ, List, IsTrue, Option, None, map, string_bytes}
 use Rattle.std.proofs.Common.{ap, ◌∙◌, subst}
 use Rattle.std.proofs.lemmas.Result.{IfOk-weaker}
-use Rattle.kr_trace_observed.specs.declared.deviation.Deviation.{Deviation}
+use Rattle.kr_trace_lines.specs.declared.deviation.Deviation.{Deviation}
 use Rattle.kr_cli_trace.specs.Printed.{IsSerialVerdict, deviation_in, queued_in}
 use Rattle.kr_cli_trace.specs.Tales.{committed_in}
 use Rattle.kr_cli_trace.proofs.FollowLaws.{same_text}

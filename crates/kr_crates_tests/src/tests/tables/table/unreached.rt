@@ -1,11 +1,11 @@
 //! The table of `examples/no-schedule/unreached.toml` is read as the one that `kr_exact` defines.
 ghost use Rattle.std.specs.Prelude.{◌≡◌};
-ghost use Rattle.kr_exact.specs.Unreached.{unreached};
+ghost use Rattle.kr_theorem.specs.Unreached.{unreached};
 
 use super::likeness::SIDES;
 use kr_decide::{Decision, decide};
 use kr_model::{Mode, Row, Side, Span};
-use kr_ordered::is_ordered;
+use kr_decide::is_ordered;
 use kr_protocol::Protocol;
 use kr_table::{Table, read};
 use std::process::Abort;

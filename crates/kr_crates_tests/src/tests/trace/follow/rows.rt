@@ -1,7 +1,7 @@
 //! Lines of traces, and where they deviate.
 use crate::tests::trace::given::Given;
 use kr_model::{Name, Op, Refusal, Txn};
-use kr_trace_observed::{Conflict, DeviationKind};
+use kr_trace_lines::{Conflict, DeviationKind};
 
 /// How a line deviates.
 #[derive(Clone, Copy, Debug)]

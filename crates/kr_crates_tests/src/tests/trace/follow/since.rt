@@ -2,7 +2,7 @@
 use super::rows::{IX, Kind, Row, S, X};
 use crate::tests::trace::given::Given;
 use kr_model::{Name, Op};
-use kr_trace_observed::Conflict;
+use kr_trace_lines::Conflict;
 
 pub(super) const SINCE_ROWS: &[Row] = &[
     Row {

@@ -3,7 +3,7 @@ use super::lists::{Element, list_text};
 use super::numbers::{key_at, txn_at};
 use super::steps::{event_at, step_text};
 use kr_model::{Refusal, Reply, Txns};
-use kr_projection::{StepFault, WhyNotDone};
+use kr_report::{StepFault, WhyNotDone};
 use kr_protocol::Kvl;
 use kr_report::{Answered, Threaded, report_threads};
 use kr_serial::{Verdict, run_any};

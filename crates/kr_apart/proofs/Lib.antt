@@ -1,0 +1,2 @@
+pub mod ScriptParts
+mod Same

@@ -1,6 +1,0 @@
-use Rattle.kr_exact.proofs.unreached.Unsafe.{lawful, not_safe}
-use Rattle.kr_exact.proofs.unreached.Same.{runs}
-use Rattle.kr_exact.proofs.converse_is_false.Goals as goal
-
-pub returns : goal.returns
-returns c = (lawful, not_safe, runs)

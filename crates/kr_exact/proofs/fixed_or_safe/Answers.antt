@@ -1,5 +1,0 @@
-use Rattle.kr_exact.proofs.Holes.{fixed_or_safe}
-use Rattle.kr_exact.proofs.fixed_or_safe.Goals as goal
-
-pub returns : goal.returns
-returns c = fixed_or_safe

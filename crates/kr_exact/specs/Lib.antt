@@ -1,3 +1,0 @@
-pub mod Ordered
-pub mod Unreached
-pub mod Argued

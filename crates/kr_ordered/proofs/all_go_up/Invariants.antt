@@ -1,6 +1,0 @@
-use Rattle.std.proofs.Common.{ℕ, ◌<◌}
-use Rattle.kr_ordered.specs.Rising.{GoesUpFrom}
-use Rattle.kr_ordered.proofs.all_go_up.Given as goal
-
-abbrev pub invariant-loop-held : goal.invariant-loop-held
-invariant-loop-held g l = (h : ℕ) → h < l.held → GoesUpFrom (g.P.Protocol.table l.protocol) h

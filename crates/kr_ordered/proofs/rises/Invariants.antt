@@ -1,6 +1,0 @@
-use Rattle.std.proofs.Common.{ℕ, ◌<◌}
-use Rattle.kr_ordered.specs.Rising.{RisesFrom}
-use Rattle.kr_ordered.proofs.rises.Given as goal
-
-abbrev pub invariant-loop-lesser : goal.invariant-loop-lesser
-invariant-loop-lesser g l = (m : ℕ) → m < l.lesser → RisesFrom (g.P.Protocol.table l.protocol) l.row l.side m

@@ -1,6 +1,0 @@
-use Rattle.std.proofs.Common.{ℕ, ◌<◌}
-use Rattle.kr_ordered.specs.Rising.{RisesTo}
-use Rattle.kr_ordered.proofs.rises_from.Given as goal
-
-abbrev pub invariant-loop-own : goal.invariant-loop-own
-invariant-loop-own g l = (n : ℕ) → n < l.own → RisesTo (g.P.Protocol.table l.protocol) l.row l.side l.lesser n

@@ -1,3 +1,0 @@
-pub mod Follows
-pub mod Dealt
-pub mod Fates

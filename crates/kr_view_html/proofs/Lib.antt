@@ -1,3 +1,0 @@
-pub mod Escaped
-pub mod Escapes
-pub mod More

@@ -1,7 +1,0 @@
-use Rattle.std.specs.Prelude.{string_bytes}
-use Rattle.kr_view_html.specs.declared.part.Part.TheVariants as part
-use Rattle.kr_view_html.proofs.More.{pushed_part}
-use Rattle.kr_view_html.proofs.html.Html.mark.Goals as goal
-
-pub invariant_of-self : goal.invariant_of-self
-invariant_of-self c = pushed_part c.push_str.result (part.Mark c.args.mark) (string_bytes c.self.inside.text) c.as_str.result.now (string_bytes c.push_str.new.self) c.self.invariant c.as_str.ensures c.push_str.ensures.bytes

@@ -1,3 +1,0 @@
-pub mod Escape
-pub mod Marks
-pub mod Parts

@@ -1,0 +1,121 @@
+//! The marks of a page: the fixed pieces of HTML and SVG that it is made of.
+ghost use Rattle.std.specs.Prelude.{◌≡◌};
+ghost use Rattle.kr_view_scenes.specs.Marks.{mark_bytes};
+
+/// A mark: a fixed piece of a page. Some begin an element and some end one, and some stand between the values of its
+/// attributes. None begins a section, so no `Html` can look like the band of a step.
+#[derive(Clone, Copy, PartialEq, Eq)]
+pub enum Mark {
+    // Paragraphs, headings and links.
+    Paragraph,
+    Differs,
+    Note,
+    Limit,
+    EndParagraph,
+    Heading,
+    EndHeading,
+    Strong,
+    EndStrong,
+    Link,
+    EndLink,
+    EndTag,
+    // Tables.
+    Table,
+    NextHeading,
+    EndHeadings,
+    EndTable,
+    Row,
+    NextCell,
+    WideCell,
+    DiffersCell,
+    EndRow,
+    // Drawings: their size and label, their words and shapes, and the places and lengths of these.
+    Drawing,
+    DrawingWidth,
+    DrawingLabel,
+    EndLabel,
+    EndDrawing,
+    Words,
+    EndWords,
+    Rect,
+    EndRect,
+    Line,
+    Circle,
+    EndShape,
+    X,
+    Y,
+    Width,
+    Height,
+    X1,
+    Y1,
+    X2,
+    Y2,
+    CenterX,
+    CenterY,
+    Radius,
+    Pointer,
+    EndPointer,
+    Gone,
+    EndGone,
+    // In a sentence of the page.
+    Apostrophe,
+}
+
+impl Mark {
+    /// What stands in the page.
+    pub(crate) fn as_str(self) -> &'static str
+        ensures { result.now ≡ mark_bytes self }
+    {
+        match self {
+            Mark::Paragraph => "<p>",
+            Mark::Differs => "<p class=\"differs\">",
+            Mark::Note => "<p class=\"note\">",
+            Mark::Limit => "<p class=\"limit\">",
+            Mark::EndParagraph => "</p>\n",
+            Mark::Heading => "<h2>",
+            Mark::EndHeading => "</h2>\n",
+            Mark::Strong => "<b>",
+            Mark::EndStrong => "</b>",
+            Mark::Link => "<a href=\"#s",
+            Mark::EndLink => "</a>",
+            Mark::EndTag => "\">",
+            Mark::Table => "<div class=\"wide\"><table>\n<tr><th>",
+            Mark::NextHeading => "</th><th>",
+            Mark::EndHeadings => "</th></tr>\n",
+            Mark::EndTable => "</table></div>\n",
+            Mark::Row => "<tr><td>",
+            Mark::NextCell => "</td><td>",
+            Mark::WideCell => "</td><td colspan=\"3\">",
+            Mark::DiffersCell => "</td><td class=\"differs\">",
+            Mark::EndRow => "</td></tr>\n",
+            Mark::Drawing => "<div class=\"wide\"><svg viewBox=\"0 0 ",
+            Mark::DrawingWidth => "\" style=\"--w:",
+            Mark::DrawingLabel => "px\" role=\"img\" aria-label=\"",
+            Mark::EndLabel => "\">\n",
+            Mark::EndDrawing => "</svg></div>\n",
+            Mark::Words => "<text class=\"",
+            Mark::EndWords => "</text>\n",
+            Mark::Rect => "<rect class=\"",
+            Mark::EndRect => "\" rx=\"3\"/>\n",
+            Mark::Line => "<line class=\"",
+            Mark::Circle => "<circle class=\"",
+            Mark::EndShape => "\"/>\n",
+            Mark::X => "\" x=\"",
+            Mark::Y => "\" y=\"",
+            Mark::Width => "\" width=\"",
+            Mark::Height => "\" height=\"",
+            Mark::X1 => "\" x1=\"",
+            Mark::Y1 => "\" y1=\"",
+            Mark::X2 => "\" x2=\"",
+            Mark::Y2 => "\" y2=\"",
+            Mark::CenterX => "\" cx=\"",
+            Mark::CenterY => "\" cy=\"",
+            Mark::Radius => "\" r=\"",
+            Mark::Pointer => "<path class=\"pointer\" transform=\"translate(",
+            Mark::EndPointer => ",1)\" d=\"M-6,0h12l-6,8z\"/>\n",
+            Mark::Gone => "<path class=\"gone\" transform=\"translate(",
+            Mark::EndGone => ")\" d=\"M-8,-8L8,8M-8,8L8,-8\"/>\n",
+            Mark::Apostrophe => "'",
+        }
+    }
+}
