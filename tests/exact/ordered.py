@@ -1,6 +1,6 @@
 #!/usr/bin/env python3
 """Holds that on ordered tables safe is exact: random ordered tables, decided by condition.py, beside the fixed schedules of
-crates/kr_wrong, which the runner of tests/second runs, walks, and what kr_explain says.
+crates/kr_theorem, which the runner of tests/second runs, walks, and what kr_explain says.
 
     ordered.py [N [KR_EXPLAIN]]   N random ordered tables, 200 if nothing is said; always the same ones
 
@@ -38,7 +38,7 @@ WALKS = 150
 
 
 def is_ordered(table):
-    """Whether a table is ordered, from crates/kr_exact/specs/Ordered.antt."""
+    """Whether a table is ordered, from crates/kr_theorem/specs/Ordered.antt."""
     at_least = {(n, m) for n in table.with_none for m in table.with_none if is_at_least(table, n, m)}
     converted = ((table.convert(h, q), it) for h in table.with_none for q in table.with_none for it in (h, q))
     places = [(row, side) for row, sides in SIDES.items() for side in sides]
@@ -61,7 +61,7 @@ def asks_at_least(at_least, asked, lesser):
 
 
 def schedules(table):
-    """The fixed schedules of crates/kr_wrong/specs/Schedules.antt, each with the map that it begins with."""
+    """The fixed schedules of crates/kr_theorem/specs/Schedules.antt, each with the map that it begins with."""
     hit, key, miss, stop = ['fetch', 60], ['scan', 40, 60], ['fetch', 40], ['scan', 40, 40]
     changes = [['delete', 60], *([['update', 60, 7]] if table.updates else [])]
     for reads in hit, key:

@@ -5,8 +5,8 @@
 //! (`Flat`), so that one entry of it is changed in place.
 //!
 //! Proved is that the search is safe and ends. No contract says what the light machine answers or what the search finds: not
-//! that a script is found, nor that it is the shortest. So whoever shows a script tries it first by `tells_apart` of
-//! `kr_told_apart`, which runs it under both tables.
+//! that a script is found, nor that it is the shortest. So whoever shows a script tries it first by `tells_apart`,
+//! which runs it under both tables, and whose answer is exact.
 #![tactic(auto)]
 
 mod choice;

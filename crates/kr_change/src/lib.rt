@@ -1,5 +1,5 @@
 //! Changes of one entry of a table: a pair of modes that is compatible or not, a conversion, or a request. A protocol with
-//! one of them made, and all of them.
+//! one of them made, and all of them; and a change in words, and as an edit of the table's file.
 #![tactic(auto)]
 
 mod change;

@@ -1,6 +1,6 @@
 //! The decision: whether a locking protocol is safe. It finds all pairs of lock states that two transactions can have on one
 //! name, and whether each one's lock blocks what it has to keep out. Every run under a safe protocol is serializable in
-//! commit order.
+//! commit order. And whether a protocol is ordered: then, if it isn't safe, some run isn't serializable.
 #![tactic(auto)]
 
 mod absent;

@@ -1,5 +1,5 @@
 //! The relaxations of a table as a text: each with its edit of the table's file, and with a script that shows it; the entries that
-//! no schedule comes to; and what each change of an entry does.
+//! no schedule comes to; and what each change of an entry does. And a table in memory that answers as a protocol does.
 #![tactic(auto)]
 
 mod because;

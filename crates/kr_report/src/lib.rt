@@ -1,4 +1,5 @@
-//! The reports of checks, runs, verdicts and runs in several threads, as JSON on one line.
+//! The reports of checks, runs, verdicts and runs in several threads, as JSON on one line; and what a run of a script in several
+//! threads left out, and whether its history follows the script.
 #![tactic(auto)]
 
 mod check_reports;

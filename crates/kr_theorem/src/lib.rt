@@ -1,6 +1,7 @@
 //! The main theorem, over the definitions alone: every run under a safe protocol is serializable in commit order, with
-//! rollbacks taken whole or one change at a time, and a protocol is safe where all its cases hold; and laws of states,
-//! logs, runs and covers. Each function does nothing, and its contract is a law. `docs/HEADLINE.md` tells the proof.
+//! rollbacks taken whole or one change at a time, and a protocol is safe where all its cases hold; for ordered
+//! protocols safe is exact, since one that isn't safe goes wrong on one of some fixed schedules, and for others it isn't; and laws
+//! of states, logs, runs and covers. Each function does nothing, and its contract is a law. `docs/HEADLINE.md` tells the proof.
 #![tactic(auto)]
 
 ghost use Rattle.std.specs.Prelude.{◌≡◌, ℕ, IsTrue, Contains, map, List, Some, None, unwrap_or};

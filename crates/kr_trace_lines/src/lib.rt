@@ -1,4 +1,5 @@
-//! Traces of engines, line by line: read from JSON, and the line that is printed for a part.
+//! Traces of engines, line by line: replies as an engine gives them, and which of a table's they agree with; lines read from JSON,
+//! and the line that is printed for a part.
 #![tactic(auto)]
 
 mod deviation;

@@ -24,7 +24,7 @@ use std::alloc::Global;
 ///
 /// The page is HTML that stands alone. It has the name as its title and heading, and then tells whether the run is
 /// serializable. Behind that it has a band for each step that is drawn, in the order of the run, with the step's number, its
-/// transaction, its operation and its reply; all else is made of the parts of `kr_view_html`: no text of the table or the script is
+/// transaction, its operation and its reply; all else is made of the parts of `kr_view_scenes`: no text of the table or the script is
 /// markup. At most 200 steps and 60 names are drawn, the last ones, and the page says so. The only error is that a growth was
 /// refused.
 pub fn picture<P: Protocol>(

@@ -1,5 +1,6 @@
 //! What is shown of a run: a scene for each step, with the bars of its locks, the columns of its keys and the lengths of its
-//! drawing; and in words the steps, the answers and the commits.
+//! drawing; and in words the steps, the answers and the commits. And pages of HTML that are made of parts: of fixed marks, and of
+//! numbers and texts, which can't be markup.
 #![tactic(auto)]
 
 mod asked;

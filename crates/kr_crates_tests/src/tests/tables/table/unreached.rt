@@ -1,4 +1,4 @@
-//! The table of `examples/no-schedule/unreached.toml` is read as the one that `kr_exact` defines.
+//! The table of `examples/no-schedule/unreached.toml` is read as the one that `kr_theorem` defines.
 ghost use Rattle.std.specs.Prelude.{◌≡◌};
 ghost use Rattle.kr_theorem.specs.Unreached.{unreached};
 
