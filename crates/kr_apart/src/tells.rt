@@ -11,7 +11,7 @@ use std::alloc::Global;
 /// Whether a script tells two tables apart: from the opening map, whose keys rise strictly, all its replies but the last are
 /// granted and the same under both, and the last is granted under one of them and blocked under the other. The only fault is
 /// `Memory`: a growth was refused.
-#[tactic(auto, using(crate::proofs::Parts::told))]
+#[tactic(auto, using(crate::proofs::ScriptParts::told))]
 pub fn tells_apart<P: Protocol, Q: Protocol>(
     alloc: Global,
     one: &P,

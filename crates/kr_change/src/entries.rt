@@ -37,7 +37,7 @@ pub fn entry_text<P: Protocol>(
 
 /// The name of the entry that says whether a requested mode is compatible with another transaction's held one. The error is
 /// memory alone.
-#[tactic(auto, unfolding(crate::specs::Changes::pair_words))]
+#[tactic(auto, unfolding(crate::specs::ChangeNames::pair_words))]
 pub fn pair_text<P: Protocol>(
     alloc: Global,
     protocol: &P,
@@ -52,7 +52,7 @@ pub fn pair_text<P: Protocol>(
 }
 
 /// The name of the entry that says what a held mode and a requested one convert to. The error is memory alone.
-#[tactic(auto, unfolding(crate::specs::Changes::conversion_words))]
+#[tactic(auto, unfolding(crate::specs::ChangeNames::conversion_words))]
 pub fn conversion_text<P: Protocol>(
     alloc: Global,
     protocol: &P,
@@ -68,7 +68,7 @@ pub fn conversion_text<P: Protocol>(
 
 /// The name of the entry that says what a row requests at a side: with the own modes on the next name whose bits are set, 0 for
 /// no lock, or with all. The error is memory alone.
-#[tactic(auto, unfolding(crate::specs::Changes::place_words))]
+#[tactic(auto, unfolding(crate::specs::ChangeNames::place_words))]
 pub fn place_text<P: Protocol>(
     alloc: Global,
     protocol: &P,
@@ -116,7 +116,7 @@ pub(crate) fn own_text<P: Protocol>(
 }
 
 /// The name of a mode whose bit is set.
-#[tactic(auto, unfolding(crate::specs::Changes::own_word))]
+#[tactic(auto, unfolding(crate::specs::ChangeNames::own_word))]
 fn mode_text<P: Protocol>(
     alloc: Global,
     protocol: &P,

@@ -9,7 +9,7 @@ use kr_protocol::{Protocol, name_or_empty};
 use std::alloc::Global;
 
 /// The name of a change: which entry of the table it is of, and the value that the entry has then. The error is memory alone.
-#[tactic(auto, unfolding(crate::specs::Changes::change_words))]
+#[tactic(auto, unfolding(crate::specs::ChangeNames::change_words))]
 pub fn change_text<P: Protocol>(
     alloc: Global,
     protocol: &P,
@@ -43,7 +43,7 @@ fn yes_or_no(is_so: bool) -> &'static str
 }
 
 /// A request, or that nothing is requested.
-#[tactic(auto, unfolding(crate::specs::Changes::request_words))]
+#[tactic(auto, unfolding(crate::specs::ChangeNames::request_words))]
 fn request_text<P: Protocol>(
     alloc: Global,
     protocol: &P,
