@@ -38,6 +38,18 @@ pub laid_by_five : (s t u v w o x1 x2 x3 x4 x5 : List ℕ) → t ≡ s ++ x1 →
 laid_by_five s t u v w o x1 x2 x3 x4 x5 e1 e2 e3 e4 e5 =
     laid_by_three s t u o x1 x2 (x3 ++ (x4 ++ x5)) e1 e2 (laid_by_three u v w o x3 x4 x5 e3 e4 e5)
 
+-- The pieces of a lock are its text.
+pub conflict_is : (name holder mode since asked tested : List ℕ)
+    → (91 ∷ (name ++ 44 ∷ (holder ++ 44 ∷ (mode ++ 44 ∷ [])))) ++ ((since ++ 44 ∷ []) ++ (asked ++ 44 ∷ (tested ++ 93 ∷ [])))
+    ≡ 91 ∷ (name ++ 44 ∷ (holder ++ 44 ∷ (mode ++ 44 ∷ (since ++ 44 ∷ (asked ++ 44 ∷ (tested ++ 93 ∷ []))))))
+conflict_is name holder mode since asked tested =
+    let last : List ℕ = asked ++ 44 ∷ (tested ++ 93 ∷ []) in
+    let behind : List ℕ = (since ++ 44 ∷ []) ++ last in
+    ap (λ l. 91 ∷ l) (append_assoc name (44 ∷ (holder ++ 44 ∷ (mode ++ 44 ∷ []))) behind
+    ∙ ap (λ l. name ++ 44 ∷ l) (append_assoc holder (44 ∷ (mode ++ 44 ∷ [])) behind
+    ∙ ap (λ l. holder ++ 44 ∷ l) (append_assoc mode (44 ∷ []) behind
+    ∙ ap (λ l. mode ++ 44 ∷ l) (append_assoc since (44 ∷ []) last))))
+
 -- Whether there is one, seen through a reference or not.
 pub is_some-map : {A B : Type 0} (f : A → B) (o : Option A) → is_some o ≡ is_some (option_map f o)
 is_some-map f None = refl
