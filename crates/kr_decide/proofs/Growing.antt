@@ -21,7 +21,8 @@ use Rattle.kr_decide.specs.declared.pair.Way.TheVariants as way
 use Rattle.kr_decide.specs.declared.finding.Found.{Found}
 use Rattle.kr_decide.specs.Numbers.{pair_number}
 use Rattle.kr_decide.specs.Pairs.{no_pair, pair_at, IsMoved, IsWay, AreDerived}
-use Rattle.kr_decide.specs.Findings.{Has, left, IsFound, Grows}
+use Rattle.kr_decide.specs.declared.finding.Spot.{Spot}
+use Rattle.kr_decide.specs.Findings.{Has, left, IsFound, IsSpot, Grows}
 use Rattle.kr_decide.proofs.SameNumbers.{same_pair}
 
 -- What stands before stays, and is the same in the longer list.
@@ -198,3 +199,16 @@ found_none p f none unseen = record {
     all_true zero k = refl
     all_true (suc n) zero = refl
     all_true (suc n) (suc k) = all_true n k
+
+-- the modes of a spot are those of the protocol
+pub record AreModes (p : Protocol) (s : Spot) : Type 0 where
+  pub own : s.pair.own.mode ≤ p.count
+  pub other : s.pair.other.mode ≤ p.count
+  pub next : s.above.state.mode ≤ p.count
+
+pub modes_of : (p : Protocol) (f : Found) (s : Spot) → IsFound p f → IsSpot f.pairs.items s → AreModes p s
+modes_of p f s found is = record {
+  own = subst (λ (q : Pair). q.own.mode ≤ p.count) is.pair (found.own s.from);
+  other = subst (λ (q : Pair). q.other.mode ≤ p.count) is.pair (found.other s.from);
+  next = subst (λ (x : LockState). x.mode ≤ p.count) is.above.state (found.own s.above.place);
+}

@@ -1,4 +1,4 @@
-use Rattle.std.proofs.Common.{◌≡◌, ◌≤◌, rules, sym, subst}
+use Rattle.std.proofs.Common.{◌≡◌, ◌≤◌, rules, true, arith, sym, subst}
 use Rattle.kr_model.specs.declared.LockState.{LockState}
 use Rattle.kr_model.specs.declared.Side.TheVariants.{Current}
 use Rattle.kr_model.specs.Safe.{free, Beside}
@@ -37,3 +37,21 @@ loop-at-preserved g c =
       marks = one_next_more p _ _ nexts c.loop-at.at c.args.row c.args.own c.args.other c.add_request.ensures.adds c.loop-at.invariant.marks
           (subst (λ (q : Above). MarksAt p c.add_request.new.self c.args.row Current c.args.own c.args.other q.state) (sym read) c.add_request.ensures.marks);
     }
+
+pub may_beside-requires : goal.may_beside-requires
+may_beside-requires g c = c.requires.other
+
+pub loop-at-init : goal.loop-at-init
+loop-at-init g c = record {
+  adds = record { sound = c.requires.sound; tested = λ a h e. e; asked = λ h m e. e };
+  marks = λ j below asks beside m span e. absurd (omega arith);
+}
+
+pub returns-then-not-may_beside-clause-marks : goal.returns-then-not-may_beside-clause-marks
+returns-then-not-may_beside-clause-marks g c = λ j below asks beside m span e. let yes : c.may_beside.result ≡ true = c.may_beside.ensures.1 beside in absurd cc
+
+pub returns : goal.returns
+returns g c = record {
+  adds = c.loop-at.invariant.adds;
+  marks = λ j below. c.loop-at.invariant.marks j (omega (arith, c.loop-at-test.false, c.len-at-end.ensures));
+}

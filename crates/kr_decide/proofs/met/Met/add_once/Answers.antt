@@ -39,3 +39,9 @@ returns-clause-done g c =
       deletes = c.add_nexts.ensures.marks;
     })
     (ap (λ (n : ℕ). set c.args.done.now.items n true) at.value)
+
+pub add_plain-requires : goal.add_plain-requires
+add_plain-requires g c = record { sound = c.requires.sound; own = c.requires.own; other = c.requires.other; beside = c.requires.beside }
+
+pub add_nexts-requires : goal.add_nexts-requires
+add_nexts-requires g c = record { sound = (let adds = c.add_plain.ensures.adds in adds.sound); going = c.requires.going; own = c.requires.own; other = c.requires.other; beside = c.requires.beside }
