@@ -22,7 +22,7 @@ use std::io::{Error, ErrorKind};
 pub const SCRIPT_BYTES: usize = 16_777_217;
 
 /// Why a file isn't read.
-#[derive(Clone, Copy, PartialEq, Eq)]
+#[derive(Clone, Copy, Debug, PartialEq, Eq)]
 pub enum FileFault {
     /// There is no such file.
     Missing,
