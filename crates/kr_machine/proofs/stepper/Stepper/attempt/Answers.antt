@@ -1,4 +1,5 @@
-use Rattle.std.proofs.Common.{◌≡◌, ap, sym, ◌∙◌, subst, None, Some, inl, option_map, option_copied, unwrap_or}
+use Rattle.std.proofs.Common.{◌≡◌, ap, sym, ◌∙◌, subst, None, Some, inl, option_map, option_copied, unwrap_or, arith}
+use Rattle.std.proofs.lemmas.Grind.{common_steps}
 use mathlib.Core.Bool.{false≢true}
 use Rattle.std.specs.Ordering.{nat_cmp}
 use Rattle.std.specs.FinMap.{find}
@@ -60,3 +61,21 @@ returns-in-Ok-reserve-clause-reply g c =
     ∙ ap (λ x. reply_of m (rows_of x) c.in-Some.attempt) scan
     ∙ granted_reply p s c.args.txn c.args.touch c.in-Some.attempt c.plan-plan.result allowed asks c.plan-plan.ensures.plan (c.granted.ensures.0 c.if-not-granted.false)
     ∙ ap (λ x. (step p x c.args.txn (op_of_touch c.args.touch)).0) same ∙ ap (λ v. (step (g.P.Protocol.table v.protocol) c.args.self.now.state c.args.txn (op_of_touch c.args.touch)).0) c.self.view_is
+
+pub returns-in-Err-clause-refusal : goal.returns-in-Err-clause-refusal
+returns-in-Err-clause-refusal g c = grind (arith, common_steps)
+
+pub returns-in-Err-reply_to-clause-refusal : goal.returns-in-Err-reply_to-clause-refusal
+returns-in-Err-reply_to-clause-refusal g c = grind (arith, common_steps)
+
+pub reserve-requires-clause-at_rest : goal.reserve-requires-clause-at_rest
+reserve-requires-clause-at_rest g c = grind (arith, common_steps)
+
+pub returns-in-Ok-reserve-clause-waits : goal.returns-in-Ok-reserve-clause-waits
+returns-in-Ok-reserve-clause-waits g c = grind (arith, common_steps)
+
+pub returns-in-Err-reserve-clause-refusal : goal.returns-in-Err-reserve-clause-refusal
+returns-in-Err-reserve-clause-refusal g c = grind (arith, common_steps)
+
+pub returns-in-Err-reserve-clause-err : goal.returns-in-Err-reserve-clause-err
+returns-in-Err-reserve-clause-err g c = grind (arith, common_steps)

@@ -1,4 +1,4 @@
-use Rattle.std.proofs.Common.{arith}
+use Rattle.std.proofs.Common.{arith, rules}
 use Rattle.std.proofs.lemmas.Grind.{common_steps}
 use Rattle.kr_machine.proofs.stepper.Stepper.ready.Goals as goal
 
@@ -16,3 +16,9 @@ returns-in-Some-clause-waits g c = grind (arith, common_steps)
 
 pub returns-in-Some-clause-allowed : goal.returns-in-Some-clause-allowed
 returns-in-Some-clause-allowed g c = grind (arith, common_steps)
+
+pub returns-in-End-clause-allowed : goal.returns-in-End-clause-allowed
+returns-in-End-clause-allowed g c = search rules
+
+pub returns-in-Touch-clause-allowed : goal.returns-in-Touch-clause-allowed
+returns-in-Touch-clause-allowed g c = search rules
