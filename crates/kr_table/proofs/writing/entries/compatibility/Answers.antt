@@ -4,3 +4,9 @@ use Rattle.kr_table.proofs.writing.entries.compatibility.Goals as goal
 
 pub loop-requested-preserved : goal.loop-requested-preserved
 loop-requested-preserved c = grind (arith, common_steps)
+
+pub loop-requested-init : goal.loop-requested-init
+loop-requested-init c = grind (arith, common_steps)
+
+pub returns : goal.returns
+returns c = grind (arith, common_steps)

@@ -1,0 +1,15 @@
+use Rattle.std.proofs.Common.{arith}
+use Rattle.std.proofs.lemmas.Grind.{common_steps}
+use Rattle.kr_table.proofs.walk.matrices.test_missing_of.Goals as goal
+
+pub loop-requested-init : goal.loop-requested-init
+loop-requested-init c = grind (arith, common_steps)
+
+pub returns-then-not-has_pair : goal.returns-then-not-has_pair
+returns-then-not-has_pair c = grind (arith, common_steps)
+
+pub loop-requested-preserved : goal.loop-requested-preserved
+loop-requested-preserved c = grind (arith, common_steps)
+
+pub returns : goal.returns
+returns c = grind (arith, common_steps)
