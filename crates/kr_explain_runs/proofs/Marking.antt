@@ -1,21 +1,39 @@
 -- The marked steps of a script.
-use Rattle.std.specs.Prelude.{◌≡◌, ◌≢◌, ◌<◌, ◌+◌, ◌⊎◌, ℕ, Some}
-use Rattle.std.proofs.Common.{ap, sym, ◌∙◌, subst, inl, inr, arith}
+use Rattle.std.specs.Prelude.{◌≡◌, ◌≢◌, ◌<◌, ◌+◌, ◌⊎◌, ℕ, List, Some, option_and_then, option_map, slice_get, take}
+use Rattle.std.proofs.Common.{ap, sym, ◌∙◌, subst, refl, inl, inr, length, get_or, arith}
+use Rattle.std.proofs.lemmas.Option.{slice_get_read}
 use Rattle.kr_model.specs.declared.Cover.{Cover}
+use Rattle.kr_model.specs.declared.Event.{Event}
 use Rattle.kr_model.specs.declared.FailedCase.{FailedCase}
 use Rattle.kr_model.specs.declared.Name.{Name}
 use Rattle.kr_model.specs.declared.Side.{Side}
 use Rattle.kr_model.specs.Locks.{own}
+use Rattle.kr_model.specs.Map.{Map}
 use Rattle.kr_model.specs.Plan.{access}
 use Rattle.kr_model.specs.Protocol.{Protocol}
+use Rattle.kr_serial.specs.Ran.{IsRanUnder}
+use Rattle.kr_serial.specs.declared.ran.Ran.{Ran}
 use Rattle.kr_explain_runs.specs.declared.counterexample.Counterexample.{Counterexample}
 use Rattle.kr_explain_runs.specs.declared.fit.Fit.{Fit}
 use Rattle.kr_explain_runs.specs.declared.fit.Fit.TheVariants as fit
 use Rattle.kr_explain_runs.specs.declared.marks.Marks.{Marks}
 use Rattle.kr_explain_runs.specs.declared.moment.Moment.{Moment}
-use Rattle.kr_explain_runs.specs.Marks.{AreMarked, IsAside, IsCasesLock, IsChanged, IsTaken, Takes, access_at, mode_before}
+use Rattle.kr_explain_runs.specs.Marks.{AreMarked, IsAside, IsCasesLock, IsChanged, IsTaken, Takes, access_at, mode_before, state_before}
 use Rattle.kr_explain_runs.specs.Moments.{AreAside, AreMarksOf, IsLetIn, IsMoment, IsMomentAt}
-use Rattle.kr_explain_runs.specs.Requests.{IsOn, IsRequestOf, name_at, txn_at}
+use Rattle.kr_explain_runs.specs.Requests.{IsOn, IsRequestOf, access_in, name_at, txn_at}
+
+-- The moment of a step --
+
+-- the step at its place, after the run of those before it, where the script was read by slices
+pub moment_of : (p : Protocol) (c : Counterexample) (m : Moment) (e : Event) (ran : Ran) (opening index : Map) (events : List Event) → opening ≡ c.opening.items → events ≡ c.events.items → index ≡ ran.index → m.place < length events → e ≡ get_or events m.place e → IsRanUnder p opening (take m.place events) ran → Some (access m.access.0 m.access.1 m.access.2) ≡ access_in index e.op → e.txn ≡ m.txn → m.locks ≡ ran.locks → IsMoment p c m
+moment_of p c m e ran opening index events same_opening same_events same_index low at under is same_txn same_locks =
+    let here : slice_get c.events.items m.place ≡ Some e = subst (λ (es : List Event). slice_get es m.place ≡ Some e) same_events (slice_get_read events _ m.place e refl low at) in
+    let ran_there : IsRanUnder p c.opening.items (take m.place c.events.items) ran = subst (λ (es : List Event). IsRanUnder p c.opening.items (take m.place es) ran) same_events (subst (λ (o : Map). IsRanUnder p o (take m.place events) ran) same_opening under) in
+    record {
+      txn = ap (option_map (λ (e : Event). e.txn)) here ∙ ap Some same_txn;
+      access = ap (option_and_then (λ (e : Event). access_in (let s = state_before p c.opening.items c.events.items m.place in s.map) e.op)) here ∙ subst (λ (i : Map). access_in i e.op ≡ Some (access m.access.0 m.access.1 m.access.2)) (same_index ∙ ran_there.index) (sym is);
+      locks = same_locks ∙ ran_there.locks;
+    }
 
 -- Steps between the marked ones --
 

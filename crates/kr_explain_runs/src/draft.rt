@@ -1,6 +1,7 @@
 //! Scripts up to where the intruder comes through.
 ghost use Rattle.std.specs.Prelude.{IfOk, IfSome};
 ghost use Rattle.kr_explain_runs.specs.Marks.{IsShown};
+ghost use Rattle.kr_theorem.specs.Wrong.{GoesWrong};
 
 use crate::counterexample::Counterexample;
 use crate::ending::Ending;
@@ -12,7 +13,7 @@ use crate::marks::are_marked;
 use crate::numbers::Numbers;
 use crate::step::{Actor, Step};
 use kr_cases::Memory;
-use kr_model::{Event, FailedCase, Op};
+use kr_model::{Event, FailedCase, Op, Txn};
 use kr_protocol::Protocol;
 use std::alloc::{AllocError, Global};
 
@@ -61,13 +62,13 @@ impl Draft {
         })
     }
 
-    /// The events of the script with this ending, by these numbers.
+    /// The events of the script with this ending, and who is the third in it.
     fn events(
         &self,
         alloc: Global,
-        numbers: &mut Numbers,
         ending: Ending,
-    ) -> Result<Vec<Event>, AllocError> {
+    ) -> Result<(Vec<Event>, Option<Txn>), AllocError> {
+        let mut numbers = Numbers::new(alloc);
         let mut events = Vec::new(alloc);
         for step in self.steps.iter() {
             numbers.put(&mut events, *step)?;
@@ -78,7 +79,41 @@ impl Draft {
         for (by, op) in last {
             numbers.put(&mut events, Step { by: *by, op: *op })?;
         }
-        Ok(events)
+        Ok((events, numbers.given(Actor::Third)))
+    }
+
+    /// The script with an ending by this entrance, if it goes wrong. The only fault is that a growth was refused.
+    fn wrong<P: Protocol>(
+        &self,
+        alloc: Global,
+        protocol: &P,
+        entrance: Entrance,
+    ) -> Result<Option<Counterexample>, Memory>
+        ensures { IfOk result (λ found. IfSome found (λ c. GoesWrong (P.table protocol.now) c.opening.items c.events.items)) }
+    {
+        let (row, side, ending) = entrance;
+        let (events, third) = self.events(alloc, ending)?;
+        let opening = self.opening.to_vec(alloc)?;
+        if !goes_wrong(alloc, protocol, &opening, &events)? {
+            return Ok(None);
+        }
+        let (weak, let_in) = (self.weak, self.steps.len());
+        let (Some(own), Some(through)) = (events.get(weak), events.get(let_in)) else {
+            return Ok(None);
+        };
+        let (holder, intruder) = (own.txn, through.txn);
+        Ok(Some(Counterexample {
+            opening,
+            events,
+            row,
+            side,
+            ending,
+            weak,
+            let_in,
+            holder,
+            intruder,
+            third,
+        }))
     }
 
     /// The script with an ending by this entrance, made from a case, if it goes wrong, and its marks are those of its run. The
@@ -93,30 +128,8 @@ impl Draft {
     ) -> Result<Option<Counterexample>, Memory>
         ensures { IfOk result (λ found. IfSome found (IsShown (P.table protocol.now) case.now fit)) }
     {
-        let (row, side, ending) = entrance;
-        let mut numbers = Numbers::new(alloc);
-        let events = self.events(alloc, &mut numbers, ending)?;
-        let opening = self.opening.to_vec(alloc)?;
-        if !goes_wrong(alloc, protocol, &opening, &events)? {
+        let Some(script) = self.wrong(alloc, protocol, entrance)? else {
             return Ok(None);
-        }
-        let (weak, let_in) = (self.weak, self.steps.len());
-        let (Some(own), Some(through)) = (events.get(weak), events.get(let_in)) else {
-            return Ok(None);
-        };
-        let (holder, intruder) = (own.txn, through.txn);
-        let third = numbers.given(Actor::Third);
-        let script = Counterexample {
-            opening,
-            events,
-            row,
-            side,
-            ending,
-            weak,
-            let_in,
-            holder,
-            intruder,
-            third,
         };
         if are_marked(alloc, protocol, case, fit, &script)? {
             Ok(Some(script))

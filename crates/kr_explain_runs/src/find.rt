@@ -50,10 +50,9 @@ impl<P: Protocol> Finder<'_, P> {
     ) -> Result<Option<Counterexample>, Memory>
         ensures { IfOk result (λ found. IfSome found (IsShown (P.table self.now.table.protocol.now) self.now.case.now fit.Case)) }
     {
-        let mut open = self.open_entrances(self.case.mode)?;
-        open.sort_by_key(|(row, side, _)| prefer != Some((*row, *side)))?;
         for way in ways {
-            let found = self.first_ended(&self.draft(*way)?, &open, runs_left)?;
+            let draft = self.draft(*way)?;
+            let found = self.first_ended(&draft, self.case.mode, prefer, runs_left)?;
             if found.is_some() {
                 return Ok(found);
             }
@@ -94,10 +93,9 @@ impl<P: Protocol> Finder<'_, P> {
     {
         for moved in moves {
             if let Some(op) = self.weakens(state, *moved) {
-                let open = self.open_entrances(moved.to.on_a)?;
                 let mut draft = self.draft(way)?;
                 draft.go_on(op)?;
-                let found = self.first_ended(&draft, &open, runs_left)?;
+                let found = self.first_ended(&draft, moved.to.on_a, None, runs_left)?;
                 if found.is_some() {
                     return Ok(found);
                 }

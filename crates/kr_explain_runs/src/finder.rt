@@ -13,7 +13,7 @@ use crate::reached::Reached;
 use crate::scripts::{opening_of, script_to};
 use crate::table::Table;
 use kr_cases::Memory;
-use kr_model::{FailedCase, Mode, Op};
+use kr_model::{FailedCase, Mode, Op, Row, Side};
 use kr_protocol::Protocol;
 use std::alloc::Global;
 
@@ -62,18 +62,9 @@ impl<P: Protocol> Finder<'_, P> {
         Ok(draft)
     }
 
-    /// The entrances of the case's cover that a requester without modes comes through beside a mode, in the cover's order.
-    pub(crate) fn open_entrances(&self, mode: Mode) -> Result<Vec<Entrance>, Memory> {
-        let mut open = Vec::new(self.alloc);
-        for entrance in entrances(self.case.cover) {
-            let (row, side, _) = *entrance;
-            if self.table.offers(self.case.cover, row)
-                && self.table.is_open(row, side, 0, 0, mode)
-            {
-                open.push(*entrance)?;
-            }
-        }
-        Ok(open)
+    /// Whether a requester without modes comes through at a row and a side beside a mode.
+    fn is_open(&self, row: Row, side: Side, mode: Mode) -> bool {
+        self.table.offers(self.case.cover, row) && self.table.is_open(row, side, 0, 0, mode)
     }
 
     /// The draft with the ending of an entrance, if that goes wrong and there are runs left for the case.
@@ -98,19 +89,26 @@ impl<P: Protocol> Finder<'_, P> {
         )
     }
 
-    /// The draft with the first of these endings that goes wrong.
+    /// The draft with the first ending that goes wrong, of those by an entrance of the case's cover that a requester without
+    /// modes comes through beside a mode: the preferred entrance first, and else in the cover's order.
     pub(crate) fn first_ended(
         &self,
         draft: &Draft,
-        open: &[Entrance],
+        mode: Mode,
+        prefer: Option<(Row, Side)>,
         runs_left: &mut usize,
     ) -> Result<Option<Counterexample>, Memory>
         ensures { IfOk result (λ found. IfSome found (IsShown (P.table self.now.table.protocol.now) self.now.case.now fit.Case)) }
     {
-        for entrance in open {
-            let found = self.ended(draft, *entrance, runs_left)?;
-            if found.is_some() {
-                return Ok(found);
+        for is_preferred in [true, false] {
+            for entrance in entrances(self.case.cover) {
+                let (row, side, _) = *entrance;
+                if (prefer == Some((row, side))) == is_preferred && self.is_open(row, side, mode) {
+                    let found = self.ended(draft, *entrance, runs_left)?;
+                    if found.is_some() {
+                        return Ok(found);
+                    }
+                }
             }
         }
         Ok(None)

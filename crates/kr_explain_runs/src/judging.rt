@@ -11,7 +11,6 @@ use kr_serial::{Ran, is_map, judge, run_any};
 use std::alloc::Global;
 
 /// Whether the script goes wrong under the table. The only fault is that a growth was refused.
-#[tactic(auto, using(crate::proofs::Judged::wrong_ran))]
 pub(crate) fn goes_wrong<P: Protocol>(
     alloc: Global,
     protocol: &P,

@@ -9,7 +9,7 @@ use crate::leading::own;
 use kr_cases::Memory;
 use kr_model::{Mode, Name, Txn};
 use kr_protocol::Protocol;
-use kr_serial::{Triples, run_any};
+use kr_serial::{Ran, Triples, run_any};
 use std::alloc::Global;
 
 /// A step of a script that requests locks: who takes it, what it requests, and the locks that are held before it.
@@ -46,15 +46,20 @@ pub(crate) fn moment_at<P: Protocol>(
         return Ok(None);
     };
     let ran = run_any(alloc, protocol, opening, &events[..place])?;
-    let access = access_in(ran.index.as_slice(), event.op);
-    let locks = ran.locks;
-    match access {
-        Some(access) => Ok(Some(Moment {
-            place,
-            locks,
-            txn: event.txn,
-            access,
-        })),
-        None => Ok(None),
-    }
+    let Some(access) = access_in(ran.index.as_slice(), event.op) else {
+        return Ok(None);
+    };
+    Ok(Some(Moment {
+        place,
+        locks: locks_of(ran),
+        txn: event.txn,
+        access,
+    }))
+}
+
+/// The locks that a run leaves.
+fn locks_of(ran: Ran) -> Triples
+    ensures { result ≡ ran.locks }
+{
+    ran.locks
 }

@@ -18,6 +18,16 @@ pub(crate) const READS: [Request; 5] = [
     (Row::Update, Side::Current),
 ];
 
+/// Those requests, and then the delete of the key before a name.
+pub(crate) const REQUESTS: [Request; 6] = [
+    (Row::FetchHit, Side::Current),
+    (Row::FetchMiss, Side::Next),
+    (Row::ScanKey, Side::Current),
+    (Row::ScanStop, Side::Next),
+    (Row::Update, Side::Current),
+    TAKE,
+];
+
 /// The keys of a step: the name that its lock is on, a free point in the gap below that name, and the key before it.
 #[derive(Clone, Copy)]
 pub(crate) struct Spot {

@@ -1,6 +1,6 @@
 //! What leads from scene to scene.
 
-use crate::request::{READS, Request, TAKE};
+use crate::request::{REQUESTS, Request, TAKE};
 use crate::scene::Scene;
 use crate::table::Table;
 use kr_decide::{FREE, keeps_out};
@@ -59,7 +59,7 @@ fn turns_of<P: Protocol>(
     found: &mut Vec<Turned>,
 ) -> Result<(), AllocError> {
     let seen = from.seen_by(by_second);
-    for request in READS.iter().chain([TAKE].iter()) {
+    for request in &REQUESTS {
         let (row, side) = *request;
         if !keeps_out(seen.second, row, side)
             && table.lets_in_at(*request, seen.first, FREE, seen.second)
@@ -87,7 +87,7 @@ fn turns_on_a<P: Protocol>(
     if !from.has_a() {
         return Ok(());
     }
-    for request in READS.iter().chain([TAKE].iter()) {
+    for request in &REQUESTS {
         if let Some(first) = moved(table, *request, from.first) {
             let by = Turn {
                 by_second: false,
@@ -137,7 +137,7 @@ fn turns_on_y<P: Protocol>(
     from: Scene,
     found: &mut Vec<Turned>,
 ) -> Result<(), AllocError> {
-    for request in READS.iter().chain([TAKE].iter()) {
+    for request in &REQUESTS {
         let takes = *request == TAKE;
         if !(takes && from.has_a()) {
             if let Some(above) = moved(table, *request, from.above) {
