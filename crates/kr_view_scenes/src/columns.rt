@@ -30,25 +30,85 @@ pub fn keys_that_may_return(
     steps: &[Event],
     replies: &[Reply],
 ) -> Result<Vec<u64>, Memory> {
-    let mut deleted = BTreeSet::new(alloc);
-    let mut active = BTreeSet::new(alloc);
+    let mut deleted = Deleted {
+        keys: BTreeSet::new(alloc),
+        active: BTreeSet::new(alloc),
+    };
     for (step, reply) in steps.iter().zip(replies.iter()) {
-        match (step.op, reply) {
-            (_, Reply::Committed | Reply::Aborted) => {
-                active.remove(&step.txn);
+        deleted.note(*step, reply)?;
+    }
+    deleted.of_active(alloc)
+}
+
+/// The keys that transactions have deleted, and which transactions that have deleted any haven't ended.
+#[derive(Drop)]
+struct Deleted {
+    keys: BTreeSet<(Txn, u64)>,
+    active: BTreeSet<Txn>,
+}
+
+impl Deleted {
+    /// Takes note of a step and its reply.
+    fn note(&mut self, step: Event, reply: &Reply) -> Result<(), Memory> {
+        match reply {
+            Reply::Committed | Reply::Aborted => {
+                self.active.remove(&step.txn);
             }
-            (Op::Delete(key), Reply::Deleted(_)) => {
-                active.insert(step.txn)?;
-                deleted.insert((step.txn, key))?;
+            Reply::Deleted(_) => {
+                if let Op::Delete(key) = step.op {
+                    self.active.insert(step.txn)?;
+                    self.keys.insert((step.txn, key))?;
+                }
             }
             _ => {}
         }
+        Ok(())
     }
-    let mut keys = Vec::new(alloc);
-    for (txn, key) in &deleted {
-        if active.contains(txn) {
-            keys.push(*key)?;
+
+    /// The keys of the transactions that haven't ended.
+    fn of_active(&self, alloc: Global) -> Result<Vec<u64>, Memory> {
+        let mut keys = Vec::new(alloc);
+        for (txn, key) in &self.keys {
+            if self.active.contains(txn) {
+                keys.push(*key)?;
+            }
         }
+        Ok(keys)
+    }
+}
+
+/// Adds the keys of these pairs, of the names that are locked, of what these steps name, and those that may return.
+fn add_keys(
+    names: &mut BTreeSet<u64>,
+    pairs: &[(u64, u64)],
+    locks: &[((Name, Txn), Mode)],
+    steps: &[Event],
+    back: &[u64],
+) -> Result<(), Memory> {
+    for (key, _) in pairs {
+        names.insert(*key)?;
+    }
+    for ((name, _), _) in locks {
+        if let Name::Key(key) = name {
+            names.insert(*key)?;
+        }
+    }
+    for step in steps {
+        if let Some(key) = key_of(step.op) {
+            names.insert(key)?;
+        }
+    }
+    for key in back {
+        names.insert(*key)?;
+    }
+    Ok(())
+}
+
+/// The keys behind so many, rising.
+fn keys_behind(alloc: Global, names: &BTreeSet<u64>, hidden: usize) -> Result<Vec<u64>, Memory> {
+    let mut keys = Vec::new(alloc);
+    for key in names.iter().skip(hidden) {
+        keys.push(*key)?;
     }
     Ok(keys)
 }
@@ -64,27 +124,9 @@ impl Columns {
         back: &[u64],
     ) -> Result<Columns, Memory> {
         let mut names = BTreeSet::new(alloc);
-        for (key, _) in pairs {
-            names.insert(*key)?;
-        }
-        for ((name, _), _) in locks {
-            if let Name::Key(key) = name {
-                names.insert(*key)?;
-            }
-        }
-        for step in steps {
-            if let Some(key) = key_of(step.op) {
-                names.insert(key)?;
-            }
-        }
-        for key in back {
-            names.insert(*key)?;
-        }
+        add_keys(&mut names, pairs, locks, steps, back)?;
         let hidden = names.len().saturating_sub(NAMES_DRAWN - 1);
-        let mut keys = Vec::new(alloc);
-        for key in names.iter().skip(hidden) {
-            keys.push(*key)?;
-        }
+        let keys = keys_behind(alloc, &names, hidden)?;
         Ok(Columns { keys, hidden })
     }
 

@@ -1,5 +1,5 @@
 //! A step as its band shows it: what it was, and the keys and locks that it left.
-ghost use Rattle.std.specs.Prelude.{◌≡◌, IfOk};
+ghost use Rattle.std.specs.Prelude.{◌≡◌};
 
 use crate::asked::Asked;
 use crate::bar::{Bar, push_asked, push_held};
@@ -77,6 +77,14 @@ pub struct Scene {
     pub asked: Vec<Asked>,
 }
 
+/// What the scene of a step shows beside the step and its reply.
+#[derive(Drop)]
+pub(crate) struct Shown {
+    keys: Vec<KeyState>,
+    bars: Vec<Bar>,
+    asked: Vec<Asked>,
+}
+
 /// The map and the locks that a step finds or leaves.
 #[derive(Clone, Copy)]
 pub(crate) struct Standing<'a> {
@@ -89,53 +97,21 @@ pub(crate) struct Standing<'a> {
 
 impl Scene {
     /// The scene of a step that was answered so.
-    pub(crate) fn new<P: Protocol>(
-        alloc: Global,
-        protocol: &P,
-        columns: &Columns,
-        step: (u64, Event, Reply),
-        standing: Standing<'_>,
-        asked: Vec<Asked>,
-    ) -> Result<Scene, Memory>
-        ensures number { IfOk result (λ scene. scene.number ≡ step.0) }
-        ensures event { IfOk result (λ scene. scene.event ≡ step.1) }
-        ensures reply { IfOk result (λ scene. scene.reply ≡ step.2) }
+    pub(crate) fn new(number: u64, event: Event, reply: Reply, shown: Shown) -> Scene
+        ensures number { result.number ≡ number }
+        ensures event { result.event ≡ event }
+        ensures reply { result.reply ≡ reply }
     {
-        let (number, event, reply) = step;
-        let touched = match &reply {
-            Reply::Going(key) => Some(*key),
-            _ => key_of(event.op),
-        };
-        let keys = states_of(alloc, columns, touched, standing)?;
-        let mut bars = Vec::new(alloc);
-        let requests = asked.as_slice();
-        push_held(
-            alloc,
-            protocol,
-            columns,
-            keys.as_slice(),
-            standing.locks,
-            requests,
-            &mut bars,
-        )?;
-        push_asked(
-            alloc,
-            protocol,
-            columns,
-            keys.as_slice(),
-            event.txn,
-            requests,
-            &mut bars,
-        )?;
-        Ok(Scene {
+        let Shown { keys, bars, asked } = shown;
+        Scene {
             number,
             event,
+            touched: touched_by(event, &reply),
             reply,
-            touched,
             keys,
             bars,
             asked,
-        })
+        }
     }
 
     /// Whether something is told below the value of a key.
@@ -147,6 +123,51 @@ impl Scene {
         }
         false
     }
+}
+
+/// The key that a step names which was answered so.
+fn touched_by(event: Event, reply: &Reply) -> Option<u64> {
+    match reply {
+        Reply::Going(key) => Some(*key),
+        _ => key_of(event.op),
+    }
+}
+
+/// What is shown of a step that was answered so, and that requested this.
+pub(crate) fn shown_of<P: Protocol>(
+    alloc: Global,
+    protocol: &P,
+    columns: &Columns,
+    step: (Event, &Reply),
+    standing: Standing<'_>,
+    asked: Vec<Asked>,
+) -> Result<Shown, Memory> {
+    let (event, reply) = step;
+    let keys = states_of(alloc, columns, touched_by(event, reply), standing)?;
+    let bars = bars_of(
+        alloc,
+        protocol,
+        (columns, keys.as_slice()),
+        standing.locks,
+        event.txn,
+        asked.as_slice(),
+    )?;
+    Ok(Shown { keys, bars, asked })
+}
+
+/// The bars of a step of this transaction, which requested this and left these locks.
+fn bars_of<P: Protocol>(
+    alloc: Global,
+    protocol: &P,
+    (columns, keys): (&Columns, &[KeyState]),
+    locks: &[((Name, Txn), Mode)],
+    txn: Txn,
+    asked: &[Asked],
+) -> Result<Vec<Bar>, Memory> {
+    let mut bars = Vec::new(alloc);
+    push_held(alloc, protocol, columns, keys, locks, asked, &mut bars)?;
+    push_asked(alloc, protocol, columns, keys, txn, asked, &mut bars)?;
+    Ok(bars)
 }
 
 /// The value at a key of some pairs.

@@ -9,7 +9,7 @@ ghost use Rattle.kr_view_scenes.specs.Scenes.{step_of, drawn_steps};
 use crate::asked::Scans;
 use crate::columns::{Columns, keys_that_may_return};
 use crate::run::STEPS_DRAWN;
-use crate::scene::{Scene, Standing};
+use crate::scene::{Scene, Shown, Standing, shown_of};
 use kr_index::{Ordered, Tree};
 use kr_locks::{Buckets, Holdings, Memory};
 use kr_machine::Machine;
@@ -167,29 +167,29 @@ fn scene_of<P: Protocol, I: Ordered, L: Holdings>(
     if matches!(reply, Reply::Refused(Refusal::Memory)) {
         return Err(AllocError);
     }
-    scene_left(
+    let shown = shown_left(
         alloc,
         protocol,
         &*machine,
         before.as_slice(),
-        (number, event, reply),
+        (event, &reply),
         columns,
         scans,
-    )
+    )?;
+    Ok(Scene::new(number, event, reply, shown))
 }
 
-/// The scene of a step that a machine has done, from these pairs on.
-fn scene_left<P: Protocol, I: Ordered, L: Holdings>(
+/// What is shown of a step that a machine has done, from these pairs on.
+fn shown_left<P: Protocol, I: Ordered, L: Holdings>(
     alloc: Global,
     protocol: &P,
     machine: &Machine<&P, I, L>,
     before: &[(u64, u64)],
-    step: (u64, Event, Reply),
+    step: (Event, &Reply),
     columns: &Columns,
     scans: &mut Scans,
-) -> Result<Scene, Memory>
+) -> Result<Shown, Memory>
     requires { machine.now.pending ≡ None }
-    ensures { IfOk result (λ scene. step_of scene ≡ (step.0, (step.1, step.2))) }
 {
     let after = machine.index()?;
     let locks = machine.locks()?;
@@ -203,8 +203,8 @@ fn scene_left<P: Protocol, I: Ordered, L: Holdings>(
         protocol,
         standing.after,
         standing.locks,
+        step.0,
         step.1,
-        &step.2,
     )?;
-    Scene::new(alloc, protocol, columns, step, standing, asked)
+    shown_of(alloc, protocol, columns, step, standing, asked)
 }
