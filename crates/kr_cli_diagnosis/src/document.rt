@@ -60,13 +60,26 @@ impl Document<'_> {
         }
     }
 
-    /// The names of the modes, as far as they are texts.
-    pub fn modes(&self, alloc: Global) -> Result<Vec<&str>, AllocError> {
+    /// Whether a mode has this name.
+    pub fn has_mode(&self, name: &str) -> bool {
+        for item in self.mode_list() {
+            if item.as_str() == Some(name) {
+                return true;
+            }
+        }
+        false
+    }
+
+    /// The names of the modes, as far as they are texts, and "none" behind them where that may stand there too.
+    pub fn modes(&self, alloc: Global, or_none: bool) -> Result<Vec<&str>, AllocError> {
         let mut names = Vec::new(alloc);
         for item in self.mode_list() {
             if let Some(name) = item.as_str() {
                 names.push(name)?;
             }
+        }
+        if or_none {
+            names.push("none")?;
         }
         Ok(names)
     }

@@ -97,11 +97,13 @@ pub fn print_said(
 /// A text, of which a part is shown where it is very long.
 fn cut_short(alloc: Global, text: &str) -> Result<String, AllocError> {
     let mut short = String::new(alloc);
-    for (i, c) in text.chars().enumerate() {
-        if i >= MOST {
+    let mut left = MOST;
+    for c in text.chars() {
+        if left == 0 {
             short.push_str(" ..")?;
             break;
         }
+        left -= 1;
         short.push(c)?;
     }
     Ok(short)
@@ -150,15 +152,17 @@ fn did_you_mean(alloc: Global, name: &str) -> Result<String, AllocError> {
 
 /// The names of which one was expected.
 fn one_of(alloc: Global, names: &[&str]) -> Result<String, AllocError> {
-    let mut text = String::from_str(alloc, "expected ")?;
-    if names.len() > 1 {
-        text.push_str("one of: ")?;
-    }
-    for (i, name) in names.iter().enumerate() {
-        if i > 0 {
-            text.push_str(", ")?;
-        }
+    let start = if names.len() > 1 {
+        "expected one of: "
+    } else {
+        "expected "
+    };
+    let mut text = String::from_str(alloc, start)?;
+    let mut separator = "";
+    for name in names {
+        text.push_str(separator)?;
         text.push_str(name)?;
+        separator = ", ";
     }
     Ok(text)
 }
@@ -196,8 +200,10 @@ fn push_quote(
 /// The line with a caret below a place, before which this is shown of its line.
 fn caret_of(alloc: Global, place: Place, before: &str) -> Result<String, AllocError> {
     let number = place.line;
-    let margin = spaces(alloc, format!(in alloc; "  {number}")?.len())?;
-    let indent = spaces(alloc, on_one_line(alloc, before)?.chars().count())?;
+    let margin = format!(in alloc; "  {number}")?.len();
+    let indent = on_one_line(alloc, before)?.chars().count();
+    let margin = spaces(alloc, margin)?;
+    let indent = spaces(alloc, indent)?;
     format!(in alloc; "{margin} | {indent}^")
 }
 
@@ -215,17 +221,30 @@ fn push_placed(
 {
     let place = place_at(text, offset);
     push_place(alloc, lines, word, place, what)?;
-    let (before, after) = quoted(alloc, text, offset)?;
-    push_quote(alloc, lines, place, before.as_str(), after.as_str())?;
-    let caret = caret_of(alloc, place, before.as_str())?;
+    let quote = quoted(alloc, text, offset)?;
+    push_quote(
+        alloc,
+        lines,
+        place,
+        quote.before.as_str(),
+        quote.after.as_str(),
+    )?;
+    let caret = caret_of(alloc, place, quote.before.as_str())?;
     push_line(alloc, lines, caret.as_str())?;
     Ok(())
 }
 
-/// The line that holds the offset, before the offset and from there: of a long one a part.
-fn quoted(alloc: Global, text: &[u8], offset: usize) -> Result<(String, String), AllocError>
+/// What is shown of the line of a place: before the place, and from there.
+#[derive(Drop)]
+struct Quote {
+    before: String,
+    after: String,
+}
+
+/// The line that holds the offset: of a long one a part.
+fn quoted(alloc: Global, text: &[u8], offset: usize) -> Result<Quote, AllocError>
     requires { offset ≤ length text.now }
-    ensures { IfOk result (λ parts. Quotes text.now offset (string_bytes parts.0) (string_bytes parts.1)) }
+    ensures { IfOk result (λ quote. Quotes text.now offset (string_bytes quote.before) (string_bytes quote.after)) }
 {
     let first = line_start(text, offset);
     let last = line_end(text, offset);
@@ -233,7 +252,7 @@ fn quoted(alloc: Global, text: &[u8], offset: usize) -> Result<(String, String),
     let to = shown_end(text, from, offset, last);
     let before = text_of(alloc, &text[from..offset])?;
     let after = text_of(alloc, &text[offset..to])?;
-    Ok((before, after))
+    Ok(Quote { before, after })
 }
 
 /// Where what is shown of a line begins, which stands from the first offset to the last.

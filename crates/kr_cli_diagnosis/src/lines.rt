@@ -48,6 +48,15 @@ pub fn push_line(alloc: Global, lines: &mut String, text: &str) -> Result<(), Al
     lines.push('\n')
 }
 
+/// Writes a byte as a character, or as its number where it is none by itself.
+fn push_byte(alloc: Global, text: &mut String, byte: u8) -> Result<(), AllocError> {
+    if byte < 128 {
+        text.push(byte as char)
+    } else {
+        text.push_str(format!(in alloc; "\\x{{{byte:x}}}")?.as_str())
+    }
+}
+
 /// Bytes as a text: those that are no characters as their numbers, as `\x{e9}`.
 pub fn text_of(alloc: Global, bytes: &[u8]) -> Result<String, AllocError>
     ensures { IfOk result (λ text. IsUtf8 bytes.now → string_bytes text ≡ bytes.now) }
@@ -57,11 +66,7 @@ pub fn text_of(alloc: Global, bytes: &[u8]) -> Result<String, AllocError>
     }
     let mut text = String::new(alloc);
     for byte in bytes {
-        if *byte < 128 {
-            text.push(*byte as char)?;
-        } else {
-            text.push_str(format!(in alloc; "\\x{{{byte:x}}}")?.as_str())?;
-        }
+        push_byte(alloc, &mut text, *byte)?;
     }
     Ok(text)
 }

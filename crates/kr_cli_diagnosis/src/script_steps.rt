@@ -12,20 +12,27 @@ const OPERATIONS: [&str; 9] = [
     "fetch", "scan", "go", "insert", "delete", "update", "commit", "abort", "back",
 ];
 
+/// Of each operation what its step looks like, and how many elements it has.
+const FORMS: [(&str, &str, usize); 9] = [
+    ("fetch", "[t,\"fetch\",key]", 3),
+    ("scan", "[t,\"scan\",low,high]", 4),
+    ("go", "[t,\"go\"]", 2),
+    ("insert", "[t,\"insert\",key,value]", 4),
+    ("delete", "[t,\"delete\",key]", 3),
+    ("update", "[t,\"update\",key,value]", 4),
+    ("commit", "[t,\"commit\"]", 2),
+    ("abort", "[t,\"abort\"]", 2),
+    ("back", "[t,\"back\"]", 2),
+];
+
 /// What an operation's step looks like, and how many elements it has.
 fn form_of(word: &str) -> Option<(&'static str, usize)> {
-    Some(match word {
-        "fetch" => ("[t,\"fetch\",key]", 3),
-        "scan" => ("[t,\"scan\",low,high]", 4),
-        "go" => ("[t,\"go\"]", 2),
-        "insert" => ("[t,\"insert\",key,value]", 4),
-        "delete" => ("[t,\"delete\",key]", 3),
-        "update" => ("[t,\"update\",key,value]", 4),
-        "commit" => ("[t,\"commit\"]", 2),
-        "abort" => ("[t,\"abort\"]", 2),
-        "back" => ("[t,\"back\"]", 2),
-        _ => return None,
-    })
+    for (operation, form, count) in &FORMS {
+        if *operation == word {
+            return Some((*form, *count));
+        }
+    }
+    None
 }
 
 /// Why a number of a text is no whole number from 0 to 2 to the 64, less 1.
@@ -47,16 +54,11 @@ pub fn number_fault(
     name: &str,
     value: &Value,
 ) -> Result<Help, AllocError> {
-    let what = match (value, place) {
-        (Value::Number(_), Some(place)) => {
-            let reason = number_reason(token(text, place));
-            format!(in alloc; "{name} is a whole number, {reason}")?
-        }
-        _ => {
-            let is = json_kind(value);
-            format!(in alloc; "{name} is a whole number, and this is {is}")?
-        }
+    let (before, reason) = match (value, place) {
+        (Value::Number(_), Some(place)) => ("", number_reason(token(text, place))),
+        _ => ("and this is ", json_kind(value)),
     };
+    let what = format!(in alloc; "{name} is a whole number, {before}{reason}")?;
     Ok(Help::new(alloc, place, what))
 }
 
@@ -125,12 +127,22 @@ fn form_fault(
     if !is_later && (word == "update" || word == "back") {
         return later_fault(alloc, at, word);
     }
-    let has = list.len();
-    if has != count {
-        let what = format!(in alloc; "a step \"{word}\" has {count} elements, and this has {has}")?;
-        return hint_form(alloc, Help::new(alloc, place, what), form);
+    if list.len() != count {
+        return count_fault(alloc, place, word, (form, count), list.len());
     }
     parts_fault(alloc, text, place, word, form, list)
+}
+
+/// What is said of a step that has more or fewer elements than its form.
+fn count_fault(
+    alloc: Global,
+    place: Option<usize>,
+    word: &str,
+    (form, count): (&str, usize),
+    has: usize,
+) -> Result<Help, AllocError> {
+    let what = format!(in alloc; "a step \"{word}\" has {count} elements, and this has {has}")?;
+    hint_form(alloc, Help::new(alloc, place, what), form)
 }
 
 /// What is said of a step, which stands at the place, in a script of format 2 or else of format 1.

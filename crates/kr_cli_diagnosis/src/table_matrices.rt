@@ -7,15 +7,17 @@ use crate::toml_paths::{at_path, steps_of, with_step};
 use std::alloc::{AllocError, Global};
 use toml::Value;
 
-/// A name that stands where the name of a mode was expected.
-pub fn unknown_mode(
+/// A name that stands where the name of a mode was expected, or "none" where that may stand there too.
+fn unknown_mode(
     alloc: Global,
+    document: &Document,
     place: Option<usize>,
     name: &str,
-    modes: &[&str],
+    or_none: bool,
 ) -> Result<Help, AllocError> {
+    let modes = document.modes(alloc, or_none)?;
     let what = format!(in alloc; "\"{name}\" is no mode of this table")?;
-    Help::new(alloc, place, what).name(alloc, name, modes)
+    Help::new(alloc, place, what).name(alloc, name, modes.as_slice())
 }
 
 /// Something at a path that is to be of another kind.
@@ -32,41 +34,57 @@ pub fn wrong_kind(
     Ok(Help::new(alloc, place, what))
 }
 
-/// Whether a value is one of the names that may stand there.
-pub fn is_one_of(value: &Value, names: &[&str]) -> bool {
+/// Whether a value is the name of a mode, or "none" where that may stand there too.
+pub fn is_mode(document: &Document, value: &Value, or_none: bool) -> bool {
     match value.as_str() {
-        Some(name) => names.contains(&name),
+        Some(name) => document.has_mode(name) || or_none && name == "none",
         None => false,
     }
 }
 
 /// What is said of a value at a path that is to be the name of a mode, and is none.
-pub fn no_mode(
+fn no_mode(
     alloc: Global,
     document: &Document,
     path: &[&str],
     value: &Value,
-    modes: &[&str],
+    or_none: bool,
 ) -> Result<Help, AllocError> {
     match value.as_str() {
-        Some(name) => unknown_mode(alloc, document.place(alloc, path)?, name, modes),
+        Some(name) => {
+            let place = document.place(alloc, path)?;
+            unknown_mode(alloc, document, place, name, or_none)
+        }
         None => wrong_kind(alloc, document, path, "the name of a mode", value),
     }
 }
 
-/// The first element that is no name of a mode, of those that may stand there, and what is said of it.
+/// The same of a value at a step behind a path.
+pub fn no_mode_at(
+    alloc: Global,
+    document: &Document,
+    path: &[&str],
+    step: &str,
+    value: &Value,
+    or_none: bool,
+) -> Result<Help, AllocError> {
+    let whole = with_step(alloc, path, step)?;
+    no_mode(alloc, document, whole.as_slice(), value, or_none)
+}
+
+/// The first element that is no name of a mode, nor "none" where that may stand there too, and what is said of it.
 pub fn element_fault(
     alloc: Global,
     document: &Document,
     path: &[&str],
     list: &[Value],
-    modes: &[&str],
+    or_none: bool,
 ) -> Result<Option<Help>, AllocError> {
     for (i, item) in list.iter().enumerate() {
-        if !is_one_of(item, modes) {
+        if !is_mode(document, item, or_none) {
             let step = format!(in alloc; "{i}")?;
-            let whole = with_step(alloc, path, step.as_str())?;
-            return Ok(Some(no_mode(alloc, document, whole.as_slice(), item, modes)?));
+            let help = no_mode_at(alloc, document, path, step.as_str(), item, or_none)?;
+            return Ok(Some(help));
         }
     }
     Ok(None)
@@ -93,12 +111,11 @@ fn list_fault(
     name: &str,
     list: &[Value],
 ) -> Result<Option<Help>, AllocError> {
-    let modes = document.modes(alloc)?;
-    if modes.contains(&name) {
-        return element_fault(alloc, document, steps, list, modes.as_slice());
+    if document.has_mode(name) {
+        return element_fault(alloc, document, steps, list, false);
     }
     let key = document.key(alloc, steps)?;
-    Ok(Some(unknown_mode(alloc, key, name, modes.as_slice())?))
+    Ok(Some(unknown_mode(alloc, document, key, name, false)?))
 }
 
 /// What is said of an entry of `compatible`.
@@ -150,7 +167,7 @@ fn held_fault(
         return wrong_kind(alloc, document, steps, "a table of pairs", entry);
     }
     let key = document.key(alloc, steps)?;
-    unknown_mode(alloc, key, held, document.modes(alloc)?.as_slice())
+    unknown_mode(alloc, document, key, held, false)
 }
 
 /// What is said of a pair of `convert`.
@@ -161,24 +178,28 @@ fn pair_fault(
     requested: &str,
     value: &Value,
 ) -> Result<Help, AllocError> {
-    let modes = document.modes(alloc)?;
-    if modes.contains(&requested) {
-        return no_mode(alloc, document, steps, value, modes.as_slice());
+    if document.has_mode(requested) {
+        return no_mode(alloc, document, steps, value, false);
     }
     let key = document.key(alloc, steps)?;
-    unknown_mode(alloc, key, requested, modes.as_slice())
+    unknown_mode(alloc, document, key, requested, false)
 }
 
 /// What is said of what these steps lead to in `convert`.
 fn convert_at(alloc: Global, document: &Document, steps: &[&str]) -> Result<Help, AllocError> {
-    match (steps, at_path(&document.value, steps)) {
-        ([_, held], Some(entry)) => held_fault(alloc, document, steps, held, entry),
-        ([_, held], None) => missing_pair(alloc, document, steps, held),
-        ([_, _, requested], Some(value)) => pair_fault(alloc, document, steps, requested, value),
-        ([_, held, requested], None) => {
-            let pair = format!(in alloc; "{held}.{requested}")?;
-            missing_pair(alloc, document, steps, pair.as_str())
-        }
+    let at = at_path(&document.value, steps);
+    match steps {
+        [_, held] => match at {
+            Some(entry) => held_fault(alloc, document, steps, held, entry),
+            None => missing_pair(alloc, document, steps, held),
+        },
+        [_, held, requested] => match at {
+            Some(value) => pair_fault(alloc, document, steps, requested, value),
+            None => {
+                let pair = format!(in alloc; "{held}.{requested}")?;
+                missing_pair(alloc, document, steps, pair.as_str())
+            }
+        },
         _ => Help::of(alloc, None, "an entry of \"convert\" is at fault"),
     }
 }

@@ -3,7 +3,7 @@
 use crate::document::Document;
 use crate::help::Help;
 use crate::names::{no_member, no_such};
-use crate::table_matrices::{element_fault, is_one_of, no_mode, wrong_kind};
+use crate::table_matrices::{element_fault, is_mode, no_mode_at, wrong_kind};
 use crate::toml_paths::{at_path, steps_of, with_step};
 use std::alloc::{AllocError, Global};
 use toml::Value;
@@ -131,26 +131,12 @@ fn mode_fault(
     path: &[&str],
     clause: &Value,
 ) -> Result<Option<Help>, AllocError> {
-    let Some(value) = clause.get("mode") else {
-        return Ok(Some(missing_word(alloc, document, path, "mode")?));
+    let help = match clause.get("mode") {
+        None => missing_word(alloc, document, path, "mode"),
+        Some(value) if is_mode(document, value, false) => return Ok(None),
+        Some(value) => no_mode_at(alloc, document, path, "mode", value, false),
     };
-    let whole = with_step(alloc, path, "mode")?;
-    mode_fault_at(alloc, document, whole.as_slice(), value)
-}
-
-/// What is said of a value at this path, which is to be the name of a mode.
-fn mode_fault_at(
-    alloc: Global,
-    document: &Document,
-    path: &[&str],
-    value: &Value,
-) -> Result<Option<Help>, AllocError> {
-    let modes = document.modes(alloc)?;
-    if is_one_of(value, modes.as_slice()) {
-        return Ok(None);
-    }
-    let help = no_mode(alloc, document, path, value, modes.as_slice())?;
-    Ok(Some(help))
+    Ok(Some(help?))
 }
 
 /// What is said of a clause's span.
@@ -160,10 +146,19 @@ fn span_fault(
     path: &[&str],
     clause: &Value,
 ) -> Result<Option<Help>, AllocError> {
-    match clause.get("span") {
-        None => Ok(Some(missing_word(alloc, document, path, "span")?)),
-        Some(value) if is_one_of(value, &SPANS) => Ok(None),
-        Some(value) => Ok(Some(no_span(alloc, document, path, value)?)),
+    let help = match clause.get("span") {
+        None => missing_word(alloc, document, path, "span"),
+        Some(value) if is_span(value) => return Ok(None),
+        Some(value) => no_span(alloc, document, path, value),
+    };
+    Ok(Some(help?))
+}
+
+/// Whether a value is the name of a span.
+fn is_span(value: &Value) -> bool {
+    match value.as_str() {
+        Some(name) => SPANS.contains(&name),
+        None => false,
     }
 }
 
@@ -208,9 +203,7 @@ fn own_list_fault_at(
         let kind = "an array of names of modes and of \"none\"";
         return Ok(Some(wrong_kind(alloc, document, path, kind, value)?));
     };
-    let mut names = document.modes(alloc)?;
-    names.push("none")?;
-    element_fault(alloc, document, path, list.as_slice(), names.as_slice())
+    element_fault(alloc, document, path, list.as_slice(), true)
 }
 
 /// What is said of a clause.
@@ -256,22 +249,15 @@ fn member_fault(
 /// What is said of a fault of `rules`.
 pub fn rule_fault(alloc: Global, document: &Document, path: &str) -> Result<Help, AllocError> {
     let steps = steps_of(alloc, &document.value, path)?;
-    match at_path(&document.value, steps.as_slice()) {
-        Some(value) => part_fault(alloc, document, steps.as_slice(), value),
-        None => {
-            let place = document.nearby(alloc, steps.as_slice())?;
-            Help::of(alloc, place, "a part of \"rules\" is at fault")
-        }
-    }
+    part_fault(alloc, document, steps.as_slice())
 }
 
 /// What is said of a row, a side or a clause, by how long its path is.
-fn part_fault(
-    alloc: Global,
-    document: &Document,
-    path: &[&str],
-    value: &Value,
-) -> Result<Help, AllocError> {
+fn part_fault(alloc: Global, document: &Document, path: &[&str]) -> Result<Help, AllocError> {
+    let Some(value) = at_path(&document.value, path) else {
+        let place = document.nearby(alloc, path)?;
+        return Help::of(alloc, place, "a part of \"rules\" is at fault");
+    };
     match path {
         [_, row] => row_fault(alloc, document, path, row, value),
         [_, row, side] => side_fault(alloc, document, path, row, side, value),
@@ -279,11 +265,16 @@ fn part_fault(
     }
 }
 
-/// What is said of an `own` where none is allowed.
-pub fn own_fault(alloc: Global, document: &Document, path: &str) -> Result<Help, AllocError> {
+/// Where the `own` of a clause stands, or else what of it is there.
+fn own_place(alloc: Global, document: &Document, path: &str) -> Result<Option<usize>, AllocError> {
     let mut steps = steps_of(alloc, &document.value, path)?;
     steps.push("own")?;
-    let place = document.nearby(alloc, steps.as_slice())?;
+    document.nearby(alloc, steps.as_slice())
+}
+
+/// What is said of an `own` where none is allowed.
+pub fn own_fault(alloc: Global, document: &Document, path: &str) -> Result<Help, AllocError> {
+    let place = own_place(alloc, document, path)?;
     let what = "only clauses of \"insert\" and \"delete\" have an \"own\"";
     Help::of(alloc, place, what)?.hint_of(alloc, "leave it out")
 }

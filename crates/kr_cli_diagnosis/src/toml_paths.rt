@@ -6,12 +6,13 @@ use toml::{Table, Value};
 /// The members of which the path begins with one, and the path behind it.
 fn split_member<'a>(table: &'a Table, path: &'a str) -> (&'a str, &'a str) {
     for (name, _) in table.iter() {
-        if name.as_str() == path {
-            return (name.as_str(), "");
-        }
-        if let Some(rest) = path.strip_prefix(name.as_str()) {
+        let name = name.as_str();
+        if let Some(rest) = path.strip_prefix(name) {
+            if rest.is_empty() {
+                return (name, "");
+            }
             if let Some(rest) = rest.strip_prefix('.') {
-                return (name.as_str(), rest);
+                return (name, rest);
             }
         }
     }
@@ -54,10 +55,7 @@ pub fn with_step<'a>(
     path: &[&'a str],
     step: &'a str,
 ) -> Result<Vec<&'a str>, AllocError> {
-    let mut whole = Vec::new(alloc);
-    for earlier in path {
-        whole.push(*earlier)?;
-    }
+    let mut whole = path.to_vec(alloc)?;
     whole.push(step)?;
     Ok(whole)
 }
