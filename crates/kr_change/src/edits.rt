@@ -2,8 +2,8 @@
 ghost use Rattle.std.specs.Prelude.{◌≡◌, IfOk, string_bytes};
 ghost use Rattle.kr_change.specs.Edits.{add_or_remove, asked_words, convert_edit, edit_words, pair_edit, request_edit, where_words};
 
-use crate::entries::own_text;
 use crate::Change;
+use crate::entries::own_text;
 use kr_model::{Memory, Mode, Row, Side, Span, row_word, side_word, span_word};
 use kr_protocol::{Protocol, name_or_empty};
 use std::alloc::Global;

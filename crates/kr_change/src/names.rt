@@ -2,8 +2,8 @@
 ghost use Rattle.std.specs.Prelude.{◌≡◌, IfOk, string_bytes};
 ghost use Rattle.kr_change.specs.ChangeNames.{change_words, request_words, value_words, yes_or_no};
 
-use crate::entries::entry_text;
 use crate::Change;
+use crate::entries::entry_text;
 use kr_model::{Memory, Mode, Span, span_word};
 use kr_protocol::{Protocol, name_or_empty};
 use std::alloc::Global;

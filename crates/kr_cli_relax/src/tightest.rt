@@ -8,9 +8,8 @@ use kr_decide::{Decision, decide};
 use kr_model::Memory;
 use kr_protocol::Protocol;
 use kr_relax_core::relaxations;
-use kr_relax_text::{Relaxation, with_scripts};
+use kr_relax_text::{Relaxation, copy_of, with_scripts};
 use kr_table::Table;
-use kr_relax_text::copy_of;
 use std::alloc::Global;
 
 /// What becomes of a table where a relaxation of it is taken that a script shows.

@@ -11,8 +11,7 @@ use crate::serial::{Judging, is_serial, verdict_of};
 use kr_model::{Event, Memory, Pairs, Txns};
 use kr_protocol::Protocol;
 use kr_trace_follow::{Follower, lines_are_followed};
-use kr_trace_lines::{TraceVerdict, write_part};
-use kr_trace_lines::{Deviation, Observed};
+use kr_trace_lines::{Deviation, Observed, TraceVerdict, write_part};
 use std::alloc::Global;
 
 /// Asks whether each reply is the table's, and whether what committed is serializable in commit order.

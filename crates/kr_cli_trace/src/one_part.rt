@@ -16,8 +16,7 @@ use crate::serial::{Judging, verdict_of};
 use kr_model::{Event, Memory, Pairs, Txns};
 use kr_protocol::Protocol;
 use kr_trace_follow::{Follower, lines_are_followed};
-use kr_trace_lines::TraceVerdict;
-use kr_trace_lines::{Deviation, Observed};
+use kr_trace_lines::{Deviation, Observed, TraceVerdict};
 use kr_trace_text::{LoggedStep, part_text, verdict_text};
 use std::alloc::Global;
 

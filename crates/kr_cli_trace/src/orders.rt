@@ -13,8 +13,7 @@ use crate::programs::{Committed, not_serial, places_of, txns_of, wrong_in};
 use crate::serial::is_serial;
 use crate::tales::{Tale, note};
 use kr_model::{Event, Items, Memory, Pairs, Txn, Txns};
-use kr_trace_lines::{TraceVerdict, write_judged};
-use kr_trace_lines::Observed;
+use kr_trace_lines::{Observed, TraceVerdict, write_judged};
 use std::alloc::Global;
 use std::collections::BTreeMap;
 

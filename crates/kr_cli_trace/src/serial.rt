@@ -14,8 +14,7 @@ use crate::asking::{Asks, Part};
 use crate::tales::{Answered, Tale, note};
 use kr_model::{Event, Memory, Pairs, Txn, Txns};
 use kr_trace_follow::{Difference, Judge, differences_are_first};
-use kr_trace_lines::{TraceVerdict, write_judged};
-use kr_trace_lines::Observed;
+use kr_trace_lines::{Observed, TraceVerdict, write_judged};
 use std::alloc::Global;
 use std::collections::BTreeMap;
 

@@ -22,8 +22,7 @@ use crate::source::Lines;
 use kr_cli::{Ending, unreadable};
 use kr_model::{Event, Memory, Pairs, Txns};
 use kr_sink::{PrintFault, Sink, print};
-use kr_trace_lines::{Line, PartLines, read_line};
-use kr_trace_lines::Observed;
+use kr_trace_lines::{Line, Observed, PartLines, read_line};
 use std::alloc::Global;
 
 /// How far a trace is read.

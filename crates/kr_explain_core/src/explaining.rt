@@ -12,11 +12,10 @@ use crate::explanation::{Explained, Explanation, Failures};
 use crate::harmless::{is_harmless, why_harmless};
 use crate::told_run::{ToldRun, told_run};
 use kr_cases::{Memory, WhyRejected, cases, check};
-use kr_decide::Survey;
+use kr_decide::{Survey, is_ordered};
 use kr_explain_causes::{Blame, Cause, Mend, causes, mends};
 use kr_explain_runs::{Closure, Scenes};
 use kr_model::FailedCase;
-use kr_decide::is_ordered;
 use kr_protocol::Protocol;
 use std::alloc::{AllocError, Global};
 

@@ -4,8 +4,7 @@ ghost use Rattle.std.specs.List.{Any};
 ghost use Rattle.kr_explain_core.specs.Explained.{IsExplained};
 ghost use Rattle.kr_relax_text.specs.Reasons.{AreReasons, HasWrong, IsRelaxing, IsWrong, IsWrongLine, IsWrongOnly, changes_of_entry, judged_in, of_entry};
 
-use kr_change::{Change, Changed, changes_of};
-use kr_change::entry_text;
+use kr_change::{Change, Changed, changes_of, entry_text};
 use kr_explain_core::{Explanation, explain};
 use kr_model::Memory;
 use kr_protocol::Protocol;

@@ -3,13 +3,12 @@ ghost use Rattle.std.specs.Prelude.{◌≡◌, ◌↔◌, IsTrue, IfOk, IfSome};
 ghost use Rattle.kr_relax_text.specs.Scripts.{AreShown, IsShown, LetsThrough, Shows};
 
 use crate::replies::{ends_blocked, ends_granted};
-use kr_apart::{Flat, Part, parts};
+use kr_apart::{Flat, Part, parts, tells_apart};
 use kr_change::{Change, Changed};
 use kr_model::{Event, Memory};
 use kr_protocol::Protocol;
 use kr_relax_core::Relaxed;
 use kr_serial::{is_map, play};
-use kr_apart::tells_apart;
 use std::alloc::Global;
 
 /// A script of which a table grants all steps but the last, which it blocks.

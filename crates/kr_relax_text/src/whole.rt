@@ -4,8 +4,7 @@ ghost use Rattle.kr_relax_text.specs.Whole.{gain_words, named_edit, relaxation_t
 
 use crate::scripts::{Relaxation, Shown};
 use crate::steps::last_text;
-use kr_change::Change;
-use kr_change::{change_text, edit_text};
+use kr_change::{Change, change_text, edit_text};
 use kr_model::Memory;
 use kr_protocol::Protocol;
 use kr_script::write_script;

@@ -1,7 +1,7 @@
 //! What a run of a script in several threads did.
 
-use kr_model::{Event, Reply};
 use crate::StepFault;
+use kr_model::{Event, Reply};
 use kr_serial::Ran;
 
 /// A step that was done, and its reply.

@@ -7,12 +7,11 @@ ghost use Rattle.kr_apart.specs.Apart.{TellsApart};
 ghost use Rattle.kr_suite_core.specs.Tried.{IsNamed};
 ghost use Rattle.kr_suite_core.specs.Suite.{IsTested};
 
-use kr_apart::Part;
+use kr_apart::{Part, tells_apart};
 use kr_change::{Change, Changed};
 use kr_model::{Event, Memory, Reply};
 use kr_protocol::Protocol;
 use kr_serial::play;
-use kr_apart::tells_apart;
 use std::alloc::Global;
 
 /// A script with the table's replies, all of which but the last are granted, and changes that it tells apart: under the

@@ -2,8 +2,7 @@
 ghost use Rattle.std.specs.Prelude.{◌≡◌, IfOk, string_bytes, length};
 ghost use Rattle.kr_suite_text.specs.Whole.{change_line, change_lines, counts_words, is_unreached, left_text, parts_words, rest_words, steps_from, told_count, told_words, verdict_end, verdict_word, why_words};
 
-use kr_change::{Change, changes_of};
-use kr_change::change_text;
+use kr_change::{Change, change_text, changes_of};
 use kr_decide::Survey;
 use kr_model::Memory;
 use kr_protocol::Protocol;

@@ -8,8 +8,7 @@ ghost use Rattle.kr_suite_text.specs.Whole.{all_tested, all_tried, habit_text, s
 use crate::habits::{Habit, all_habits, habit_words, is_tried, opening};
 use crate::parts::part_text;
 use crate::scripts::habit_steps;
-use kr_change::Change;
-use kr_change::change_text;
+use kr_change::{Change, change_text};
 use kr_model::Memory;
 use kr_protocol::Protocol;
 use kr_serial::play;

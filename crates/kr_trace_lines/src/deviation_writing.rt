@@ -7,12 +7,12 @@ ghost use Rattle.kr_model.specs.ModeNames.{name_of};
 ghost use Rattle.kr_script.specs.Replies.{name_data, numbers_data, reply_data};
 ghost use Rattle.kr_trace_lines.specs.Report.{conflict_data, conflicts_data, conforms_data, kind_data};
 
+use crate::{Conflict, Deviation, DeviationKind};
 use kr_model::{Mode, Reply, Txn};
 use kr_protocol::{Protocol, name_or_empty};
 use kr_script::{
     quoted, separator, write_name, write_number, write_numbers, write_reply, write_with_numbers,
 };
-use crate::{Conflict, Deviation, DeviationKind};
 use std::alloc::{AllocError, Global};
 
 /// Writes the name of a mode in quotes.

@@ -1,7 +1,7 @@
 //! Lines of a trace.
 
-use kr_model::{Event, Pairs, Txns};
 use crate::Observed;
+use kr_model::{Event, Pairs, Txns};
 
 /// A line of a trace.
 #[derive(Debug, Drop)]

@@ -5,10 +5,10 @@ ghost use Rattle.kr_trace_lines.specs.Lines.{step};
 ghost use Rattle.kr_trace_lines.specs.Reading.{reading_line};
 ghost use Rattle.kr_trace_lines.specs.Steps.{ObservedFits, ToldFits, TxnFits, can_have, step_data, step_text};
 
+use crate::Observed;
 use crate::observed_writing::write_observed;
 use kr_model::{Event, Txn};
 use kr_script::{lemma_event_fits, lemma_pairs_fit, write_step};
-use crate::Observed;
 use std::alloc::{AllocError, Global};
 
 fn lemma_txn_fits(txn: Txn)

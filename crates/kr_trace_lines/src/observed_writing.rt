@@ -3,9 +3,9 @@ ghost use Rattle.std.specs.Prelude.{◌≡◌, ◌++◌, OnOk, string_bytes};
 ghost use Rattle.serde_json.specs.Written.{compact_text};
 ghost use Rattle.kr_trace_lines.specs.Replies.{blocked_data, observed_data, told_text};
 
+use crate::Observed;
 use kr_model::Txn;
 use kr_script::{write_pairs, write_with_number, write_with_numbers};
-use crate::Observed;
 use std::alloc::AllocError;
 
 /// Writes the beginning of an array, and behind it the number that is told, if one is.

@@ -5,9 +5,8 @@ ghost use Rattle.kr_trace_lines.specs.Lines.{order, seen, step};
 ghost use Rattle.kr_trace_lines.specs.Parts as spec;
 ghost use Rattle.kr_trace_lines.specs.Parts.{after_line, fault_behind, has, with_commit, with_end};
 
-use crate::{Line, LineFault};
+use crate::{Line, LineFault, Observed};
 use kr_model::{Event, Txn};
-use crate::Observed;
 use kr_txn::Ended;
 use std::alloc::{AllocError, Global};
 use std::marker::Model;

@@ -7,9 +7,9 @@ ghost use Rattle.kr_script.specs.Faults.{pair_of};
 ghost use Rattle.kr_trace_lines.specs.Replies as spec;
 ghost use Rattle.kr_trace_lines.specs.Replies.{each_of};
 
+use crate::Observed;
 use kr_model::{Items, Op, Pairs, Txn, Txns};
 use kr_script::{length_of, number_at, pair_of, word_at};
-use crate::Observed;
 use serde_json::Value;
 use std::alloc::{AllocError, Global};
 

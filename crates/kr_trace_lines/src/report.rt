@@ -8,13 +8,12 @@ ghost use Rattle.kr_script.specs.Replies.{reply_data};
 ghost use Rattle.kr_trace_lines.specs.Replies.{observed_data};
 ghost use Rattle.kr_trace_lines.specs.Report.{judged_text, part_text, tests_text, verdict_data};
 
-use crate::TraceVerdict;
 use crate::deviation_writing::{write_before, write_conforms};
 use crate::observed_writing::write_observed;
+use crate::{Deviation, Observed, TraceVerdict};
 use kr_model::{Reply, Txn};
 use kr_protocol::Protocol;
 use kr_script::{quoted, separator, write_number, write_reply, write_with_numbers};
-use crate::{Deviation, Observed};
 use std::alloc::{AllocError, Global};
 
 /// Writes an array of texts behind what the text has. At `Err` memory ran out, and the text may have a part of it.

@@ -1,7 +1,7 @@
 //! The verdict on a part's committed transactions.
 
-use kr_model::{Reply, Txn, Txns};
 use crate::Observed;
+use kr_model::{Reply, Txn, Txns};
 
 /// Whether the committed transactions of a part are serializable, as far as their answers are given.
 #[derive(Debug, Drop)]

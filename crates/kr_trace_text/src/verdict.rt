@@ -5,8 +5,7 @@ ghost use Rattle.kr_trace_text.specs.Verdicts.{answers_words, verdict_words, wro
 use crate::answered::observed_text;
 use kr_explain_text::{answer_text, txns_text};
 use kr_model::{Memory, Reply, Txn};
-use kr_trace_lines::TraceVerdict;
-use kr_trace_lines::Observed;
+use kr_trace_lines::{Observed, TraceVerdict};
 use std::alloc::Global;
 
 /// An answer, and the serial one.

@@ -9,10 +9,9 @@ use crate::frame::BAND_END;
 use kr_locks::Memory;
 use kr_model::{Op, Reply, Span};
 use kr_protocol::{Protocol, name_or_empty};
-use kr_view_scenes::{Html, Mark, Part};
 use kr_view_scenes::{
-    Asked, Columns, Difference, Layout, Scene, kind_of, write_name, write_numbers, write_op,
-    write_reply,
+    Asked, Columns, Difference, Html, Layout, Mark, Part, Scene, kind_of, write_name,
+    write_numbers, write_op, write_reply,
 };
 use std::alloc::Global;
 

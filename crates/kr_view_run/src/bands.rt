@@ -12,9 +12,9 @@ use kr_locks::Memory;
 use kr_model::Event;
 use kr_protocol::Protocol;
 use kr_serial::{Ran, Verdict, judge, run_any};
-use kr_view_scenes::{Html, Mark, Part};
 use kr_view_scenes::{
-    Drawn, Layout, Run, STEPS_DRAWN, Scene, scenes_of, write_commits, write_summary,
+    Drawn, Html, Layout, Mark, Part, Run, STEPS_DRAWN, Scene, scenes_of, write_commits,
+    write_summary,
 };
 use std::alloc::{AllocError, Global};
 

@@ -3,9 +3,8 @@
 use crate::svg;
 use crate::svg::at;
 use kr_locks::Memory;
-use kr_view_scenes::{Html, Mark, Part};
 use kr_view_scenes::{
-    Bar, BarKind, BarLine, Columns, KeyState, Layout, Scene, bar_width, colour_of,
+    Bar, BarKind, BarLine, Columns, Html, KeyState, Layout, Mark, Part, Scene, bar_width, colour_of,
 };
 use std::alloc::{AllocError, Global};
 use std::collections::BTreeSet;

@@ -4,8 +4,7 @@ use crate::svg;
 use crate::svg::{Point, at};
 use kr_locks::Memory;
 use kr_model::{Event, Reply, Txn};
-use kr_view_scenes::{Html, Mark, Part};
-use kr_view_scenes::{Run, colour_of, digits, kind_of, letter_of, text_width};
+use kr_view_scenes::{Html, Mark, Part, Run, colour_of, digits, kind_of, letter_of, text_width};
 use std::alloc::{AllocError, Global};
 use std::collections::BTreeSet;
 

@@ -15,8 +15,7 @@ use kr_locks::Memory;
 use kr_protocol::Protocol;
 use kr_script::Script;
 use kr_serial::{Ran, Verdict, judge, run_any};
-use kr_view_scenes::escape;
-use kr_view_scenes::scenes_of;
+use kr_view_scenes::{escape, scenes_of};
 use std::alloc::Global;
 
 /// The page of a script's run under a protocol, whose table has this name, and whether the run is serializable: the programs of

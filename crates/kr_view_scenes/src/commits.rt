@@ -2,8 +2,8 @@
 
 use crate::run::{Difference, Run};
 use crate::words::{write_op, write_reply};
-use kr_model::{Op, Program, Reply, Txn};
 use crate::{Html, Mark, Part};
+use kr_model::{Op, Program, Reply, Txn};
 use std::alloc::AllocError;
 
 /// How many programs are shown, and how many operations of each, the last ones.

@@ -1,8 +1,8 @@
 //! A run as a page tells it, and where its steps are found.
 
+use crate::{Html, Mark, Part};
 use kr_model::{Event, Op, Program, Reply, Txn};
 use kr_serial::Verdict;
-use crate::{Html, Mark, Part};
 use std::alloc::AllocError;
 
 /// How many steps are drawn.

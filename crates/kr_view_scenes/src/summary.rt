@@ -3,8 +3,8 @@
 use crate::columns::NAMES_DRAWN;
 use crate::run::{Difference, Run, STEPS_DRAWN};
 use crate::words::{write_op, write_pairs, write_reply};
-use kr_model::{Op, Reply, Txn};
 use crate::{Html, Mark, Part};
+use kr_model::{Op, Reply, Txn};
 use std::alloc::AllocError;
 
 /// Writes the top of a page behind the first words of its verdict.

@@ -3,8 +3,8 @@ ghost use Rattle.std.specs.Prelude.{◌≡◌, ◌++◌, ◌∷◌, ◌≤◌, O
 ghost use Rattle.kr_view_scenes.specs.Escape.{escaped};
 ghost use Rattle.kr_view_scenes.specs.Words.{op_words, commas, pair_words, shown_pairs, pairs_words, reason_words, reply_words, kind_word};
 
-use kr_model::{Name, Op, Refusal, Reply};
 use crate::{Html, Part};
+use kr_model::{Name, Op, Refusal, Reply};
 use std::alloc::AllocError;
 
 /// How many pairs of a list are shown, the last ones.

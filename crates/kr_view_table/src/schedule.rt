@@ -7,8 +7,8 @@ use kr_explain_core::Run;
 use kr_explain_text::{anomaly, run_end, run_head};
 use kr_model::Memory;
 use kr_protocol::Protocol;
-use kr_view_scenes::{Html, Part};
 use kr_view_run::bands_of_run;
+use kr_view_scenes::{Html, Part};
 use std::alloc::Global;
 
 /// The schedules of so many causes are drawn at most.

@@ -1,12 +1,11 @@
 //! The parts for a table, and whether one script tells two tables apart.
 use super::asks_nothing;
 use kr_alike::alike;
-use kr_apart::{Flat, parts};
+use kr_apart::{Flat, parts, tells_apart};
 use kr_change::{Change, Changed, changes_of};
 use kr_model::{Event, Op};
 use kr_protocol::{Im, Kvl};
 use kr_table::Table;
-use kr_apart::tells_apart;
 use std::alloc::Global;
 use std::test::Fail;
 

@@ -2,8 +2,8 @@
 //!
 //! Modes of key-value locking: IS is 1, IX 2, S 3, SIX 4, X 5.
 use kr_change::{Change, Changed};
-use kr_model::{Row, Side, Span};
 use kr_decide::{is_at_least, is_ordered};
+use kr_model::{Row, Side, Span};
 use kr_protocol::{Im, Kvl, KvlUpdate, RangeKey};
 use std::process::Abort;
 use std::test::Fail;

@@ -6,12 +6,11 @@ use kr_relax_core::{
     spots_of, twins_of, unused_entries,
 };
 use kr_relax_text::{
-    changes_of_entry, one_relaxes, reasons_for, reasons_text, relaxed_text, unused_text,
+    changes_of_entry, copy_of, one_relaxes, reasons_for, reasons_text, relaxed_text, unused_text,
     with_scripts,
 };
 use kr_table::bundled::{IM, KVL, RANGE_KEY};
 use kr_table::{Table, read};
-use kr_relax_text::copy_of;
 use std::alloc::Global;
 use std::test::Fail;
 

@@ -2,8 +2,7 @@
 use crate::tests::trace::given::Given;
 use kr_model::{Event, Items, Mode, Name, Op, Refusal, Reply, Txn};
 use kr_protocol::Kvl;
-use kr_trace_lines::TraceVerdict;
-use kr_trace_lines::{Conflict, Deviation, DeviationKind, Observed};
+use kr_trace_lines::{Conflict, Deviation, DeviationKind, Observed, TraceVerdict};
 use kr_trace_text::{LoggedStep, part_text, verdict_text};
 use std::alloc::{AllocError, Global};
 use std::test::Fail;

@@ -3,8 +3,7 @@
 use super::done_by;
 use super::gates::Meeting;
 use kr_model::{Event, Op, Txn};
-use kr_report::{StepFault, WhyNotDone};
-use kr_report::{Answered, Threaded};
+use kr_report::{Answered, StepFault, Threaded, WhyNotDone};
 use kr_serial::judge;
 use std::test::Fail;
 

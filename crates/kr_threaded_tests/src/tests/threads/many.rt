@@ -2,8 +2,7 @@
 
 use super::{done_by, done_with_updates, next};
 use kr_model::{Op, Refusal, Reply};
-use kr_report::{StepFault, WhyNotDone};
-use kr_report::Answered;
+use kr_report::{Answered, StepFault, WhyNotDone};
 use kr_serial::judge;
 use kr_threads::Passage;
 use std::alloc::Global;

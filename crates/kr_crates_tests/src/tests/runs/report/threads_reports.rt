@@ -1,7 +1,6 @@
 use super::reports::{ran_between, rows, txns};
 use kr_model::{Event, Op, Refusal, Reply, Txn};
-use kr_report::{StepFault, WhyNotDone};
-use kr_report::{Answered, Threaded, report_threads};
+use kr_report::{Answered, StepFault, Threaded, WhyNotDone, report_threads};
 use kr_serial::{Ran, Replies, Verdict};
 use std::alloc::{AllocError, Global};
 use std::process::Abort;

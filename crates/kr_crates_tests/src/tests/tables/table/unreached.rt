@@ -3,9 +3,8 @@ ghost use Rattle.std.specs.Prelude.{◌≡◌};
 ghost use Rattle.kr_theorem.specs.Unreached.{unreached};
 
 use super::likeness::SIDES;
-use kr_decide::{Decision, decide};
+use kr_decide::{Decision, decide, is_ordered};
 use kr_model::{Mode, Row, Side, Span};
-use kr_decide::is_ordered;
 use kr_protocol::Protocol;
 use kr_table::{Table, read};
 use std::process::Abort;

@@ -2,8 +2,10 @@
 use crate::tests::trace::lines::reading::{LINES, given};
 use kr_model::{Event, Items, Name, Op, Reply};
 use kr_protocol::Kvl;
-use kr_trace_lines::{Line, TraceVerdict, read_line, write_judged, write_line, write_part};
-use kr_trace_lines::{Conflict, Deviation, DeviationKind, Observed};
+use kr_trace_lines::{
+    Conflict, Deviation, DeviationKind, Line, Observed, TraceVerdict, read_line, write_judged,
+    write_line, write_part,
+};
 use std::alloc::{AllocError, Global};
 use std::test::Fail;
 

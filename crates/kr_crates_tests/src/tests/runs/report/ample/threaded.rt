@@ -3,9 +3,8 @@ use super::lists::{Element, list_text};
 use super::numbers::{key_at, txn_at};
 use super::steps::{event_at, step_text};
 use kr_model::{Refusal, Reply, Txns};
-use kr_report::{StepFault, WhyNotDone};
 use kr_protocol::Kvl;
-use kr_report::{Answered, Threaded, report_threads};
+use kr_report::{Answered, StepFault, Threaded, WhyNotDone, report_threads};
 use kr_serial::{Verdict, run_any};
 use std::alloc::{AllocError, Global};
 
