@@ -215,6 +215,10 @@ pub fn blockers<P: Protocol, L: Holdings>(
 {
     let current = side_blockers(alloc, protocol, locks, txn, plan.current)?;
     let mut list = side_blockers(alloc, protocol, locks, txn, plan.next)?;
+    // Where the next side has no blockers, the current side's list is the answer, with no copy made.
+    if list.is_empty() {
+        return Ok(current);
+    }
     add_all(&mut list, current.as_slice())?;
     Ok(list)
 }
