@@ -1,3 +1,4 @@
+pub mod Changes
 pub mod Replayed
 pub mod Wholes
 pub mod SerialRuns

@@ -6,17 +6,19 @@ ghost use Rattle.kr_model.specs.Difference.{difference_in, first_difference};
 ghost use Rattle.kr_serial.specs.declared.verdict.Verdict.TheVariants as verdict;
 ghost use Rattle.kr_serial.specs.Verdicts.{verdict_of};
 
-use crate::whole::{differs, map_of};
+use crate::current::Current;
 use crate::{Ran, Verdict};
 use kr_index::Memory;
 use kr_model::Program;
 use std::alloc::Global;
-use std::collections::BTreeMap;
 
 /// Judges a run: the operations of its committed programs are run whole on the opening map, one after another in commit
 /// order, and each answer is compared with the one given. It tells that they are serializable, or the first answer that
-/// differs. The only fault is `Memory`. Each operation takes one look at the map, and a scan is compared
-/// in place.
+/// differs. The only fault is `Memory`.
+///
+/// The opening map isn't copied: beside it a hash table keeps the keys that the programs changed. An operation takes one look
+/// at the table, and a binary search of the opening where its key was not changed. The first scan puts all pairs into a tree;
+/// from then on an operation takes one look at that, and a scan is compared in place.
 pub fn judge(alloc: Global, ran: &Ran) -> Result<Verdict, Memory>
     ensures verdict { IfOk result (λ v. v ≡ verdict_of (first_difference ran.now.opening ran.now.programs)) }
     ensures serial { IfOk result (λ v. (v ≡ verdict.Serial) ↔ AreSerial ran.now.opening ran.now.programs) }
@@ -33,7 +35,7 @@ pub fn judge_programs(
     requires { IsMap opening.now }
     ensures { IfOk result (λ v. v ≡ verdict_of (first_difference opening.now programs.now)) }
 {
-    let mut map = map_of(alloc, opening)?;
+    let mut map = Current::new(alloc, opening);
     for program in programs {
         let verdict = judge_program(alloc, &mut map, program)?;
         if !verdict.is_serial() {
@@ -43,22 +45,16 @@ pub fn judge_programs(
     Ok(Verdict::Serial)
 }
 
-/// Judges one program against the map that stands before it. Where it is serializable, the map is then the one that the
-/// program leaves.
-fn judge_program(
-    alloc: Global,
-    map: &mut BTreeMap<u64, u64>,
-    program: &Program,
-) -> Result<Verdict, Memory>
-    requires { IsMap map.old.entries }
-    ensures is_map { IsMap map.new.entries }
-    ensures verdict { IfOk result (λ v. v ≡ verdict_of (difference_in program.now.txn map.old.entries 1 program.now.operations)) }
-    ensures left { IfOk result (λ v. v ≡ verdict.Serial → map.new.entries ≡ map_left map.old.entries program.now.operations) }
+/// Judges one program against the map that the programs before it left. Where it is serializable, the map is then the one
+/// that the program leaves.
+fn judge_program(alloc: Global, map: &mut Current<'_>, program: &Program) -> Result<Verdict, Memory>
+    ensures verdict { IfOk result (λ v. v ≡ verdict_of (difference_in program.now.txn map.old 1 program.now.operations)) }
+    ensures left { IfOk result (λ v. v ≡ verdict.Serial → map.new ≡ map_left map.old program.now.operations) }
 {
     let operations = program.operations.as_slice();
     for i in 0..operations.len() {
         let (op, given) = &operations[i];
-        if let Some(serial) = differs(alloc, map, *op, given)? {
+        if let Some(serial) = map.differs(alloc, *op, given)? {
             return Ok(Verdict::NotSerial {
                 txn: program.txn,
                 operation: i as u64 + 1,

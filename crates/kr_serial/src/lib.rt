@@ -2,12 +2,15 @@
 //! order: whether each answer of the programs that committed is the one of the serial run.
 #![tactic(auto)]
 
+mod changed;
 mod covered;
+mod current;
 mod index;
 mod judged;
 mod judging;
 mod keys;
 mod logged;
+mod own;
 mod played;
 mod ran;
 mod runs;

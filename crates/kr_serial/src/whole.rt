@@ -38,7 +38,7 @@ pub fn is_answer(map: &BTreeMap<u64, u64>, op: Op, given: &Reply) -> bool
 }
 
 /// Whether this is the answer of a fetch, by what stands at the key.
-fn is_fetched(given: &Reply, value: Option<u64>) -> bool
+pub(crate) fn is_fetched(given: &Reply, value: Option<u64>) -> bool
     ensures { result ≡ same_reply given.now (found_or_none value) }
 {
     match value {
@@ -48,7 +48,7 @@ fn is_fetched(given: &Reply, value: Option<u64>) -> bool
 }
 
 /// Whether this is the answer of an insert, by what stands at the key.
-fn is_inserted(given: &Reply, value: Option<u64>) -> bool
+pub(crate) fn is_inserted(given: &Reply, value: Option<u64>) -> bool
     ensures { (m : Map) (k v : ℕ) → result ≡ same_reply given.now (whole_insert m k v value).0 }
 {
     match value {
@@ -58,7 +58,7 @@ fn is_inserted(given: &Reply, value: Option<u64>) -> bool
 }
 
 /// Whether this is the answer of a delete, by what stands at the key.
-fn is_deleted(given: &Reply, value: Option<u64>) -> bool
+pub(crate) fn is_deleted(given: &Reply, value: Option<u64>) -> bool
     ensures { (m : Map) (k : ℕ) → result ≡ same_reply given.now (whole_delete m k value).0 }
 {
     match value {
@@ -68,7 +68,7 @@ fn is_deleted(given: &Reply, value: Option<u64>) -> bool
 }
 
 /// Whether this is the answer of an update, by what stands at the key.
-fn is_updated(given: &Reply, value: Option<u64>) -> bool
+pub(crate) fn is_updated(given: &Reply, value: Option<u64>) -> bool
     ensures { (m : Map) (k v : ℕ) → result ≡ same_reply given.now (whole_update m k v value).0 }
 {
     match value {
@@ -117,10 +117,7 @@ pub fn answer(alloc: Global, map: &BTreeMap<u64, u64>, op: Op) -> Result<Reply, 
     ensures { IfOk result (λ reply. reply ≡ (whole map.now.entries op).0) }
 {
     match op {
-        Op::Fetch(key) => match map.get(&key) {
-            Some(value) => Ok(Reply::Found(*value)),
-            None => Ok(Reply::None),
-        },
+        Op::Fetch(key) => Ok(found(map.get(&key).copied())),
         Op::Scan(lo, hi) => Ok(Reply::Rows(between(alloc, map, lo, hi)?)),
         Op::Insert(key, _) => Ok(inserted(map.get(&key).copied())),
         Op::Delete(key) => Ok(deleted(map.get(&key).copied())),
@@ -132,8 +129,18 @@ pub fn answer(alloc: Global, map: &BTreeMap<u64, u64>, op: Op) -> Result<Reply, 
     }
 }
 
+/// The answer of a fetch, by the value at the key.
+pub(crate) fn found(value: Option<u64>) -> Reply
+    ensures { result ≡ found_or_none value }
+{
+    match value {
+        Some(value) => Reply::Found(value),
+        None => Reply::None,
+    }
+}
+
 /// The answer of an insert, by what stands at the key.
-fn inserted(value: Option<u64>) -> Reply
+pub(crate) fn inserted(value: Option<u64>) -> Reply
     ensures { (m : Map) (k v : ℕ) → result ≡ (whole_insert m k v value).0 }
 {
     match value {
@@ -143,7 +150,7 @@ fn inserted(value: Option<u64>) -> Reply
 }
 
 /// The answer of a delete, by what stands at the key.
-fn deleted(value: Option<u64>) -> Reply
+pub(crate) fn deleted(value: Option<u64>) -> Reply
     ensures { (m : Map) (k : ℕ) → result ≡ (whole_delete m k value).0 }
 {
     match value {
@@ -153,7 +160,7 @@ fn deleted(value: Option<u64>) -> Reply
 }
 
 /// The answer of an update, by what stands at the key.
-fn updated(value: Option<u64>) -> Reply
+pub(crate) fn updated(value: Option<u64>) -> Reply
     ensures { (m : Map) (k v : ℕ) → result ≡ (whole_update m k v value).0 }
 {
     match value {
@@ -163,7 +170,11 @@ fn updated(value: Option<u64>) -> Reply
 }
 
 /// Puts a value at a key, and returns the one before. At an error a growth was refused, and the map's keys still rise.
-fn put(map: &mut BTreeMap<u64, u64>, key: u64, value: u64) -> Result<Option<u64>, AllocError>
+pub(crate) fn put(
+    map: &mut BTreeMap<u64, u64>,
+    key: u64,
+    value: u64,
+) -> Result<Option<u64>, AllocError>
     requires { IsMap map.old.entries }
     ensures is_map { IsMap map.new.entries }
     ensures before { IfOk result (λ before. before ≡ get map.old.entries key) }
@@ -173,7 +184,7 @@ fn put(map: &mut BTreeMap<u64, u64>, key: u64, value: u64) -> Result<Option<u64>
 }
 
 /// Takes a key away, and returns its value.
-fn take(map: &mut BTreeMap<u64, u64>, key: u64) -> Option<u64>
+pub(crate) fn take(map: &mut BTreeMap<u64, u64>, key: u64) -> Option<u64>
     requires { IsMap map.old.entries }
     ensures is_map { IsMap map.new.entries }
     ensures before { result ≡ get map.old.entries key }
