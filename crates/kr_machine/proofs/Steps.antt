@@ -143,7 +143,7 @@ look_reply m a b l j hi rows (Key k) = by (nat_le k hi) refl
     by true e = rw e (read_reply m a b l j hi k (unwrap_or (get m k) 0) rows (k == hi) refl)
     by false e = rw e refl
 
-some_step : (a b : Step) → ◌≡◌ {A = Option Step} (Some a) (Some b) → a ≡ b
+pub some_step : (a b : Step) → ◌≡◌ {A = Option Step} (Some a) (Some b) → a ≡ b
 some_step a b e = cc
 
 go_reply : (m : Map) (a : Active) (c : Option Scan) (x : Step) → look_of m c ≡ Some x → reply_of m (rows_of c) x ≡ (look_effect m a c).reply

@@ -1,10 +1,10 @@
 //! A machine: what does the steps, and the log of what they did.
-ghost use Rattle.std.specs.Prelude.{All, map, ◌≡◌, ℕ, ◌≤◌, ◌-◌, [], None, Some, IfSome, IfNone, IfOk, IfErr, OnOk, OnErr, IsTrue, true, false, is_some, length, if◌then◌else◌};
+ghost use Rattle.std.specs.Prelude.{All, map, ◌≡◌, ◌↔◌, ℕ, ◌≤◌, ◌-◌, [], None, Some, IfSome, IfNone, IfOk, IfErr, OnOk, OnErr, IsTrue, true, false, is_some, length, if◌then◌else◌};
 ghost use Rattle.kr_model.specs.declared.Op.TheVariants as op_is;
 ghost use Rattle.kr_model.specs.declared.Refusal.TheVariants as refusal_is;
 ghost use Rattle.kr_model.specs.declared.Reply.TheVariants as reply_is;
 ghost use Rattle.kr_model.specs.State.{start, active_of, standing, is_scanning, is_rolling, has_nothing_left};
-ghost use Rattle.kr_model.specs.Step.{step, IsStep};
+ghost use Rattle.kr_model.specs.Step.{step, blockers_in, IsStep};
 ghost use Rattle.kr_model.specs.WellFormed.{IsState};
 ghost use Rattle.kr_model.specs.Log.{no_log, logged};
 ghost use Rattle.kr_model.specs.Run.{is_granted};
@@ -96,6 +96,23 @@ impl<P: Protocol, I: Ordered, L: Holdings> Machine<P, I, L> {
         ensures well_formed { IsState (P.table self.now.protocol) self.now.state }
     {
         self.stepper.unfinished()
+    }
+
+    /// The transactions that block an operation now, rising: those that a step would name that is blocked. None where it is
+    /// refused or granted. `Memory` where a growth is refused.
+    pub fn blockers(&self, txn: Txn, op: Op) -> Result<Vec<Txn>, Memory>
+        requires { self.now.pending ≡ None }
+        ensures { IfOk result (λ us. us.items ≡ blockers_in (step (P.table self.now.protocol) self.now.state txn op).0) }
+    {
+        self.stepper.blockers(txn, op)
+    }
+
+    /// Whether an operation is blocked now. Takes no memory.
+    pub fn is_blocked(&self, txn: Txn, op: Op) -> bool
+        requires { self.now.pending ≡ None }
+        ensures { (result ≡ false) ↔ (blockers_in (step (P.table self.now.protocol) self.now.state txn op).0 ≡ []) }
+    {
+        self.stepper.is_blocked(txn, op)
     }
 
     /// A copy of the programs of the transactions that committed, in commit order, or `Memory` where a growth is refused.

@@ -1,7 +1,7 @@
 //! Steps of a machine without a log, against answers worked out by hand.
 use kr_index::Sorted;
 use kr_locks::List;
-use kr_machine::Stepper;
+use kr_machine::{Machine, Stepper};
 use kr_model::{Mode, Name, Op, Refusal, Reply, Row, Span};
 use kr_protocol::Kvl;
 use std::test::Fail;
@@ -70,5 +70,45 @@ fn what_is_requested_and_held(rt: HostRuntime) -> Result<(), Fail> {
     assert_eq!(rt; stepper.own(1, Name::Key(10)), IX);
     assert_eq!(rt; stepper.own(1, Name::End), 0);
     assert_eq!(rt; stepper.own(2, Name::Key(10)), 0);
+    Ok(())
+}
+
+#[test]
+fn who_blocks_an_operation(rt: HostRuntime) -> Result<(), Fail> {
+    let alloc = rt.alloc();
+    let mut stepper = Stepper::new(alloc, Kvl, Sorted::new(alloc), List::new(alloc));
+    assert!(rt; matches!(stepper.step(1, Op::Insert(10, 7)), Reply::Done));
+    assert_eq!(rt;
+        stepper.blockers(2, Op::Fetch(10))?.as_slice(),
+        [1].as_slice()
+    );
+    assert!(rt; stepper.is_blocked(2, Op::Fetch(10)));
+    assert!(rt; stepper.blockers(2, Op::Insert(5, 1))?.is_empty());
+    assert!(rt; !stepper.is_blocked(2, Op::Insert(5, 1)));
+    assert!(rt; stepper.blockers(2, Op::Go)?.is_empty());
+    assert!(rt; !stepper.is_blocked(2, Op::Go));
+    assert!(rt; stepper.blockers(1, Op::Commit)?.is_empty());
+    assert!(rt; !stepper.is_blocked(1, Op::Commit));
+    assert!(rt; !stepper.active(2));
+    Ok(())
+}
+
+#[test]
+fn who_blocks_an_operation_of_a_machine(rt: HostRuntime) -> Result<(), Fail> {
+    let alloc = rt.alloc();
+    let mut machine = Machine::new(alloc, Kvl, Sorted::new(alloc), List::new(alloc));
+    assert!(rt; matches!(machine.step(3, Op::Fetch(10)), Reply::None));
+    assert!(rt; matches!(machine.step(1, Op::Fetch(10)), Reply::None));
+    assert_eq!(rt;
+        machine.blockers(2, Op::Insert(10, 7))?.as_slice(),
+        [1, 3].as_slice()
+    );
+    assert!(rt; machine.is_blocked(2, Op::Insert(10, 7)));
+    assert_eq!(rt;
+        machine.blockers(1, Op::Insert(10, 7))?.as_slice(),
+        [3].as_slice()
+    );
+    assert!(rt; machine.blockers(2, Op::Fetch(10))?.is_empty());
+    assert!(rt; !machine.is_blocked(2, Op::Fetch(10)));
     Ok(())
 }
