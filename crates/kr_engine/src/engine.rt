@@ -117,10 +117,9 @@ impl<P: Covered, K: EngineName> Engine<P, K> {
     }
 
     /// Wakes the first call that a change may have let go on, which wakes the next; and where the index is another, each
-    /// that may be in a deadlock now. The answer is that first call, and none where each is blocked. The core stays.
-    pub(crate) fn pass_on(&self, core: &mut Core<P, K>, change: Change) -> Option<Woken>
-        ensures same { core.new ≡ core.old }
-        ensures none { result ≡ None → change ≢ change_is.Nothing → All (λ e. in_the_way (P.table core.old.protocol) core.old.state e ≢ []) core.old.waiting }
+    /// that may be in a deadlock now. The answer is that first call, and none where each is blocked.
+    pub(crate) fn pass_on(&self, core: &Core<P, K>, change: Change) -> Option<Woken>
+        ensures { result ≡ None → change ≢ change_is.Nothing → All (λ e. in_the_way (P.table core.now.protocol) core.now.state e ≢ []) core.now.waiting }
     {
         if change == Change::Nothing || core.has_no_waiter() {
             return None;
@@ -132,10 +131,9 @@ impl<P: Covered, K: EngineName> Engine<P, K> {
         woken
     }
 
-    /// Wakes the first call that isn't blocked now. The answer is that call, and none where each is blocked. The core stays.
-    fn wake_first(&self, core: &mut Core<P, K>) -> Option<Woken>
-        ensures same { core.new ≡ core.old }
-        ensures none { result ≡ None → All (λ e. in_the_way (P.table core.old.protocol) core.old.state e ≢ []) core.old.waiting }
+    /// Wakes the first call that isn't blocked now. The answer is that call, and none where each is blocked.
+    fn wake_first(&self, core: &Core<P, K>) -> Option<Woken>
+        ensures { result ≡ None → All (λ e. in_the_way (P.table core.now.protocol) core.now.state e ≢ []) core.now.waiting }
     {
         match core.first_free() {
             Some(txn) => Some(self.queues.wake(txn)),
@@ -143,10 +141,8 @@ impl<P: Covered, K: EngineName> Engine<P, K> {
         }
     }
 
-    /// Wakes each call that may be in a deadlock now. The core stays.
-    fn wake_deadlocked(&self, core: &mut Core<P, K>)
-        ensures { core.new ≡ core.old }
-    {
+    /// Wakes each call that may be in a deadlock now.
+    fn wake_deadlocked(&self, core: &Core<P, K>) {
         match core.deadlocked() {
             Ok(waits) => {
                 for wait in &waits {

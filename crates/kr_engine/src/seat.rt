@@ -96,7 +96,7 @@ impl<'a, P: Covered, K: EngineName> Seat<'a, P, K> {
         let mut core = engine.core.lock(rt);
         let result = core.attempt_under_lock(&engine.row, &mut self.state, op);
         if let Ok(receipt) = &result {
-            engine.pass_on(&mut core, change_of(&receipt.reply));
+            engine.pass_on(&core, change_of(&receipt.reply));
         }
         result
     }
@@ -124,11 +124,11 @@ impl<'a, P: Covered, K: EngineName> Seat<'a, P, K> {
         for _ in rt.forever() {
             match core.attempt_or_wait(&engine.row, seat, op) {
                 Ok(receipt) => {
-                    engine.pass_on(&mut core, change_of(&receipt.reply).or(least));
+                    engine.pass_on(&core, change_of(&receipt.reply).or(least));
                     return Ok(receipt);
                 }
                 Err(fault) => {
-                    engine.pass_on(&mut core, least);
+                    engine.pass_on(&core, least);
                     if !fault.is_blocked() {
                         return Err(fault);
                     }

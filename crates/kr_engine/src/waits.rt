@@ -1,9 +1,6 @@
 //! Waiting: an operation is noted, unless it closes a cycle of waiting transactions.
 ghost use Rattle.std.specs.List.{list_any};
 ghost use Rattle.std.specs.Prelude.{◌≡◌, ◌==◌, ◌||◌, ◌≢◌, ◌≤◌, ◌∷◌, ◌++◌, [], ℕ, List, true, None, IfOk, IfErr, IfSome, IfNone, OnOk, OnErr, vec_len, vec_capacity};
-ghost use Rattle.kr_model.specs.declared.Reply.TheVariants as reply_is;
-ghost use Rattle.kr_model.specs.declared.Refusal.TheVariants as refusal_is;
-ghost use Rattle.kr_model.specs.Step.{blockers_in};
 ghost use Rattle.kr_model.specs.Locks.{add_once};
 ghost use Rattle.std.specs.List.Sorted.{IsStrictlyIncreasing};
 ghost use Rattle.kr_deadlock.specs.Waits.{blockers_of, IsCycle};
@@ -19,7 +16,7 @@ use kr_history::EngineName;
 use kr_index::Tree;
 use kr_locks::Buckets;
 use kr_machine::Machine;
-use kr_model::{Event, Op, Refusal, Reply, Txn, Txns};
+use kr_model::{Event, Op, Txn, Txns};
 use kr_protocol::Covered;
 use std::alloc::{AllocError, Global};
 
@@ -37,7 +34,7 @@ impl<P: Covered, K: EngineName> Core<P, K> {
         ensures err { OnErr result (self.new ≡ self.old) }
         ensures faults { IfErr result (λ f. is_of_wait f ≡ true) }
     {
-        let found = match cycle_of(self.alloc, &mut self.machine, &self.waiting, txn, op) {
+        let found = match cycle_of(self.alloc, &self.machine, &self.waiting, txn, op) {
             Ok(found) => found,
             Err(_) => return Err(EngineFault::Memory),
         };
@@ -84,17 +81,16 @@ fn put_once(txns: &mut Vec<Txn>, txn: Txn) -> Result<(), AllocError>
 /// A cycle of waiting transactions in which this one is first, by its operation and by those noted.
 fn cycle_of<P: Covered>(
     alloc: Global,
-    machine: &mut Machine<P, Tree, Buckets>,
+    machine: &Machine<P, Tree, Buckets>,
     noted: &[Event],
     txn: Txn,
     op: Op,
 ) -> Result<Option<Txns>, AllocError>
-    requires { machine.old.pending ≡ None }
-    ensures same { machine.new ≡ machine.old }
-    ensures cycle { IfOk result (λ found. IfSome found (IsCycle (blockers_now (in_the_way (P.table machine.old.protocol) machine.old.state) (event txn op ∷ noted.now)) txn)) }
-    ensures none { IfOk result (λ found. IfNone found ((cycle : List ℕ) → IsCycle (blockers_now (in_the_way (P.table machine.old.protocol) machine.old.state) (event txn op ∷ noted.now)) txn cycle → ⊥)) }
+    requires { machine.now.pending ≡ None }
+    ensures cycle { IfOk result (λ found. IfSome found (IsCycle (blockers_now (in_the_way (P.table machine.now.protocol) machine.now.state) (event txn op ∷ noted.now)) txn)) }
+    ensures none { IfOk result (λ found. IfNone found ((cycle : List ℕ) → IsCycle (blockers_now (in_the_way (P.table machine.now.protocol) machine.now.state) (event txn op ∷ noted.now)) txn cycle → ⊥)) }
 {
-    let own = blockers(alloc, machine, Event { txn, op })?;
+    let own = machine.blockers(txn, op)?;
     if !may_close(txn, &own, noted) {
         return Ok(None);
     }
@@ -132,15 +128,14 @@ fn is_noted(noted: &[Event], txn: Txn) -> bool
 /// An entry for the requester, whom these block, and then one for each noted operation.
 fn entries<P: Covered>(
     alloc: Global,
-    machine: &mut Machine<P, Tree, Buckets>,
+    machine: &Machine<P, Tree, Buckets>,
     event: Event,
     own: Vec<Txn>,
     noted: &[Event],
 ) -> Result<Vec<Waiting>, AllocError>
-    requires at_rest { machine.old.pending ≡ None }
-    requires own { own.items ≡ in_the_way (P.table machine.old.protocol) machine.old.state event }
-    ensures same { machine.new ≡ machine.old }
-    ensures entries { IfOk result (λ waits. (t : ℕ) → blockers_of waits.items t ≡ blockers_now (in_the_way (P.table machine.old.protocol) machine.old.state) (event ∷ noted.now) t) }
+    requires at_rest { machine.now.pending ≡ None }
+    requires own { own.items ≡ in_the_way (P.table machine.now.protocol) machine.now.state event }
+    ensures { IfOk result (λ waits. (t : ℕ) → blockers_of waits.items t ≡ blockers_now (in_the_way (P.table machine.now.protocol) machine.now.state) (event ∷ noted.now) t) }
 {
     let mut waits = Vec::new(alloc);
     waits.push(Waiting {
@@ -150,41 +145,10 @@ fn entries<P: Covered>(
     for &other in noted {
         waits.push(Waiting {
             txn: other.txn,
-            blockers: blockers(alloc, machine, other)?,
+            blockers: machine.blockers(other.txn, other.op)?,
         })?;
     }
     Ok(waits)
-}
-
-/// Who blocks an operation now; nobody where it isn't blocked. The machine stays.
-pub(crate) fn blockers<P: Covered>(
-    alloc: Global,
-    machine: &mut Machine<P, Tree, Buckets>,
-    event: Event,
-) -> Result<Vec<Txn>, AllocError>
-    requires { machine.old.pending ≡ None }
-    ensures same { machine.new ≡ machine.old }
-    ensures blockers { IfOk result (λ us. us.items ≡ in_the_way (P.table machine.old.protocol) machine.old.state event) }
-{
-    match machine.ready(event.txn, event.op) {
-        Ok(ready) => {
-            machine.cancel(ready);
-            Ok(Vec::new(alloc))
-        }
-        Err(reply) => named_by(alloc, reply),
-    }
-}
-
-/// The transactions that a reply names as blockers, where it doesn't say that memory was refused.
-fn named_by(alloc: Global, reply: Reply) -> Result<Vec<Txn>, AllocError>
-    ensures blockers { IfOk result (λ us. us.items ≡ blockers_in reply) }
-    ensures memory { OnOk result (reply ≢ reply_is.Refused refusal_is.Memory) }
-{
-    match reply {
-        Reply::Blocked(txns) => Ok(txns.into_vec()),
-        Reply::Refused(Refusal::Memory) => Err(AllocError),
-        _ => Ok(Vec::new(alloc)),
-    }
 }
 
 /// Notes an operation in place of one of its transaction.

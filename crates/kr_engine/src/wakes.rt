@@ -7,7 +7,6 @@ ghost use Rattle.kr_engine.specs.Waits.{in_the_way, blockers_now, IsEntry, AreDe
 ghost use Rattle.kr_engine.specs.Wakes.{FreesNobody, LeavesKeys, BlocksNobody};
 
 use crate::kernel::Core;
-use crate::waits::blockers;
 use kr_deadlock::Waiting;
 use kr_history::EngineName;
 use kr_index::Tree;
@@ -67,45 +66,32 @@ impl<P: Covered, K: EngineName> Core<P, K> {
         self.waiting.is_empty()
     }
 
-    /// The transaction of the first noted operation that isn't blocked now; or that may not be, since a growth was
-    /// refused. The core stays.
-    pub(crate) fn first_free(&mut self) -> Option<Txn>
-        ensures same { self.new ≡ self.old }
-        ensures none { result ≡ None → All (λ e. in_the_way (P.table self.old.protocol) self.old.state e ≢ []) self.old.waiting }
+    /// The transaction of the first noted operation that isn't blocked now. Takes no memory.
+    pub(crate) fn first_free(&self) -> Option<Txn>
+        ensures { result ≡ None → All (λ e. in_the_way (P.table self.now.protocol) self.now.state e ≢ []) self.now.waiting }
     {
-        first_free(self.alloc, &mut self.machine, &self.waiting)
+        first_free(&self.machine, &self.waiting)
     }
 
     /// The noted operations that are deadlocked, since they wait for one another, or for such: of each set of them in which
     /// each is blocked by another, all, so each member of a cycle of waiting transactions. An error where a growth is
-    /// refused. The core stays.
-    pub(crate) fn deadlocked(&mut self) -> Result<Vec<Waiting>, AllocError>
-        ensures same { self.new ≡ self.old }
-        ensures all { IfOk result (λ waits. (txns : List ℕ) → AreDeadlocked (blockers_now (in_the_way (P.table self.old.protocol) self.old.state) self.old.waiting) txns → (t : ℕ) → Contains txns t → list_any (λ w. w.txn == t) waits.items ≡ true) }
-        ensures cycles { IfOk result (λ waits. (txn : ℕ) (cycle : List ℕ) → IsCycle (blockers_now (in_the_way (P.table self.old.protocol) self.old.state) self.old.waiting) txn cycle → (t : ℕ) → Contains cycle t → list_any (λ w. w.txn == t) waits.items ≡ true) }
+    /// refused.
+    pub(crate) fn deadlocked(&self) -> Result<Vec<Waiting>, AllocError>
+        ensures all { IfOk result (λ waits. (txns : List ℕ) → AreDeadlocked (blockers_now (in_the_way (P.table self.now.protocol) self.now.state) self.now.waiting) txns → (t : ℕ) → Contains txns t → list_any (λ w. w.txn == t) waits.items ≡ true) }
+        ensures cycles { IfOk result (λ waits. (txn : ℕ) (cycle : List ℕ) → IsCycle (blockers_now (in_the_way (P.table self.now.protocol) self.now.state) self.now.waiting) txn cycle → (t : ℕ) → Contains cycle t → list_any (λ w. w.txn == t) waits.items ≡ true) }
     {
-        deadlocked(self.alloc, &mut self.machine, &self.waiting)
+        deadlocked(self.alloc, &self.machine, &self.waiting)
     }
 }
 
-/// The first of these operations that isn't blocked now, or that may not be.
-fn first_free<P: Covered>(
-    alloc: Global,
-    machine: &mut Machine<P, Tree, Buckets>,
-    noted: &[Event],
-) -> Option<Txn>
-    requires { machine.old.pending ≡ None }
-    ensures same { machine.new ≡ machine.old }
-    ensures none { result ≡ None → All (λ e. in_the_way (P.table machine.old.protocol) machine.old.state e ≢ []) noted.now }
+/// The first of these operations that isn't blocked now. Takes no memory.
+fn first_free<P: Covered>(machine: &Machine<P, Tree, Buckets>, noted: &[Event]) -> Option<Txn>
+    requires { machine.now.pending ≡ None }
+    ensures { result ≡ None → All (λ e. in_the_way (P.table machine.now.protocol) machine.now.state e ≢ []) noted.now }
 {
-    for &event in noted {
-        match blockers(alloc, machine, event) {
-            Ok(others) => {
-                if others.is_empty() {
-                    return Some(event.txn);
-                }
-            }
-            Err(_) => return Some(event.txn),
+    for event in noted {
+        if !machine.is_blocked(event.txn, event.op) {
+            return Some(event.txn);
         }
     }
     None
@@ -114,18 +100,17 @@ fn first_free<P: Covered>(
 /// Each of these operations with who blocks it now.
 fn all_blockers<P: Covered>(
     alloc: Global,
-    machine: &mut Machine<P, Tree, Buckets>,
+    machine: &Machine<P, Tree, Buckets>,
     noted: &[Event],
 ) -> Result<Vec<Waiting>, AllocError>
-    requires { machine.old.pending ≡ None }
-    ensures same { machine.new ≡ machine.old }
-    ensures entries { IfOk result (λ waits. AllZip (IsEntry (in_the_way (P.table machine.old.protocol) machine.old.state)) noted.now waits.items) }
+    requires { machine.now.pending ≡ None }
+    ensures { IfOk result (λ waits. AllZip (IsEntry (in_the_way (P.table machine.now.protocol) machine.now.state)) noted.now waits.items) }
 {
     let mut waits = Vec::new(alloc);
     for &event in noted {
         waits.push(Waiting {
             txn: event.txn,
-            blockers: blockers(alloc, machine, event)?,
+            blockers: machine.blockers(event.txn, event.op)?,
         })?;
     }
     Ok(waits)
@@ -134,13 +119,12 @@ fn all_blockers<P: Covered>(
 /// Those of these operations that are deadlocked: they wait for one another, or for such.
 fn deadlocked<P: Covered>(
     alloc: Global,
-    machine: &mut Machine<P, Tree, Buckets>,
+    machine: &Machine<P, Tree, Buckets>,
     noted: &[Event],
 ) -> Result<Vec<Waiting>, AllocError>
-    requires { machine.old.pending ≡ None }
-    ensures same { machine.new ≡ machine.old }
-    ensures all { IfOk result (λ waits. (txns : List ℕ) → AreDeadlocked (blockers_now (in_the_way (P.table machine.old.protocol) machine.old.state) noted.now) txns → (t : ℕ) → Contains txns t → list_any (λ w. w.txn == t) waits.items ≡ true) }
-    ensures cycles { IfOk result (λ waits. (txn : ℕ) (cycle : List ℕ) → IsCycle (blockers_now (in_the_way (P.table machine.old.protocol) machine.old.state) noted.now) txn cycle → (t : ℕ) → Contains cycle t → list_any (λ w. w.txn == t) waits.items ≡ true) }
+    requires { machine.now.pending ≡ None }
+    ensures all { IfOk result (λ waits. (txns : List ℕ) → AreDeadlocked (blockers_now (in_the_way (P.table machine.now.protocol) machine.now.state) noted.now) txns → (t : ℕ) → Contains txns t → list_any (λ w. w.txn == t) waits.items ≡ true) }
+    ensures cycles { IfOk result (λ waits. (txn : ℕ) (cycle : List ℕ) → IsCycle (blockers_now (in_the_way (P.table machine.now.protocol) machine.now.state) noted.now) txn cycle → (t : ℕ) → Contains cycle t → list_any (λ w. w.txn == t) waits.items ≡ true) }
 {
     let waits = all_blockers(alloc, machine, noted)?;
     Ok(shed_all(waits))

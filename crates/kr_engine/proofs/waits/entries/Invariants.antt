@@ -1,11 +1,8 @@
-use Rattle.std.proofs.Common.{◌≡◌, ◌∷◌, take}
+use Rattle.std.proofs.Common.{◌∷◌, take}
 use Rattle.std.specs.List.{AllZip}
 use Rattle.kr_engine.specs.Waits.{IsEntry, in_the_way}
 use Rattle.kr_engine.proofs.waits.entries.Given as goal
 
--- the machine stays, and there are entries so far
+-- there are entries so far
 abbrev pub invariant-loop-other : goal.invariant-loop-other
-invariant-loop-other g l = record {
-  same : l.machine ≡ l.fn.machine;
-  entries : AllZip (IsEntry (in_the_way (g.P.Protocol.table l.fn.machine.protocol) l.fn.machine.state)) (l.fn.event ∷ take l.other-index l.noted) l.waits.items;
-}
+invariant-loop-other g l = AllZip (IsEntry (in_the_way (g.P.Protocol.table l.fn.machine.protocol) l.fn.machine.state)) (l.fn.event ∷ take l.other-index l.noted) l.waits.items

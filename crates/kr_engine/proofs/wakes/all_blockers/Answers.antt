@@ -1,4 +1,4 @@
-use Rattle.std.proofs.Common.{◌∙◌, List, ap, refl, get_or, subst}
+use Rattle.std.proofs.Common.{List, refl, subst}
 use Rattle.std.specs.List.{AllZip}
 use Rattle.std.proofs.lemmas.List.{take_all}
 use Rattle.kr_model.specs.declared.Event.{Event}
@@ -10,15 +10,10 @@ use Rattle.kr_engine.proofs.wakes.all_blockers.Goals as goal
 pub loop-event-preserved : goal.loop-event-preserved
 loop-event-preserved g c =
     let nothing : Event = record { txn = 0; op = op.Fetch 0 } in
-    record {
-      same = c.in_ok-blockers.ensures.same ∙ c.loop-event.invariant.same;
-      entries = all_push (in_the_way (g.P.Protocol.table c.args.machine.now.protocol) c.args.machine.now.state) c.args.noted.now c.loop-event.event-index nothing c.loop-event.waits.items _ _ c.loop-event.invariant.entries c.loop-event-test.true (record {
-        txn = refl;
-        blockers_are = c.in_ok-blockers.ensures.blockers ∙ ap (λ m. in_the_way (g.P.Protocol.table m.protocol) m.state (get_or c.args.noted.now c.loop-event.event-index nothing)) c.loop-event.invariant.same;
-      }) c.in_ok-push.ensures.items;
-    }
+    all_push (in_the_way (g.P.Protocol.table c.args.machine.now.protocol) c.args.machine.now.state) c.args.noted.now c.loop-event.event-index nothing c.loop-event.waits.items _ _ c.loop-event.invariant c.loop-event-test.true
+    (record { txn = refl; blockers_are = c.in_ok-blockers.ensures }) c.in_ok-push.ensures.items
 
-pub returns-clause-entries : goal.returns-clause-entries
-returns-clause-entries g c =
+pub returns : goal.returns
+returns g c =
     let f = in_the_way (g.P.Protocol.table c.args.machine.now.protocol) c.args.machine.now.state in
-    subst (λ (es : List Event). AllZip (IsEntry f) es c.loop-event.waits.items) (take_all c.loop-event.event-index c.args.noted.now c.loop-event-test.false) c.loop-event.invariant.entries
+    subst (λ (es : List Event). AllZip (IsEntry f) es c.loop-event.waits.items) (take_all c.loop-event.event-index c.args.noted.now c.loop-event-test.false) c.loop-event.invariant

@@ -1,11 +1,8 @@
-use Rattle.std.proofs.Common.{◌≡◌, take}
+use Rattle.std.proofs.Common.{take}
 use Rattle.std.specs.List.{AllZip}
 use Rattle.kr_engine.specs.Waits.{IsEntry, in_the_way}
 use Rattle.kr_engine.proofs.wakes.all_blockers.Given as goal
 
--- the machine stays, and there are entries so far
+-- there are entries so far
 abbrev pub invariant-loop-event : goal.invariant-loop-event
-invariant-loop-event g l = record {
-  same : l.machine ≡ l.fn.machine;
-  entries : AllZip (IsEntry (in_the_way (g.P.Protocol.table l.fn.machine.protocol) l.fn.machine.state)) (take l.event-index l.noted) l.waits.items;
-}
+invariant-loop-event g l = AllZip (IsEntry (in_the_way (g.P.Protocol.table l.fn.machine.protocol) l.fn.machine.state)) (take l.event-index l.noted) l.waits.items

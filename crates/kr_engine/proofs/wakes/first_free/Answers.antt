@@ -5,10 +5,10 @@ use Rattle.kr_model.specs.declared.Event.{Event}
 use Rattle.kr_engine.specs.Waits.{in_the_way}
 use Rattle.kr_engine.proofs.wakes.first_free.Goals as goal
 
-pub returns-clause-none : goal.returns-clause-none
-returns-clause-none g c =
+pub returns : goal.returns
+returns g c =
     let blocked : List Event → Type 0 = All (λ e. in_the_way (g.P.Protocol.table c.args.machine.now.protocol) c.args.machine.now.state e ≢ []) in
-    λ _. subst blocked (take_all c.loop-event.event-index c.args.noted.now (omega (arith, c.loop-event-test.false))) c.loop-event.invariant.blocked
+    λ _. subst blocked (take_all c.loop-event.event-index c.args.noted.now (omega (arith, c.loop-event-test.false))) c.loop-event.invariant
 
 pub loop-event-preserved : goal.loop-event-preserved
 loop-event-preserved g c = grind (arith, common_steps)
