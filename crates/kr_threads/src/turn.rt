@@ -7,13 +7,17 @@ use std::sync::{Mutex, MutexGuard, Wait};
 /// How many calls a worker makes in one turn at most.
 pub(crate) const MOST_CALLS: usize = 256;
 
+/// Turns of fewer calls than this are short.
+const SHORT: usize = 32;
+
 /// The turn of one worker, which it has or hasn't. One worker has it at a time, and makes some calls in it before another
 /// gets in: so the engine's lock is found free, and no worker sleeps at each call. It never waits for others' transactions
 /// in its turn.
 ///
 /// A worker's first turn is of one call, and each further one of twice as many, up to the most: the transactions of a short
-/// script meet step by step, and the workers of a long one seldom sleep. Contracts see how many calls are left of the turn,
-/// none where the worker hasn't it.
+/// script meet step by step, and the workers of a long one seldom sleep. A worker begins each transaction in its turn. Once its
+/// turns are long, it ends one without it where it has lost the turn meanwhile. Contracts see how many calls are left of the
+/// turn, none where the worker hasn't it.
 #[derive(Drop)]
 pub(crate) struct Turn<'a> {
     turns: &'a Mutex<()>,
@@ -57,6 +61,17 @@ impl<'a> Turn<'a> {
             self.own = Some(self.turns.lock(rt));
             self.left = self.next;
             self.next = self.next.saturating_mul(2).min(MOST_CALLS);
+        }
+    }
+
+    /// Waits for the turn amid a transaction, while the worker's turns are short. Where they are long, and the worker has lost its
+    /// turn, it goes on without one: so a transaction whose locks others wait for doesn't wait for their turns.
+    pub fn retake<R: Wait>(&mut self, rt: &R)
+        ensures most { self.new ≤ MOST_CALLS }
+        ensures kept { 0 < self.old → self.new ≡ self.old }
+    {
+        if self.next <= SHORT {
+            self.take(rt);
         }
     }
 

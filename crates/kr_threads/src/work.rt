@@ -241,7 +241,7 @@ impl<P: Covered, K: EngineName> Worker<'_, P, K> {
     }
 
     /// One call of the seat between its gates. Where the gates may wait, it isn't in the worker's turn; else it is the next of
-    /// its turn, which ends after some calls.
+    /// its turn, if it has or gets one, which ends after some calls.
     fn call<G: Gate, R: Wait>(
         &mut self,
         rt: &R,
@@ -260,7 +260,7 @@ impl<P: Covered, K: EngineName> Worker<'_, P, K> {
         if gate.may_wait() {
             turn.give();
         } else {
-            turn.take(rt);
+            turn.retake(rt);
         }
         gate.before(rt, self.number, self.calls);
         let result = call_in_turn(rt, &mut self.seat, turn, op);

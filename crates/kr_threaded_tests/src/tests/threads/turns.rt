@@ -42,11 +42,12 @@ impl Turns {
     }
 }
 
-/// Whether a turn ends with so many calls: turns are of 1, 2, 4 calls and so on up to 256, and then of 256 each.
+/// Whether a turn ends with so many calls: turns are of 1, 2, 4 calls and so on up to 256, and then of 256 each. The turn of 32
+/// calls ends amid a transaction, which commits without a turn.
 fn is_end(calls: u64) -> bool {
     match calls {
-        1 | 3 | 7 | 15 | 31 | 63 | 127 | 255 | 511 => true,
-        _ => calls > 511 && (calls - 511) % 256 == 0,
+        1 | 3 | 7 | 15 | 31 | 63 | 128 | 256 | 512 => true,
+        _ => calls > 512 && calls % 256 == 0,
     }
 }
 
