@@ -6,7 +6,7 @@ use std::alloc::Global;
 use std::io::{Error, ErrorKind, Read, Result};
 
 /// How many bytes are read at once.
-const CHUNK: usize = 16_384;
+const CHUNK: usize = 4096;
 
 /// The bytes that a reader gives up to its end, or the first `most` where it gives more: no byte behind those is read. A read
 /// that a signal interrupts is tried again.
