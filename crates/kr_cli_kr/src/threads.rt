@@ -1,31 +1,32 @@
 //! From the bytes of a script to the report of its run by several threads, on a sink.
-ghost use Rattle.std.specs.Prelude.{◌≡◌, ◌⊎◌, ◌↔◌, ◌<◌, ◌≤◌, ◌++◌, ◌∷◌, [], Ok, IfOk, IfErr, IsTrue, string_bytes};
-ghost use Rattle.kr_model.specs.Serial.{AreSerial};
+ghost use Rattle.std.specs.Prelude.{◌≡◌, ◌⊎◌, List, ◌↔◌, ◌<◌, ◌≤◌, ◌++◌, ◌∷◌, [], Ok, IfOk, IfErr, IsTrue, string_bytes};
+ghost use Rattle.kr_model.specs.declared.Event.{Event};
+ghost use Rattle.kr_model.specs.Map.{Map};
+ghost use Rattle.kr_model.specs.Protocol.{Protocol};
 ghost use Rattle.std.specs.Io.KnownBytes.{Appends};
 ghost use Rattle.kr_script.specs.Reading.{reading};
 ghost use Rattle.kr_script.specs.Script.{Script};
 ghost use Rattle.kr_report.specs.declared.threaded.Threaded.{Threaded as Outcome};
-ghost use Rattle.kr_threads.specs.Threaded.{IsThreaded};
+ghost use Rattle.kr_threads.specs.Threaded.{IsThreaded, ShowsThreads};
 ghost use Rattle.kr_cli_kr.specs.Threads.{threads_line, ExplainsThreads};
 ghost use Rattle.kr_cli_kr.specs.declared.faults.OverFault.TheVariants as fault;
 
 use crate::faults::OverFault;
 use kr_protocol::Covered;
-use kr_report::{Threaded, report_threads};
+use kr_report::{ThreadsShown, report_threads_shown};
 use kr_script::read_script;
 use kr_serial::Verdict;
 use kr_sink::{Sink, print};
-use kr_threads::{Passage, RunFault, run_threads};
+use kr_threads::{Passage, RunFault, show_threads};
 use std::alloc::{AllocError, Global};
 use std::sync::Wait;
 use std::thread::Threads;
 
 /// The report of what several threads did, with the verdict on the run of its history, which is serializable.
-fn report_of(alloc: Global, threaded: &Threaded) -> Result<String, AllocError>
-    requires { AreSerial threaded.now.ran.opening threaded.now.ran.programs }
-    ensures { IfOk result (λ text. string_bytes text ++ 10 ∷ [] ≡ threads_line threaded.now) }
+fn report_of(alloc: Global, shown: &ThreadsShown) -> Result<String, AllocError>
+    ensures { IfOk result (λ text. (p : Protocol) (opening : Map) (steps : List Event) → (shows : ShowsThreads p opening steps shown.now) → string_bytes text ++ 10 ∷ [] ≡ threads_line shows.whole) }
 {
-    report_threads(alloc, threaded, &Verdict::Serial)
+    report_threads_shown(alloc, shown, &Verdict::Serial)
 }
 
 /// Runs the script that the bytes are under a covered protocol, its transactions shared out to so many workers, each a
@@ -49,12 +50,12 @@ pub fn threads_over<P: Covered + Sync, W: Sink>(
     ensures nothing { IfErr result (λ e. (e ≡ fault.Print) ⊎ (out.new ≡ out.old)) }
 {
     let script = read_script(alloc, script)?;
-    let threaded = match run_threads(rt, alloc, protocol, &script, workers, &Passage) {
-        Ok(threaded) => threaded,
+    let shown = match show_threads(rt, alloc, protocol, &script, workers, &Passage) {
+        Ok(shown) => shown,
         Err(RunFault::Memory) => return Err(OverFault::Memory),
         Err(RunFault::Place) => return Err(OverFault::Place),
     };
-    let text = report_of(alloc, &threaded)?;
+    let text = report_of(alloc, &shown)?;
     match print(out, text.as_str()) {
         Ok(()) => Ok(true),
         Err(_) => Err(OverFault::Print),

@@ -1,8 +1,7 @@
 -- Numbers that were begun, by place.
 use Rattle.std.proofs.Common.{◌≡◌, ℕ, zero, suc, ◌+◌, ◌<◌, ◌==◌, ◌&&◌, ◌||◌, Bool, true, false, cond, List, [], ◌∷◌, ◌++◌, length, Option, Some, None, is_some, refl, ap, sym, ◌∙◌, subst, arith, length-append, length-set}
-use Rattle.std.specs.Prelude.{slice_set}
-use Rattle.std.specs.BTreeMap.{BTreeMap, get, is_at}
-use Rattle.std.specs.Ordering.{nat_cmp}
+use Rattle.std.specs.Prelude.{slice_set, nat_eq}
+use Rattle.std.specs.HashMap.{HashMap, get}
 use Rattle.std.specs.Map.{lookup}
 use Rattle.std.proofs.lemmas.Bool.{eqb-true, eq-eqb}
 use Rattle.std.proofs.lemmas.Bool.Decides.{nat_tests}
@@ -91,14 +90,14 @@ still_begun_by (x ∷ xs) n t k h = by ((x.0 == t) && (x.1 == k)) h (still_begun
 
 -- Places --
 
-pub are_distinct : (places : BTreeMap ℕ ℕ) (ns : List Number) → ArePlaces places ns → AreDistinct ns
+pub are_distinct : {S : Type 0} (places : HashMap ℕ ℕ S) (ns : List Number) → ArePlaces places ns → AreDistinct ns
 are_distinct places ns a i j li lj same =
-    let one : get nat_cmp places (number_at ns i).txn ≡ Some i = a.each i li in
-    let other : get nat_cmp places (number_at ns j).txn ≡ Some j = a.each j lj in
-    let both : Some i ≡ Some j = sym one ∙ ap (get nat_cmp places) same ∙ other in
+    let one : get nat_eq places (number_at ns i).txn ≡ Some i = a.each i li in
+    let other : get nat_eq places (number_at ns j).txn ≡ Some j = a.each j lj in
+    let both : Some i ≡ Some j = sym one ∙ ap (get nat_eq places) same ∙ other in
     cc (both)
 
-pub is_place : (places : BTreeMap ℕ ℕ) (ns : List Number) (t i : ℕ) → ArePlaces places ns → get nat_cmp places t ≡ Some i → IsPlace ns t i
+pub is_place : {S : Type 0} (places : HashMap ℕ ℕ S) (ns : List Number) (t i : ℕ) → ArePlaces places ns → get nat_eq places t ≡ Some i → IsPlace ns t i
 is_place places ns t i a found =
     let r = a.true_of t i found in
     record {
@@ -108,19 +107,19 @@ is_place places ns t i a found =
     }
 
 -- a number is found exactly where it was begun
-pub found_begun : (places : BTreeMap ℕ ℕ) (ns : List Number) (t : ℕ) → ArePlaces places ns → is_some (get nat_cmp places t) ≡ was_begun (begun_by ns) t
-found_begun places ns t a = same_truth (is_some (get nat_cmp places t)) (was_begun (begun_by ns) t) (there (get nat_cmp places t) refl) begun
+pub found_begun : {S : Type 0} (places : HashMap ℕ ℕ S) (ns : List Number) (t : ℕ) → ArePlaces places ns → is_some (get nat_eq places t) ≡ was_begun (begun_by ns) t
+found_begun places ns t a = same_truth (is_some (get nat_eq places t)) (was_begun (begun_by ns) t) (there (get nat_eq places t) refl) begun
   where
-    there : (o : Option ℕ) → get nat_cmp places t ≡ o → is_some o ≡ true → was_begun (begun_by ns) t ≡ true
+    there : (o : Option ℕ) → get nat_eq places t ≡ o → is_some o ≡ true → was_begun (begun_by ns) t ≡ true
     there None is h = absurd (cc)
     there (Some i) is h =
         let r = a.true_of t i is in
         begun_there ns t i r.0 r.1
 
-    begun : was_begun (begun_by ns) t ≡ true → is_some (get nat_cmp places t) ≡ true
+    begun : was_begun (begun_by ns) t ≡ true → is_some (get nat_eq places t) ≡ true
     begun h =
         let r = place_of_begun ns t h in
-        ap is_some (ap (get nat_cmp places) (sym r.2) ∙ a.each r.0 r.1)
+        ap is_some (ap (get nat_eq places) (sym r.2) ∙ a.each r.0 r.1)
 
 -- at its place stands the seat that began it
 pub seat_there : (ns : List Number) (t k i : ℕ) → IsPlace ns t i → ((number_at ns i).seat == k) ≡ is_begun (begun_by ns) t k
@@ -147,44 +146,44 @@ at_last : (ns : List Number) (n : Number) → number_at (ns ++ n ∷ []) (length
 at_last [] n = refl
 at_last (x ∷ xs) n = at_last xs n
 
-tied : (t u : ℕ) → is_at (nat_cmp t) u ≡ true → t ≡ u
-tied t u e = grind (arith, nat_tests)
+tied : (t u : ℕ) → nat_eq t u ≡ true → t ≡ u
+tied t u e = eqb-true t u e
 
-tied_same : (t : ℕ) → is_at (nat_cmp t) t ≡ true
-tied_same t = grind (arith, nat_tests)
+tied_same : (t : ℕ) → nat_eq t t ≡ true
+tied_same t = eq-eqb t t refl
 
 -- One number more, which wasn't begun, and its place.
-pub places_more : (m w : BTreeMap ℕ ℕ) (ns : List Number) (n : Number) → ArePlaces m ns → was_begun (begun_by ns) n.txn ≡ false
-    → ((u : ℕ) → get nat_cmp w u ≡ cond (is_at (nat_cmp n.txn) u) (Some (length ns)) (get nat_cmp m u)) → ArePlaces w (ns ++ n ∷ [])
-places_more m w ns n a new is = record { each = each; true_of = λ t i found. told t i (is_at (nat_cmp n.txn) t) refl (sym (is t) ∙ found) }
+pub places_more : {S : Type 0} (m w : HashMap ℕ ℕ S) (ns : List Number) (n : Number) → ArePlaces m ns → was_begun (begun_by ns) n.txn ≡ false
+    → ((u : ℕ) → get nat_eq w u ≡ cond (nat_eq n.txn u) (Some (length ns)) (get nat_eq m u)) → ArePlaces w (ns ++ n ∷ [])
+places_more m w ns n a new is = record { each = each; true_of = λ t i found. told t i (nat_eq n.txn t) refl (sym (is t) ∙ found) }
   where
     longer : length (ns ++ n ∷ []) ≡ length ns + 1
     longer = length-append ns (n ∷ [])
 
-    other : (i : ℕ) → i < length ns → (b : Bool) → is_at (nat_cmp n.txn) (number_at ns i).txn ≡ b → b ≡ false
+    other : (i : ℕ) → i < length ns → (b : Bool) → nat_eq n.txn (number_at ns i).txn ≡ b → b ≡ false
     other i l true e = sym (begun_there ns n.txn i l (sym (tied n.txn (number_at ns i).txn e))) ∙ new
     other i l false e = refl
 
-    old : (i : ℕ) → i < length ns → get nat_cmp w (number_at (ns ++ n ∷ []) i).txn ≡ Some i
+    old : (i : ℕ) → i < length ns → get nat_eq w (number_at (ns ++ n ∷ []) i).txn ≡ Some i
     old i l =
-        ap (λ (x : Number). get nat_cmp w x.txn) (at_old ns n i l) ∙ is (number_at ns i).txn
-        ∙ ap (λ (b : Bool). cond b (Some (length ns)) (get nat_cmp m (number_at ns i).txn)) (other i l (is_at (nat_cmp n.txn) (number_at ns i).txn) refl) ∙ a.each i l
+        ap (λ (x : Number). get nat_eq w x.txn) (at_old ns n i l) ∙ is (number_at ns i).txn
+        ∙ ap (λ (b : Bool). cond b (Some (length ns)) (get nat_eq m (number_at ns i).txn)) (other i l (nat_eq n.txn (number_at ns i).txn) refl) ∙ a.each i l
 
-    last : get nat_cmp w (number_at (ns ++ n ∷ []) (length ns)).txn ≡ Some (length ns)
+    last : get nat_eq w (number_at (ns ++ n ∷ []) (length ns)).txn ≡ Some (length ns)
     last =
-        ap (λ (x : Number). get nat_cmp w x.txn) (at_last ns n) ∙ is n.txn
-        ∙ ap (λ (b : Bool). cond b (Some (length ns)) (get nat_cmp m n.txn)) (tied_same n.txn)
+        ap (λ (x : Number). get nat_eq w x.txn) (at_last ns n) ∙ is n.txn
+        ∙ ap (λ (b : Bool). cond b (Some (length ns)) (get nat_eq m n.txn)) (tied_same n.txn)
 
-    each : (i : ℕ) → i < length (ns ++ n ∷ []) → get nat_cmp w (number_at (ns ++ n ∷ []) i).txn ≡ Some i
+    each : (i : ℕ) → i < length (ns ++ n ∷ []) → get nat_eq w (number_at (ns ++ n ∷ []) i).txn ≡ Some i
     each i l = by (i == length ns) refl
       where
-        by : (b : Bool) → (i == length ns) ≡ b → get nat_cmp w (number_at (ns ++ n ∷ []) i).txn ≡ Some i
+        by : (b : Bool) → (i == length ns) ≡ b → get nat_eq w (number_at (ns ++ n ∷ []) i).txn ≡ Some i
         by true e =
             let here : length ns ≡ i = sym (eqb-true i (length ns) e) in
-            subst (λ (j : ℕ). get nat_cmp w (number_at (ns ++ n ∷ []) j).txn ≡ Some j) here last
+            subst (λ (j : ℕ). get nat_eq w (number_at (ns ++ n ∷ []) j).txn ≡ Some j) here last
         by false e = old i (grind (arith, nat_tests, longer))
 
-    told : (t i : ℕ) (b : Bool) → is_at (nat_cmp n.txn) t ≡ b → cond b (Some (length ns)) (get nat_cmp m t) ≡ Some i → (i < length (ns ++ n ∷ [])) × ((number_at (ns ++ n ∷ []) i).txn ≡ t)
+    told : (t i : ℕ) (b : Bool) → nat_eq n.txn t ≡ b → cond b (Some (length ns)) (get nat_eq m t) ≡ Some i → (i < length (ns ++ n ∷ [])) × ((number_at (ns ++ n ∷ []) i).txn ≡ t)
     told t i true e found =
         let here : length ns ≡ i = cc (found) in
         subst (λ (j : ℕ). (j < length (ns ++ n ∷ [])) × ((number_at (ns ++ n ∷ []) j).txn ≡ t)) here
@@ -201,14 +200,14 @@ txn_stays (x ∷ xs) zero n same (suc i) = refl
 txn_stays (x ∷ xs) (suc p) n same zero = refl
 txn_stays (x ∷ xs) (suc p) n same (suc i) = txn_stays xs p n same i
 
-pub places_stay : (m : BTreeMap ℕ ℕ) (ns : List Number) (p : ℕ) (n : Number) → ArePlaces m ns → n.txn ≡ (number_at ns p).txn → ArePlaces m (slice_set ns p n)
+pub places_stay : {S : Type 0} (m : HashMap ℕ ℕ S) (ns : List Number) (p : ℕ) (n : Number) → ArePlaces m ns → n.txn ≡ (number_at ns p).txn → ArePlaces m (slice_set ns p n)
 places_stay m ns p n a same = record {
-  each = λ i l. ap (get nat_cmp m) (txn_stays ns p n same i) ∙ a.each i (subst (λ (k : ℕ). i < k) (length-set ns p n) l);
+  each = λ i l. ap (get nat_eq m) (txn_stays ns p n same i) ∙ a.each i (subst (λ (k : ℕ). i < k) (length-set ns p n) l);
   true_of = λ t i found. (subst (λ (k : ℕ). i < k) (sym (length-set ns p n)) (a.true_of t i found).0, txn_stays ns p n same i ∙ (a.true_of t i found).1);
 }
 
-pub same_places : (m w : BTreeMap ℕ ℕ) (ns : List Number) → w.entries ≡ m.entries → ArePlaces m ns → ArePlaces w ns
+pub same_places : {S : Type 0} (m w : HashMap ℕ ℕ S) (ns : List Number) → w.entries ≡ m.entries → ArePlaces m ns → ArePlaces w ns
 same_places m w ns same a = record {
-  each = λ i l. ap (lookup (is_at (nat_cmp (number_at ns i).txn))) same ∙ a.each i l;
-  true_of = λ t i found. a.true_of t i (sym (ap (lookup (is_at (nat_cmp t))) same) ∙ found);
+  each = λ i l. ap (lookup (nat_eq (number_at ns i).txn)) same ∙ a.each i l;
+  true_of = λ t i found. a.true_of t i (sym (ap (lookup (nat_eq t)) same) ∙ found);
 }

@@ -4,23 +4,21 @@ use Rattle.std.specs.Prelude.{All, map}
 use Rattle.kr_model.specs.Protocol.{Protocol}
 use Rattle.kr_model.specs.Map.{Map}
 use Rattle.kr_model.specs.State.{State}
-use Rattle.kr_model.specs.Run.{programs}
 use Rattle.kr_history.specs.declared.name.Entry.{Entry}
 use Rattle.kr_engine.specs.declared.kernel.SeatNote.{SeatNote}
 use Rattle.kr_engine.specs.declared.closing.History.{History}
-use Rattle.kr_engine.specs.Histories.{IsHistory, AreOfOneSeat, IsSerialHistory, events_with_replies}
+use Rattle.kr_engine.specs.Histories.{IsHistory, AreOfOneSeat, IsSerialHistory}
 use Rattle.kr_engine.specs.Cores.{CountsAre, AreBegun, AreBegunByOne, LastAre, AreOfSeats}
 use Rattle.kr_engine.specs.Closed.{Lent, StandsIn, IsClosed}
 
--- A history with these entries, seats and programs is a closed engine's, where they are those of a core in this state.
-pub closed_of : (p : Protocol) (opening : Map) (shares : List Lent) (h : History) (es : List Entry) (seats : List SeatNote) (s : State) → h.entries.items ≡ es → h.seats.items ≡ seats → h.index ≡ s.map → h.unfinished ≡ map (λ a. a.0) s.active → h.locks.items ≡ s.locks → h.programs ≡ programs (events_with_replies es) → IsHistory p opening es s → CountsAre seats es → (numbers : List (ℕ × ℕ)) → AreBegun numbers es → AreBegunByOne numbers → LastAre numbers seats → AreOfSeats numbers seats → AreOfOneSeat es → IsSerialHistory opening es s → All (StandsIn seats es) shares → IsClosed p opening h shares
-closed_of p opening shares h es seats s entries_are seats_are index unfinished locks programs_are run counts numbers begun by_one lasts given one_seat serial stand = record {
+-- A history with these entries and seats is a closed engine's, where they are those of a core in this state.
+pub closed_of : (p : Protocol) (opening : Map) (shares : List Lent) (h : History) (es : List Entry) (seats : List SeatNote) (s : State) → h.entries.items ≡ es → h.seats.items ≡ seats → h.index ≡ s.map → h.unfinished ≡ map (λ a. a.0) s.active → h.locks.items ≡ s.locks → IsHistory p opening es s → CountsAre seats es → (numbers : List (ℕ × ℕ)) → AreBegun numbers es → AreBegunByOne numbers → LastAre numbers seats → AreOfSeats numbers seats → AreOfOneSeat es → IsSerialHistory opening es s → All (StandsIn seats es) shares → IsClosed p opening h shares
+closed_of p opening shares h es seats s entries_are seats_are index unfinished locks run counts numbers begun by_one lasts given one_seat serial stand = record {
   state = s;
   run = subst (λ (l : List Entry). IsHistory p opening l s) (sym entries_are) run;
   index = index;
   unfinished = unfinished;
   locks = locks;
-  programs = subst (λ (l : List Entry). h.programs ≡ programs (events_with_replies l)) (sym entries_are) programs_are;
   counts = subst (λ (l : List Entry). CountsAre h.seats.items l) (sym entries_are) (subst (λ (ns : List SeatNote). CountsAre ns es) (sym seats_are) counts);
   numbers = numbers;
   begun = subst (AreBegun numbers) (sym entries_are) begun;

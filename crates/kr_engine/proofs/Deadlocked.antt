@@ -1,6 +1,5 @@
 -- Who stays where those whom none of the rest blocks are taken out.
 use Rattle.std.proofs.Common.{◌≡◌, ℕ, zero, suc, ◌<◌, ◌==◌, Bool, true, false, cond, ◌||◌, refl, List, [], ◌∷◌, length, ap, sym, ◌∙◌, subst, ⊎_elim, get_or, arith}
-use Rattle.std.specs.Prelude.{◌⊎◌}
 use Rattle.std.specs.List.{AllZip, Contains, list_any, swap_remove}
 use Rattle.std.proofs.lemmas.Bool.{eqb-true, eq-eqb, false≢true}
 use Rattle.std.proofs.lemmas.List.Folds.{list_any_at}

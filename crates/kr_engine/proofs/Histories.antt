@@ -1,5 +1,5 @@
 -- One entry more.
-use Rattle.std.proofs.Common.{◌≡◌, ℕ, List, [], ◌∷◌, ◌++◌, true, refl, ap, sym, ◌∙◌, subst}
+use Rattle.std.proofs.Common.{◌≡◌, ℕ, ◌+◌, ◌<◌, length, List, [], ◌∷◌, ◌++◌, true, take, refl, ap, sym, ◌∙◌, subst}
 use Rattle.std.proofs.lemmas.List.Elements.{All-push}
 use Rattle.kr_model.specs.Protocol.{Protocol}
 use Rattle.kr_model.specs.Map.{Map}
@@ -14,7 +14,8 @@ use Rattle.kr_model.specs.Protocol.{IsLawful}
 use Rattle.kr_model.specs.Covers.{IsCovered}
 use Rattle.kr_model.specs.Serial.{IsSerialRun}
 use Rattle.kr_theorem.proofs.run.Runs.{runs_are_serial}
-use Rattle.std.specs.Prelude.{All}
+use Rattle.std.specs.Prelude.{All, slice_index_or}
+use Rattle.std.proofs.lemmas.List.{take_more}
 use Rattle.std.proofs.lemmas.List.Elements.{All-contains}
 use Rattle.kr_engine.specs.declared.numbers.Number.{Number}
 use Rattle.kr_engine.specs.Numbers.{begun_by, is_begun, number_at, AreDistinct}
@@ -66,12 +67,15 @@ pub log_more : (es : List Entry) (e : Entry) (l new : Log) → l ≡ log_after n
 log_more es e l new is more =
     more ∙ ap (λ (m : Log). logged m (e.event, e.reply)) is ∙ sym (log_after_one no_log (events_with_replies es) (e.event, e.reply)) ∙ ap (log_after no_log) (sym (map_more es e))
 
+-- The same, of the entries up to a place.
+pub log_next : (es : List Entry) (k : ℕ) (e : Entry) → k < length es → (l new : Log) → l ≡ log_after no_log (events_with_replies (take k es)) → (let x = slice_index_or es k e in new ≡ logged l (x.event, x.reply)) → new ≡ log_after no_log (events_with_replies (take (k + 1) es))
+log_next es k e within l new is more = log_more (take k es) (slice_index_or es k e) l new is more ∙ ap (λ (xs : List Entry). log_after no_log (events_with_replies xs)) (sym (take_more es k e within))
+
 -- The committed programs of a history's log are those of the history.
-pub programs_of_history : (p : Protocol) (opening : Map) (es : List Entry) (s : State) (l : Log) → IsHistory p opening es s → l ≡ log_after no_log (events_with_replies es) → l.committed ≡ model.programs (events_with_replies es)
-programs_of_history p opening es s l h is =
+pub programs_of_history : (p : Protocol) (opening : Map) (es : List Entry) (s : State) → IsHistory p opening es s → (log_after no_log (events_with_replies es)).committed ≡ model.programs (events_with_replies es)
+programs_of_history p opening es s h =
     let log = log_of_run p opening (model.events_of (events_with_replies es)) in
-    ap (λ (m : Log). m.committed) is
-    ∙ subst (λ (r : model.Trace). (log_after no_log r.history).committed ≡ model.programs r.history) h.run log.committed
+    subst (λ (r : model.Trace). (log_after no_log r.history).committed ≡ model.programs r.history) h.run log.committed
 
 -- A history under a covered protocol is serializable.
 pub serial_history : (p : Protocol) → IsLawful p → IsCovered p → (opening : Map) (es : List Entry) (s : State) → IsMap opening → IsHistory p opening es s → IsSerialHistory opening es s

@@ -4,11 +4,10 @@ use mathlib.Core.List.{IsPrefix}
 use Rattle.kr_model.specs.Protocol.{Protocol}
 use Rattle.kr_model.specs.Map.{Map}
 use Rattle.kr_model.specs.State.{State}
-use Rattle.kr_model.specs.Run.{programs}
 use Rattle.kr_history.specs.declared.name.Entry.{Entry}
 use Rattle.kr_engine.specs.declared.kernel.SeatNote.{SeatNote}
 use Rattle.kr_engine.specs.declared.closing.History.{History}
-use Rattle.kr_engine.specs.Histories.{IsHistory, AreOfOneSeat, IsSerialHistory, entries_of, events_with_replies}
+use Rattle.kr_engine.specs.Histories.{IsHistory, AreOfOneSeat, IsSerialHistory, entries_of}
 use Rattle.kr_engine.specs.Cores.{CountsAre, AreBegun, AreBegunByOne, LastAre, AreOfSeats, seat_at}
 use Rattle.kr_engine.specs.Seats.{Held}
 
@@ -34,7 +33,7 @@ pub record StandsIn (seats : List SeatNote) (es : List Entry) (s : Lent) : Type 
   pub begins : IsPrefix s.view es
   pub own : entries_of s.seat es ≡ s.count
 
--- The entries are a run of granted steps under the engine's table from the opening map; the index, the unfinished transactions and the locks are those of its end, and the programs are those that committed in it, in commit order. All entries of one transaction are of one seat, and the transactions that committed are serializable in commit order.
+-- The entries are a run of granted steps under the engine's table from the opening map; the index, the unfinished transactions and the locks are those of its end. All entries of one transaction are of one seat, and the transactions that committed are serializable in commit order.
 -- Of each seat the count is the number of its entries, and the last number is the one that it began last: there are numbers in the order in which they were begun, none by two seats, and each entry's transaction is one that the entry's seat began. Each seat that began one is shown. Each of the shares stands in it, so its seat is shown as having left.
 pub record IsClosed (p : Protocol) (opening : Map) (h : History) (shares : List Lent) : Type 0 where
   pub state : State
@@ -42,7 +41,6 @@ pub record IsClosed (p : Protocol) (opening : Map) (h : History) (shares : List 
   pub index : h.index ≡ state.map
   pub unfinished : h.unfinished ≡ map (λ a. a.0) state.active
   pub locks : h.locks.items ≡ state.locks
-  pub programs : h.programs ≡ programs (events_with_replies h.entries.items)
   pub counts : CountsAre h.seats.items h.entries.items
   pub numbers : List (ℕ × ℕ)
   pub begun : AreBegun numbers h.entries.items

@@ -6,11 +6,10 @@ use Rattle.kr_model.specs.Protocol.{Protocol}
 use Rattle.kr_model.specs.Map.{Map, IsMap}
 use Rattle.kr_model.specs.State.{State, active_of, has_ended}
 use Rattle.kr_model.specs.Step.{is_end}
-use Rattle.kr_model.specs.Log.{Log, no_log, log_after}
 use Rattle.kr_history.specs.declared.name.Entry.{Entry}
 use Rattle.kr_engine.specs.declared.kernel.SeatNote.{SeatNote}
 use Rattle.kr_engine.specs.declared.numbers.Number.{Number}
-use Rattle.kr_engine.specs.Histories.{IsHistory, entries_of, events_with_replies}
+use Rattle.kr_engine.specs.Histories.{IsHistory, entries_of}
 use Rattle.kr_engine.specs.Numbers.{begun_by, is_begun, was_begun, ends_kept, HaveEnds}
 
 -- The machine's protocol and state, the entries of the used places, the numbers that were begun, each with its seat, what is noted of each seat, how many places are kept for the ends of transactions, and the operations that wait.
@@ -82,7 +81,7 @@ abbrev pub without : ℕ → List Event → List Event
 without t es = filter (λ e. not (e.txn == t)) es
 
 -- What always holds under the lock, for an engine with this table, this opening map and this row of places; own is the table of the machine's protocol.
-pub record IsCore (p : Protocol) (opening : Map) (places : List ℕ) (own : Protocol) (pending : Option Event) (s : State) (log : Log) (es : List Entry) (numbers : List Number) (seats : List SeatNote) (kept : ℕ) : Type 0 where
+pub record IsCore (p : Protocol) (opening : Map) (places : List ℕ) (own : Protocol) (pending : Option Event) (s : State) (es : List Entry) (numbers : List Number) (seats : List SeatNote) (kept : ℕ) : Type 0 where
   -- the machine goes by the engine's table
   pub table : own ≡ p
   -- no step is ready
@@ -91,8 +90,6 @@ pub record IsCore (p : Protocol) (opening : Map) (places : List ℕ) (own : Prot
   pub is_map : IsMap opening
   -- the entries are a run from the opening map to the state
   pub history : IsHistory p opening es s
-  -- the machine's log is that of the entries
-  pub log_is : log ≡ log_after no_log (events_with_replies es)
   -- each seat's count is the number of its entries
   pub counts : CountsAre seats es
   -- the last number that is noted of a seat is the number that it began last

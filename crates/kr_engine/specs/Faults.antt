@@ -48,6 +48,12 @@ is_of_attempt Memory = true
 is_of_attempt PlaceTaken = true
 is_of_attempt _ = false
 
+-- Whether it is a fault that the write of a place may have: a growth or the place was refused.
+abbrev pub is_of_write : EngineFault → Bool
+is_of_write Memory = true
+is_of_write PlaceTaken = true
+is_of_write _ = false
+
 -- Whether it is a fault that a wait may have.
 abbrev pub is_of_wait : EngineFault → Bool
 is_of_wait (Deadlock cycle) = true

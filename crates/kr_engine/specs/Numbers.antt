@@ -1,8 +1,7 @@
 -- The numbers of transactions that were begun.
-use Rattle.std.specs.Prelude.{◌≡◌, ◌==◌, ◌&&◌, ℕ, suc, ◌<◌, Bool, not, List, [], ◌∷◌, Some, None, map, length, All, is_some, slice_index_or, if◌then◌else◌}
+use Rattle.std.specs.Prelude.{◌≡◌, ◌==◌, ◌&&◌, ℕ, nat_eq, suc, ◌<◌, Bool, not, List, [], ◌∷◌, Some, None, map, length, All, is_some, slice_index_or, if◌then◌else◌}
 use Rattle.std.specs.List.{list_any}
-use Rattle.std.specs.BTreeMap.{BTreeMap, get}
-use Rattle.std.specs.Ordering.{nat_cmp}
+use Rattle.std.specs.HashMap.{HashMap, get}
 use Rattle.kr_model.specs.State.{State, has_ended}
 use Rattle.kr_engine.specs.declared.numbers.Number.{Number}
 
@@ -37,9 +36,9 @@ pub record IsPlace (ns : List Number) (t place : ℕ) : Type 0 where
   pub only : (other : ℕ) → other < length ns → (number_at ns other).txn ≡ t → other ≡ place
 
 -- The map has the place of each number, and nothing else.
-pub record ArePlaces (places : BTreeMap ℕ ℕ) (ns : List Number) : Type 0 where
-  pub each : (i : ℕ) → i < length ns → get nat_cmp places (number_at ns i).txn ≡ Some i
-  pub true_of : (t i : ℕ) → get nat_cmp places t ≡ Some i → (i < length ns) × ((number_at ns i).txn ≡ t)
+pub record ArePlaces {S : Type 0} (places : HashMap ℕ ℕ S) (ns : List Number) : Type 0 where
+  pub each : (i : ℕ) → i < length ns → get nat_eq places (number_at ns i).txn ≡ Some i
+  pub true_of : (t i : ℕ) → get nat_eq places t ≡ Some i → (i < length ns) × ((number_at ns i).txn ≡ t)
 
 -- No number stands at two places.
 abbrev pub AreDistinct : List Number → Type 0

@@ -1,81 +1,22 @@
-//! What a closed engine shows, and what a seat that left lends to it.
+//! What a closed engine shows.
 ghost use Rattle.std.specs.Prelude.{◌≡◌, ◌<◌, true, false, length, map, Some, Err, IfOk, OnOk, All, slice_get};
 ghost use Rattle.std.specs.List.{list_all};
 ghost use Rattle.kr_engine.specs.declared.closing.CloseFault.TheVariants as fault;
+ghost use Rattle.kr_model.specs.Protocol.{Protocol};
+ghost use Rattle.kr_model.specs.Map.{Map};
+ghost use Rattle.kr_model.specs.State.{State};
+ghost use Rattle.kr_model.specs.Log.{log_after, no_log};
 ghost use Rattle.kr_model.specs.Run.{programs};
-ghost use Rattle.kr_engine.specs.Histories.{events_with_replies};
-ghost use Rattle.kr_engine.specs.Closed.{lent, fits, StandsIn, IsClosed};
+ghost use Rattle.kr_engine.specs.Histories.{IsHistory, events_with_replies};
+ghost use Rattle.kr_engine.specs.Closed.{fits, StandsIn, IsClosed};
 
 use crate::kernel::{Core, SeatNote};
-use crate::seat_state::SeatState;
+use crate::share::Share;
 use kr_history::{EngineName, Entry, Known, PlaceRow, Seen};
 use kr_model::{Mode, Name, Pairs, Programs, Txn, Txns};
 use kr_protocol::Covered;
+use kr_txn::Log;
 use std::alloc::{AllocError, Global};
-use std::marker::Model;
-
-/// What a seat that left keeps, and lends to the closing of its engine.
-#[derive(Drop)]
-pub struct Share<K: EngineName> {
-    seat: usize,
-    count: u64,
-    last: Option<usize>,
-    view: Seen<K>,
-}
-
-impl<K: EngineName> Model for Share<K> {
-    ghost use Rattle.std.specs.Prelude.{◌≡◌};
-    ghost use Rattle.kr_engine.specs.Histories.{entries_of};
-    ghost use Rattle.kr_engine.specs.Closed.{Lent};
-
-    ghost Value = { Lent };
-
-    ghost view = { λ s. record { seat = s.seat; count = s.count; last = s.last; view = s.view } };
-
-    ghost invariant = { λ s. entries_of s.seat s.view ≡ s.count };
-}
-
-impl<K: EngineName> Share<K> {
-    /// What a seat keeps where it leaves.
-    pub(crate) fn of(state: SeatState<K>) -> Share<K>
-        ensures { result ≡ lent state }
-    {
-        let SeatState {
-            seat,
-            speaks: _,
-            count,
-            last,
-            view,
-        } = state;
-        Share {
-            seat,
-            count,
-            last,
-            view,
-        }
-    }
-
-    /// The seat's number, from 0.
-    pub fn seat(&self) -> usize
-        ensures { result ≡ self.now.seat }
-    {
-        self.seat
-    }
-
-    /// How many receipts the seat has.
-    pub fn count(&self) -> u64
-        ensures { result ≡ self.now.count }
-    {
-        self.count
-    }
-
-    /// The place of the seat's last receipt, if it has one.
-    pub fn last_place(&self) -> Option<usize>
-        ensures { result ≡ self.now.last }
-    {
-        self.last
-    }
-}
 
 /// The history of an engine.
 #[derive(Debug, Drop)]
@@ -88,10 +29,30 @@ pub struct History {
     pub unfinished: Txns,
     /// The locks that are held after them, each with its mode, by name, the end last, and then by transaction.
     pub locks: Vec<((Name, Txn), Mode)>,
-    /// The programs of the transactions that committed, in commit order.
-    pub programs: Programs,
     /// What is noted of each seat, by its number.
     pub seats: Vec<SeatNote>,
+}
+
+impl History {
+    /// The programs of the transactions that committed, in commit order; or an error where a growth is refused. They are made
+    /// of the entries anew at each call.
+    pub fn programs(&self, alloc: Global) -> Result<Programs, AllocError>
+        ensures { IfOk result (λ ps. (p : Protocol) (opening : Map) (s : State) → IsHistory p opening self.now.entries.items s → ps ≡ programs (events_with_replies self.now.entries.items)) }
+    {
+        programs_of(alloc, &self.entries)
+    }
+}
+
+/// The programs of the transactions that committed in these steps, in commit order, as a log of them has them.
+fn programs_of(alloc: Global, entries: &[Entry]) -> Result<Programs, AllocError>
+    ensures { IfOk result (λ ps. ps ≡ (log_after no_log (events_with_replies entries.now)).committed) }
+{
+    let mut log = Log::new(alloc);
+    for entry in entries {
+        log.make_room(entry.event.txn)?;
+        log.note(entry.event, entry.reply.try_copy(alloc)?);
+    }
+    Ok(log.into_programs())
 }
 
 /// Why an engine's history isn't shown.
@@ -115,7 +76,6 @@ impl<P: Covered, K: EngineName> Core<P, K> {
         ensures index { IfOk result (λ h. h.index ≡ self.now.state.map) }
         ensures unfinished { IfOk result (λ h. h.unfinished ≡ map (λ a. a.0) self.now.state.active) }
         ensures locks { IfOk result (λ h. h.locks.items ≡ self.now.state.locks) }
-        ensures programs { IfOk result (λ h. h.programs ≡ programs (events_with_replies self.now.entries)) }
         ensures seats { IfOk result (λ h. h.seats.items ≡ self.now.seats) }
         ensures closed { IfOk result (λ h. IsClosed K.table K.opening h shares.now) }
         ensures place { list_all (fits self.now.seats self.now.entries) shares.now ≡ false → result ≡ Err fault.Place }
@@ -125,95 +85,14 @@ impl<P: Covered, K: EngineName> Core<P, K> {
         if !self.fits_all(shares) {
             return Err(CloseFault::Place);
         }
-        match self.history_from(row) {
-            Ok(history) => Ok(history),
-            Err(_) => Err(CloseFault::Memory),
-        }
-    }
-
-    /// The same of a core that is used no more, whose programs are handed on and not copied.
-    pub(crate) fn into_history(
-        self,
-        row: &PlaceRow,
-        shares: &[Share<K>],
-    ) -> Result<History, CloseFault>
-        requires { row.now ≡ K.places }
-        ensures entries { IfOk result (λ h. h.entries.items ≡ self.entries) }
-        ensures index { IfOk result (λ h. h.index ≡ self.state.map) }
-        ensures unfinished { IfOk result (λ h. h.unfinished ≡ map (λ a. a.0) self.state.active) }
-        ensures locks { IfOk result (λ h. h.locks.items ≡ self.state.locks) }
-        ensures programs { IfOk result (λ h. h.programs ≡ programs (events_with_replies self.entries)) }
-        ensures seats { IfOk result (λ h. h.seats.items ≡ self.seats) }
-        ensures closed { IfOk result (λ h. IsClosed K.table K.opening h shares.now) }
-        ensures place { list_all (fits self.seats self.entries) shares.now ≡ false → result ≡ Err fault.Place }
-        ensures only_place { result ≡ Err fault.Place → list_all (fits self.seats self.entries) shares.now ≡ false }
-    {
-        self.lemma_invariant();
-        match self.fitting_history(row, shares) {
-            Ok(mut history) => {
-                history.programs = self.into_programs();
-                Ok(history)
-            }
-            Err(fault) => Err(fault),
-        }
-    }
-
-    /// The history with no programs, where these shares fit.
-    fn fitting_history(&self, row: &PlaceRow, shares: &[Share<K>]) -> Result<History, CloseFault>
-        requires { row.now ≡ K.places }
-        ensures entries { IfOk result (λ h. h.entries.items ≡ self.now.entries) }
-        ensures index { IfOk result (λ h. h.index ≡ self.now.state.map) }
-        ensures unfinished { IfOk result (λ h. h.unfinished ≡ map (λ a. a.0) self.now.state.active) }
-        ensures locks { IfOk result (λ h. h.locks.items ≡ self.now.state.locks) }
-        ensures seats { IfOk result (λ h. h.seats.items ≡ self.now.seats) }
-        ensures stand { OnOk result (All (StandsIn self.now.seats self.now.entries) shares.now) }
-        ensures place { list_all (fits self.now.seats self.now.entries) shares.now ≡ false → result ≡ Err fault.Place }
-        ensures only_place { result ≡ Err fault.Place → list_all (fits self.now.seats self.now.entries) shares.now ≡ false }
-    {
-        if !self.fits_all(shares) {
-            return Err(CloseFault::Place);
-        }
-        match self.without_programs(row) {
+        match self.history(row) {
             Ok(history) => Ok(history),
             Err(_) => Err(CloseFault::Memory),
         }
     }
 
     /// A copy of all that is known of the history.
-    fn history_from(&self, row: &PlaceRow) -> Result<History, AllocError>
-        requires { row.now ≡ K.places }
-        ensures entries { IfOk result (λ h. h.entries.items ≡ self.now.entries) }
-        ensures index { IfOk result (λ h. h.index ≡ self.now.state.map) }
-        ensures unfinished { IfOk result (λ h. h.unfinished ≡ map (λ a. a.0) self.now.state.active) }
-        ensures locks { IfOk result (λ h. h.locks.items ≡ self.now.state.locks) }
-        ensures programs { IfOk result (λ h. h.programs ≡ programs (events_with_replies self.now.entries)) }
-        ensures seats { IfOk result (λ h. h.seats.items ≡ self.now.seats) }
-    {
-        let programs = self.machine.programs()?;
-        self.history_with(row, programs)
-    }
-
-    /// A copy of all that is known of the history, with these programs.
-    fn history_with(&self, row: &PlaceRow, programs: Programs) -> Result<History, AllocError>
-        requires { row.now ≡ K.places }
-        ensures entries { IfOk result (λ h. h.entries.items ≡ self.now.entries) }
-        ensures index { IfOk result (λ h. h.index ≡ self.now.state.map) }
-        ensures unfinished { IfOk result (λ h. h.unfinished ≡ map (λ a. a.0) self.now.state.active) }
-        ensures locks { IfOk result (λ h. h.locks.items ≡ self.now.state.locks) }
-        ensures programs { IfOk result (λ h. h.programs ≡ programs) }
-        ensures seats { IfOk result (λ h. h.seats.items ≡ self.now.seats) }
-    {
-        match self.without_programs(row) {
-            Ok(mut history) => {
-                history.programs = programs;
-                Ok(history)
-            }
-            Err(_) => Err(AllocError),
-        }
-    }
-
-    /// The same with no programs.
-    fn without_programs(&self, row: &PlaceRow) -> Result<History, AllocError>
+    fn history(&self, row: &PlaceRow) -> Result<History, AllocError>
         requires { row.now ≡ K.places }
         ensures entries { IfOk result (λ h. h.entries.items ≡ self.now.entries) }
         ensures index { IfOk result (λ h. h.index ≡ self.now.state.map) }
@@ -231,26 +110,8 @@ impl<P: Covered, K: EngineName> Core<P, K> {
             index,
             unfinished,
             locks,
-            programs: Programs::from_vec(Vec::new(self.alloc)),
             seats,
         })
-    }
-
-    /// The programs of the transactions that committed, in commit order.
-    fn into_programs(self) -> Programs
-        ensures { result ≡ programs (events_with_replies self.entries) }
-    {
-        let Core {
-            alloc: _,
-            machine,
-            history: _,
-            numbers: _,
-            seats: _,
-            kept: _,
-            waiting: _,
-            of: _,
-        } = self;
-        machine.into_programs()
     }
 
     /// Whether these shares fit. Where they do, each stands in the history.
@@ -272,17 +133,17 @@ impl<P: Covered, K: EngineName> Core<P, K> {
         ensures stands { result ≡ true → StandsIn self.now.seats self.now.entries share.now }
     {
         self.lemma_invariant();
-        if share.seat >= self.seats.len() {
+        if share.seat() >= self.seats.len() {
             return false;
         }
-        let note = self.seats[share.seat];
-        if !note.left || note.count != share.count {
+        let note = self.seats[share.seat()];
+        if !note.left || note.count != share.count() {
             return false;
         }
-        if share.view.len() > self.history.len() {
+        if share.view().len() > self.history.len() {
             return false;
         }
-        self.lemma_history_begins_with_view(&share.view);
+        self.lemma_history_begins_with_view(share.view());
         true
     }
 }

@@ -8,11 +8,12 @@ ghost use Rattle.kr_engine.specs.Closed.{IsClosed};
 ghost use Rattle.kr_engine.specs.declared.wakes.Change.TheVariants as change_is;
 ghost use Rattle.kr_engine.specs.Waits.{in_the_way};
 
-use crate::closing::{CloseFault, History, Share};
+use crate::closing::{CloseFault, History};
 use crate::kernel::Core;
 use crate::queues::{Queues, Woken};
 use crate::seat::Seat;
 use crate::seat_state::SeatState;
+use crate::share::Share;
 use crate::wakes::Change;
 use kr_history::{EngineName, PlaceRow, Watch};
 use kr_model::Txns;
@@ -77,7 +78,7 @@ impl<P: Covered, K: EngineName> Engine<P, K> {
     }
 
     /// The history of the engine, compared with what these seats saw which left: the entries in order of place, the index,
-    /// the unfinished transactions and the locks after them, the programs that committed, and what is noted of each seat.
+    /// the unfinished transactions and the locks after them, and what is noted of each seat.
     /// Nothing changes.
     ///
     /// - `Place`, before anything else: a share doesn't fit the engine. Never where there are no shares.
@@ -90,7 +91,7 @@ impl<P: Covered, K: EngineName> Engine<P, K> {
         core.close(&self.row, shares)
     }
 
-    /// The same of an engine that is used no more, whose programs are handed on and not copied.
+    /// The same of an engine that is used no more.
     ///
     /// - `Place`, before anything else: a share doesn't fit the engine. Never where there are no shares.
     /// - `Memory`: a growth was refused.
@@ -105,7 +106,7 @@ impl<P: Covered, K: EngineName> Engine<P, K> {
             queues: _,
         } = self;
         let core = core.into_inner();
-        core.into_history(&row, shares)
+        core.close(&row, shares)
     }
 
     /// The transactions whose calls are noted as waiting now, rising; or an error where a growth is refused. It waits for

@@ -17,7 +17,7 @@ use crate::writes::{is_end, write};
 use kr_history::{EngineName, Entry, PlaceRow, Seen};
 use kr_index::Tree;
 use kr_locks::Buckets;
-use kr_machine::Machine;
+use kr_machine::Stepper;
 use kr_model::{Event, Op, Reply, Txn};
 use kr_protocol::Covered;
 use std::alloc::{AllocError, Global};
@@ -39,7 +39,7 @@ pub struct SeatNote {
 #[derive(Drop)]
 pub struct Core<P: Covered, K: EngineName> {
     pub(crate) alloc: Global,
-    pub(crate) machine: Machine<P, Tree, Buckets>,
+    pub(crate) machine: Stepper<P, Tree, Buckets>,
     /// What is known of the used places.
     pub(crate) history: Seen<K>,
     /// The numbers that were begun, in order.
@@ -61,7 +61,7 @@ impl<P: Covered, K: EngineName> Model for Core<P, K> {
 
     ghost view = { λ c. record { protocol = c.machine.protocol; state = c.machine.state; entries = c.history; numbers = begun_by c.numbers; seats = c.seats.items; kept = c.kept; waiting = c.waiting.items } };
 
-    ghost invariant = { λ c. IsCore K.table K.opening K.places (P.table c.machine.protocol) c.machine.pending c.machine.state c.machine.log c.history c.numbers c.seats.items c.kept };
+    ghost invariant = { λ c. IsCore K.table K.opening K.places (P.table c.machine.protocol) c.machine.pending c.machine.state c.history c.numbers c.seats.items c.kept };
 }
 
 impl<P: Covered, K: EngineName> Core<P, K> {
@@ -82,7 +82,7 @@ impl<P: Covered, K: EngineName> Core<P, K> {
         let index = Tree::from_pairs(alloc, opening)?;
         Ok(Core {
             alloc,
-            machine: Machine::new(alloc, protocol, index, Buckets::new(alloc)),
+            machine: Stepper::new(alloc, protocol, index, Buckets::new(alloc)),
             history: Seen::new(row),
             numbers: Numbers::new(alloc),
             seats: Vec::new(alloc),

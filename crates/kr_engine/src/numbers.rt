@@ -5,7 +5,7 @@ ghost use Rattle.kr_engine.specs.Numbers.{begun_by, was_begun, is_begun, ends_ke
 use kr_history::Entry;
 use kr_model::Txn;
 use std::alloc::{AllocError, Global};
-use std::collections::BTreeMap;
+use std::collections::HashMap;
 use std::marker::Model;
 
 /// A number that was begun: by which seat, and the memory of its end's entry until its transaction has ended.
@@ -16,12 +16,12 @@ pub(crate) struct Number {
     pub end: Option<Box<Entry>>,
 }
 
-/// The numbers that were begun, in that order, no number twice. A look at one takes a logarithmic number of comparisons.
+/// The numbers that were begun, in that order, no number twice. A look at one is by hash.
 #[derive(Drop)]
 pub(crate) struct Numbers {
     list: Vec<Number>,
     /// The place of each number in the list.
-    places: BTreeMap<Txn, usize>,
+    places: HashMap<Txn, usize>,
 }
 
 impl Model for Numbers {
@@ -43,7 +43,7 @@ impl Numbers {
     {
         Numbers {
             list: Vec::new(alloc),
-            places: BTreeMap::new(alloc),
+            places: HashMap::new(alloc),
         }
     }
 

@@ -8,10 +8,10 @@ ghost use Rattle.kr_engine.specs.Faults.{is_unbegun, is_blocked, is_of_begin, is
 ghost use Rattle.kr_engine.specs.Closed.{lent};
 ghost use Rattle.kr_engine.specs.Seats.{Shows, SeesFault, ToldFault, IsOpen, IsIdle};
 
-use crate::closing::Share;
 use crate::engine::Engine;
 use crate::faults::{EngineFault, Receipt};
 use crate::seat_state::SeatState;
+use crate::share::Share;
 use crate::wakes::{Change, change_of};
 use kr_history::{EngineName, Watch};
 use kr_model::{Op, Txn};

@@ -15,7 +15,7 @@ use kr_deadlock::{Waiting, find_cycle};
 use kr_history::EngineName;
 use kr_index::Tree;
 use kr_locks::Buckets;
-use kr_machine::Machine;
+use kr_machine::Stepper;
 use kr_model::{Event, Op, Txn, Txns};
 use kr_protocol::Covered;
 use std::alloc::{AllocError, Global};
@@ -81,7 +81,7 @@ fn put_once(txns: &mut Vec<Txn>, txn: Txn) -> Result<(), AllocError>
 /// A cycle of waiting transactions in which this one is first, by its operation and by those noted.
 fn cycle_of<P: Covered>(
     alloc: Global,
-    machine: &Machine<P, Tree, Buckets>,
+    machine: &Stepper<P, Tree, Buckets>,
     noted: &[Event],
     txn: Txn,
     op: Op,
@@ -128,7 +128,7 @@ fn is_noted(noted: &[Event], txn: Txn) -> bool
 /// An entry for the requester, whom these block, and then one for each noted operation.
 fn entries<P: Covered>(
     alloc: Global,
-    machine: &Machine<P, Tree, Buckets>,
+    machine: &Stepper<P, Tree, Buckets>,
     event: Event,
     own: Vec<Txn>,
     noted: &[Event],

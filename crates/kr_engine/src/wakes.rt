@@ -11,7 +11,7 @@ use kr_deadlock::Waiting;
 use kr_history::EngineName;
 use kr_index::Tree;
 use kr_locks::Buckets;
-use kr_machine::Machine;
+use kr_machine::Stepper;
 use kr_model::{Event, Reply, Txn};
 use kr_protocol::Covered;
 use std::alloc::{AllocError, Global};
@@ -85,7 +85,7 @@ impl<P: Covered, K: EngineName> Core<P, K> {
 }
 
 /// The first of these operations that isn't blocked now. Takes no memory.
-fn first_free<P: Covered>(machine: &Machine<P, Tree, Buckets>, noted: &[Event]) -> Option<Txn>
+fn first_free<P: Covered>(machine: &Stepper<P, Tree, Buckets>, noted: &[Event]) -> Option<Txn>
     requires { machine.now.pending ≡ None }
     ensures { result ≡ None → All (λ e. in_the_way (P.table machine.now.protocol) machine.now.state e ≢ []) noted.now }
 {
@@ -100,7 +100,7 @@ fn first_free<P: Covered>(machine: &Machine<P, Tree, Buckets>, noted: &[Event]) 
 /// Each of these operations with who blocks it now.
 fn all_blockers<P: Covered>(
     alloc: Global,
-    machine: &Machine<P, Tree, Buckets>,
+    machine: &Stepper<P, Tree, Buckets>,
     noted: &[Event],
 ) -> Result<Vec<Waiting>, AllocError>
     requires { machine.now.pending ≡ None }
@@ -119,7 +119,7 @@ fn all_blockers<P: Covered>(
 /// Those of these operations that are deadlocked: they wait for one another, or for such.
 fn deadlocked<P: Covered>(
     alloc: Global,
-    machine: &Machine<P, Tree, Buckets>,
+    machine: &Stepper<P, Tree, Buckets>,
     noted: &[Event],
 ) -> Result<Vec<Waiting>, AllocError>
     requires { machine.now.pending ≡ None }

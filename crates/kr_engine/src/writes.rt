@@ -2,10 +2,9 @@
 ghost use Rattle.std.specs.Prelude.{◌≡◌, ◌≢◌, ◌+◌, ◌<◌, ◌≤◌, true, false, length, None, Some, Err, IfOk, IfErr, OnOk, OnErr, IsTrue, slice_index_or};
 ghost use Rattle.kr_model.specs.Step.{step, is_end as ends, may_lack_memory};
 ghost use Rattle.kr_model.specs.Run.{is_granted};
-ghost use Rattle.kr_model.specs.Log.{logged};
 ghost use Rattle.kr_machine.specs.Pending.{end_reply as the_end_reply};
 ghost use Rattle.kr_engine.specs.declared.faults.EngineFault.TheVariants as fault;
-ghost use Rattle.kr_engine.specs.Faults.{TellsReply, is_of_attempt};
+ghost use Rattle.kr_engine.specs.Faults.{TellsReply, is_of_attempt, is_of_write};
 ghost use Rattle.kr_engine.specs.Histories.{entry, event};
 ghost use Rattle.kr_engine.specs.Numbers.{begun_by, was_begun, ends_kept, HaveEnds};
 ghost use Rattle.kr_engine.specs.Cores.{freed};
@@ -15,7 +14,7 @@ use crate::numbers::Numbers;
 use kr_history::{Entry, Known, PlaceRow};
 use kr_index::Tree;
 use kr_locks::Buckets;
-use kr_machine::Machine;
+use kr_machine::{NotDone, Stepper};
 use kr_model::{Event, Op, Reply, Txn};
 use kr_protocol::Covered;
 use std::alloc::Global;
@@ -53,9 +52,37 @@ fn end_reply(op: Op) -> Reply
     }
 }
 
+/// Writes a place with an entry of this event and a copy of its reply. `PlaceTaken` where the place refuses it, and `Memory`
+/// where a growth is refused.
+fn written(
+    alloc: Global,
+    row: &PlaceRow,
+    place: usize,
+    seat: usize,
+    event: Event,
+    reply: &Reply,
+) -> Result<Known<Entry>, EngineFault>
+    requires { place < length row.now }
+    ensures note { IfOk result (λ n. (n.cell ≡ slice_index_or row.now place 0) × (n.known ≡ Some (entry seat event reply.now))) }
+    ensures faults { IfErr result (λ f. is_of_write f ≡ true) }
+{
+    let Ok(reply) = reply.try_copy(alloc) else {
+        return Err(EngineFault::Memory);
+    };
+    let Ok(made) = Box::new(alloc, Entry { seat, event, reply }) else {
+        return Err(EngineFault::Memory);
+    };
+    let cell = row.cell(place);
+    let mut note = cell.note();
+    match cell.set_as(made, &mut note) {
+        Ok(()) => Ok(Known::of(&mut note)),
+        Err(_) => Err(EngineFault::PlaceTaken),
+    }
+}
+
 /// Does a step that doesn't end its transaction, and writes its place; or leaves the machine as it was.
 pub(crate) fn write_step<P: Covered>(
-    machine: &mut Machine<P, Tree, Buckets>,
+    machine: &mut Stepper<P, Tree, Buckets>,
     alloc: Global,
     row: &PlaceRow,
     place: usize,
@@ -68,7 +95,6 @@ pub(crate) fn write_step<P: Covered>(
     ensures protocol { machine.new.protocol ≡ machine.old.protocol }
     ensures at_rest { machine.new.pending ≡ None }
     ensures state { OnOk result (machine.new.state ≡ (step (P.table machine.old.protocol) machine.old.state txn op).1) }
-    ensures log { IfOk result (λ r. machine.new.log ≡ logged machine.old.log (event txn op, r.0)) }
     ensures reply { IfOk result (λ r. (r.0 ≡ (step (P.table machine.old.protocol) machine.old.state txn op).0) × (is_granted r.0 ≡ true)) }
     ensures note { IfOk result (λ r. (r.1.cell ≡ slice_index_or row.now place 0) × (r.1.known ≡ Some (entry seat (event txn op) r.0))) }
     ensures err { OnErr result (machine.new ≡ machine.old) }
@@ -77,41 +103,22 @@ pub(crate) fn write_step<P: Covered>(
     ensures taken { result ≡ Err fault.PlaceTaken → is_granted (step (P.table machine.old.protocol) machine.old.state txn op).0 ≡ true }
     ensures full { result ≢ Err fault.RowFull }
 {
-    let Ok(made) = Box::new(
-        alloc,
-        Entry {
-            seat,
-            event: Event { txn, op },
-            reply: Reply::Done,
-        },
-    ) else {
-        return Err(EngineFault::Memory);
-    };
-    let ready = match machine.ready(txn, op) {
-        Ok(ready) => ready,
-        Err(reply) => return Err(fault_of(reply)),
-    };
-    let Ok(copy) = ready.reply().try_copy(alloc) else {
-        machine.cancel(ready);
-        return Err(EngineFault::Memory);
-    };
-    let mut made = made;
-    made.reply = copy;
-    let cell = row.cell(place);
-    let mut note = cell.note();
-    match cell.set_as(made, &mut note) {
-        Ok(()) => Ok((machine.finish(ready), Known::of(&mut note))),
-        Err(_) => {
-            machine.cancel(ready);
-            Err(EngineFault::PlaceTaken)
-        }
+    let event = Event { txn, op };
+    match machine.step_if(
+        txn,
+        op,
+        |reply| written(alloc, row, place, seat, event, reply),
+    ) {
+        Ok(done) => Ok(done),
+        Err(NotDone::NotGranted(reply)) => Err(fault_of(reply)),
+        Err(NotDone::Declined(fault)) => Err(fault),
     }
 }
 
 /// Does a step that ends a transaction which was begun, and writes its place; or leaves the machine as it was. It takes
 /// no memory for the entry.
 pub(crate) fn write_end<P: Covered>(
-    machine: &mut Machine<P, Tree, Buckets>,
+    machine: &mut Stepper<P, Tree, Buckets>,
     row: &PlaceRow,
     numbers: &mut Numbers,
     place: usize,
@@ -127,7 +134,6 @@ pub(crate) fn write_end<P: Covered>(
     ensures protocol { machine.new.protocol ≡ machine.old.protocol }
     ensures at_rest { machine.new.pending ≡ None }
     ensures state { OnOk result (machine.new.state ≡ (step (P.table machine.old.protocol) machine.old.state txn op).1) }
-    ensures log { IfOk result (λ r. machine.new.log ≡ logged machine.old.log (event txn op, r.0)) }
     ensures reply { IfOk result (λ r. (r.0 ≡ (step (P.table machine.old.protocol) machine.old.state txn op).0) × (is_granted r.0 ≡ true)) }
     ensures note { IfOk result (λ r. (r.1.cell ≡ slice_index_or row.now place 0) × (r.1.known ≡ Some (entry seat (event txn op) r.0))) }
     ensures err { OnErr result (machine.new ≡ machine.old) }
@@ -169,7 +175,7 @@ pub(crate) fn write_end<P: Covered>(
 /// Does a step and writes its place, or leaves the machine as it was. A step that doesn't end its transaction needs a
 /// place that isn't kept; `left` places aren't used.
 pub(crate) fn write<P: Covered>(
-    machine: &mut Machine<P, Tree, Buckets>,
+    machine: &mut Stepper<P, Tree, Buckets>,
     alloc: Global,
     row: &PlaceRow,
     numbers: &mut Numbers,
@@ -189,7 +195,6 @@ pub(crate) fn write<P: Covered>(
     ensures protocol { machine.new.protocol ≡ machine.old.protocol }
     ensures at_rest { machine.new.pending ≡ None }
     ensures state { OnOk result (machine.new.state ≡ (step (P.table machine.old.protocol) machine.old.state txn op).1) }
-    ensures log { IfOk result (λ r. machine.new.log ≡ logged machine.old.log (event txn op, r.0)) }
     ensures reply { IfOk result (λ r. (r.0 ≡ (step (P.table machine.old.protocol) machine.old.state txn op).0) × (is_granted r.0 ≡ true)) }
     ensures note { IfOk result (λ r. (r.1.cell ≡ slice_index_or row.now place 0) × (r.1.known ≡ Some (entry seat (event txn op) r.0))) }
     ensures err { OnErr result (machine.new ≡ machine.old) }

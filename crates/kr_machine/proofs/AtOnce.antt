@@ -1,5 +1,5 @@
 -- An attempt that is done at once.
-use Rattle.std.proofs.Common.{◌≡◌, ℕ, false, ap, sym, ◌∙◌, refl, Some, None, List, [], ◌⊎◌, inl, inr, is_some, ◌&&◌}
+use Rattle.std.proofs.Common.{◌≡◌, ℕ, true, false, ap, sym, subst, ◌∙◌, refl, Some, None, List, [], ◌⊎◌, inl, inr, is_some, ◌&&◌}
 use Rattle.std.specs.Prelude.{IsTrue, not}
 use Rattle.std.specs.Ordering.{nat_cmp}
 use Rattle.std.specs.FinMap.{put}
@@ -8,18 +8,33 @@ use Rattle.kr_model.specs.Map.{Map}
 use Rattle.kr_model.specs.Locks.{Locks, blockers, kept}
 use Rattle.kr_model.specs.Plan.{requests, plan_of}
 use Rattle.kr_model.specs.State.{State, Active, active_of, standing}
+use Rattle.kr_model.specs.Run.{is_granted}
 use Rattle.kr_model.specs.Step.{Effect, IsStep, refusal_of, step, after_effect, takes_no_memory, may_lack_memory}
+use Rattle.kr_model.specs.declared.Op.{Op}
 use Rattle.kr_model.specs.declared.Plan.{Plan}
 use Rattle.kr_model.specs.declared.Refusal.TheVariants.{NoScan, Memory}
 use Rattle.kr_model.specs.declared.Reply.{Reply}
 use Rattle.kr_model.specs.declared.Reply.TheVariants.{Blocked, Refused}
 use Rattle.kr_model.specs.declared.Step.{Step}
+use Rattle.kr_machine.specs.Accepted.{LacksMemoryOr, TellsWhy}
+use Rattle.kr_machine.specs.declared.accepted.NotDone.{NotDone}
+use Rattle.kr_machine.specs.declared.accepted.NotDone.TheVariants.{NotGranted, Declined}
 use Rattle.kr_machine.specs.declared.parts.KeyTouch.TheVariants as key
 use Rattle.kr_machine.specs.declared.parts.Touch.{Touch}
 use Rattle.kr_machine.specs.declared.parts.Touch.TheVariants as touch
 use Rattle.kr_machine.specs.Parts.{op_of_touch}
 use Rattle.kr_machine.specs.Pending.{attempt_of, effect_of, reply_of, rows_of}
 use Rattle.kr_machine.proofs.Steps.{granted_step, reply_is, blocked_step, nothing_attempted}
+
+-- Who is blocked or has no memory isn't granted.
+pub not_granted : (r : Reply) (us : List ℕ) → (r ≡ Blocked us) ⊎ (r ≡ Refused Memory) → is_granted r ≡ false
+not_granted r us (inl is) = ap is_granted is
+not_granted r us (inr is) = ap is_granted is
+
+-- Where memory was refused or the reply declined, that is why the step isn't done.
+pub lacks_or_declined : {E : Type 0} (p : Protocol) (s : State) (t : ℕ) (o : Op) (D Declines : E → Type 0) (n : NotDone E) → IsStep p s t o (Refused Memory) s → is_granted (step p s t o).0 ≡ true → ((e : E) → D e → Declines e) → LacksMemoryOr D n → TellsWhy p s t o Declines n
+lacks_or_declined p s t o D Declines (NotGranted r) lacks granted same is = (subst (λ (z : Reply). IsStep p s t o z s) (sym is) lacks, ap is_granted is)
+lacks_or_declined p s t o D Declines (Declined e) lacks granted same is = (granted, same e is)
 
 takes_memory : (x : Touch) → takes_no_memory (op_of_touch x) ≡ false
 takes_memory (touch.Key (key.Fetch k)) = refl
@@ -55,17 +70,24 @@ module _ (p : Protocol) (s : State) (t : ℕ) (x : Touch) (allowed : refusal_of 
     is_blocked r some (inl named) = inl (ap (λ (z : Reply). (z, s)) named ∙ blocked_step p s t x a plan (blockers p s.locks t (requests plan)) allowed is is_plan refl some)
     is_blocked r some (inr refused) = inr (refused, refl, may_lack)
 
+    -- What the step is, where nobody blocks it.
+    granted_is : blockers p s.locks t (requests plan) ≡ [] → step p s t (op_of_touch x) ≡ after_effect p s t (requests plan) done
+    granted_is none =
+        let free = ap (λ pl. blockers p s.locks t (requests pl)) (sym is_plan) ∙ none in
+        granted_step p s t x a allowed is free ∙ ap (λ pl. after_effect p s t (requests pl) done) (sym is_plan)
+
+    -- What it answers then.
+    pub answers : (r : Reply) → blockers p s.locks t (requests plan) ≡ [] → r ≡ reply_of s.map (rows_of (standing s t).scan) a → r ≡ (step p s t (op_of_touch x)).0
+    answers r none replies = replies ∙ reply_is p s t x a allowed is ∙ sym (ap (λ z. z.0) (granted_is none))
+
     -- Where index, locks and transactions are what its effect makes of them, that is the step.
     pub at_once : (r : Reply) (m : Map) (h : Locks) (es : List (ℕ × Active)) → blockers p s.locks t (requests plan) ≡ []
         → r ≡ reply_of s.map (rows_of (standing s t).scan) a → m ≡ done.map → h ≡ kept p s.locks t (requests plan) → es ≡ put nat_cmp t done.standing s.active
-        → IsStep p s t (op_of_touch x) r (made m h es)
+        → step p s t (op_of_touch x) ≡ (r, made m h es)
     at_once r m h es none replies maps locks actives =
-        let free = ap (λ pl. blockers p s.locks t (requests pl)) (sym is_plan) ∙ none in
-        let stepped : step p s t (op_of_touch x) ≡ after_effect p s t (requests (plan_of p s.map s.locks t a)) done = granted_step p s t x a allowed is free in
-        let same : after_effect p s t (requests (plan_of p s.map s.locks t a)) done ≡ after_effect p s t (requests plan) done = ap (λ pl. after_effect p s t (requests pl) done) (sym is_plan) in
         let told : r ≡ done.reply = replies ∙ reply_is p s t x a allowed is in
-        inl (ap (λ (z : Reply). (z, made m h es)) told
+        sym (ap (λ (z : Reply). (z, made m h es)) told
         ∙ ap (λ (z : Map). (done.reply, made z h es)) maps
         ∙ ap (λ (z : Locks). (done.reply, made done.map z es)) locks
         ∙ ap (λ (z : List (ℕ × Active)). (done.reply, made done.map (kept p s.locks t (requests plan)) z)) actives
-        ∙ sym (stepped ∙ same))
+        ∙ sym (granted_is none))

@@ -1,32 +1,44 @@
 //! A step at once of a transaction that is active, done where it stands in the list.
-ghost use Rattle.std.specs.Prelude.{◌≡◌, ◌⊎◌, ℕ, ◌<◌, None, Some, IfOk, OnOk, OnErr, unwrap_or};
+ghost use Rattle.std.specs.Prelude.{◌≡◌, ◌⊎◌, ℕ, ◌<◌, true, None, Some, Ok, Err, IfOk, IfErr, OnOk, OnErr, unwrap_or};
+ghost use Rattle.std.specs.Fn.{FnOnceReturnsAt};
 ghost use Rattle.std.specs.Ordering.{nat_cmp};
 ghost use Rattle.std.specs.FinMap.{find, put};
 ghost use Rattle.kr_model.specs.Locks.{AreWithin, blockers, kept};
 ghost use Rattle.kr_model.specs.Plan.{requests};
 ghost use Rattle.kr_model.specs.State.{idle};
-ghost use Rattle.kr_model.specs.Step.{refusal_of, IsStep};
+ghost use Rattle.kr_model.specs.Run.{is_granted};
+ghost use Rattle.kr_model.specs.Step.{refusal_of, step};
 ghost use Rattle.kr_model.specs.declared.Reply.TheVariants as reply_is;
 ghost use Rattle.kr_model.specs.declared.Refusal.TheVariants as refusal_is;
 ghost use Rattle.kr_plan.specs.Modes.{ArePlanModes};
 ghost use Rattle.kr_txn.specs.Numbered.{IsPosition};
 ghost use Rattle.kr_txn.specs.Standings.{entries, number_of};
+ghost use Rattle.kr_machine.specs.Accepted.{LacksMemoryOr, TellsWhy};
 ghost use Rattle.kr_machine.specs.Parts.{op_of_touch};
 ghost use Rattle.kr_machine.specs.Pending.{IsMachine, attempt_of, effect_of, shown};
 ghost use Rattle.kr_machine.specs.Sights.{IsSight};
 
+use crate::accepted::NotDone;
 use crate::parts::Touch;
 use crate::sights::{Sight, sight_of};
 use crate::{change, effects, holds, refusals, replies, scans};
 use kr_index::Ordered;
-use kr_locks::{Holdings, Memory};
+use kr_locks::Holdings;
 use kr_model::{Plan, Refusal, Reply, Txn, Txns};
 use kr_protocol::Protocol;
 use kr_txn::{Ended, Standing};
 use std::alloc::Global;
 
-/// Attempts what requests locks, for the active transaction at this place of the list.
-pub(crate) fn touch_at<P: Protocol, I: Ordered, L: Holdings>(
+/// Attempts what requests locks, for the active transaction at this place of the list, and does it if `accept` takes its
+/// reply. Where nothing is done, index, locks and transactions are as before.
+pub(crate) fn touch_at<
+    P: Protocol,
+    I: Ordered,
+    L: Holdings,
+    T,
+    E,
+    F: FnOnce(&Reply) -> Result<T, E>,
+>(
     protocol: &P,
     index: &mut I,
     locks: &mut L,
@@ -35,21 +47,30 @@ pub(crate) fn touch_at<P: Protocol, I: Ordered, L: Holdings>(
     place: usize,
     txn: Txn,
     touch: Touch,
-) -> Reply
+    accept: F,
+) -> Result<(Reply, T), NotDone<E>>
     requires at_rest { IsMachine (P.table protocol.now) (I.map index.old) (I.pins index.old) (L.locks locks.old) ended.now active.old None }
     requires place { IsPosition number_of txn active.old.items place }
-    ensures step { IsStep (P.table protocol.now) (shown None (I.map index.old) (L.locks locks.old) ended.now.numbers (entries active.old.items)) txn (op_of_touch touch) result (shown None (I.map index.new) (L.locks locks.new) ended.now.numbers (entries active.new.items)) }
+    requires callable { F.IsAlwaysCallable accept }
+    ensures step { IfOk result (λ d. step (P.table protocol.now) (shown None (I.map index.old) (L.locks locks.old) ended.now.numbers (entries active.old.items)) txn (op_of_touch touch) ≡ (d.0, shown None (I.map index.new) (L.locks locks.new) ended.now.numbers (entries active.new.items))) }
+    ensures accepted { IfOk result (λ d. (is_granted d.0 ≡ true) × FnOnceReturnsAt F.FnOnce accept d.0 (Ok d.1)) }
+    ensures not_done { IfErr result (λ n. TellsWhy (P.table protocol.now) (shown None (I.map index.old) (L.locks locks.old) ended.now.numbers (entries active.old.items)) txn (op_of_touch touch) (λ e. FnOnceReturnsAt F.FnOnce accept (step (P.table protocol.now) (shown None (I.map index.old) (L.locks locks.old) ended.now.numbers (entries active.old.items)) txn (op_of_touch touch)).0 (Err e)) n) }
+    ensures same_map { OnErr result (I.map index.new ≡ I.map index.old) }
+    ensures same_locks { OnErr result (L.locks locks.new ≡ L.locks locks.old) }
+    ensures same_active { OnErr result (entries active.new.items ≡ entries active.old.items) }
     ensures at_rest { IsMachine (P.table protocol.now) (I.map index.new) (I.pins index.new) (L.locks locks.new) ended.now active.new None }
 {
     let refusal = refusals::refusal_at(protocol, ended, active, place, txn, touch.op());
     if let Some(refusal) = refusal {
-        return Reply::Refused(refusal);
+        return Err(NotDone::NotGranted(Reply::Refused(refusal)));
     }
-    attempt_at(protocol, index, locks, ended, active, place, txn, touch)
+    attempt_at(
+        protocol, index, locks, ended, active, place, txn, touch, accept,
+    )
 }
 
 /// The same where no refusal applies.
-fn attempt_at<P: Protocol, I: Ordered, L: Holdings>(
+fn attempt_at<P: Protocol, I: Ordered, L: Holdings, T, E, F: FnOnce(&Reply) -> Result<T, E>>(
     protocol: &P,
     index: &mut I,
     locks: &mut L,
@@ -58,31 +79,35 @@ fn attempt_at<P: Protocol, I: Ordered, L: Holdings>(
     place: usize,
     txn: Txn,
     touch: Touch,
-) -> Reply
+    accept: F,
+) -> Result<(Reply, T), NotDone<E>>
     requires at_rest { IsMachine (P.table protocol.now) (I.map index.old) (I.pins index.old) (L.locks locks.old) ended.now active.old None }
     requires place { IsPosition number_of txn active.old.items place }
+    requires callable { F.IsAlwaysCallable accept }
     requires allowed { refusal_of (P.table protocol.now) (shown None (I.map index.old) (L.locks locks.old) ended.now.numbers (entries active.old.items)) txn (op_of_touch touch) ≡ None }
-    ensures step { IsStep (P.table protocol.now) (shown None (I.map index.old) (L.locks locks.old) ended.now.numbers (entries active.old.items)) txn (op_of_touch touch) result (shown None (I.map index.new) (L.locks locks.new) ended.now.numbers (entries active.new.items)) }
+    ensures step { IfOk result (λ d. step (P.table protocol.now) (shown None (I.map index.old) (L.locks locks.old) ended.now.numbers (entries active.old.items)) txn (op_of_touch touch) ≡ (d.0, shown None (I.map index.new) (L.locks locks.new) ended.now.numbers (entries active.new.items))) }
+    ensures accepted { IfOk result (λ d. (is_granted d.0 ≡ true) × FnOnceReturnsAt F.FnOnce accept d.0 (Ok d.1)) }
+    ensures not_done { IfErr result (λ n. TellsWhy (P.table protocol.now) (shown None (I.map index.old) (L.locks locks.old) ended.now.numbers (entries active.old.items)) txn (op_of_touch touch) (λ e. FnOnceReturnsAt F.FnOnce accept (step (P.table protocol.now) (shown None (I.map index.old) (L.locks locks.old) ended.now.numbers (entries active.old.items)) txn (op_of_touch touch)).0 (Err e)) n) }
+    ensures same_map { OnErr result (I.map index.new ≡ I.map index.old) }
+    ensures same_locks { OnErr result (L.locks locks.new ≡ L.locks locks.old) }
+    ensures same_active { OnErr result (entries active.new.items ≡ entries active.old.items) }
     ensures at_rest { IsMachine (P.table protocol.now) (I.map index.new) (I.pins index.new) (L.locks locks.new) ended.now active.new None }
 {
     let alloc = *active.allocator();
     let scan = active[place].scan.as_ref();
     let Some(sight) = sight_of(index, scan, touch) else {
-        return Reply::Refused(Refusal::NoScan);
+        return Err(NotDone::NotGranted(Reply::Refused(Refusal::NoScan)));
     };
     let plan = kr_plan::plan_at(protocol, locks, txn, sight.row, sight.current, sight.next);
     if !kr_plan::granted(protocol, locks, txn, &plan) {
-        return blocked(alloc, protocol, locks, txn, &plan);
+        return Err(NotDone::NotGranted(blocked(alloc, protocol, locks, txn, &plan)));
     }
-    let reply = match replies::reply_at(alloc, scan, sight.attempt, sight.value) {
-        Ok(reply) => reply,
-        Err(_) => return Reply::Refused(Refusal::Memory),
-    };
+    let reply = replies::reply_at(alloc, scan, sight.attempt, sight.value)?;
     match do_at(
-        protocol, index, locks, ended, active, place, txn, touch, sight, plan,
+        protocol, index, locks, ended, active, place, txn, touch, sight, plan, &reply, accept,
     ) {
-        Ok(()) => reply,
-        Err(_) => Reply::Refused(Refusal::Memory),
+        Ok(accepted) => Ok((reply, accepted)),
+        Err(why) => Err(why),
     }
 }
 
@@ -104,9 +129,9 @@ fn blocked<P: Protocol, L: Holdings>(
     }
 }
 
-/// Takes the memory of a granted attempt, keeps its locks, and does it. Where a growth is refused, index, locks and
-/// transactions are as before.
-fn do_at<P: Protocol, I: Ordered, L: Holdings>(
+/// Takes the memory of a granted attempt, keeps its locks, and does it if `accept` takes its reply. Where it doesn't, or a
+/// growth is refused, index, locks and transactions are as before.
+fn do_at<P: Protocol, I: Ordered, L: Holdings, T, E, F: FnOnce(&Reply) -> Result<T, E>>(
     protocol: &P,
     index: &mut I,
     locks: &mut L,
@@ -117,12 +142,17 @@ fn do_at<P: Protocol, I: Ordered, L: Holdings>(
     touch: Touch,
     sight: Sight,
     plan: Plan,
-) -> Result<(), Memory>
+    reply: &Reply,
+    accept: F,
+) -> Result<T, NotDone<E>>
     requires at_rest { IsMachine (P.table protocol.now) (I.map index.old) (I.pins index.old) (L.locks locks.old) ended.now active.old None }
     requires place { IsPosition number_of txn active.old.items place }
     requires attempt { attempt_of (I.map index.old) (unwrap_or (find nat_cmp txn (entries active.old.items)) idle).scan (op_of_touch touch) ≡ Some sight.attempt }
     requires sight { IsSight (I.map index.old) sight }
     requires modes { ArePlanModes (P.table protocol.now).count plan }
+    requires callable { F.IsAlwaysCallable accept }
+    ensures accepted { IfOk result (λ t. FnOnceReturnsAt F.FnOnce accept reply.now (Ok t)) }
+    ensures not_done { IfErr result (λ n. LacksMemoryOr (λ e. FnOnceReturnsAt F.FnOnce accept reply.now (Err e)) n) }
     ensures map { OnOk result (I.map index.new ≡ (effect_of (I.map index.old) (unwrap_or (find nat_cmp txn (entries active.old.items)) idle) (op_of_touch touch)).map) }
     ensures locks { OnOk result (L.locks locks.new ≡ kept (P.table protocol.now) (L.locks locks.old) txn (requests plan)) }
     ensures active { OnOk result (entries active.new.items ≡ put nat_cmp txn (effect_of (I.map index.old) (unwrap_or (find nat_cmp txn (entries active.old.items)) idle) (op_of_touch touch)).standing (entries active.old.items)) }
@@ -136,13 +166,21 @@ fn do_at<P: Protocol, I: Ordered, L: Holdings>(
     let op = touch.op();
     change::pin_change(index, op, sight.row)?;
     match holds::hold_both(protocol, locks, txn, plan) {
-        Ok(_) => {
-            effects::perform_at(index, active, place, txn, touch, sight, first_rows);
-            Ok(())
-        }
+        Ok((current_was, next_was)) => match accept(reply) {
+            Ok(accepted) => {
+                effects::perform_at(index, active, place, txn, touch, sight, first_rows);
+                Ok(accepted)
+            }
+            Err(declined) => {
+                change::unpin_change(index, op, sight.row);
+                holds::give_back(locks, txn, plan.next, next_was);
+                holds::give_back(locks, txn, plan.current, current_was);
+                Err(NotDone::Declined(declined))
+            }
+        },
         Err(refused) => {
             change::unpin_change(index, op, sight.row);
-            Err(refused)
+            Err(NotDone::from(refused))
         }
     }
 }

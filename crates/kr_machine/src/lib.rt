@@ -4,6 +4,7 @@
 //! does it or `cancel` gives it up, neither of which can fail.
 #![tactic(auto)]
 
+mod accepted;
 mod asked;
 mod at_once;
 mod at_place;
@@ -22,6 +23,7 @@ mod scans;
 mod sights;
 mod stepper;
 
+pub use accepted::NotDone;
 pub use kr_model::{Mode, Name, Txn};
 pub use machine::Machine;
 pub use pending::Ready;

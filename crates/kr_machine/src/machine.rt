@@ -1,10 +1,10 @@
 //! A machine: what does the steps, and the log of what they did.
-ghost use Rattle.std.specs.Prelude.{All, map, ◌≡◌, ◌↔◌, ℕ, ◌≤◌, ◌-◌, [], None, Some, IfSome, IfNone, IfOk, IfErr, OnOk, OnErr, IsTrue, true, false, is_some, length, if◌then◌else◌};
+ghost use Rattle.std.specs.Prelude.{All, map, ◌≡◌, ℕ, ◌≤◌, ◌-◌, [], None, Some, IfSome, IfNone, IfOk, IfErr, OnOk, OnErr, IsTrue, true, false, is_some, length, if◌then◌else◌};
 ghost use Rattle.kr_model.specs.declared.Op.TheVariants as op_is;
 ghost use Rattle.kr_model.specs.declared.Refusal.TheVariants as refusal_is;
 ghost use Rattle.kr_model.specs.declared.Reply.TheVariants as reply_is;
 ghost use Rattle.kr_model.specs.State.{start, active_of, standing, is_scanning, is_rolling, has_nothing_left};
-ghost use Rattle.kr_model.specs.Step.{step, blockers_in, IsStep};
+ghost use Rattle.kr_model.specs.Step.{step, IsStep};
 ghost use Rattle.kr_model.specs.WellFormed.{IsState};
 ghost use Rattle.kr_model.specs.Log.{no_log, logged};
 ghost use Rattle.kr_model.specs.Run.{is_granted};
@@ -98,23 +98,6 @@ impl<P: Protocol, I: Ordered, L: Holdings> Machine<P, I, L> {
         self.stepper.unfinished()
     }
 
-    /// The transactions that block an operation now, rising: those that a step would name that is blocked. None where it is
-    /// refused or granted. `Memory` where a growth is refused.
-    pub fn blockers(&self, txn: Txn, op: Op) -> Result<Vec<Txn>, Memory>
-        requires { self.now.pending ≡ None }
-        ensures { IfOk result (λ us. us.items ≡ blockers_in (step (P.table self.now.protocol) self.now.state txn op).0) }
-    {
-        self.stepper.blockers(txn, op)
-    }
-
-    /// Whether an operation is blocked now. Takes no memory.
-    pub fn is_blocked(&self, txn: Txn, op: Op) -> bool
-        requires { self.now.pending ≡ None }
-        ensures { (result ≡ false) ↔ (blockers_in (step (P.table self.now.protocol) self.now.state txn op).0 ≡ []) }
-    {
-        self.stepper.is_blocked(txn, op)
-    }
-
     /// A copy of the programs of the transactions that committed, in commit order, or `Memory` where a growth is refused.
     /// Blocked and refused steps aren't in them, nor are the commit and the steps that go on with a scan; a scan has the
     /// rows that it ended with as its answer.
@@ -122,18 +105,6 @@ impl<P: Protocol, I: Ordered, L: Holdings> Machine<P, I, L> {
         ensures { IfOk result (λ programs. programs ≡ self.now.log.committed) }
     {
         self.log.programs()
-    }
-
-    /// The same of a machine that is used no more, without a copy. Takes no memory.
-    pub fn into_programs(self) -> Programs
-        ensures { result ≡ self.log.committed }
-    {
-        let Machine {
-            stepper: _,
-            log,
-            due: _,
-        } = self;
-        log.into_programs()
     }
 
     /// Takes all memory of a step, and tells its reply without doing it.
@@ -264,10 +235,9 @@ impl<P: Protocol, I: Ordered, L: Holdings> Machine<P, I, L> {
             record { protocol = self.old.protocol; state = o.1; log = logged self.old.log (ready.event, o.0); pending = None }) }
         ensures well_formed { IsState (P.table self.new.protocol) self.new.state }
     {
-        let Ready { event, reply: _ } = ready;
         let DueReply { noted, told } = self.due.take().unwrap();
-        self.log.note(event, noted);
-        self.stepper.finish(event);
+        self.log.note(ready.event, noted);
+        let _ = self.stepper.finish(ready);
         told
     }
 }

@@ -11,7 +11,7 @@ use crate::pending::{Pending, PendingPart, Ready};
 use crate::{change, refusals, replies, reserve, room};
 use kr_index::Ordered;
 use kr_locks::{Holdings, Memory};
-use kr_model::{Event, Mode, Name, Op, Pairs, Refusal, Reply, Txn, Txns};
+use kr_model::{Mode, Name, Op, Pairs, Refusal, Reply, Txn, Txns};
 use kr_protocol::Protocol;
 use kr_txn::{Ended, Standing, put_in};
 use std::alloc::Global;
@@ -271,11 +271,13 @@ impl<P: Protocol, I: Ordered, L: Holdings> Stepper<P, I, L> {
         room::put_down(&mut self.active, event.txn, standing, was_active);
     }
 
-    /// Does the step of this event, which is ready. Takes no memory.
-    pub fn finish(&mut self, event: Event)
-        requires { self.old.pending ≡ Some event }
-        ensures { self.new ≡ record { protocol = self.old.protocol; state = (step (P.table self.old.protocol) self.old.state event.txn event.op).1; pending = None } }
+    /// Does the step that is ready, and returns the reply that it was ready with. Takes no memory.
+    pub fn finish(&mut self, ready: Ready) -> Reply
+        requires { self.old.pending ≡ Some ready.event }
+        ensures machine { self.new ≡ record { protocol = self.old.protocol; state = (step (P.table self.old.protocol) self.old.state ready.event.txn ready.event.op).1; pending = None } }
+        ensures reply { result ≡ ready.reply }
     {
+        let Ready { event, reply } = ready;
         let Pending { standing, part, .. } = self.pending.take().unwrap();
         match part {
             PendingPart::End(ending) => {
@@ -291,5 +293,6 @@ impl<P: Protocol, I: Ordered, L: Holdings> Stepper<P, I, L> {
                 put_in(&mut self.active, done);
             }
         }
+        reply
     }
 }

@@ -19,5 +19,5 @@ pub use dealt::Dealt;
 pub use faults::{StepFault, WhyNotDone};
 pub use following::follows;
 pub use reports::{report_played, report_run, report_verdict};
-pub use threaded::{Answered, Threaded};
-pub use threads_reports::report_threads;
+pub use threaded::{Answered, Threaded, ThreadsShown};
+pub use threads_reports::{report_threads, report_threads_shown};

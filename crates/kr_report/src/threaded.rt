@@ -1,7 +1,7 @@
 //! What a run of a script in several threads did.
 
 use crate::StepFault;
-use kr_model::{Event, Reply};
+use kr_model::{Event, Pairs, Reply, Txns};
 use kr_serial::Ran;
 
 /// A step that was done, and its reply.
@@ -22,4 +22,17 @@ pub struct Threaded {
     pub ran: Ran,
     /// The steps that weren't done, rising by transaction, then by number.
     pub faults: Vec<StepFault>,
+}
+
+/// What the report of a run of a script in several threads shows of it. It is a plain record too.
+#[derive(Debug, Drop)]
+pub struct ThreadsShown {
+    /// The steps that were done, with their replies, in the order of their places in the run's history.
+    pub history: Vec<Answered>,
+    /// The steps that weren't done, rising by transaction, then by number.
+    pub faults: Vec<StepFault>,
+    /// The index after the last step, keys rising.
+    pub index: Pairs,
+    /// The transactions that are active after the last step, rising.
+    pub unfinished: Txns,
 }

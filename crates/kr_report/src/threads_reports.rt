@@ -4,9 +4,10 @@ ghost use Rattle.serde_json.specs.Written.{compact_text};
 ghost use Rattle.kr_report.specs.ThreadsReport.{answered_data, history_data, cause_data, fault_data, faults_data, threads_text};
 
 use crate::replies::write_verdict;
-use crate::threaded::{Answered, Threaded};
+use crate::threaded::{Answered, Threaded, ThreadsShown};
 use crate::writing::write_place;
 use crate::{StepFault, WhyNotDone};
+use kr_model::Txn;
 use kr_script::{
     separator, write_numbers, write_pairs, write_reply, write_step, write_with_numbers,
 };
@@ -85,15 +86,55 @@ pub fn report_threads(
     ensures text { IfOk result (λ text. string_bytes text ≡ threads_text threaded.now.faults.items
         threaded.now.history.items threaded.now.ran.index threaded.now.ran.unfinished verdict.now) }
 {
+    report_parts(
+        alloc,
+        threaded.faults.as_slice(),
+        threaded.history.as_slice(),
+        threaded.ran.index.as_slice(),
+        threaded.ran.unfinished.as_slice(),
+        verdict,
+    )
+}
+
+/// The same report of what is shown of a run.
+pub fn report_threads_shown(
+    alloc: Global,
+    shown: &ThreadsShown,
+    verdict: &Verdict,
+) -> Result<String, AllocError>
+    ensures text { IfOk result (λ text. string_bytes text ≡ threads_text shown.now.faults.items
+        shown.now.history.items shown.now.index shown.now.unfinished verdict.now) }
+{
+    report_parts(
+        alloc,
+        shown.faults.as_slice(),
+        shown.history.as_slice(),
+        shown.index.as_slice(),
+        shown.unfinished.as_slice(),
+        verdict,
+    )
+}
+
+/// The report with these members.
+fn report_parts(
+    alloc: Global,
+    faults: &[StepFault],
+    history: &[Answered],
+    index: &[(u64, u64)],
+    unfinished: &[Txn],
+    verdict: &Verdict,
+) -> Result<String, AllocError>
+    ensures text { IfOk result (λ text. string_bytes text ≡ threads_text faults.now history.now index.now unfinished.now verdict.now) }
+{
     let mut out = String::new(alloc);
     out.push_str(r#"{"faults":"#)?;
-    write_faults(&mut out, threaded.faults.as_slice())?;
+    write_faults(&mut out, faults)?;
     out.push_str(r#","history":"#)?;
-    write_history(&mut out, threaded.history.as_slice())?;
+    write_history(&mut out, history)?;
     out.push_str(r#","index":"#)?;
-    write_pairs(&mut out, threaded.ran.index.as_slice())?;
+    write_pairs(&mut out, index)?;
     out.push_str(r#","unfinished":"#)?;
-    write_numbers(&mut out, threaded.ran.unfinished.as_slice())?;
+    write_numbers(&mut out, unfinished)?;
     out.push_str(r#","verdict":"#)?;
     write_verdict(&mut out, verdict)?;
     out.push_str("}")?;

@@ -1,9 +1,8 @@
 -- How many events are of a transaction.
 use Rattle.std.proofs.Common.{◌≡◌, ℕ, zero, suc, ◌+◌, ◌-◌, ◌<◌, ◌≤◌, ◌==◌, ◌&&◌, ◌||◌, Bool, true, false, cond, List, [], ◌∷◌, ◌++◌, length, length-append, take, get_or, min, add-one, refl, sym, ap, ◌∙◌, subst, arith, map}
-use Rattle.std.specs.Prelude.{slice_index_or, nat_lt, ◌≢◌, All}
+use Rattle.std.specs.Prelude.{slice_index_or, nat_eq, nat_lt, ◌≢◌, All}
 use Rattle.std.specs.List.{count_by}
-use Rattle.std.specs.BTreeMap.{BTreeMap, get, is_at}
-use Rattle.std.specs.Ordering.{nat_cmp}
+use Rattle.std.specs.HashMap.{HashMap, get}
 use Rattle.std.specs.Prelude.{unwrap_or, Option, Some}
 use Rattle.std.proofs.lemmas.Bool.{eqb-true, eq-eqb}
 use Rattle.std.proofs.lemmas.Bool.Decides.{nat_tests}
@@ -15,7 +14,6 @@ use Rattle.kr_model.specs.declared.Op.TheVariants.{Go}
 use Rattle.kr_report.specs.declared.faults.StepFault.{StepFault}
 use Rattle.kr_report.specs.Follows.{AreRising}
 use Rattle.kr_report.specs.Dealt.{txn_at}
-use Rattle.kr_report.proofs.Hands.{same_test}
 use Rattle.kr_threads.specs.declared.left_out.LeftOut.{LeftOut}
 use Rattle.kr_threads.specs.Placed.{done_by, missed_before, AreNumbers, AreCounts, count_in, IsNumber, IsStart, IsBetween}
 
@@ -53,29 +51,29 @@ pub longer_by_one : (numbers longer : List ℕ) (n i : ℕ) → longer ≡ numbe
 longer_by_one numbers longer n i more long = ap length more ∙ length-append numbers (n ∷ []) ∙ ap (λ (x : ℕ). x + 1) long
 
 -- One count more.
-pub counts_more : (m w : BTreeMap ℕ ℕ) (es : List Event) (i t n : ℕ) → AreCounts m (take i es) → i < length es → txn_at es i ≡ t → n ≡ count_in m t + 1
-    → ((q : ℕ) → get nat_cmp w q ≡ cond (is_at (nat_cmp t) q) (Some n) (get nat_cmp m q))
+pub counts_more : {S : Type 0} (m w : HashMap ℕ ℕ S) (es : List Event) (i t n : ℕ) → AreCounts m (take i es) → i < length es → txn_at es i ≡ t → n ≡ count_in m t + 1
+    → ((q : ℕ) → get nat_eq w q ≡ cond (nat_eq t q) (Some n) (get nat_eq m q))
     → AreCounts w (take (i + 1) es)
 counts_more m w es i t n are within own is put u = ap (λ (o : Option ℕ). unwrap_or o 0) (put u) ∙ by (u == t) refl
   where
-    by : (b : Bool) → (u == t) ≡ b → unwrap_or (cond (is_at (nat_cmp t) u) (Some n) (get nat_cmp m u)) 0 ≡ done_by u (take (i + 1) es)
+    by : (b : Bool) → (u == t) ≡ b → unwrap_or (cond (nat_eq t u) (Some n) (get nat_eq m u)) 0 ≡ done_by u (take (i + 1) es)
     by true same =
         let u_is : u ≡ t = eqb-true u t same in
-        ap (λ (c : Bool). unwrap_or (cond c (Some n) (get nat_cmp m u)) 0) (same_test t u ∙ same)
+        ap (λ (c : Bool). unwrap_or (cond c (Some n) (get nat_eq m u)) 0) (eq-eqb t u (sym u_is))
         ∙ is ∙ ap (λ (x : ℕ). x + 1) (are t) ∙ sym (done_own t i es within own) ∙ ap (λ (v : ℕ). done_by v (take (i + 1) es)) (sym u_is)
     by false other =
-        ap (λ (c : Bool). unwrap_or (cond c (Some n) (get nat_cmp m u)) 0) (same_test t u ∙ other)
+        ap (λ (c : Bool). unwrap_or (cond c (Some n) (get nat_eq m u)) 0) swapped
         ∙ are u ∙ sym (done_other u i es within (ap (λ (v : ℕ). v == u) own ∙ swapped))
       where
         swapped : (t == u) ≡ false
         swapped = grind (arith, nat_tests)
 
 -- The next number is that of the event.
-pub next_number : (m : BTreeMap ℕ ℕ) (es : List Event) (i t : ℕ) → AreCounts m (take i es) → i < length es → txn_at es i ≡ t → count_in m t + 1 ≡ done_by (txn_at es i) (take (i + 1) es)
+pub next_number : {S : Type 0} (m : HashMap ℕ ℕ S) (es : List Event) (i t : ℕ) → AreCounts m (take i es) → i < length es → txn_at es i ≡ t → count_in m t + 1 ≡ done_by (txn_at es i) (take (i + 1) es)
 next_number m es i t are within own = ap (λ (x : ℕ). x + 1) (are t) ∙ sym (done_own t i es within own) ∙ ap (λ (v : ℕ). done_by v (take (i + 1) es)) (sym own)
 
 -- No more events are of a transaction than there are.
-pub count_fits : (m : BTreeMap ℕ ℕ) (es : List Event) (i t : ℕ) → AreCounts m (take i es) → i ≤ length es → count_in m t ≤ i
+pub count_fits : {S : Type 0} (m : HashMap ℕ ℕ S) (es : List Event) (i t : ℕ) → AreCounts m (take i es) → i ≤ length es → count_in m t ≤ i
 count_fits m es i t are within =
     let is : count_in m t ≡ done_by t (take i es) = are t in
     let fits : done_by t (take i es) ≤ length (take i es) = count_by-le-length (λ e. e.txn == t) (take i es) in

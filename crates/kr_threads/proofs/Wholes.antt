@@ -16,8 +16,9 @@ use Rattle.kr_serial.specs.declared.ran.Ran.{Ran}
 use Rattle.kr_report.specs.Follows.{Follows}
 use Rattle.kr_report.specs.declared.threaded.Answered.{Answered}
 use Rattle.kr_report.specs.declared.threaded.Threaded.{Threaded}
+use Rattle.kr_report.specs.declared.threaded.ThreadsShown.{ThreadsShown}
 use Rattle.kr_threads.specs.Told.{IsTold}
-use Rattle.kr_threads.specs.Threaded.{answered, steps_of, with_replies, IsRanOf, IsThreaded}
+use Rattle.kr_threads.specs.Threaded.{answered, steps_of, with_replies, IsRanOf, IsThreaded, IsCompared, ShowsThreads}
 use Rattle.kr_threads.proofs.Gathered.{none_mapped}
 
 -- Entries as steps with replies have their replies.
@@ -47,7 +48,7 @@ pub ran_of_closed : (p : Protocol) (opening : Map) (h : History) (shares : List 
     → ran.replies ≡ map (λ e. e.reply) h.entries.items
     → ran.index ≡ h.index
     → ran.locks ≡ h.locks.items
-    → ran.programs ≡ h.programs
+    → ran.programs ≡ model.programs (events_with_replies h.entries.items)
     → ran.unfinished ≡ h.unfinished
     → IsRanOf opening (events_with_replies h.entries.items) closed.state ran
 ran_of_closed p opening h shares ran closed ended opening_is replies index locks programs unfinished = record {
@@ -55,9 +56,9 @@ ran_of_closed p opening h shares ran closed ended opening_is replies index locks
   replies = replies ∙ replies_of_entries h.entries.items;
   index = index ∙ closed.index;
   locks = locks ∙ closed.locks;
-  programs = programs ∙ closed.programs;
+  programs = programs;
   unfinished = unfinished ∙ ended;
-  serial = subst (λ (ps : List model.Program). AreSerial ran.opening ps) (sym (programs ∙ closed.programs))
+  serial = subst (λ (ps : List model.Program). AreSerial ran.opening ps) (sym programs)
       (subst (λ (m : Map). AreSerial m (model.programs (events_with_replies h.entries.items))) (sym opening_is) closed.serial.0);
 }
 
@@ -81,4 +82,40 @@ threaded p opening steps h shares d closed ended told history follows ran =
       follows = subst (λ (l : List Event). Follows steps d.faults.items l) (sym steps_are) follows;
       told = subst (λ (h : List model.Entry). All (IsTold p opening d.faults.items h) d.faults.items) (sym same) told;
       ran = subst (λ (h : List model.Entry). IsRanOf opening h closed.state d.ran) (sym same) ran;
+    }
+
+-- The whole of a run that was compared with its script.
+pub threaded_whole : (p : Protocol) (opening : Map) (steps : List Event) (h : History) (d : Threaded)
+    → (compared : IsCompared p opening steps h d.faults.items)
+    → d.history.items ≡ map answered h.entries.items
+    → IsRanOf opening (events_with_replies h.entries.items) compared.closed.state d.ran
+    → IsThreaded p opening steps d
+threaded_whole p opening steps h d compared history ran = threaded p opening steps h compared.shares d compared.closed compared.ended compared.told history compared.follows ran
+
+-- The run that such a history is.
+abbrev pub ran_whole : Map → History → Ran
+ran_whole opening h = record {
+  opening = opening;
+  replies = map (λ e. e.reply) h.entries.items;
+  programs = model.programs (events_with_replies h.entries.items);
+  index = h.index;
+  locks = h.locks.items;
+  unfinished = h.unfinished;
+}
+
+-- What is shown of it is of its whole.
+pub shown_whole : (p : Protocol) (opening : Map) (steps : List Event) (h : History) (d : ThreadsShown)
+    → IsCompared p opening steps h d.faults.items
+    → d.history.items ≡ map answered h.entries.items → d.index ≡ h.index → d.unfinished ≡ h.unfinished
+    → ShowsThreads p opening steps d
+shown_whole p opening steps h d compared history index unfinished =
+    let ran : Ran = ran_whole opening h in
+    let whole : Threaded = record { history = d.history; ran = ran; faults = d.faults } in
+    record {
+      whole = whole;
+      is_threaded = threaded_whole p opening steps h whole compared history (ran_of_closed p opening h compared.shares ran compared.closed compared.ended refl refl refl refl refl refl);
+      history = refl;
+      faults = refl;
+      index = index;
+      unfinished = unfinished;
     }

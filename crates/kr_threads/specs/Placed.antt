@@ -1,8 +1,7 @@
 -- Where in a history a step was left out.
-use Rattle.std.specs.Prelude.{◌≡◌, ◌≢◌, ◌==◌, ◌-◌, ◌&&◌, ◌<◌, ◌≤◌, ◌+◌, ℕ, nat_lt, List, Option, Some, None, length, take, slice_index_or, unwrap_or}
+use Rattle.std.specs.Prelude.{◌≡◌, ◌≢◌, ◌==◌, ◌-◌, ◌&&◌, ◌<◌, ◌≤◌, ◌+◌, ℕ, nat_eq, nat_lt, List, Option, Some, None, length, take, slice_index_or, unwrap_or}
 use Rattle.std.specs.List.{count_by}
-use Rattle.std.specs.BTreeMap.{BTreeMap, get}
-use Rattle.std.specs.Ordering.{nat_cmp}
+use Rattle.std.specs.HashMap.{HashMap, get}
 use Rattle.kr_model.specs.declared.Event.{Event}
 use Rattle.kr_model.specs.Run as model
 use Rattle.kr_report.specs.declared.faults.StepFault.{StepFault}
@@ -42,11 +41,11 @@ pub record AreNumbers (numbers : List ℕ) (es : List Event) : Type 0 where
   pub each : (k : ℕ) → k < length numbers → slice_index_or numbers k 0 ≡ done_by (txn_at es k) (take (k + 1) es)
 
 -- How many events a map has of a transaction.
-abbrev pub count_in : BTreeMap ℕ ℕ → ℕ → ℕ
-count_in counts t = unwrap_or (get nat_cmp counts t) 0
+abbrev pub count_in : {S : Type 0} → HashMap ℕ ℕ S → ℕ → ℕ
+count_in counts t = unwrap_or (get nat_eq counts t) 0
 
 -- The map has how many of the events are of each transaction.
-abbrev pub AreCounts : BTreeMap ℕ ℕ → List Event → Type 0
+abbrev pub AreCounts : {S : Type 0} → HashMap ℕ ℕ S → List Event → Type 0
 AreCounts counts es = (t : ℕ) → count_in counts t ≡ done_by t es
 
 -- The event at this place is the transaction's, and of this number among its own, from 1.

@@ -7,10 +7,15 @@ use Rattle.kr_model.specs.State.{State}
 use Rattle.kr_model.specs.Serial.{AreSerial}
 use Rattle.kr_model.specs.Run as model
 use Rattle.kr_history.specs.declared.name.Entry.{Entry}
+use Rattle.kr_engine.specs.declared.closing.History.{History}
+use Rattle.kr_engine.specs.Closed.{IsClosed, Lent}
+use Rattle.kr_engine.specs.Histories.{events_with_replies}
 use Rattle.kr_serial.specs.declared.ran.Ran.{Ran}
 use Rattle.kr_report.specs.Follows.{Follows}
 use Rattle.kr_report.specs.declared.threaded.Answered.{Answered}
+use Rattle.kr_report.specs.declared.faults.StepFault.{StepFault}
 use Rattle.kr_report.specs.declared.threaded.Threaded.{Threaded}
+use Rattle.kr_report.specs.declared.threaded.ThreadsShown.{ThreadsShown}
 use Rattle.kr_threads.specs.Told.{IsTold}
 
 -- An entry as a step with its reply.
@@ -44,3 +49,20 @@ pub record IsThreaded (p : Protocol) (opening : Map) (steps : List Event) (d : T
   pub follows : Follows steps d.faults.items (steps_of d.history.items)
   pub told : All (IsTold p opening d.faults.items (with_replies d.history.items)) d.faults.items
   pub ran : IsRanOf opening (with_replies d.history.items) state d.ran
+
+-- A closed engine's history, at whose end no transaction is active, as a run of a script in several threads: it follows the script's steps, but for the faults, each of which is told at the end of a prefix of it.
+pub record IsCompared (p : Protocol) (opening : Map) (steps : List Event) (h : History) (faults : List StepFault) : Type 0 where
+  pub shares : List Lent
+  pub closed : IsClosed p opening h shares
+  pub ended : h.unfinished ≡ []
+  pub told : All (IsTold p opening faults (events_with_replies h.entries.items)) faults
+  pub follows : Follows steps faults (map (λ e. e.event) h.entries.items)
+
+-- What is shown is of a run of the script in several threads: its history, its faults, and the index and the unfinished transactions at its end.
+pub record ShowsThreads (p : Protocol) (opening : Map) (steps : List Event) (d : ThreadsShown) : Type 0 where
+  pub whole : Threaded
+  pub is_threaded : IsThreaded p opening steps whole
+  pub history : d.history.items ≡ whole.history.items
+  pub faults : d.faults.items ≡ whole.faults.items
+  pub index : d.index ≡ whole.ran.index
+  pub unfinished : d.unfinished ≡ whole.ran.unfinished

@@ -2,6 +2,7 @@
 #![tactic(auto)]
 
 mod calls;
+mod compared;
 mod gate;
 mod history;
 mod left_out;
@@ -12,4 +13,4 @@ mod turn;
 mod work;
 
 pub use gate::{Gate, Passage};
-pub use run::{RunFault, run_threads};
+pub use run::{RunFault, run_threads, show_threads};

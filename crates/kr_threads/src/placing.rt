@@ -6,13 +6,12 @@ ghost use Rattle.kr_threads.specs.Placed.{missed_before, count_in, AreNumbers, A
 use crate::left_out::LeftOut;
 use kr_model::{Event, Txn};
 use std::alloc::{AllocError, Global};
-use std::collections::BTreeMap;
+use std::collections::HashMap;
 
 /// Whether each step was left out where its transaction had done all earlier steps but those that were left out too: just so
 /// many events up to its places are of the transaction. The steps come by transaction, and then by number.
 ///
-/// It takes O(n log n), where n counts the events, and no more for each step than for two looks; an error where a growth is
-/// refused.
+/// It takes a look by hash or two for each event and for each step; an error where a growth is refused.
 pub(crate) fn are_placed(
     alloc: Global,
     left_out: &[LeftOut],
@@ -47,13 +46,13 @@ fn start_of(left_out: &[LeftOut], i: usize, first: usize) -> usize
 }
 
 /// The number of each event among those of its transaction, from 1; and how many each transaction has.
-fn numbered(alloc: Global, events: &[Event]) -> Result<(Vec<u64>, BTreeMap<Txn, u64>), AllocError>
+fn numbered(alloc: Global, events: &[Event]) -> Result<(Vec<u64>, HashMap<Txn, u64>), AllocError>
     ensures length { IfOk result (λ r. length r.0.items ≡ length events.now) }
     ensures numbers { IfOk result (λ r. AreNumbers r.0.items events.now) }
     ensures counts { IfOk result (λ r. AreCounts r.1 events.now) }
 {
     let mut numbers = Vec::with_capacity(alloc, events.len())?;
-    let mut counts = BTreeMap::new(alloc);
+    let mut counts = HashMap::new(alloc);
     for event in events {
         let number = count_of(&counts, event.txn) + 1;
         counts.insert(event.txn, number)?;
@@ -63,7 +62,7 @@ fn numbered(alloc: Global, events: &[Event]) -> Result<(Vec<u64>, BTreeMap<Txn, 
 }
 
 /// How many events a map has of a transaction.
-fn count_of(counts: &BTreeMap<Txn, u64>, txn: Txn) -> u64
+fn count_of(counts: &HashMap<Txn, u64>, txn: Txn) -> u64
     ensures { result ≡ count_in counts.now txn }
 {
     match counts.get(&txn) {
@@ -109,7 +108,7 @@ fn are_done_up_to(
 fn are_done_before(
     events: &[Event],
     numbers: &[u64],
-    counts: &BTreeMap<Txn, u64>,
+    counts: &HashMap<Txn, u64>,
     next: Option<usize>,
     txn: Txn,
     number: u64,
@@ -130,7 +129,7 @@ fn is_between(
     earlier: usize,
     events: &[Event],
     numbers: &[u64],
-    counts: &BTreeMap<Txn, u64>,
+    counts: &HashMap<Txn, u64>,
 ) -> bool
     requires numbers { AreNumbers numbers.now events.now }
     requires counts { AreCounts counts.now events.now }

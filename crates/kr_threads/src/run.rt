@@ -1,24 +1,21 @@
 //! A run of a script in several threads.
-ghost use Rattle.std.specs.Prelude.{◌≡◌, ◌<◌, ◌≤◌, List, All, IfOk, OnOk};
-ghost use Rattle.kr_model.specs.declared.Event.{Event};
-ghost use Rattle.kr_model.specs.Protocol.{Protocol, IsLawful};
+ghost use Rattle.std.specs.Prelude.{◌≡◌, ◌<◌, ◌≤◌, All, IfOk, OnOk};
+ghost use Rattle.kr_model.specs.Protocol.{IsLawful};
 ghost use Rattle.kr_model.specs.Map.{IsMap};
 ghost use Rattle.kr_engine.specs.Closed.{IsClosed};
-ghost use Rattle.kr_report.specs.Dealt.{AreDealt};
 ghost use Rattle.kr_threads.specs.Faults.{fault_of_close, fault_of_row};
 ghost use Rattle.kr_threads.specs.declared.run.RunFault.TheVariants as fault;
 ghost use Rattle.kr_threads.specs.Told.{IsToldToOne, IsWorked};
-ghost use Rattle.kr_threads.specs.Threaded.{IsThreaded};
+ghost use Rattle.kr_threads.specs.Threaded.{IsCompared, IsThreaded, ShowsThreads};
 
+use crate::compared::{Worked, compared, shown_of, threaded_of};
 use crate::gate::Gate;
-use crate::history::{answers, ran_of, steps_and_replies};
-use crate::left_out::{LeftOut, faults_of};
-use crate::placing::are_placed;
+use crate::left_out::LeftOut;
 use crate::report::Report;
 use crate::work::{Worker, work};
 use kr_engine::{CloseFault, Engine, EngineName, History, NewFault, PlaceRow, Share};
 use kr_protocol::Covered;
-use kr_report::{Dealt, Threaded, follows};
+use kr_report::{Dealt, StepFault, Threaded, ThreadsShown};
 use kr_script::Script;
 use std::alloc::{AllocError, Global};
 use std::marker::Brand;
@@ -67,13 +64,6 @@ impl From<CloseFault> for RunFault {
     }
 }
 
-/// What the workers did: the closed history, in which no transaction is active at the end, and the steps that were left out.
-#[derive(Drop)]
-struct Worked {
-    history: History,
-    left_out: Vec<LeftOut>,
-}
-
 /// Runs a script under a covered protocol in as many threads as there are workers, 1 to 64.
 ///
 /// The transactions are dealt to the workers in turn, in the order in which they first appear. A worker does its
@@ -97,6 +87,39 @@ pub fn run_threads<P: Covered + Sync, G: Gate + Sync, R: Threads + Wait + Sync>(
     requires workers { (0 < workers) × (workers ≤ 64) }
     ensures { IfOk result (λ d. IsThreaded (P.table protocol.now) script.now.opening script.now.steps d) }
 {
+    let (history, faults) = run_compared(rt, alloc, protocol, script, workers, gate)?;
+    threaded_of(alloc, script.opening(), history, faults)
+}
+
+/// The same run, of which only that is given which its report shows: no replies apart, no programs and no locks.
+pub fn show_threads<P: Covered + Sync, G: Gate + Sync, R: Threads + Wait + Sync>(
+    rt: &R,
+    alloc: Global,
+    protocol: &P,
+    script: &Script,
+    workers: usize,
+    gate: &G,
+) -> Result<ThreadsShown, RunFault>
+    requires workers { (0 < workers) × (workers ≤ 64) }
+    ensures { IfOk result (λ d. ShowsThreads (P.table protocol.now) script.now.opening script.now.steps d) }
+{
+    let (history, faults) = run_compared(rt, alloc, protocol, script, workers, gate)?;
+    shown_of(alloc, history, faults)
+}
+
+/// The closed history of such a run, and the steps that were left out, compared with the script.
+fn run_compared<P: Covered + Sync, G: Gate + Sync, R: Threads + Wait + Sync>(
+    rt: &R,
+    alloc: Global,
+    protocol: &P,
+    script: &Script,
+    workers: usize,
+    gate: &G,
+) -> Result<(History, Vec<StepFault>), RunFault>
+    requires workers { (0 < workers) × (workers ≤ 64) }
+    ensures compared { IfOk result (λ r. IsCompared (P.table protocol.now) script.now.opening script.now.steps r.0 r.1.items) }
+    ensures is_map { IfOk result (λ r. IsMap r.0.index) }
+{
     let steps = script.steps();
     let opening = script.opening();
     let dealt = Dealt::new(alloc, steps)?;
@@ -105,7 +128,7 @@ pub fn run_threads<P: Covered + Sync, G: Gate + Sync, R: Threads + Wait + Sync>(
     let worked = run_named::<&P, Brand, G, R>(
         rt, alloc, protocol, opening, row, &dealt, workers, gate,
     )?;
-    compared(alloc, opening, dealt, worked)
+    compared(alloc, dealt, worked)
 }
 
 /// The run over an engine that has this row.
@@ -230,34 +253,4 @@ fn finished<K: EngineName>(
     let mut left_out = left_out;
     left_out.sort_unstable_by_key(|l| (l.fault.txn, l.fault.step));
     Ok(Worked { history, left_out })
-}
-
-/// The history with what it leaves, compared with the script: `Place` where it doesn't follow it, or a step was left out
-/// where its transaction hadn't come to it.
-fn compared(
-    alloc: Global,
-    opening: &[(u64, u64)],
-    script: Dealt,
-    worked: Worked,
-) -> Result<Threaded, RunFault>
-    requires opening { IsMap opening.now }
-    requires index { IsMap worked.history.index }
-    ensures { IfOk result (λ d. (p : Protocol) (steps : List Event) → IsWorked p opening.now worked.history worked.left_out.items → AreDealt steps script → IsThreaded p opening.now steps d) }
-{
-    let Worked { history, left_out } = worked;
-    let (steps, replies) = steps_and_replies(alloc, &history.entries)?;
-    if !are_placed(alloc, &left_out, &steps)? {
-        return Err(RunFault::Place);
-    }
-    let faults = faults_of(alloc, left_out)?;
-    if !follows(alloc, script, &faults, &steps)? {
-        return Err(RunFault::Place);
-    }
-    let (entries, ran) = ran_of(alloc, opening, replies, history)?;
-    let history = answers(alloc, entries)?;
-    Ok(Threaded {
-        history,
-        ran,
-        faults,
-    })
 }

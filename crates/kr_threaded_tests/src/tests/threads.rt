@@ -8,10 +8,10 @@ mod soak;
 mod turns;
 
 use kr_protocol::{Covered, Kvl, KvlUpdate};
-use kr_report::Threaded;
+use kr_report::{Threaded, ThreadsShown};
 use kr_script::{Script, read_script};
 use kr_serial::run;
-use kr_threads::{Gate, run_threads};
+use kr_threads::{Gate, run_threads, show_threads};
 use std::alloc::Global;
 use std::sync::Wait;
 use std::test::Fail;
@@ -80,6 +80,25 @@ pub fn done_by<G: Gate + Sync, R: Threads + Wait + Sync>(
 ) -> Result<Threaded, Fail> {
     let script = script_of(alloc, 1, steps)?;
     done_under(rt, alloc, &Kvl, &script, workers, gate)
+}
+
+/// What the report shows of such a run.
+pub fn shown_by<G: Gate + Sync, R: Threads + Wait + Sync>(
+    rt: &R,
+    alloc: Global,
+    steps: &str,
+    workers: usize,
+    gate: &G,
+) -> Result<ThreadsShown, Fail> {
+    let script = script_of(alloc, 1, steps)?;
+    if 0 < workers && workers <= 64 {
+        return Ok(
+            show_threads(rt, alloc, &Kvl, &script, workers, gate)
+                .ok()
+                .ok_or("shows")?,
+        );
+    }
+    Err("workers")?
 }
 
 /// The same where updates are offered.

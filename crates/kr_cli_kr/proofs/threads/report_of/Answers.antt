@@ -9,8 +9,8 @@ use Rattle.kr_report.specs.ThreadsReport.{threads_text}
 use Rattle.kr_cli_kr.proofs.threads.report_of.Goals as goal
 
 pub returns : goal.returns
-returns c =
-    let d = c.args.threaded.now in
+returns c = IfOk-weaker c.report_threads_shown.result _ _ (λ text told. λ p opening steps shows.
+    let d = shows.whole in
     let v : Verdict = verdict_of (first_difference d.ran.opening d.ran.programs) in
-    let is : v ≡ Serial = (serial_exactly v d.ran.opening d.ran.programs refl).1 c.requires in
-    IfOk-weaker c.report_threads.result _ _ (λ text told. ap (λ (t : List ℕ). t ++ 10 ∷ []) (told ∙ ap (threads_text d.faults.items d.history.items d.ran.index d.ran.unfinished) (sym is))) c.report_threads.ensures.text
+    let is : v ≡ Serial = (serial_exactly v d.ran.opening d.ran.programs refl).1 shows.is_threaded.ran.serial in
+    ap (λ (t : List ℕ). t ++ 10 ∷ []) (told ∙ (λ i. threads_text (shows.faults i) (shows.history i) (shows.index i) (shows.unfinished i) (sym is i)))) c.report_threads_shown.ensures.text

@@ -15,8 +15,8 @@ use Rattle.kr_machine.proofs.at_place.do_at.Goals as goal
 pub perform_at-requires-clause-place : goal.perform_at-requires-clause-place
 perform_at-requires-clause-place g c = same_position number_of active_of c.args.txn c.make_room_at.new.active.items c.args.active.now.items c.args.place c.make_room_at.ensures.same c.requires.place
 
-pub returns-in-Ok-clause-at_rest : goal.returns-in-Ok-clause-at_rest
-returns-in-Ok-clause-at_rest g c =
+pub returns-in-Ok-accept-clause-at_rest : goal.returns-in-Ok-accept-clause-at_rest
+returns-in-Ok-accept-clause-at_rest g c =
     let p = g.P.Protocol.table c.args.protocol.now in
     let t = c.args.txn in
     let o = op_of_touch c.args.touch in

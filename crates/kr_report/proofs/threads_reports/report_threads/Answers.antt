@@ -1,50 +1,9 @@
-use Rattle.std.proofs.Common.{◌++◌, ap, ◌∙◌, codes, string_bytes}
-use Rattle.serde_json.specs.Written.{compact_text}
-use Rattle.serde_json.proofs.OnLiterals.{serde_json_on_literals}
-use Rattle.kr_script.specs.Pairs.{pairs_data}
-use Rattle.kr_report.specs.Report.{numbers_data, verdict_data}
-use Rattle.kr_report.specs.ThreadsReport.{faults_data, history_data}
-use Rattle.kr_report.proofs.Writes.{laid}
+use Rattle.std.proofs.Common.{◌∙◌}
+use Rattle.std.proofs.lemmas.Result.{IfOk-weaker}
+use Rattle.kr_report.specs.ThreadsReport.{threads_text}
 use Rattle.kr_report.proofs.threads_reports.report_threads.Goals as goal
 
 pub returns : goal.returns
-unfolding serde_json_on_literals
-returns c =
-    let threaded = c.args.threaded.now in
-    let ran = threaded.ran in
-    record {
-      text = laid
-          (string_bytes c.push_str.new.self)
-          (string_bytes c.write_faults.new.out)
-          (string_bytes c.push_str-2.new.self)
-          (string_bytes c.write_history.new.out)
-          (string_bytes c.push_str-3.new.self)
-          (string_bytes c.write_pairs.new.out)
-          (string_bytes c.push_str-4.new.self)
-          (string_bytes c.write_numbers.new.out)
-          (string_bytes c.push_str-5.new.self)
-          (string_bytes c.write_verdict.new.out)
-          (string_bytes c.push_str-6.new.self)
-          (codes "{\"faults\":")
-          (compact_text (faults_data threaded.faults.items))
-          (codes ",\"history\":")
-          (compact_text (history_data threaded.history.items))
-          (codes ",\"index\":")
-          (compact_text (pairs_data ran.index))
-          (codes ",\"unfinished\":")
-          (compact_text (numbers_data ran.unfinished))
-          (codes ",\"verdict\":")
-          (compact_text (verdict_data c.args.verdict.now))
-          (codes "}")
-          (c.in_ok-push_str.ensures.bytes ∙ ap (λ l. l ++ codes "{\"faults\":") c.new-out.ensures.bytes)
-          (c.in_ok-write_faults.ensures ∙ ap (λ l. string_bytes c.push_str.new.self ++ compact_text (faults_data l)) c.as_slice.ensures.value)
-          c.in_ok-push_str-2.ensures.bytes
-          (c.in_ok-write_history.ensures ∙ ap (λ l. string_bytes c.push_str-2.new.self ++ compact_text (history_data l)) c.as_slice-2.ensures.value)
-          c.in_ok-push_str-3.ensures.bytes
-          (c.in_ok-write_pairs.ensures ∙ ap (λ l. string_bytes c.push_str-3.new.self ++ compact_text (pairs_data l)) c.as_slice-3.ensures.pairs)
-          c.in_ok-push_str-4.ensures.bytes
-          (c.in_ok-write_numbers.ensures ∙ ap (λ l. string_bytes c.push_str-4.new.self ++ compact_text (numbers_data l)) c.as_slice-4.ensures)
-          c.in_ok-push_str-5.ensures.bytes
-          c.in_ok-write_verdict.ensures
-          c.in_ok-push_str-6.ensures.bytes;
-    }
+returns c = record {
+  text = IfOk-weaker c.report_parts.result _ _ (λ text is. is ∙ (λ i. threads_text (c.as_slice.ensures.value i) (c.as_slice-2.ensures.value i) (c.as_slice-3.ensures.pairs i) (c.as_slice-4.ensures i) c.args.verdict.now)) c.report_parts.ensures.text;
+}

@@ -46,7 +46,7 @@ fn is_so_of<P: Covered + Send, K: EngineName + Send + Sync, R: Threads + Wait + 
 {
     let engine = Engine::<P, K>::new(alloc, protocol, opening, row)?;
     match plays(rt, alloc, &engine, gate, story)? {
-        Some(shares) => Ok(closes(engine, &shares, story)),
+        Some(shares) => Ok(closes(alloc, engine, &shares, story)),
         None => Ok(false),
     }
 }

@@ -1,8 +1,8 @@
 //! Whole reports of runs whose history doesn't depend on how threads take turns.
 
-use super::{done_by, done_with_updates};
-use kr_report::{Threaded, report_threads};
-use kr_serial::judge;
+use super::{done_by, done_with_updates, shown_by};
+use kr_report::{Threaded, report_threads, report_threads_shown};
+use kr_serial::{Verdict, judge};
 use kr_threads::Passage;
 use std::alloc::Global;
 use std::test::Fail;
@@ -75,6 +75,17 @@ fn runs(rt: HostRuntime) -> Result<(), Fail> {
     ] {
         let done = done_by(&rt, alloc, row.steps, row.workers, &Passage)?;
         assert_eq!(rt; report_of(alloc, &done)?.as_str(), row.report);
+    }
+    Ok(())
+}
+
+#[test]
+fn what_is_shown_of_runs(rt: HostRuntime) -> Result<(), Fail> {
+    let alloc = rt.alloc();
+    for row in [AN_INSERT, A_REFUSED_STEP, A_CLOSING_ABORT, NO_STEPS] {
+        let shown = shown_by(&rt, alloc, row.steps, row.workers, &Passage)?;
+        let report = report_threads_shown(alloc, &shown, &Verdict::Serial)?;
+        assert_eq!(rt; report.as_str(), row.report);
     }
     Ok(())
 }

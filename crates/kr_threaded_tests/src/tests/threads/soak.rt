@@ -182,7 +182,7 @@ fn is_replayed(alloc: Global, history: &History) -> Result<bool, Fail> {
 /// Whether a history has the index, the locks and the programs of a run, and neither has an unfinished transaction.
 fn is_left(alloc: Global, ran: &Ran, history: &History) -> Result<bool, Fail> {
     let programs = format!(in alloc; "{:?}", ran.programs)?;
-    let committed = format!(in alloc; "{:?}", history.programs)?;
+    let committed = format!(in alloc; "{:?}", history.programs(alloc)?)?;
     Ok(
         ran.index.as_slice() == history.index.as_slice()
             && ran.locks.as_slice() == history.locks.as_slice()

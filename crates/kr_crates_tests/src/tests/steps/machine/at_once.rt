@@ -1,7 +1,7 @@
 //! Steps of a machine without a log, against answers worked out by hand.
 use kr_index::Sorted;
 use kr_locks::List;
-use kr_machine::{Machine, Stepper};
+use kr_machine::{NotDone, Stepper};
 use kr_model::{Mode, Name, Op, Refusal, Reply, Row, Span};
 use kr_protocol::Kvl;
 use std::test::Fail;
@@ -57,6 +57,55 @@ fn steps_at_once_where_they_stand(rt: HostRuntime) -> Result<(), Fail> {
 }
 
 #[test]
+fn steps_that_are_accepted(rt: HostRuntime) -> Result<(), Fail> {
+    let alloc = rt.alloc();
+    let mut stepper = Stepper::new(alloc, Kvl, Sorted::new(alloc), List::new(alloc));
+    let first = stepper.step_if(1, Op::Insert(10, 7), |reply: &Reply| -> Result<u8, u8> {
+        if matches!(reply, Reply::Done) {
+            Ok(3)
+        } else {
+            Err(4)
+        }
+    });
+    assert!(rt; matches!(first, Ok((Reply::Done, 3))));
+    let next = stepper.step_if(1, Op::Delete(10), |reply: &Reply| -> Result<u8, u8> {
+        if matches!(reply, Reply::Deleted(7)) {
+            Ok(5)
+        } else {
+            Err(6)
+        }
+    });
+    assert!(rt; matches!(next, Ok((Reply::Deleted(7), 5))));
+    let blocked = stepper.step_if(2, Op::Fetch(10), |_| -> Result<u8, u8> { Ok(1) });
+    assert!(rt; matches!(blocked, Err(NotDone::NotGranted(Reply::Blocked(_)))));
+    let end = stepper.step_if(1, Op::Commit, |_| -> Result<u8, u8> { Ok(2) });
+    assert!(rt; matches!(end, Ok((Reply::Committed, 2))));
+    assert!(rt; stepper.index()?.as_slice().is_empty());
+    Ok(())
+}
+
+#[test]
+fn steps_that_are_declined(rt: HostRuntime) -> Result<(), Fail> {
+    let alloc = rt.alloc();
+    let mut stepper = Stepper::new(alloc, Kvl, Sorted::new(alloc), List::new(alloc));
+    let first = stepper.step_if(1, Op::Insert(10, 7), |_| -> Result<u8, u8> { Err(3) });
+    assert!(rt; matches!(first, Err(NotDone::Declined(3))));
+    assert!(rt; !stepper.active(1));
+    assert!(rt; matches!(stepper.step(1, Op::Insert(20, 8)), Reply::Done));
+    let next = stepper.step_if(1, Op::Insert(10, 7), |_| -> Result<u8, u8> { Err(4) });
+    assert!(rt; matches!(next, Err(NotDone::Declined(4))));
+    assert_eq!(rt; stepper.own(1, Name::Key(10)), 0);
+    assert!(rt; matches!(stepper.step(2, Op::Insert(10, 9)), Reply::Done));
+    let end = stepper.step_if(1, Op::Commit, |_| -> Result<u8, u8> { Err(5) });
+    assert!(rt; matches!(end, Err(NotDone::Declined(5))));
+    assert!(rt; stepper.active(1));
+    assert!(rt; matches!(stepper.step(1, Op::Abort), Reply::Aborted));
+    assert!(rt; matches!(stepper.step(2, Op::Commit), Reply::Committed));
+    assert_eq!(rt; stepper.index()?.as_slice(), [(10, 9)].as_slice());
+    Ok(())
+}
+
+#[test]
 fn what_is_requested_and_held(rt: HostRuntime) -> Result<(), Fail> {
     let alloc = rt.alloc();
     let mut stepper = Stepper::new(alloc, Kvl, Sorted::new(alloc), List::new(alloc));
@@ -90,25 +139,5 @@ fn who_blocks_an_operation(rt: HostRuntime) -> Result<(), Fail> {
     assert!(rt; stepper.blockers(1, Op::Commit)?.is_empty());
     assert!(rt; !stepper.is_blocked(1, Op::Commit));
     assert!(rt; !stepper.active(2));
-    Ok(())
-}
-
-#[test]
-fn who_blocks_an_operation_of_a_machine(rt: HostRuntime) -> Result<(), Fail> {
-    let alloc = rt.alloc();
-    let mut machine = Machine::new(alloc, Kvl, Sorted::new(alloc), List::new(alloc));
-    assert!(rt; matches!(machine.step(3, Op::Fetch(10)), Reply::None));
-    assert!(rt; matches!(machine.step(1, Op::Fetch(10)), Reply::None));
-    assert_eq!(rt;
-        machine.blockers(2, Op::Insert(10, 7))?.as_slice(),
-        [1, 3].as_slice()
-    );
-    assert!(rt; machine.is_blocked(2, Op::Insert(10, 7)));
-    assert_eq!(rt;
-        machine.blockers(1, Op::Insert(10, 7))?.as_slice(),
-        [3].as_slice()
-    );
-    assert!(rt; machine.blockers(2, Op::Fetch(10))?.is_empty());
-    assert!(rt; !machine.is_blocked(2, Op::Fetch(10)));
     Ok(())
 }

@@ -24,7 +24,6 @@ invariant_of-self g c =
       at_rest = i.at_rest;
       is_map = i.is_map;
       history = i.history;
-      log_is = i.log_is;
       counts = counts_stay c.self.inside.seats.items c.self.inside.history c.args.seat c.index_mut.result.now _ i.counts seat c.index_mut.ensures.value refl;
       lasts = subst (λ (l : List Number). LastAre (begun_by l) (slice_set c.self.inside.seats.items c.args.seat (record c.index_mut.result.now { last = Some c.args.txn }))) (sym more) (last_more ns n c.self.inside.seats.items (record c.index_mut.result.now { last = Some c.args.txn }) i.lasts seat refl);
       given = subst (λ (l : List Number). AreOfSeats (begun_by l) (slice_set c.self.inside.seats.items c.args.seat (record c.index_mut.result.now { last = Some c.args.txn }))) (sym more) (given_more ns n c.self.inside.seats.items (record c.index_mut.result.now { last = Some c.args.txn }) i.given seat);

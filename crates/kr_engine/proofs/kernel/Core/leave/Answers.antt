@@ -15,7 +15,6 @@ invariant_of-self g c =
       at_rest = i.at_rest;
       is_map = i.is_map;
       history = i.history;
-      log_is = i.log_is;
       counts = counts_stay c.self.inside.seats.items c.self.inside.history c.args.seat c.index_mut.result.now _ i.counts seat c.index_mut.ensures.value refl;
       lasts = last_stay (begun_by c.self.inside.numbers) c.self.inside.seats.items c.args.seat c.index_mut.result.now _ i.lasts seat c.index_mut.ensures.value refl;
       given = given_stay (begun_by c.self.inside.numbers) c.self.inside.seats.items c.args.seat _ i.given;

@@ -8,14 +8,13 @@ use Rattle.kr_engine.specs.declared.kernel.SeatNote.{SeatNote}
 use Rattle.kr_model.specs.Step.{step}
 use Rattle.kr_history.specs.declared.name.Entry.{Entry}
 use Rattle.kr_model.specs.Run.{is_granted}
-use Rattle.kr_model.specs.Log.{no_log, log_after}
-use Rattle.kr_engine.specs.Histories.{IsHistory, entry, event, events_with_replies}
+use Rattle.kr_engine.specs.Histories.{IsHistory, entry, event}
 use Rattle.kr_engine.specs.Numbers.{begun_by, was_begun, is_begun}
 use Rattle.kr_engine.specs.Cores.{CountsAre, LastAre, AreOfSeats}
 use Rattle.kr_engine.proofs.Counts.{counts_more, counts_within}
 use Rattle.kr_engine.proofs.Begun.{begun_by_one}
 use Rattle.kr_engine.proofs.Ended.{ended_after}
-use Rattle.kr_engine.proofs.Histories.{history_more, log_more}
+use Rattle.kr_engine.proofs.Histories.{history_more}
 use Rattle.kr_engine.proofs.Lists.{some_has}
 use Rattle.kr_engine.proofs.Spoken.{last_stay, given_stay}
 use Rattle.kr_engine.proofs.kernel.Core.perform.Goals as goal
@@ -62,7 +61,6 @@ invariant_of-self-2 g c =
           subst (λ (x : State). IsHistory g.K.EngineName.table g.K.EngineName.opening c.add.new.self x) (sym (s.state ∙ ap (λ (q : Protocol). (step q old.state c.args.txn c.args.op).1) i.table))
           (subst (λ (l : List Entry). IsHistory g.K.EngineName.table g.K.EngineName.opening l after) (sym more)
           (history_more g.K.EngineName.table g.K.EngineName.opening es old.state e i.history (s.reply.0 ∙ ap (λ (q : Protocol). (step q old.state c.args.txn c.args.op).0) i.table) s.reply.1));
-      log_is = subst (λ (l : List Entry). new.log ≡ log_after no_log (events_with_replies l)) (sym more) (log_more es e old.log new.log i.log_is s.log);
       counts = subst (λ (l : List Entry). CountsAre (slice_set c.self.inside.seats.items c.args.seat up) l) (sym more) (counts_more c.self.inside.seats.items es e c.args.seat c.index_mut.result.now up i.counts refl seat c.index_mut.ensures.value refl);
       lasts = subst (λ (ns : List (ℕ × ℕ)). LastAre ns (slice_set c.self.inside.seats.items c.args.seat up)) (sym s.begun) (last_stay (begun_by c.self.inside.numbers) c.self.inside.seats.items c.args.seat c.index_mut.result.now up i.lasts seat c.index_mut.ensures.value refl);
       given = subst (λ (ns : List (ℕ × ℕ)). AreOfSeats ns (slice_set c.self.inside.seats.items c.args.seat up)) (sym s.begun) (given_stay (begun_by c.self.inside.numbers) c.self.inside.seats.items c.args.seat up i.given);

@@ -1,6 +1,6 @@
 use Rattle.std.proofs.Common.{◌≡◌, ℕ, ◌++◌, ◌∷◌, [], List, Some, false, length, ap, ◌∙◌, sym, subst, cond, arith}
-use Rattle.std.specs.BTreeMap.{get, is_at}
-use Rattle.std.specs.Ordering.{nat_cmp}
+use Rattle.std.specs.HashMap.{get}
+use Rattle.std.specs.Prelude.{nat_eq}
 use Rattle.kr_engine.specs.declared.numbers.Number.{Number}
 use Rattle.kr_engine.specs.Numbers.{begun_by, was_begun, ArePlaces}
 use Rattle.kr_engine.proofs.Begun.{places_more, same_places}
@@ -18,7 +18,7 @@ invariant_of-self-2 c =
     let new : was_begun (begun_by ns) c.args.txn ≡ false = ap (λ (v : List Number). was_begun (begun_by v) c.args.txn) c.self.view_is ∙ c.requires in
     let same : length c.reserve.new.self.items ≡ length ns = ap (λ (l : List Number). length l) c.reserve.ensures.items in
     let here : c.len.result ≡ length ns = omega (arith, c.len.ensures, same) in
-    let is : (u : ℕ) → get nat_cmp c.insert.new.self u ≡ cond (is_at (nat_cmp c.args.txn) u) (Some (length ns)) (get nat_cmp c.self.inside.places u) =
-    λ u. c.in_ok-insert.ensures.updates.0 u ∙ ap (λ (k : ℕ). cond (is_at (nat_cmp c.args.txn) u) (Some k) (get nat_cmp c.self.inside.places u)) here in
+    let is : (u : ℕ) → get nat_eq c.insert.new.self u ≡ cond (nat_eq c.args.txn u) (Some (length ns)) (get nat_eq c.self.inside.places u) =
+    λ u. c.in_ok-insert.ensures.updates.0 u ∙ ap (λ (k : ℕ). cond (nat_eq c.args.txn u) (Some k) (get nat_eq c.self.inside.places u)) here in
     subst (λ (l : List Number). ArePlaces c.insert.new.self l) (sym (c.push_reserved.ensures.items ∙ ap (λ (l : List Number). l ++ n ∷ []) c.reserve.ensures.items))
     (places_more c.self.inside.places c.insert.new.self ns n c.self.invariant new is)

@@ -10,7 +10,7 @@ invariant_of-self g c =
     let was = sym c.take.ensures.value ∙ c.unwrap-standing.ensures in
     subst (λ o. IsMachine (g.P.Protocol.table c.self.inside.protocol) (g.I.Ordered.map c.end.new.index) (g.I.Ordered.pins c.end.new.index) (g.L.Holdings.locks c.leave.new.locks) c.leave.new.ended c.self.inside.active o) (sym c.take.ensures.after)
     (subst (λ l. IsMachine (g.P.Protocol.table c.self.inside.protocol) (g.I.Ordered.map c.end.new.index) (g.I.Ordered.pins c.end.new.index) l c.leave.new.ended c.self.inside.active None) (sym c.leave.ensures.locks)
-    (ended_machine (g.P.Protocol.table c.self.inside.protocol) (g.I.Ordered.map c.self.inside.index) (g.I.Ordered.map c.end.new.index) (g.I.Ordered.pins c.self.inside.index) (g.I.Ordered.pins c.end.new.index) (g.L.Holdings.locks c.self.inside.locks) c.args.event.txn c.self.inside.ended c.leave.new.ended c.self.inside.active c.self.inside.pending c.unwrap-standing.result c.in-End.ending was c.in-End.is c.self.invariant c.leave.ensures.room c.end.ensures.pins))
+    (ended_machine (g.P.Protocol.table c.self.inside.protocol) (g.I.Ordered.map c.self.inside.index) (g.I.Ordered.map c.end.new.index) (g.I.Ordered.pins c.self.inside.index) (g.I.Ordered.pins c.end.new.index) (g.L.Holdings.locks c.self.inside.locks) c.ready.inside.event.txn c.self.inside.ended c.leave.new.ended c.self.inside.active c.self.inside.pending c.unwrap-standing.result c.in-End.ending was c.in-End.is c.self.invariant c.leave.ensures.room c.end.ensures.pins))
 
 pub invariant_of-self-in-Back : goal.invariant_of-self-in-Back
 invariant_of-self-in-Back g c =
