@@ -1,16 +1,14 @@
 -- What is known of a trace that was held, and of an ending before.
-use Rattle.std.specs.Prelude.{◌≡◌, ◌↔◌, ◌≤◌, ℕ, List, [], Bool, true, false, Option, Some, Result, Ok, Err, IfOk, IfErr, OnOk, ◌⊎◌, String, string_bytes}
-use Rattle.std.proofs.Common.{Global, subst, sym, ap, inl, inr, ◌∙◌}
-use Rattle.kr_cli.proofs.Finished.{silent_at}
+use Rattle.std.specs.Prelude.{◌≡◌, ℕ, List, Bool, Option, Some, Result, Ok, Err, IfOk, IfErr, ◌⊎◌, string_bytes}
+use Rattle.std.proofs.Common.{subst, sym, inl, inr}
 use Rattle.kr_cli.specs.declared.endings.Ending.{Ending}
 use Rattle.kr_cli.specs.declared.endings.Ending.TheVariants.{NotUnderstood, Memory, Place, Output, Told}
-use Rattle.kr_cli.specs.declared.questions.Question.{Question}
 use Rattle.kr_cli.specs.Endings.{MemoryOrTold}
 use Rattle.kr_cli.specs.Named.{NamesTable}
 use Rattle.kr_cli.specs.Tables.{table_of}
 use Rattle.kr_cli.specs.declared.tables.AnyTable.{AnyTable}
 use Rattle.kr_model.specs.Protocol.{IsLawful}
-use Rattle.kr_cli.specs.Questions.{IsQuestion, IsNoQuestion}
+use Rattle.kr_cli.specs.Questions.{IsNoQuestion}
 use Rattle.kr_cli_trace.specs.Endings.{IsStopped, IsThrough, StopsSo, TellsFault}
 use Rattle.kr_cli_trace.specs.Parts.{Part}
 use Rattle.kr_cli_trace.specs.Program.{Answers, AnswersAsked, Explains, Holds, Tells, TellsTrace}
@@ -91,26 +89,3 @@ pub asked_explained : (may_give : List ℕ → Option (List ℕ) → Type 0) (ma
     → words ≡ words_of a → IsAsked a → IfErr r (StopsSo (Tells may_give may_name a old new)) → IfErr r (λ e. IsNoQuestion words → Explains may_give may_name words old new e)
 asked_explained may_give may_name words (Ok well) a old new are asked ends = tt
 asked_explained may_give may_name words (Err e) a old new are asked ends = λ own. explained may_give may_name words a old new e are asked ends
-
--- Nothing was added to what helps.
-pub unhelped : (r : Result Bool Ending) (old new : String Global) → OnOk r (new ≡ old) → OnOk r (string_bytes new ≡ string_bytes old)
-unhelped (Ok well) old new same = ap (λ (h : String Global). string_bytes h) same
-unhelped (Err e) old new same = tt
-
--- What an answer tells isn't that it isn't well.
-neither : (r : Result Bool Ending) (A B : Type 0) → ((r ≡ Ok true) × A) ⊎ ((r ≡ Err Output) × B) → r ≡ Ok false → ⊥
-neither r A B (inl (is, told)) other = absurd (cc)
-neither r A B (inr (is, failed)) other = absurd (cc)
-
--- Words that ask a question are not answered so.
-pub no_question : (words : List (List ℕ)) (r : Result Bool Ending) (A : Question → Type 0) (B : Type 0) → ((q : Question) → IsQuestion words q → ((r ≡ Ok true) × A q) ⊎ ((r ≡ Err Output) × B)) → r ≡ Ok false → IsNoQuestion words
-no_question words r A B answers other q asks = neither r (A q) B (answers q asks) other
-
--- Where nothing was added to no help.
-unsaid : (r : Result Bool Ending) (Same : Type 0) (old new shown : List ℕ) → OnOk r (new ≡ old) → old ≡ [] → shown ≡ new → OnOk r (shown ≡ [] → Same) → OnOk r Same
-unsaid (Ok b) Same old new shown same none is quiet = quiet (is ∙ same ∙ none)
-unsaid (Err e) Same old new shown same none is quiet = tt
-
--- Nothing is told but at an ending, where nothing was added to no help.
-pub silent : (r : Result Bool Ending) (n : ℕ) (Same : Type 0) (old new shown : List ℕ) → n ≤ 2 → ((n ≡ 0) ↔ (r ≡ Ok true)) → ((n ≡ 1) ↔ (r ≡ Ok false)) → OnOk r (new ≡ old) → old ≡ [] → shown ≡ new → OnOk r (shown ≡ [] → Same) → Same ⊎ (n ≡ 2)
-silent r n Same old new shown within well not_well same none is quiet = silent_at r n Same within well not_well (unsaid r Same old new shown same none is quiet)

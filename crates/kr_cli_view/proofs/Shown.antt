@@ -1,5 +1,5 @@
 -- What is known of a page that was written, and of an ending without one.
-use Rattle.std.specs.Prelude.{◌≡◌, ◌↔◌, ◌≤◌, ℕ, List, [], Bool, true, false, Option, Some, Result, Ok, Err, IfOk, IfErr, OnOk, IsTrue, ◌⊎◌, String, string_bytes}
+use Rattle.std.specs.Prelude.{◌≡◌, ◌↔◌, ℕ, List, Bool, Option, Some, Result, Ok, Err, IfOk, IfErr, OnOk, IsTrue, ◌⊎◌, String, string_bytes}
 use Rattle.std.proofs.Common.{Global, subst, sym, ap, inl, inr, ◌∙◌}
 use Rattle.std.specs.Io.KnownBytes.{Appends}
 use Rattle.kr_model.specs.Protocol.{Protocol, IsLawful}
@@ -7,15 +7,13 @@ use Rattle.kr_model.specs.Safe.{IsSafe}
 use Rattle.kr_script.specs.Script.{Script}
 use Rattle.kr_view_scenes.specs.Scenes.{NumberedStep}
 use Rattle.kr_view_run.specs.Page.{IsPage}
-use Rattle.kr_cli.proofs.Finished.{silent_at}
 use Rattle.kr_cli.specs.declared.endings.Ending.{Ending}
 use Rattle.kr_cli.specs.declared.endings.Ending.TheVariants.{NotUnderstood, Memory, Place, Output, Told}
 use Rattle.kr_cli.specs.declared.tables.AnyTable.{AnyTable}
 use Rattle.kr_cli.specs.Endings.{MemoryOrTold}
 use Rattle.kr_cli.specs.Files.{MayBeScript}
 use Rattle.kr_cli.specs.Named.{NamesTable, NamesScript}
-use Rattle.kr_cli.specs.Questions.{IsQuestion, IsNoQuestion}
-use Rattle.kr_cli.specs.declared.questions.Question.{Question}
+use Rattle.kr_cli.specs.Questions.{IsNoQuestion}
 use Rattle.kr_cli.specs.Tables.{names_of, table_of}
 use Rattle.kr_cli_diagnosis.specs.Repeated.{HasNoMemberTwice}
 use Rattle.kr_view_table.specs.Page.{IsTablePage}
@@ -80,30 +78,7 @@ table_written p names bytes page table old new same is_page appends =
     let P : List ℕ → Type 0 = λ bs. Appends old new bs in
     (page, (is_page, subst P same appends))
 
--- nothing was added to what helps
-pub unhelped : (r : Result Bool Ending) (old new : String Global) → OnOk r (new ≡ old) → OnOk r (string_bytes new ≡ string_bytes old)
-unhelped (Ok well) old new same = ap (λ (h : String Global). string_bytes h) same
-unhelped (Err e) old new same = tt
-
 -- nothing was added to what helps where no member of the script that a word names stands twice
 pub unwarned : (may_give : List ℕ → Option (List ℕ) → Type 0) (r : Result Bool Ending) (script : List ℕ) (old mid new : String Global) → mid ≡ old → (((bytes : List ℕ) → MayBeScript may_give script (Some bytes) → HasNoMemberTwice bytes) → string_bytes new ≡ string_bytes mid) → NamesNoMemberTwice may_give script → OnOk r (string_bytes new ≡ string_bytes old)
 unwarned may_give (Ok well) script old mid new same warned single = warned single ∙ ap (λ (h : String Global). string_bytes h) same
 unwarned may_give (Err e) script old mid new same warned single = tt
-
--- what an answer tells isn't that a table is not safe, or a run not serializable
-neither : (r : Result Bool Ending) (A B : Type 0) → ((r ≡ Ok true) × A) ⊎ ((r ≡ Err Output) × B) → r ≡ Ok false → ⊥
-neither r A B (inl (is, told)) other = absurd (cc)
-neither r A B (inr (is, failed)) other = absurd (cc)
-
--- words that ask a question are not answered so
-pub no_question : (words : List (List ℕ)) (r : Result Bool Ending) (A : Question → Type 0) (B : Type 0) → ((q : Question) → IsQuestion words q → ((r ≡ Ok true) × A q) ⊎ ((r ≡ Err Output) × B)) → r ≡ Ok false → IsNoQuestion words
-no_question words r A B answers other q asks = neither r (A q) B (answers q asks) other
-
--- where nothing was added to no help
-unsaid : (r : Result Bool Ending) (Same : Type 0) (old new shown : List ℕ) → OnOk r (new ≡ old) → old ≡ [] → shown ≡ new → OnOk r (shown ≡ [] → Same) → OnOk r Same
-unsaid (Ok b) Same old new shown same none is quiet = quiet (is ∙ same ∙ none)
-unsaid (Err e) Same old new shown same none is quiet = tt
-
--- nothing is told but at an ending, where nothing was added to no help
-pub silent : (r : Result Bool Ending) (n : ℕ) (Same : Type 0) (old new shown : List ℕ) → n ≤ 2 → ((n ≡ 0) ↔ (r ≡ Ok true)) → ((n ≡ 1) ↔ (r ≡ Ok false)) → OnOk r (new ≡ old) → old ≡ [] → shown ≡ new → OnOk r (shown ≡ [] → Same) → Same ⊎ (n ≡ 2)
-silent r n Same old new shown within well not_well same none is quiet = silent_at r n Same within well not_well (unsaid r Same old new shown same none is quiet)

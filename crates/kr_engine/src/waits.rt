@@ -1,8 +1,6 @@
 //! Waiting: an operation is noted, unless it closes a cycle of waiting transactions.
 ghost use Rattle.std.specs.List.{list_any};
 ghost use Rattle.std.specs.Prelude.{◌≡◌, ◌==◌, ◌||◌, ◌≢◌, ◌≤◌, ◌∷◌, ◌++◌, [], ℕ, List, true, None, IfOk, IfErr, IfSome, IfNone, OnOk, OnErr, vec_len, vec_capacity};
-ghost use Rattle.kr_model.specs.Locks.{add_once};
-ghost use Rattle.std.specs.List.Sorted.{IsStrictlyIncreasing};
 ghost use Rattle.kr_deadlock.specs.Waits.{blockers_of, IsCycle};
 ghost use Rattle.kr_engine.specs.Faults.{is_of_wait};
 ghost use Rattle.kr_engine.specs.Histories.{event};
@@ -18,6 +16,7 @@ use kr_locks::Buckets;
 use kr_machine::Stepper;
 use kr_model::{Event, Op, Txn, Txns};
 use kr_protocol::Covered;
+use kr_txn::put_once;
 use std::alloc::{AllocError, Global};
 
 impl<P: Covered, K: EngineName> Core<P, K> {
@@ -65,17 +64,6 @@ fn txns_of(alloc: Global, events: &[Event]) -> Result<Vec<Txn>, AllocError>
         put_once(&mut txns, event.txn)?;
     }
     Ok(txns)
-}
-
-/// Puts a number among rising ones; one that is there stays.
-fn put_once(txns: &mut Vec<Txn>, txn: Txn) -> Result<(), AllocError>
-    requires { IsStrictlyIncreasing txns.old.items }
-    ensures { OnOk result (txns.new.items ≡ add_once txn txns.old.items) }
-{
-    if let Err(place) = txns.binary_search(&txn) {
-        txns.insert(place, txn)?;
-    }
-    Ok(())
 }
 
 /// A cycle of waiting transactions in which this one is first, by its operation and by those noted.

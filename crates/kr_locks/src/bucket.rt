@@ -121,7 +121,7 @@ impl Bucket {
         requires held { (i : ℕ) (d : ℕ × ℕ) → i < length self.now → (slice_index_or self.now i d).1 ≤ (P.table protocol.now).count }
         ensures { IfOk result (λ list. list.items ≡ map (λ h. h.0) (filter (holder_conflicts (P.table protocol.now) txn mode) self.now)) }
     {
-        let mut list = Vec::new(alloc);
+        let mut list = Vec::with_capacity(alloc, self.holders.len())?;
         for &holder in self.holders.as_slice() {
             if conflicts(protocol, txn, mode, holder) {
                 list.push(holder.0)?;

@@ -3,7 +3,8 @@
 
 ghost use Rattle.std.specs.Prelude.{◌≡◌, ℕ, ◌<◌, ◌≤◌, IsTrue, List, [], ◌∷◌, OnOk, IfOk, ◌↔◌};
 ghost use Rattle.std.specs.Option.{option_to_list};
-ghost use Rattle.kr_model.specs.Locks.{Locks, AreWithin, own, add_once, blockers};
+ghost use Rattle.std.specs.List.Sorted.{IsStrictlyIncreasing};
+ghost use Rattle.kr_model.specs.Locks.{Locks, AreWithin, own, blockers};
 ghost use Rattle.kr_model.specs.Plan.{plan_of, plan_by, access, access_of, side_request, requests};
 ghost use Rattle.kr_model.proofs.Numbers.{merged};
 ghost use Rattle.kr_plan.specs.Modes.{SideIsMode, ArePlanModes};
@@ -13,6 +14,7 @@ use kr_locks::{Holdings, Memory};
 pub use kr_model::{Mode, Name, Txn};
 use kr_model::{Plan, Row, Side, Span, Step};
 use kr_protocol::Protocol;
+use kr_txn::put_once;
 use std::alloc::Global;
 
 /// What an attempt requests: its row by what the index has now, and the request of each side, `None` where nothing is
@@ -169,31 +171,13 @@ fn side_blockers<P: Protocol, L: Holdings>(
     }
 }
 
-/// Puts a transaction into its place in a rising list, once.
-#[tactic(auto, using(kr_model::proofs::Numbers::add_once_insert, kr_model::proofs::Numbers::add_once_there, kr_model::proofs::Numbers::add_once_end))]
-fn add(list: &mut Vec<Txn>, txn: Txn) -> Result<(), Memory>
-    ensures { OnOk result (list.new.items ≡ add_once txn list.old.items) }
-{
-    for i in 0..list.len() {
-        let other = list[i];
-        if txn < other {
-            list.insert(i, txn)?;
-            return Ok(());
-        }
-        if txn == other {
-            return Ok(());
-        }
-    }
-    list.push(txn)?;
-    Ok(())
-}
-
 /// Puts the transactions of one list into a rising one, each once.
 fn add_all(list: &mut Vec<Txn>, more: &[Txn]) -> Result<(), Memory>
+    requires { IsStrictlyIncreasing list.old.items }
     ensures { OnOk result (list.new.items ≡ merged more.now list.old.items) }
 {
     for i in (0..more.len()).rev() {
-        add(list, more[i])?;
+        put_once(list, more[i])?;
     }
     Ok(())
 }

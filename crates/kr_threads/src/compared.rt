@@ -13,7 +13,7 @@ use crate::placing::are_placed;
 use crate::run::RunFault;
 use kr_engine::History;
 use kr_report::{Dealt, StepFault, Threaded, ThreadsShown, follows};
-use std::alloc::Global;
+use std::alloc::{AllocError, Global};
 
 /// What the workers did: the closed history, in which no transaction is active at the end, and the steps that were left out.
 #[derive(Drop)]
@@ -44,13 +44,13 @@ pub(crate) fn compared(
     Ok((history, faults))
 }
 
-/// The whole of a run with this history and these faults, from this opening map.
+/// The whole of a run with this history and these faults, from this opening map, or an error where a growth is refused.
 pub(crate) fn threaded_of(
     alloc: Global,
     opening: &[(u64, u64)],
     history: History,
     faults: Vec<StepFault>,
-) -> Result<Threaded, RunFault>
+) -> Result<Threaded, AllocError>
     requires opening { IsMap opening.now }
     requires index { IsMap history.index }
     ensures { IfOk result (λ d. (p : Protocol) (steps : List Event) → IsCompared p opening.now steps history faults.items → IsThreaded p opening.now steps d) }
@@ -64,12 +64,12 @@ pub(crate) fn threaded_of(
     })
 }
 
-/// What is shown of a run with this history and these faults.
+/// What is shown of a run with this history and these faults, or an error where a growth is refused.
 pub(crate) fn shown_of(
     alloc: Global,
     history: History,
     faults: Vec<StepFault>,
-) -> Result<ThreadsShown, RunFault>
+) -> Result<ThreadsShown, AllocError>
     ensures { IfOk result (λ d. (p : Protocol) (opening : Map) (steps : List Event) → IsCompared p opening steps history faults.items → ShowsThreads p opening steps d) }
 {
     let History {

@@ -88,7 +88,7 @@ pub fn run_threads<P: Covered + Sync, G: Gate + Sync, R: Threads + Wait + Sync>(
     ensures { IfOk result (λ d. IsThreaded (P.table protocol.now) script.now.opening script.now.steps d) }
 {
     let (history, faults) = run_compared(rt, alloc, protocol, script, workers, gate)?;
-    threaded_of(alloc, script.opening(), history, faults)
+    Ok(threaded_of(alloc, script.opening(), history, faults)?)
 }
 
 /// The same run, of which only that is given which its report shows: no replies apart, no programs and no locks.
@@ -104,7 +104,7 @@ pub fn show_threads<P: Covered + Sync, G: Gate + Sync, R: Threads + Wait + Sync>
     ensures { IfOk result (λ d. ShowsThreads (P.table protocol.now) script.now.opening script.now.steps d) }
 {
     let (history, faults) = run_compared(rt, alloc, protocol, script, workers, gate)?;
-    shown_of(alloc, history, faults)
+    Ok(shown_of(alloc, history, faults)?)
 }
 
 /// The closed history of such a run, and the steps that were left out, compared with the script.

@@ -10,7 +10,7 @@ use Rattle.std.specs.FinMap.{find, put, is_sorted}
 use Rattle.std.specs.FinMap.Entries.{below_all, by_order, find-put, find-where_key, is_sorted-put, is_sorted-where_key, same_entries}
 use Rattle.std.specs.Cmp.{nat_cmp_total}
 use Rattle.std.proofs.lemmas.Map.Lookups.{exact_unsigned}
-use Rattle.std.specs.Prelude.{Result, IsOk}
+use Rattle.std.specs.Prelude.{Result, Ok, Err, IsOk, OnOk}
 use Rattle.std.specs.Result.{is_ok}
 use Rattle.std.specs.Option.{is_some}
 use Rattle.kr_txn.specs.Numbered.{entry, entries, without_txn, AreOthers}
@@ -208,3 +208,8 @@ module _ {X V : Type 0} (number : X → ℕ) (value : X → V) where
 -- A choice by an answer that is `Ok` is the first one.
 pub if_ok : {A B X : Type 0} (r : Result A B) (xs a b : X) → IsOk r → xs ≡ cond (is_ok r) a b → xs ≡ a
 if_ok r xs a b h e = e ∙ ap (λ c. cond c a b) h
+
+-- What an answer that is `Ok` tells.
+pub on_ok : {A B X : Type 0} (r : Result A B) → OnOk r X → IsOk r → X
+on_ok (Ok x) told h = told
+on_ok (Err e) told h = absurd (subst T (sym h) tt)

@@ -5,6 +5,7 @@ ghost use Rattle.std.specs.List.Sorted.{IsStrictlyIncreasing};
 ghost use Rattle.kr_model.specs.Locks.{add_once};
 ghost use Rattle.kr_txn.specs.EndedNumbers.{union, AreApart, AreEnded};
 
+use crate::rising::put_once;
 use kr_model::Txn;
 use std::alloc::{AllocError, Global};
 use std::marker::Model;
@@ -73,7 +74,7 @@ impl Ended {
             self.settled.push_reserved(txn);
         } else if !self.has(txn) {
             settle(&mut self.settled, &mut self.recent);
-            put(&mut self.recent, txn);
+            let _ = put_once(&mut self.recent, txn);
         }
     }
 }
@@ -106,19 +107,6 @@ fn is_past(numbers: &[Txn], txn: Txn) -> bool
     ensures { IsTrue result → (k : ℕ) → k < length numbers.now → slice_index numbers.now k < txn }
 {
     numbers.is_empty() || numbers[numbers.len() - 1] < txn
-}
-
-/// Puts a number into a rising list that has room for it; one that is there stays.
-fn put(numbers: &mut Vec<Txn>, txn: Txn)
-    requires rising { IsStrictlyIncreasing numbers.old.items }
-    requires room { vec_len numbers.old < vec_capacity numbers.old }
-    ensures items { numbers.new.items ≡ add_once txn numbers.old.items }
-    ensures len { vec_len numbers.new ≤ vec_len numbers.old + 1 }
-    ensures capacity { vec_capacity numbers.old ≤ vec_capacity numbers.new }
-{
-    if let Err(place) = numbers.binary_search(&txn) {
-        let _ = numbers.insert(place, txn);
-    }
 }
 
 /// Makes a place among the recent numbers: where they are full, they are merged into the settled ones, which have room

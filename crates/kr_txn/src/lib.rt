@@ -13,6 +13,7 @@ mod ended;
 mod log;
 mod logging;
 mod numbered;
+mod rising;
 mod unfinished;
 
 pub use ended::Ended;
@@ -21,6 +22,7 @@ pub use kr_model::{Memory, Txn};
 pub use log::Log;
 use numbered::place;
 pub use numbered::{Numbered, position};
+pub use rising::put_once;
 use std::alloc::Global;
 
 /// A scan in progress.

@@ -191,7 +191,7 @@ none_found : ◌≡◌ {A = Option ℕ} None (Some 0) → ⊥
 none_found e = cc
 
 -- At the start nothing has been done.
-opens : (p : Protocol) → IsLawful p → (opening : Map) → IsMap opening → Known p opening [] (start opening)
+pub opens : (p : Protocol) → IsLawful p → (opening : Map) → IsMap opening → Known p opening [] (start opening)
 opens p laws opening sorted = record {
   part = λ u. blank;
   done = [];

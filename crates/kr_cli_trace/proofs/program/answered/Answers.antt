@@ -1,6 +1,6 @@
 use Rattle.std.proofs.Common.{arith}
 use Rattle.std.proofs.lemmas.Grind.{common_steps}
-use Rattle.kr_cli_trace.proofs.HeldLaws.{unhelped}
+use Rattle.kr_cli.proofs.Finished.{unhelped}
 use Rattle.kr_cli_trace.proofs.program.answered.Goals as goal
 
 pub returns-in-None-clause-unknown : goal.returns-in-None-clause-unknown

@@ -1,11 +1,10 @@
 use Rattle.std.specs.Prelude.{◌≡◌, ℕ, List, true, false, codes, map, string_bytes}
 use Rattle.std.proofs.Common.{subst, sym}
 use Rattle.kr_cli_diagnosis.specs.Finding.{AreLines}
-use Rattle.kr_cli.proofs.Finished.{ending_at, ok_at}
+use Rattle.kr_cli.proofs.Finished.{ending_at, no_question, ok_at, silent}
 use Rattle.kr_cli_diagnosis.proofs.Finished.{not_understood}
 use Rattle.kr_cli_diagnosis.proofs.Helped.{all_lines}
 use Rattle.kr_cli_trace.specs.Program.{AnswersAsked}
-use Rattle.kr_cli_trace.proofs.HeldLaws.{no_question, silent}
 use Rattle.kr_cli_trace.proofs.program.execute.Goals as goal
 
 pub returns-clause-well : goal.returns-clause-well

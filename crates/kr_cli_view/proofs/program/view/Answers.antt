@@ -1,9 +1,10 @@
 use Rattle.std.specs.Prelude.{◌≡◌, map, string_bytes}
 use Rattle.std.proofs.Common.{rules, subst}
+use Rattle.kr_cli.proofs.Finished.{unhelped}
 use Rattle.kr_cli_view.specs.Words.{IsAsked, words_of}
 use Rattle.kr_cli_view.specs.declared.words.Asked.{Asked}
 use Rattle.kr_cli_view.specs.declared.words.Asked.TheVariants.{Table, Run}
-use Rattle.kr_cli_view.proofs.Shown.{asked_shown, asked_ends, no_form, unhelped}
+use Rattle.kr_cli_view.proofs.Shown.{asked_shown, asked_ends, no_form}
 use Rattle.kr_cli_view.proofs.program.view.Goals as goal
 
 pub returns-in_err-asked-clause-err : goal.returns-in_err-asked-clause-err

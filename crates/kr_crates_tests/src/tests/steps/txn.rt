@@ -4,7 +4,7 @@ ghost use Rattle.kr_txn.specs.Standings.{IsInOrder};
 mod ended;
 mod log;
 
-use kr_txn::{Ended, Memory, Standing, Txn, numbers, position, put_in, take_out};
+use kr_txn::{Ended, Memory, Standing, Txn, numbers, position, put_in, put_once, take_out};
 use std::alloc::Global;
 use std::test::Fail;
 
@@ -49,6 +49,16 @@ fn a_list_rises_by_number(rt: HostRuntime) -> Result<(), Fail> {
         numbers(rt.alloc(), &list)?.as_slice(),
         [2, 7, 9].as_slice()
     );
+    Ok(())
+}
+
+#[test]
+fn a_rising_list_has_each_transaction_once(rt: HostRuntime) -> Result<(), Fail> {
+    let mut txns = Vec::new(rt.alloc());
+    for txn in [5, 9, 2, 7, 5, 2] {
+        put_once(&mut txns, txn)?;
+    }
+    same!(rt; txns.as_slice(), [2, 5, 7, 9].as_slice());
     Ok(())
 }
 

@@ -6,6 +6,7 @@ use Rattle.std.proofs.lemmas.List.{nil_from_length}
 use Rattle.kr_model.specs.Locks.{add_once}
 use Rattle.kr_model.proofs.Numbers.{AreBelow}
 use Rattle.kr_txn.specs.EndedNumbers.{EndedNumbers, union, AreEnded}
+use Rattle.kr_txn.proofs.Lists.{on_ok}
 use Rattle.kr_txn.proofs.Unions.{add_once-there, union-add, union-end, ended-add, rises-union}
 use Rattle.kr_txn.proofs.ended.Ended.add.Goals as goal
 
@@ -19,7 +20,7 @@ invariant_of-self-then-not-has c =
     let among : ℕ → Bool = λ v. v == c.args.txn in
     let missing : list_any among (union xs ys) ≡ false =
     ap (list_any among) c.settle.ensures.numbers ∙ ap (λ (v : EndedNumbers). list_any among v.numbers) c.self.view_is ∙ sym c.has.ensures ∙ c.if-not-has.true in
-    (subst (AreEnded ys) (sym c.put.ensures.items) (ended-add c.args.txn ys xs c.settle.ensures.ended missing), λ _. omega (arith, c.settle.ensures.place, c.put.ensures.capacity))
+    (subst (AreEnded ys) (sym (on_ok c.put_once.result c.put_once.ensures.items (c.put_once.ensures.has_room c.settle.ensures.place))) (ended-add c.args.txn ys xs c.settle.ensures.ended missing), λ _. omega (arith, c.settle.ensures.place, c.put_once.ensures.capacity))
 
 pub returns-then-is_past-clause-numbers : goal.returns-then-is_past-clause-numbers
 returns-then-is_past-clause-numbers c =
@@ -34,7 +35,7 @@ pub returns-then-not-has-clause-numbers : goal.returns-then-not-has-clause-numbe
 returns-then-not-has-clause-numbers c =
     let xs = c.settle.new.recent.items in
     let ys = c.settle.new.settled.items in
-    ap (λ l. union l ys) c.put.ensures.items ∙ union-add c.args.txn xs ys c.settle.ensures.ended.settled_rise
+    ap (λ l. union l ys) (on_ok c.put_once.result c.put_once.ensures.items (c.put_once.ensures.has_room c.settle.ensures.place)) ∙ union-add c.args.txn xs ys c.settle.ensures.ended.settled_rise
     ∙ ap (add_once c.args.txn) c.settle.ensures.numbers ∙ ap (λ (v : EndedNumbers). add_once c.args.txn v.numbers) c.self.view_is
 
 pub returns-else-not-has-clause-numbers : goal.returns-else-not-has-clause-numbers
