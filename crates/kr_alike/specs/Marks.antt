@@ -5,6 +5,7 @@ use Rattle.kr_model.specs.declared.Row.TheVariants as row
 use Rattle.kr_model.specs.declared.Side.{Side}
 use Rattle.kr_model.specs.declared.Side.TheVariants.{Current, Next}
 use Rattle.kr_model.specs.Protocol.{Protocol}
+use Rattle.kr_model.specs.Words.{row_number, side_number}
 use Rattle.kr_alike.specs.declared.modes.Modes.{Modes}
 use Rattle.kr_alike.specs.declared.modes.Ask.{Ask}
 use Rattle.kr_alike.specs.declared.coming.Coming.{Coming}
@@ -21,20 +22,6 @@ is_within p q x = nat_le x.first p.count && nat_le x.second q.count
 -- The place of what two transactions hold.
 abbrev pub place : Modes → Modes → ℕ
 place x y = ((x.first * 16 + x.second) * 16 + y.first) * 16 + y.second
-
--- The number of a row, and that of a side.
-abbrev pub row_number : Row → ℕ
-row_number row.FetchHit = 0
-row_number row.FetchMiss = 1
-row_number row.ScanKey = 2
-row_number row.ScanStop = 3
-row_number row.Insert = 4
-row_number row.Delete = 5
-row_number row.Update = 6
-
-abbrev pub side_number : Side → ℕ
-side_number Current = 0
-side_number Next = 1
 
 -- What the requester holds on the next name, where its request goes by that: an insert's or a delete's at the side current.
 abbrev pub by_next : Row → Side → ℕ → ℕ

@@ -1,9 +1,9 @@
 //! Which requests come, of those that the rows of a table may make.
 ghost use Rattle.std.specs.Prelude.{◌≡◌, true, slice_index_or};
-ghost use Rattle.kr_alike.specs.Marks.{row_number, side_number, by_next, asked_place, is_insert, comes};
+ghost use Rattle.kr_alike.specs.Marks.{by_next, asked_place, is_insert, comes};
 
 use crate::modes::Ask;
-use kr_model::{Mode, Row, Side};
+use kr_model::{Mode, Row, Side, row_number, side_number};
 
 /// Which requests come. What is past the end of either list comes; so with no marks all do.
 #[derive(Drop)]
@@ -16,31 +16,6 @@ pub struct Coming {
 
 /// How many places there are, of at most 15 modes.
 pub const ASKED: usize = 3584;
-
-/// The number of a row, below 7.
-fn row_number(row: Row) -> usize
-    ensures value { result ≡ row_number row }
-{
-    match row {
-        Row::FetchHit => 0,
-        Row::FetchMiss => 1,
-        Row::ScanKey => 2,
-        Row::ScanStop => 3,
-        Row::Insert => 4,
-        Row::Delete => 5,
-        Row::Update => 6,
-    }
-}
-
-/// The number of a side, below 2.
-fn side_number(side: Side) -> usize
-    ensures value { result ≡ side_number side }
-{
-    match side {
-        Side::Current => 0,
-        Side::Next => 1,
-    }
-}
 
 /// What the requester holds on the next name, where its request goes by that; else none.
 pub fn by_next(row: Row, side: Side, next: Mode) -> Mode

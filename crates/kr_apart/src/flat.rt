@@ -2,7 +2,7 @@
 ghost use Rattle.std.specs.Prelude.{◌≤◌, ◌<◌};
 
 use kr_change::Change;
-use kr_model::{Mode, Row, Side, Span};
+use kr_model::{Mode, Row, Side, Span, row_number, side_number};
 use kr_protocol::{Protocol, asked, converted};
 
 /// The mode and span that are requested, or nothing.
@@ -53,31 +53,6 @@ pub(crate) fn request_number(row: Row, side: Side, own_next: Mode) -> usize
     ensures { result < 224 }
 {
     (row_number(row) * 2 + side_number(side)) * 16 + (own_next % 16) as usize
-}
-
-/// The number of a row, below 7.
-fn row_number(row: Row) -> usize
-    ensures { result < 7 }
-{
-    match row {
-        Row::FetchHit => 0,
-        Row::FetchMiss => 1,
-        Row::ScanKey => 2,
-        Row::ScanStop => 3,
-        Row::Insert => 4,
-        Row::Delete => 5,
-        Row::Update => 6,
-    }
-}
-
-/// The number of a side, below 2.
-fn side_number(side: Side) -> usize
-    ensures { result < 2 }
-{
-    match side {
-        Side::Current => 0,
-        Side::Next => 1,
-    }
 }
 
 impl Flat {

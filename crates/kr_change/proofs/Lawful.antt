@@ -10,7 +10,8 @@ use Rattle.kr_model.specs.Protocol.{Protocol, IsLawful, IsMode, MovesNoKey}
 use Rattle.kr_model.proofs.Tested.{and_first, and_second}
 use Rattle.kr_change.specs.declared.change.Change.{Change}
 use Rattle.kr_change.specs.declared.change.Change.TheVariants.{Request, Convert, Compatible}
-use Rattle.kr_change.specs.Changes.{changed, is_change, is_mode, is_request, is_offered, has_side, row_number, side_number, is_place, concerns, moves_keys}
+use Rattle.kr_model.specs.Words.{row_number, side_number}
+use Rattle.kr_change.specs.Changes.{changed, is_change, is_mode, is_request, is_offered, has_side, is_place, concerns, moves_keys}
 
 -- 0 is no mode
 none_is_not : (m : ℕ) → 0 < m → (0 == m) ≡ false

@@ -7,6 +7,7 @@ use Rattle.kr_model.specs.declared.Side.{Side}
 use Rattle.kr_model.specs.declared.Side.TheVariants.{Current, Next}
 use Rattle.kr_model.specs.declared.Span.{Span}
 use Rattle.kr_model.specs.Protocol.{Protocol}
+use Rattle.kr_model.specs.Words.{row_number, side_number}
 use Rattle.kr_change.specs.declared.change.Change.{Change}
 use Rattle.kr_change.specs.declared.change.Change.TheVariants.{Request, Convert, Compatible}
 
@@ -24,22 +25,7 @@ with_mode m (Request row side own_next None) = Request row side own_next None
 with_mode m (Convert held requested mode) = Convert held requested m
 with_mode m (Compatible requested held is_compatible) = Compatible requested held is_compatible
 
--- The place of a row in its order.
-abbrev pub row_number : Row → ℕ
-row_number FetchHit = 1
-row_number FetchMiss = 2
-row_number ScanKey = 3
-row_number ScanStop = 4
-row_number Insert = 5
-row_number Delete = 6
-row_number Update = 7
-
--- The place of a side in its order.
-abbrev pub side_number : Side → ℕ
-side_number Current = 1
-side_number Next = 2
-
--- Whether two places of the table are the same.
+-- Whether two places of a table are the same.
 abbrev pub is_place : Row → Side → Row → Side → Bool
 is_place row side r s = (row_number row == row_number r) && (side_number side == side_number s)
 

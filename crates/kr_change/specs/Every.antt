@@ -46,14 +46,14 @@ is_same_span Commit Commit = true
 is_same_span _ _ = false
 
 -- Whether two requests are the same.
-abbrev pub is_same : Option (ℕ × Span) → Option (ℕ × Span) → Bool
-is_same None None = true
-is_same (Some (m, s)) (Some (n, t)) = (m == n) && is_same_span s t
-is_same _ _ = false
+abbrev pub is_same_request : Option (ℕ × Span) → Option (ℕ × Span) → Bool
+is_same_request None None = true
+is_same_request (Some (m, s)) (Some (n, t)) = (m == n) && is_same_span s t
+is_same_request _ _ = false
 
 -- An entry with another request.
 abbrev pub offered : Entry → Option (ℕ × Span) → List Change
-offered e r = if is_same r e.now then [] else Request e.row e.side e.own_next r ∷ []
+offered e r = if is_same_request r e.now then [] else Request e.row e.side e.own_next r ∷ []
 
 -- An entry with each other request: nothing, or a mode, for an instant and to commit.
 abbrev pub requests_in : Entry → ℕ → List Change

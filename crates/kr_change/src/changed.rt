@@ -91,8 +91,8 @@ fn is_change<P: Protocol>(protocol: &P, change: Change) -> bool
     }
 }
 
-/// Whether two places of the table are the same.
-fn is_place(row: Row, side: Side, other_row: Row, other_side: Side) -> bool
+/// Whether two places of a table, each a row and a side, are the same. Takes no memory.
+pub fn is_place(row: Row, side: Side, other_row: Row, other_side: Side) -> bool
     ensures { result ≡ is_place row side other_row other_side }
 {
     row == other_row && side == other_side

@@ -2,7 +2,7 @@
 //!
 //! The functions put the changes of their entries behind those so far, in order.
 ghost use Rattle.std.specs.Prelude.{◌≡◌, ◌≤◌, ◌++◌, ◌^◌, IfOk, OnOk};
-ghost use Rattle.kr_change.specs.Every.{changes_of, compatibles, compatibles_of, conversions, conversions_from, conversions_of, is_same, offered, places, requests, requests_at, requests_by_own, requests_to};
+ghost use Rattle.kr_change.specs.Every.{changes_of, compatibles, compatibles_of, conversions, conversions_from, conversions_of, is_same_request, offered, places, requests, requests_at, requests_by_own, requests_to};
 
 use crate::change::Change;
 use crate::changed::moves_keys;
@@ -57,9 +57,9 @@ fn only(own: Mode) -> u16
     1 << own
 }
 
-/// Whether two requests are the same.
-fn is_same(request: Option<(Mode, Span)>, other: Option<(Mode, Span)>) -> bool
-    ensures { result ≡ is_same request other }
+/// Whether two requests are the same. Takes no memory.
+pub fn is_same_request(request: Option<(Mode, Span)>, other: Option<(Mode, Span)>) -> bool
+    ensures { result ≡ is_same_request request other }
 {
     match (request, other) {
         (Some((mode, span)), Some((other_mode, other_span))) => {
@@ -78,7 +78,7 @@ fn offer(
 ) -> Result<(), Memory>
     ensures { OnOk result (changes.new.items ≡ changes.old.items ++ offered entry request) }
 {
-    if !is_same(request, entry.now) {
+    if !is_same_request(request, entry.now) {
         changes.push(Change::Request {
             row: entry.row,
             side: entry.side,

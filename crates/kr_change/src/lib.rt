@@ -10,9 +10,9 @@ mod every;
 mod names;
 
 pub use change::Change;
-pub use changed::Changed;
+pub use changed::{Changed, is_place};
 pub use edits::edit_text;
 pub use entries::{conversion_text, entry_text, pair_text, place_text};
-pub use every::changes_of;
+pub use every::{changes_of, is_same_request};
 pub use kr_model::{Memory, Mode, Row, Side, Span};
 pub use names::change_text;

@@ -9,6 +9,7 @@ use Rattle.kr_change.specs.declared.change.Change.{Change}
 use Rattle.kr_change.specs.declared.change.Change.TheVariants.{Request, Convert, Compatible}
 use Rattle.kr_explain_causes.specs.declared.mend.Mend.{Mend}
 use Rattle.kr_change.specs.Changes.{mode_of}
+use Rattle.kr_change.specs.Edits.{pair_edit}
 use Rattle.kr_explain_text.specs.Lines.{IsParagraph}
 use Rattle.kr_explain_text.specs.Lists.{modes_listed}
 use Rattle.kr_model.specs.Words.{row_word, side_word, span_word}
@@ -29,16 +30,12 @@ convert_words names held requested modes = codes "in [convert], " ++ (name_of na
 unfoldable pub nothing_words : Row → Side → List ℕ
 nothing_words r s = codes "in [rules." ++ (row_word r ++ (codes "], " ++ (side_word s ++ codes ": request nothing")))
 
--- An edit of the compatible modes: a requested mode is compatible with a held one, or it isn't.
-unfoldable pub pair_words : List (List ℕ) → ℕ → ℕ → Bool → List ℕ
-pair_words names requested held is_compatible = codes "in [compatible], " ++ (name_of names requested ++ (codes ": " ++ ((if is_compatible then codes "add" else codes "remove") ++ (codes " " ++ name_of names held))))
-
 -- An edit to one of these modes, of the entry that a change is of. Behind a request it may say for which own modes that is.
 abbrev pub IsEdit : List (List ℕ) → Change → List ℕ → List ℕ → Type 0
 IsEdit names (Request r s own_next (Some (mode, held))) modes text = (owns : List ℕ) × (text ≡ request_words names r s modes held ++ owns)
 IsEdit names (Request r s own_next None) modes text = text ≡ nothing_words r s
 IsEdit names (Convert held requested mode) modes text = text ≡ convert_words names held requested modes
-IsEdit names (Compatible requested held is_compatible) modes text = text ≡ pair_words names requested held is_compatible
+IsEdit names (Compatible requested held is_compatible) modes text = text ≡ pair_edit names requested held is_compatible
 
 -- The words of a fix: how it begins, the edit, and what holds then.
 abbrev pub fix_words : List ℕ → List ℕ → List ℕ → List ℕ

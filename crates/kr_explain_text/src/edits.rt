@@ -1,10 +1,10 @@
 //! Changes as edits of a table's file.
 ghost use Rattle.std.specs.Prelude.{◌≡◌, IfOk, string_bytes};
-ghost use Rattle.kr_explain_text.specs.Edits.{IsEdit, convert_words, modes_of, nothing_words, pair_words, request_words};
+ghost use Rattle.kr_explain_text.specs.Edits.{IsEdit, convert_words, modes_of, nothing_words, request_words};
 
 use crate::lists::{modes_chosen, modes_listed};
 use kr_cases::Memory;
-use kr_change::Change;
+use kr_change::{Change, edit_text};
 use kr_model::{Mode, Row, Side, Span, row_word, side_word, span_word};
 use kr_protocol::{Protocol, asked, converted, name_or_empty};
 use std::alloc::Global;
@@ -41,11 +41,7 @@ pub fn edit_words<P: Protocol>(
             requested,
             mode: _,
         } => convert_words(alloc, protocol, held, requested, &modes),
-        Change::Compatible {
-            requested,
-            held,
-            is_compatible,
-        } => pair_words(alloc, protocol, requested, held, is_compatible),
+        Change::Compatible { .. } => edit_text(alloc, protocol, first),
     }
 }
 
@@ -103,23 +99,6 @@ fn nothing_words(alloc: Global, row: Row, side: Side) -> Result<String, Memory>
     let row = row_word(row);
     let side = side_word(side);
     format!(in alloc; "in [rules.{row}], {side}: request nothing")
-}
-
-/// An edit of the compatible modes.
-#[tactic(auto, unfolding(crate::specs::Edits::pair_words))]
-fn pair_words<P: Protocol>(
-    alloc: Global,
-    protocol: &P,
-    requested: Mode,
-    held: Mode,
-    is_compatible: bool,
-) -> Result<String, Memory>
-    ensures { IfOk result (λ text. string_bytes text ≡ pair_words (P.names protocol.now) requested held is_compatible) }
-{
-    let requested = name_or_empty(protocol, requested);
-    let held = name_or_empty(protocol, held);
-    let what = if is_compatible { "add" } else { "remove" };
-    format!(in alloc; "in [compatible], {requested}: {what} {held}")
 }
 
 /// For which own modes on the next key a request changes; nothing where it is for all, or makes no difference for the others.

@@ -2,6 +2,7 @@
 use Rattle.std.specs.Prelude.{◌≡◌, ℕ, Bool, true, false, ◌==◌, ◌&&◌, List, [], ◌∷◌, ◌++◌, Option, Some, None, map, filter, refl, slice_get, if◌then◌else◌}
 use Rattle.std.specs.List.{flat_map}
 use Rattle.kr_model.specs.Protocol.{Protocol}
+use Rattle.kr_model.specs.Words.{row_number, side_number}
 use Rattle.kr_model.specs.Covers.{Ask, requester, open_requesters, failed_cases}
 use Rattle.kr_model.specs.Matrices.{ok_by, convert_by, for_commit}
 use Rattle.kr_model.specs.declared.Row.{Row}
@@ -26,21 +27,6 @@ strict = 1
 -- A mode that, requested, is compatible with everything; held, it conflicts with strict.
 abbrev pub lax : ℕ
 lax = 2
-
--- The place of a row in its order, from 1.
-abbrev pub row_number : Row → ℕ
-row_number FetchHit = 1
-row_number FetchMiss = 2
-row_number ScanKey = 3
-row_number ScanStop = 4
-row_number Insert = 5
-row_number Delete = 6
-row_number Update = 7
-
--- The place of a side in its order, from 1.
-abbrev pub side_number : Side → ℕ
-side_number Current = 1
-side_number Next = 2
 
 -- Whether the row and the side are those of a.
 abbrev pub is_at : Ask → Row → Side → Bool

@@ -26,6 +26,21 @@ abbrev pub side_word : Side → List ℕ
 side_word side.Current = codes "current"
 side_word side.Next = codes "next"
 
+-- The place of a row in its order, from 0.
+abbrev pub row_number : Row → ℕ
+row_number row.FetchHit = 0
+row_number row.FetchMiss = 1
+row_number row.ScanKey = 2
+row_number row.ScanStop = 3
+row_number row.Insert = 4
+row_number row.Delete = 5
+row_number row.Update = 6
+
+-- The place of a side in its order, from 0.
+abbrev pub side_number : Side → ℕ
+side_number side.Current = 0
+side_number side.Next = 1
+
 -- A duration, as tables name it.
 abbrev pub span_word : Span → List ℕ
 span_word span.Instant = codes "instant"

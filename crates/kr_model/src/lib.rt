@@ -9,7 +9,8 @@ mod words;
 pub use items::{Answers, Items, Pairs, Programs, Txns};
 use std::alloc::AllocError;
 pub use words::{
-    cover_code, refusal_number, row_word, rule_code, rule_number, side_word, span_word,
+    cover_code, refusal_number, row_number, row_word, rule_code, rule_number, side_number,
+    side_word, span_word,
 };
 
 /// A growth was refused.

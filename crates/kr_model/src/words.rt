@@ -1,7 +1,7 @@
 //! The words, codes and numbers of rows, sides, durations, groups of cases, covers and refusals, as tables and reports have them.
-ghost use Rattle.std.specs.Prelude.{◌≡◌};
+ghost use Rattle.std.specs.Prelude.{◌≡◌, ◌<◌};
 ghost use Rattle.kr_model.specs.Difference.{refusal_number};
-ghost use Rattle.kr_model.specs.Words.{row_word, side_word, span_word, rule_code, rule_number, cover_code};
+ghost use Rattle.kr_model.specs.Words.{row_number, row_word, side_number, side_word, span_word, rule_code, rule_number, cover_code};
 
 use crate::{Cover, Refusal, Row, Rule, Side, Span};
 
@@ -27,6 +27,33 @@ pub fn side_word(side: Side) -> &'static str
     match side {
         Side::Current => "current",
         Side::Next => "next",
+    }
+}
+
+/// The place of a row in its order, from 0 and below 7.
+pub fn row_number(row: Row) -> usize
+    ensures value { result ≡ row_number row }
+    ensures within { result < 7 }
+{
+    match row {
+        Row::FetchHit => 0,
+        Row::FetchMiss => 1,
+        Row::ScanKey => 2,
+        Row::ScanStop => 3,
+        Row::Insert => 4,
+        Row::Delete => 5,
+        Row::Update => 6,
+    }
+}
+
+/// The place of a side in its order, from 0 and below 2.
+pub fn side_number(side: Side) -> usize
+    ensures value { result ≡ side_number side }
+    ensures within { result < 2 }
+{
+    match side {
+        Side::Current => 0,
+        Side::Next => 1,
     }
 }
 

@@ -10,8 +10,8 @@ use Rattle.kr_model.specs.declared.Span.{Span}
 use Rattle.kr_model.specs.declared.Span.TheVariants.{Instant, Commit}
 use Rattle.kr_change.specs.declared.change.Change.{Change}
 use Rattle.kr_change.specs.declared.change.Change.TheVariants.{Request, Convert, Compatible}
-use Rattle.kr_change.specs.Changes.{row_number, side_number}
-use Rattle.kr_change.specs.Every.{is_same, is_same_span}
+use Rattle.kr_model.specs.Words.{row_number, side_number}
+use Rattle.kr_change.specs.Every.{is_same_request, is_same_span}
 use Rattle.kr_suite_core.specs.Equal.{is_equal, is_same_bool, is_same_own}
 
 nat_same : (m n : ℕ) → (m == n) ≡ true → m ≡ n
@@ -21,7 +21,7 @@ nat_self : (m : ℕ) → (m == m) ≡ true
 nat_self m = grind (arith, nat_tests)
 
 abbrev row_of : ℕ → Row
-row_of n = cond (n == 1) FetchHit (cond (n == 2) FetchMiss (cond (n == 3) ScanKey (cond (n == 4) ScanStop (cond (n == 5) Insert (cond (n == 6) Delete Update)))))
+row_of n = cond (n == 0) FetchHit (cond (n == 1) FetchMiss (cond (n == 2) ScanKey (cond (n == 3) ScanStop (cond (n == 4) Insert (cond (n == 5) Delete Update)))))
 
 row_back : (r : Row) → row_of (row_number r) ≡ r
 row_back FetchHit = refl
@@ -71,7 +71,7 @@ bool_self : (b : Bool) → is_same_bool b b ≡ true
 bool_self true = refl
 bool_self false = refl
 
-request_same : (a b : Option (ℕ × Span)) → is_same a b ≡ true → a ≡ b
+request_same : (a b : Option (ℕ × Span)) → is_same_request a b ≡ true → a ≡ b
 request_same None None h = refl
 request_same (Some (m, s)) (Some (n, t)) h =
     let both = and_parts (m == n) (is_same_span s t) h in
@@ -79,15 +79,15 @@ request_same (Some (m, s)) (Some (n, t)) h =
 request_same None (Some x) h = absurd (cc)
 request_same (Some x) None h = absurd (cc)
 
-request_self : (a : Option (ℕ × Span)) → is_same a a ≡ true
+request_self : (a : Option (ℕ × Span)) → is_same_request a a ≡ true
 request_self None = refl
 request_self (Some (m, s)) = rw (nat_self m, span_self s) refl
 
 pub equal_same : (c d : Change) → is_equal c d ≡ true → c ≡ d
 equal_same (Request r s o a) (Request t u n b) h =
-    let places = and_parts ((row_number r == row_number t) && (side_number s == side_number u)) (is_same_own o n && is_same a b) h in
+    let places = and_parts ((row_number r == row_number t) && (side_number s == side_number u)) (is_same_own o n && is_same_request a b) h in
     let place = and_parts (row_number r == row_number t) (side_number s == side_number u) places.0 in
-    let rest = and_parts (is_same_own o n) (is_same a b) places.1 in
+    let rest = and_parts (is_same_own o n) (is_same_request a b) places.1 in
     let row = row_same r t place.0 in
     let side = side_same s u place.1 in
     let own = own_same o n rest.0 in

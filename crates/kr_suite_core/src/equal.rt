@@ -1,31 +1,8 @@
 //! Whether two changes are the same.
 ghost use Rattle.std.specs.Prelude.{◌≡◌};
-ghost use Rattle.kr_change.specs.Changes.{is_place};
-ghost use Rattle.kr_change.specs.Every.{is_same};
 ghost use Rattle.kr_suite_core.specs.Equal.{is_equal, is_same_bool, is_same_own};
 
-use kr_change::Change;
-use kr_model::{Mode, Row, Side, Span};
-
-/// Whether two places of a table are the same.
-fn is_place(row: Row, side: Side, other_row: Row, other_side: Side) -> bool
-    ensures { result ≡ is_place row side other_row other_side }
-{
-    row == other_row && side == other_side
-}
-
-/// Whether two requests are the same.
-fn is_same(request: Option<(Mode, Span)>, other: Option<(Mode, Span)>) -> bool
-    ensures { result ≡ is_same request other }
-{
-    match (request, other) {
-        (Some((mode, span)), Some((other_mode, other_span))) => {
-            mode == other_mode && span == other_span
-        }
-        (None, None) => true,
-        _ => false,
-    }
-}
+use kr_change::{Change, is_place, is_same_request};
 
 /// Whether the own modes are the same.
 fn is_same_own(own: Option<u16>, other: Option<u16>) -> bool
@@ -58,7 +35,7 @@ pub(crate) fn is_equal(one: Change, other: Change) -> bool
             },
         ) => {
             is_place(row, side, other_row, other_side)
-                && (is_same_own(own_next, other_own) && is_same(request, other_request))
+                && (is_same_own(own_next, other_own) && is_same_request(request, other_request))
         }
         (
             Change::Convert {

@@ -1,20 +1,12 @@
 -- Which causes blame an entry of a table, and the badges that say so.
 use Rattle.std.specs.Prelude.{ℕ, Bool, true, false, ◌==◌, ◌&&◌, ◌+◌, List, [], ◌∷◌, ◌++◌, Option, Some, None, codes, decimal, if◌then◌else◌}
-use Rattle.kr_model.specs.declared.Span.{Span}
-use Rattle.kr_model.specs.declared.Span.TheVariants.{Instant, Commit}
 use Rattle.kr_change.specs.Changes.{is_place}
+use Rattle.kr_change.specs.Every.{is_same_request}
 use Rattle.kr_explain_causes.specs.declared.blame.Blame.{Blame}
 use Rattle.kr_explain_causes.specs.declared.blame.Blame.TheVariants as blame
 use Rattle.kr_explain_core.specs.declared.explanation.Explained.{Explained}
 use Rattle.kr_view_table.specs.declared.badges.Entry.{Entry}
 use Rattle.kr_view_table.specs.declared.badges.Entry.TheVariants as entry
-
--- Two requests are the same.
-abbrev pub is_same_request : Option (ℕ × Span) → Option (ℕ × Span) → Bool
-is_same_request None None = true
-is_same_request (Some (m, Instant)) (Some (n, Instant)) = m == n
-is_same_request (Some (m, Commit)) (Some (n, Commit)) = m == n
-is_same_request _ _ = false
 
 -- An entry is to blame. A place is to blame for each request there.
 abbrev pub blames : Blame → Entry → Bool

@@ -15,7 +15,8 @@ use Rattle.kr_model.specs.Words.{row_word}
 use Rattle.kr_explain_core.specs.declared.explanation.Explained.{Explained}
 use Rattle.kr_view_table.specs.declared.badges.Entry.TheVariants as entry
 use Rattle.kr_view_table.specs.declared.rules.TheConstants.{RULES}
-use Rattle.kr_view_table.specs.Badges.{badges, is_same_request}
+use Rattle.kr_change.specs.Every.{is_same_request}
+use Rattle.kr_view_table.specs.Badges.{badges}
 
 -- The rows of a table: that of an update only where p offers updates.
 abbrev pub offered : Protocol → List Row

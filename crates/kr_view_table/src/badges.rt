@@ -1,8 +1,8 @@
 //! Badges: at an entry of a table the numbers of the causes that blame it, as links to them.
 ghost use Rattle.std.specs.Prelude.{◌≡◌, IfOk, string_bytes};
-ghost use Rattle.kr_view_table.specs.Badges.{badge, badge_at, badges, blames, is_same_request};
-ghost use Rattle.kr_change.specs.Changes.{is_place};
+ghost use Rattle.kr_view_table.specs.Badges.{badge, badge_at, badges, blames};
 
+use kr_change::{is_place, is_same_request};
 use kr_explain_causes::Blame;
 use kr_explain_core::Explained;
 use kr_model::{Memory, Mode, Row, Side, Span};
@@ -27,25 +27,6 @@ pub enum Entry {
         side: Side,
         asked: Option<(Mode, Span)>,
     },
-}
-
-/// Whether two places of a table are the same.
-fn is_place(row: Row, side: Side, other_row: Row, other_side: Side) -> bool
-    ensures { result ≡ is_place row side other_row other_side }
-{
-    row == other_row && side == other_side
-}
-
-/// Whether two requests are the same.
-pub fn is_same_request(asked: Option<(Mode, Span)>, other: Option<(Mode, Span)>) -> bool
-    ensures { result ≡ is_same_request asked other }
-{
-    match (asked, other) {
-        (None, None) => true,
-        (Some((mode, Span::Instant)), Some((other, Span::Instant))) => mode == other,
-        (Some((mode, Span::Commit)), Some((other, Span::Commit))) => mode == other,
-        _ => false,
-    }
 }
 
 /// Whether an entry is to blame.

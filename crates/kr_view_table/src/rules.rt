@@ -2,10 +2,10 @@
 ghost use Rattle.std.specs.Prelude.{◌≡◌, ◌≤◌, ◌++◌, ◌∷◌, [], IfOk, OnOk, filter, flat_map, string_bytes, if◌then◌else◌};
 ghost use Rattle.kr_model.specs.Covers.{modes_or_none};
 ghost use Rattle.kr_view_table.specs.declared.rules.TheConstants.{RULES};
-ghost use Rattle.kr_view_table.specs.Badges.{is_same_request};
 ghost use Rattle.kr_view_table.specs.Rules.{clause_at, clause_words, is_first, meaning, offered, owns_of, request_words, rule_row, rules_words, side_cell, where_words};
 
-use crate::badges::{Entry, badges, is_same_request};
+use crate::badges::{Entry, badges};
+use kr_change::is_same_request;
 use kr_explain_core::Explained;
 use kr_explain_text::modes_listed;
 use kr_model::{Memory, Mode, Row, Side, Span, row_word};

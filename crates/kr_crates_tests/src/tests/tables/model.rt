@@ -1,7 +1,7 @@
 use kr_model::{
     Answers, Cover, Event, FailedCase, Name, Op, Origin, Pairs, Program, Programs, Refusal, Reply,
-    Requester, Row, Rule, Side, Span, Step, Txns, cover_code, refusal_number, row_word, rule_code,
-    rule_number, side_word, span_word,
+    Requester, Row, Rule, Side, Span, Step, Txns, cover_code, refusal_number, row_number, row_word,
+    rule_code, rule_number, side_number, side_word, span_word,
 };
 use std::alloc::{AllocError, Global};
 
@@ -190,6 +190,10 @@ fn words_are_those_of_tables_and_reports(rt: HostRuntime) {
     assert_eq!(rt; row_word(Row::Insert), "insert");
     assert_eq!(rt; row_word(Row::Delete), "delete");
     assert_eq!(rt; row_word(Row::Update), "update");
+    assert_eq!(rt; row_number(Row::FetchHit), 0);
+    assert_eq!(rt; row_number(Row::Update), 6);
+    assert_eq!(rt; side_number(Side::Current), 0);
+    assert_eq!(rt; side_number(Side::Next), 1);
     assert_eq!(rt; side_word(Side::Current), "current");
     assert_eq!(rt; side_word(Side::Next), "next");
     assert_eq!(rt; span_word(Span::Instant), "instant");

@@ -1,5 +1,5 @@
 use Rattle.std.proofs.Common.{ap, ◌∙◌, arith}
-use Rattle.kr_view_table.specs.Badges.{is_same_request}
+use Rattle.kr_change.specs.Every.{is_same_request}
 use Rattle.kr_view_table.proofs.Pieces.{own_tested, own_kept_all}
 use Rattle.kr_view_table.proofs.rules.owns_of.Goals as goal
 

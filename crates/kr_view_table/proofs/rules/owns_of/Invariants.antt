@@ -2,7 +2,7 @@
 use Rattle.std.proofs.Common.{◌≡◌}
 use Rattle.std.specs.List.{filter}
 use Rattle.kr_model.specs.Covers.{count_up}
-use Rattle.kr_view_table.specs.Badges.{is_same_request}
+use Rattle.kr_change.specs.Every.{is_same_request}
 use Rattle.kr_view_table.proofs.rules.owns_of.Given as goal
 
 abbrev pub invariant-loop-own : goal.invariant-loop-own
