@@ -16,14 +16,13 @@ use Rattle.kr_model.specs.declared.Reply.{Reply}
 use Rattle.kr_model.specs.declared.Reply.TheVariants as reply
 use Rattle.kr_model.specs.Protocol.{Protocol}
 use Rattle.kr_model.specs.declared.Plan.{Plan}
-use Rattle.kr_model.specs.Map.{Map, Changes, get, at, after}
+use Rattle.kr_model.specs.Map.{Map, Changes, get, after}
 use Rattle.kr_model.specs.Locks.{Locks, Request, blockers}
 use Rattle.kr_model.specs.State.{State, Active, Scan, idle, standing, is_rolling, has_nothing_left}
 use Rattle.kr_model.specs.Covers.{is_empty}
-use Rattle.kr_model.specs.Plan.{Access, access, requests, plan_of}
+use Rattle.kr_model.specs.Plan.{requests, plan_of}
 use Rattle.kr_model.specs.declared.Name.{Name}
 use Rattle.kr_model.specs.declared.Name.TheVariants.{Key, End}
-use Rattle.kr_model.specs.declared.Row.TheVariants as row
 use Rattle.kr_model.specs.declared.Step.{Step}
 use Rattle.kr_model.specs.declared.Step.TheVariants as attempt
 use Rattle.kr_model.specs.Step.{Outcome, Effect, fetched, inserted, deleted, updated, row_read, looked, name_to_look, is_full, refusal_of, step, granted_or_blocked, attempted, attempted_scan, unless_refused, after_effect, performed, one_taken_back}
@@ -36,7 +35,7 @@ use Rattle.kr_machine.specs.declared.parts.KeyTouch.TheVariants as key
 use Rattle.kr_machine.specs.declared.parts.Touch.{Touch}
 use Rattle.kr_machine.specs.declared.parts.Touch.TheVariants as touch
 use Rattle.kr_machine.specs.Parts.{ended_by, op_of_touch}
-use Rattle.kr_machine.specs.Pending.{IsRowAt, end_reply, begun, refusal_in, look_of, attempt_of, rows_of, reply_of, look_effect, effect_of, map_back, changes_back, standing_back, after_op}
+use Rattle.kr_machine.specs.Pending.{end_reply, begun, refusal_in, look_of, attempt_of, rows_of, reply_of, look_effect, effect_of, map_back, changes_back, standing_back, after_op}
 
 -- The refusal of an operation whose transaction has not ended, by whether updates are offered and how it stands.
 abbrev pub refused_by : Bool → Option Active → Bool → Op → Option Refusal
@@ -101,18 +100,6 @@ module _ (p : Protocol) (s : State) (t : ℕ) where
   pub granted_step : (x : Touch) (a : Step) → refusal_of p s t (op_of_touch x) ≡ None → attempt_of s.map (standing s t).scan (op_of_touch x) ≡ Some a → blockers p s.locks t (asked a) ≡ []
       → step p s t (op_of_touch x) ≡ after_effect p s t (asked a) (effect_of s.map (standing s t) (op_of_touch x))
   granted_step x a allowed is none = attempts x a allowed is ∙ ap (granted_or_blocked p s t (asked a) (effect_of s.map (standing s t) (op_of_touch x))) none
-
-row_by : (b : Bool) (x y : Access) → (cond b x y).row ≡ cond b x.row y.row
-row_by true x y = refl
-row_by false x y = refl
-
--- The row of a plan says of an attempt at one key whether that key is present.
-pub row_of_plan : (p : Protocol) (m : Map) (h : Locks) (t : ℕ) (a : Step) (plan : Plan) → plan ≡ plan_of p m h t a → IsRowAt m a plan.row
-row_of_plan p m h t (attempt.Fetch k) plan is = ap (λ (x : Plan). x.row) is ∙ row_by (is_some (get m k)) (access row.FetchHit (Some (Key k)) None) (access row.FetchMiss None (Some (at m k)))
-row_of_plan p m h t (attempt.Insert k) plan is = ap (λ (x : Plan). x.row) is ∙ row_by (is_some (get m k)) (access row.FetchHit (Some (Key k)) None) (access row.Insert (Some (Key k)) (Some (at m k)))
-row_of_plan p m h t (attempt.Delete k) plan is = ap (λ (x : Plan). x.row) is ∙ row_by (is_some (get m k)) (access row.Delete (Some (Key k)) (Some (after m k))) (access row.FetchMiss None (Some (at m k)))
-row_of_plan p m h t (attempt.Update k) plan is = ap (λ (x : Plan). x.row) is ∙ row_by (is_some (get m k)) (access row.Update (Some (Key k)) None) (access row.FetchMiss None (Some (at m k)))
-row_of_plan p m h t (attempt.Look n hi) plan is = tt
 
 fetch_reply : (m : Map) (a b : Active) (g : Option ℕ) → (fetched m a g).reply ≡ (fetched m b g).reply
 fetch_reply m a b None = refl

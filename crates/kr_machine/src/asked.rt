@@ -8,8 +8,9 @@ ghost use Rattle.kr_plan.specs.Modes.{ArePlanModes};
 ghost use Rattle.kr_machine.specs.Pending.{attempt_of};
 
 use crate::parts::Part;
+use crate::sights::sight_of;
 use crate::stepper::Stepper;
-use crate::{refusals, replies, room};
+use crate::{refusals, room};
 use kr_index::Ordered;
 use kr_locks::{Holdings, Memory};
 use kr_model::{Mode, Name, Op, Plan, Txn};
@@ -35,13 +36,14 @@ impl<P: Protocol, I: Ordered, L: Holdings> Stepper<P, I, L> {
             return None;
         };
         let scan = room::scan_of(&self.active, txn);
-        match replies::attempt_of(&self.index, scan, touch) {
-            Some(attempt) => Some(kr_plan::plan(
+        match sight_of(&self.index, scan, touch) {
+            Some(sight) => Some(kr_plan::plan_at(
                 &self.protocol,
-                &self.index,
                 &self.locks,
                 txn,
-                attempt,
+                sight.row,
+                sight.current,
+                sight.next,
             )),
             None => None,
         }

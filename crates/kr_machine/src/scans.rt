@@ -1,7 +1,6 @@
-//! A step of a scan: the name that it looks at, what it answers, and what it leaves.
-ghost use Rattle.std.specs.Prelude.{◌≡◌, ◌<◌, true, Some, IfOk, IfSome, option_map, vec_len, vec_capacity};
+//! A step of a scan: the name that it looks at, and what it leaves.
+ghost use Rattle.std.specs.Prelude.{◌≡◌, ◌<◌, Some, IfOk, IfSome, option_map, vec_len, vec_capacity};
 ghost use Rattle.kr_model.specs.State.{idle};
-ghost use Rattle.kr_model.specs.Run.{is_granted};
 ghost use Rattle.kr_model.specs.Step.{Effect, looked, name_to_look};
 ghost use Rattle.kr_txn.specs.Standings.{active_of, scan_of};
 ghost use Rattle.kr_machine.specs.Parts.{op_of_touch};
@@ -9,45 +8,17 @@ ghost use Rattle.kr_machine.specs.Pending.{HasFirstRoom, look_effect};
 
 use crate::parts::Touch;
 use kr_index::{Memory, Name, Ordered};
-use kr_model::{Pairs, Reply};
 use kr_txn::{Scan, Standing};
 use std::alloc::Global;
 
 /// The name that a scan looks at next: the first from its lower end, or else that after the last key that it read.
-pub(crate) fn name_to_look<I: Ordered>(index: &I, scan: &Scan) -> Name
+fn name_to_look<I: Ordered>(index: &I, scan: &Scan) -> Name
     ensures { result ≡ name_to_look (I.map index.now) (scan_of scan.now) }
 {
     match scan.rows.last() {
         Some(row) => index.after(row.0),
         None => index.at(scan.lo),
     }
-}
-
-/// What the step of a scan with these rows on a name answers, `hi` being the upper end; or `Memory` where the scan ends
-/// and its rows can't be copied.
-pub(crate) fn answer<I: Ordered>(
-    alloc: Global,
-    index: &I,
-    name: Name,
-    hi: u64,
-    rows: &[(u64, u64)],
-) -> Result<Reply, Memory>
-    ensures reply { IfOk result (λ r. r ≡ (looked (I.map index.now) idle (record { lo = 0; hi = hi; rows = rows.now }) name).reply) }
-    ensures granted { IfOk result (λ r. is_granted r ≡ true) }
-{
-    if let Name::Key(key) = name {
-        if key < hi {
-            return Ok(Reply::Going(key));
-        }
-        if key == hi {
-            let mut all = Vec::with_capacity(alloc, rows.len() + 1)?;
-            all.extend_from_slice(rows)?;
-            all.push((key, index.get(key).unwrap_or(0)))?;
-            return Ok(Reply::Rows(Pairs::from_vec(all)));
-        }
-    }
-    let all = Vec::from_slice(alloc, rows)?;
-    Ok(Reply::Rows(Pairs::from_vec(all)))
 }
 
 /// No rows, with room for the first where a scan begins.

@@ -8,6 +8,7 @@ ghost use Rattle.kr_machine.specs.Parts.{ended_by, op_of_touch};
 
 use crate::parts::{Ending, Part, Touch};
 use crate::pending::{Pending, PendingPart, Ready};
+use crate::sights::sight_of;
 use crate::{change, refusals, replies, reserve, room};
 use kr_index::Ordered;
 use kr_locks::{Holdings, Memory};
@@ -216,10 +217,17 @@ impl<P: Protocol, I: Ordered, L: Holdings> Stepper<P, I, L> {
         ensures err { OnErr result (self.new ≡ self.old) }
     {
         let scan = room::scan_of(&self.active, txn);
-        let Some(attempt) = replies::attempt_of(&self.index, scan, touch) else {
+        let Some(sight) = sight_of(&self.index, scan, touch) else {
             return Err(Reply::Refused(Refusal::NoScan));
         };
-        let plan = kr_plan::plan(&self.protocol, &self.index, &self.locks, txn, attempt);
+        let plan = kr_plan::plan_at(
+            &self.protocol,
+            &self.locks,
+            txn,
+            sight.row,
+            sight.current,
+            sight.next,
+        );
         let alloc = *self.active.allocator();
         if !kr_plan::granted(&self.protocol, &self.locks, txn, &plan) {
             match kr_plan::blockers(alloc, &self.protocol, &self.locks, txn, &plan) {
@@ -227,7 +235,7 @@ impl<P: Protocol, I: Ordered, L: Holdings> Stepper<P, I, L> {
                 Err(_) => return Err(Reply::Refused(Refusal::Memory)),
             }
         }
-        let reply = match replies::reply_to(alloc, &self.index, scan, attempt, plan.row) {
+        let reply = match replies::reply_at(alloc, scan, sight.attempt, sight.value) {
             Ok(reply) => reply,
             Err(_) => return Err(Reply::Refused(Refusal::Memory)),
         };
