@@ -1,0 +1,9 @@
+pub mod Protocol
+pub mod State
+pub mod Step
+pub mod Run
+pub mod Covers
+pub mod Safe
+pub mod Tables
+pub mod Needed
+pub mod Worked

@@ -1,0 +1,331 @@
+"""A second form of the model with ghosts, written from docs/GHOSTS.md and docs/DEFINITIONS.md alone: the steps and purges of a
+run, the cases, and which tables are safe. Modes are numbers, 0 for none; a request is a mode and whether it is kept to commit."""
+
+END = float('inf')
+READS = ('fetch-hit', 'fetch-miss', 'scan-key', 'scan-stop')
+ROWS = (*READS, 'insert', 'insert-next', 'delete', 'update', 'revive')
+
+
+class Table:
+    """`ok[q][h]` and `convert[h][q]`; `rows` by row, with a list by the own mode on the next name for the two of insert; `heir` by
+    mode, or None where a purge waits until nobody has a lock."""
+
+    def __init__(self, ok, convert, rows, heir, updates):
+        self.ok, self.convert, self.rows, self.heir, self.updates = ok, convert, rows, heir, updates
+        self.count = len(ok) - 1
+
+    def ask(self, row, own=0):
+        return self.rows[row][own] if row in ('insert', 'insert-next') else self.rows[row]
+
+    def conflicts(self, request, own, held):
+        return request is not None and not self.ok[self.convert[own][request[0]]][held]
+
+    def after(self, own, request):
+        return self.convert[own][request[0]] if request and request[1] else own
+
+
+# Runs --
+
+
+class Active:
+    def __init__(self):
+        self.scan, self.changes, self.rolling = None, [], False
+
+
+class Run:
+    """A run from an opening index; `log` has of each transaction its operations with their answers."""
+
+    def __init__(self, table, opening):
+        self.table, self.index, self.ghosts, self.locks = table, dict(opening), set(), {}
+        self.active, self.ended, self.log, self.committed = {}, set(), {}, []
+
+    def name_from(self, key):
+        return min((it for it in [*self.index, *self.ghosts] if it >= key), default=END)
+
+    def own(self, txn, name):
+        return self.locks.get((name, txn), 0)
+
+    def granted(self, txn, requests):
+        """Takes the locks of the requests, or says who blocks them."""
+        asked = [(name, it) for name, it in requests if it]
+        blockers = {u for (name, u), held in self.locks.items() for at, it in asked if at == name and u != txn and self.table.conflicts(it, self.own(txn, name), held)}
+        if blockers:
+            return ['blocked', sorted(blockers)]
+        for name, it in asked:
+            mode = self.table.after(self.own(txn, name), it)
+            if it[1]:
+                self.locks[name, txn] = mode
+        self.active.setdefault(txn, Active())
+        return None
+
+    def requests(self, txn, op, key):
+        ask, name = self.table.ask, self.name_from(key)
+        if op == 'insert' and key not in self.index:
+            if key in self.ghosts:
+                return [(key, ask('revive'))]
+            return [(key, ask('insert', self.own(txn, name))), (name, ask('insert-next', self.own(txn, name)))]
+        if key == name:
+            return [(key, ask({'fetch': 'fetch-hit', 'insert': 'fetch-hit'}.get(op, op)))]
+        return [(name, ask('fetch-miss'))]
+
+    def refusal(self, txn, op):
+        now = self.active.get(txn, Active())
+        if txn in self.ended:
+            return 'Ended'
+        if now.rolling and op[0] not in ('back', 'abort'):
+            return 'RollingBack'
+        if now.scan and op[0] not in ('go', 'back', 'abort'):
+            return 'Busy'
+        if op[0] == 'go' and not now.scan:
+            return 'NoScan'
+        if op[0] == 'scan' and op[1] > op[2]:
+            return 'BadRange'
+        if op[0] == 'update' and not self.table.updates:
+            return 'NoUpdate'
+        if op[0] == 'back' and not now.changes:
+            return 'NothingLeft'
+        return None
+
+    def step(self, txn, op):
+        if why := self.refusal(txn, op):
+            return ['refused', why]
+        reply = getattr(self, op[0])(txn, *op[1:])
+        if reply[0] not in ('blocked', 'going', 'committed', 'undone'):
+            self.log.setdefault(txn, []).append((self.scanned if op[0] == 'go' else op, reply))
+        return reply
+
+    def keyed(self, txn, op, key, change):
+        return self.granted(txn, self.requests(txn, op, key)) or change(self.index.get(key))
+
+    def write(self, key, value):
+        self.ghosts.discard(key)
+        if value is None:
+            self.index.pop(key, None)
+            self.ghosts.add(key)
+        else:
+            self.index[key] = value
+
+    def change(self, txn, key, value):
+        self.active[txn].changes.append((key, self.index.get(key)))
+        self.write(key, value)
+
+    def fetch(self, txn, key):
+        return self.keyed(txn, 'fetch', key, lambda it: ['none'] if it is None else ['found', it])
+
+    def insert(self, txn, key, value):
+        return self.keyed(txn, 'insert', key, lambda it: ['duplicate'] if it is not None else self.change(txn, key, value) or ['done'])
+
+    def delete(self, txn, key):
+        return self.keyed(txn, 'delete', key, lambda it: ['absent'] if it is None else self.change(txn, key, None) or ['deleted', it])
+
+    def update(self, txn, key, value):
+        return self.keyed(txn, 'update', key, lambda it: ['absent'] if it is None else self.change(txn, key, value) or ['updated', it])
+
+    def scan(self, txn, low, high):
+        return self.look(txn, low, low, high, [])
+
+    def go(self, txn):
+        return self.look(txn, *self.active[txn].scan)
+
+    def look(self, txn, low, start, high, rows):
+        name = self.name_from(start)
+        self.scanned = ('scan', low, high)
+        if blocked := self.granted(txn, [(name, self.table.ask('scan-key' if name <= high else 'scan-stop'))]):
+            return blocked
+        if name <= high and name in self.index:
+            rows = [*rows, (name, self.index[name])]
+        if name >= high:
+            self.active[txn].scan = None
+            return ['rows', rows]
+        self.active[txn].scan = (low, name + 1, high, rows)
+        return ['going', name]
+
+    def end(self, txn):
+        self.active.pop(txn, None)
+        self.ended.add(txn)
+        self.locks = {it: mode for it, mode in self.locks.items() if it[1] != txn}
+
+    def commit(self, txn):
+        self.end(txn)
+        self.committed.append(txn)
+        return ['committed']
+
+    def abort(self, txn):
+        for key, value in reversed(self.active.get(txn, Active()).changes):
+            self.write(key, value)
+        self.end(txn)
+        return ['aborted']
+
+    def back(self, txn):
+        now = self.active[txn]
+        self.write(*now.changes.pop())
+        now.scan, now.rolling = None, True
+        return ['undone', len(now.changes)]
+
+    def purge(self, key):
+        held = {u: mode for (name, u), mode in self.locks.items() if name == key}
+        if key not in self.ghosts or any(key == it for now in self.active.values() for it, _ in now.changes) or self.table.heir is None and held:
+            return
+        self.ghosts.discard(key)
+        name = self.name_from(key)
+        for u, mode in held.items():
+            del self.locks[key, u]
+            heir = self.table.heir[mode]
+            if heir and not self.active[u].rolling:
+                self.locks[name, u] = self.table.convert[self.own(u, name)][heir]
+
+    def is_serial(self, opening):
+        """Whether the committed programs have the answers that they have one after another in commit order."""
+        index = dict(opening)
+        return all(whole(index, op) == reply for txn in self.committed for op, reply in self.log.get(txn, []))
+
+
+def whole(index, op):
+    kind, key = op[0], op[1]
+    had = index.get(key)
+    if kind == 'fetch':
+        return ['none'] if had is None else ['found', had]
+    if kind == 'scan':
+        return ['rows', [(k, index[k]) for k in sorted(index) if key <= k <= op[2]]]
+    if kind == 'insert':
+        index.setdefault(key, op[2])
+        return ['done'] if had is None else ['duplicate']
+    if had is None:
+        return ['absent']
+    if kind == 'delete':
+        return ['deleted', index.pop(key)]
+    index[key] = op[2]
+    return ['updated', had]
+
+
+# Cases --
+
+
+def serving(table):
+    """Whether a mode serves a cover."""
+    modes = range(table.count + 1)
+    closed = lambda row, held: all(table.conflicts(table.ask(row, own if row == 'insert-next' else 0), own, held) for own in modes)
+    changes = ('delete', 'revive', 'update') if table.updates else ('delete', 'revive')
+    rows = {'ReadKey': changes, 'ReadGap': ('insert-next',), 'ChangedKey': ('fetch-hit', 'scan-key', *changes)}
+    return {(cover, held): all(closed(row, held) for row in list_) for cover, list_ in rows.items() for held in modes}
+
+
+def failed_cases(table):
+    """The cases that fail, in order, each as its rule and the mode that doesn't serve."""
+    serves = serving(table)
+    modes, or_none = range(1, table.count + 1), range(table.count + 1)
+    cases = [('Conversion', cover, serves[cover, h], table.convert[h][q]) for cover in ('ReadKey', 'ReadGap', 'ChangedKey') for h in modes for q in modes]
+    row = lambda rule, cover, name: [(rule, cover, True, table.after(own, table.ask(name))) for own in or_none]
+    cases += row('FetchHit', 'ReadKey', 'fetch-hit') + row('FetchMiss', 'ReadGap', 'fetch-miss')
+    cases += row('ScanName', 'ReadKey', 'scan-key') + row('ScanName', 'ReadGap', 'scan-key') + row('ScanStop', 'ReadGap', 'scan-stop')
+    new = lambda n: table.after(0, table.ask('insert', n))
+    cases += [('Insert', 'ChangedKey', True, new(n)) for n in or_none] + [('Split', 'ReadGap', serves['ReadGap', n], new(n)) for n in or_none]
+    cases += row('Delete', 'ChangedKey', 'delete') + (row('Update', 'ChangedKey', 'update') if table.updates else []) + row('Revive', 'ChangedKey', 'revive')
+    if table.heir:
+        cases += [('Heir', 'ReadGap', serves['ReadKey', h] or serves['ReadGap', h], table.convert[n][table.heir[h]]) for h in modes for n in or_none]
+    return [(rule, mode) for rule, cover, due, mode in cases if due and not serves[cover, mode]], len(cases)
+
+
+# Safe --
+
+FREE, READ, INSERTED, UPDATED, DELETED, SEVERAL = range(6)
+UNDONE = {INSERTED: [(False, FREE)], UPDATED: [(True, FREE)], DELETED: [(True, FREE)], SEVERAL: [(True, INSERTED), (True, UPDATED), (False, DELETED), (True, SEVERAL), (False, SEVERAL)]}
+NOTHING = (0, FREE, False, False)  # mode, key, gap, rolling
+
+
+def requests(table, present, x):
+    """What one with the lock state x may come to request: the row, the request, whether the key is present then, the state then."""
+    mode, key, gap, rolling = x
+    if rolling:
+        return
+    read, changed = max(key, READ), lambda by: by if key <= READ else SEVERAL
+    does = [('fetch-hit', present, read, gap), ('fetch-miss', present, key, True), ('scan-key', present, read, True), ('scan-stop', present, key, True), ('insert-next', present, key, gap)]
+    does += [('delete', False, changed(DELETED) if present else read, gap)]
+    does += [('update', present, changed(UPDATED) if present else read, gap)] if table.updates else []
+    does += [] if present else [('revive', True, changed(INSERTED), gap)]
+    for row, then, k, g in does:
+        asked = table.ask(row, mode)
+        yield row, asked, then, (table.after(mode, asked), k, g, False)
+
+
+def keeps_out(present, x, row):
+    key, gap = x[1], x[2]
+    if row in ('fetch-miss', 'scan-stop'):
+        return False
+    if row == 'insert-next':
+        return gap
+    if row in ('fetch-hit', 'scan-key') or present == (row == 'revive'):
+        return key > READ
+    return key >= READ
+
+
+def quiet(present, x):
+    """What one does that requests nothing: whether the key is present then, and the state then."""
+    mode, key, gap, rolling = x
+    if not rolling:
+        yield present, NOTHING
+        yield present, (mode, key if key > READ else FREE, False, True)
+    elif key <= READ:
+        yield present, NOTHING
+    else:
+        for then, k in UNDONE[key]:
+            yield then, (mode, k, False, True)
+
+
+def is_safe(table, limit=30000):
+    """Whether each lock blocks what it has to keep out, of any two lock states that two can have on one name; None past the limit."""
+    beside, todo, inherited = {}, [], set()
+
+    def add(present, x, y):
+        for a, b in ((x, y), (y, x)):
+            if b not in beside.setdefault((present, a), set()):
+                beside[present, a].add(b)
+                todo.append((present, a, b))
+
+    def left(y):
+        """What one with the lock state y on a ghost inherits: a mode, whether it has read of the gap, and whether it rolls back."""
+        return (0, False, True) if y[3] else (table.heir[y[0]], y[2] or y[1] == READ, False)
+
+    def purged(present, x, y, both):
+        after = []
+        for (mode, key, gap, rolling), (heir, read, rolls) in zip((x, y), both):
+            if rolling != rolls:
+                return
+            after.append((table.convert[mode][heir], key, gap or read, rolling))
+        add(present, *after)
+
+    def alters(present, z):
+        """What z may do that takes the key away or brings it back, as a request or None."""
+        asked = [(it, then) for _, it, then, _ in requests(table, present, z)]
+        return [(it, then) for it, then in asked + [(None, then) for then, _ in quiet(present, z)] if then != present]
+
+    add(True, NOTHING, NOTHING)
+    add(False, NOTHING, NOTHING)
+    while todo:
+        while todo:
+            present, x, y = todo.pop()
+            for row, asked, then, z in requests(table, present, x):
+                if table.conflicts(asked, x[0], y[0]):
+                    continue
+                if keeps_out(present, y, row):
+                    return False
+                add(then, z, y)
+                if row == 'insert-next':
+                    add(True, (table.after(0, table.ask('insert', x[0])), INSERTED, x[2], False), NOTHING)
+            for then, z in quiet(present, x):
+                add(then, z, y)
+            if table.heir is None:
+                continue
+            if not present and x[1] <= READ and y[1] <= READ and (both := (left(x), left(y))) not in inherited:
+                inherited.add(both)
+                for there, a, b in [(there, a, b) for (there, a), others in beside.items() for b in others]:
+                    purged(there, a, b, both)
+            for both in inherited:
+                purged(present, x, y, both)
+            if sum(map(len, beside.values())) > limit:
+                return None
+        for present, x, y in [(present, x, y) for (present, x), others in beside.items() for y in others if y not in beside.get((not present, x), ())]:
+            for z in beside[present, x] & beside[present, y]:
+                if any(not table.conflicts(it, z[0], x[0]) and not table.conflicts(it, z[0], y[0]) for it, _ in alters(present, z)):
+                    add(not present, x, y)
+    return True
