@@ -36,7 +36,7 @@ use Rattle.kr_ghost.proofs.Left.{commit_sim, leave_sim, back_sim, undo_all, repl
 use Rattle.kr_ghost.proofs.Told as told
 use Rattle.kr_ghost.proofs.Known.{Known, KnownAfter, stays, goes, ends, names_map, guards}
 
-own_released : (h : Locks) (t : ℕ) (n : Name) → own (release h t) t n ≡ 0
+pub own_released : (h : Locks) (t : ℕ) (n : Name) → own (release h t) t n ≡ 0
 own_released h t n = ap (λ o. unwrap_or o 0) (find-release h t (n, t) ∙ ap (λ b. cond (not b) (find holder_cmp (n, t) h) None) (tied t))
 
 module _ (p : GhostProtocol) (opening : Map) (h : List Entry) (s : GhostState) (g : Known p opening h s) (t : ℕ) (live : has_ended s.state t ≡ false) where

@@ -26,3 +26,6 @@ pub mod AllCases
 pub mod Bundled
 pub mod Wrong
 pub mod Needed
+pub mod Formed
+pub mod FormedSteps
+pub mod FormedRuns

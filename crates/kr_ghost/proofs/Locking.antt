@@ -33,7 +33,7 @@ module _ (p : GhostProtocol) (laws : IsLawfulGhost p) where
   ask_mode Update o io = row_mode row.Update Current 0 (omega arith)
   ask_mode Revive o io = laws.revive
 
-  asks_one : (n : Name) (request : Option (ℕ × Span)) → AsksMode p.table request → AskModes p.table (request_at (Some n) request)
+  pub asks_one : (n : Name) (request : Option (ℕ × Span)) → AsksMode p.table request → AskModes p.table (request_at (Some n) request)
   asks_one n None mode = tt
   asks_one n (Some (q, span)) mode = (mode q span refl, tt)
 

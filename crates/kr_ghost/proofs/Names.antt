@@ -79,7 +79,7 @@ among_none (g ∷ ghosts) k = among_left (g == k) g k ghosts refl (among_none gh
 
 -- A write at k --
 
-among_with : (ghosts : List ℕ) (k y : ℕ) (b : Option ℕ) → y ≢ k → among (ghosts_with ghosts k b) y ≡ among ghosts y
+pub among_with : (ghosts : List ℕ) (k y : ℕ) (b : Option ℕ) → y ≢ k → among (ghosts_with ghosts k b) y ≡ among ghosts y
 among_with ghosts k y (Some v) ne = among_others ghosts k y ne
 among_with ghosts k y None ne = any_add_once (λ g. g == y) k ghosts ∙ ap (λ b. b || among ghosts y) (untied k y (λ e. ne (sym e)))
 

@@ -44,7 +44,7 @@ ghost_is None true is = (refl, refl)
 ghost_is None false is = absurd (cc)
 
 -- A changed key is found among the changes.
-changed_found : (cs : Changes) (k : ℕ) → ChangedIn cs k → is_some (find nat_cmp k cs) ≡ true
+pub changed_found : (cs : Changes) (k : ℕ) → ChangedIn cs k → is_some (find nat_cmp k cs) ≡ true
 changed_found [] k c = absurd c
 changed_found (x ∷ cs) k (inl is) = ap (λ b. is_some (cond b (Some x.1) (find nat_cmp k cs))) (ap (λ z. eq_by_cmp nat_cmp k z) (sym is) ∙ key_tie k)
 changed_found (x ∷ cs) k (inr c) = by (eq_by_cmp nat_cmp k x.0) (changed_found cs k c)

@@ -7,3 +7,4 @@ pub mod Safe
 pub mod Tables
 pub mod Needed
 pub mod Worked
+pub mod WellFormed

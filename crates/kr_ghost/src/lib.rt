@@ -4,12 +4,15 @@
 //! contract is a law. `docs/GHOSTS.md` tells the definitions.
 #![tactic(auto)]
 
-ghost use Rattle.std.specs.Prelude.{◌≡◌, ℕ, [], ◌∷◌, length};
+ghost use Rattle.std.specs.Prelude.{◌≡◌, ℕ, List, [], ◌∷◌, length};
 ghost use Rattle.kr_model.specs.declared.Name.TheVariants.{Key};
 ghost use Rattle.kr_model.specs.declared.Reply.TheVariants as reply;
 ghost use Rattle.kr_model.specs.declared.Op.TheVariants as op;
 ghost use Rattle.kr_ghost.specs.Protocol.{GhostProtocol, IsLawfulGhost};
-ghost use Rattle.kr_ghost.specs.Run.{GhostRunsAreSerial, Purge};
+ghost use Rattle.kr_model.specs.Map.{Map, IsMap};
+ghost use Rattle.kr_ghost.specs.State.{opened};
+ghost use Rattle.kr_ghost.specs.Run.{GhostRunsAreSerial, Move, Purge, run};
+ghost use Rattle.kr_ghost.specs.WellFormed.{IsGhostState};
 ghost use Rattle.kr_ghost.specs.Covers.{Rule, cases, IsCoveredGhost};
 ghost use Rattle.kr_ghost.specs.Safe.{IsSafeGhost};
 ghost use Rattle.kr_ghost.specs.Tables.{record_gap, range_ghost, next_key_ghost};
@@ -71,6 +74,14 @@ pub fn tables_go_wrong()
 /// isn't serializable in commit order.
 pub fn each_rule_is_needed()
     ensures { (rule : Rule) → IsNeeded rule }
+{}
+
+/// Every state that a run under a lawful protocol reaches is well formed. The keys of the index rise, and so do the ghosts,
+/// none of which is present. Each transaction with locks has one of the table's modes on each name that it has locked, and
+/// each locked key is a name. And each key of which a transaction has a change left is a name: no purge takes it away before
+/// the transaction ends, and so every change can be taken back.
+pub fn states_are_well_formed()
+    ensures { (p : GhostProtocol) → IsLawfulGhost p → (opening : Map) (moves : List Move) → IsMap opening → IsGhostState p (run p (opened opening) moves).last }
 {}
 
 /// Runs worked by hand, from the pairs 10, 20 and 30. Transaction 1 deletes 20 and commits, which leaves a ghost; then
