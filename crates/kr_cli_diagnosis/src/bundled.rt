@@ -8,6 +8,16 @@ use std::alloc::{AllocError, Global};
 /// The words of the bundled tables.
 const BUNDLED: [&str; 4] = ["@kvl", "@kvl-update", "@im", "@range-key"];
 
+/// Whether a word is that of a bundled table.
+pub fn is_bundled(word: &str) -> bool {
+    for name in &BUNDLED {
+        if *name == word {
+            return true;
+        }
+    }
+    false
+}
+
 /// What helps at a word that begins with `@` and names no bundled table: their names, and the nearest.
 pub fn bundled_help(alloc: Global, word: &str) -> Result<String, AllocError>
     ensures { IfOk result (λ text. IsHelp word.now [] (string_bytes text)) }

@@ -14,7 +14,7 @@ use crate::bundled::bundled_help;
 use crate::repeated::repeated_help;
 use crate::scripts::script_help;
 use crate::tables::table_help;
-use crate::unreadable::file_help;
+use crate::unreadable::{file_help, script_file_help};
 use kr_cli::{
     AnyTable, Ending, FileFault, Files, SCRIPT_BYTES, TABLE_BYTES, at_fault, at_table_fault,
     is_no_file, read_file, unreadable,
@@ -77,7 +77,7 @@ fn table_in_file<R: std::rt::Files + AllocGlobal, F: Files>(
     let alloc = rt.alloc();
     let bytes = match read_file(rt, word, files, TABLE_BYTES) {
         Ok(bytes) => bytes,
-        Err(fault) => return Err(no_file(alloc, word, fault, help)),
+        Err(fault) => return Err(no_file(alloc, word, Wanted::Table, fault, help)),
     };
     match kr_table::read(alloc, bytes.as_slice()) {
         Ok(table) => Ok(AnyTable::Read(table)),
@@ -88,8 +88,15 @@ fn table_in_file<R: std::rt::Files + AllocGlobal, F: Files>(
     }
 }
 
+/// What a word is to name.
+#[derive(Clone, Copy)]
+enum Wanted {
+    Table,
+    Script,
+}
+
 /// How a program ends at a word whose file can't be read. What helps is put behind `help`.
-fn no_file(alloc: Global, word: &str, fault: FileFault, help: &mut String) -> Ending
+fn no_file(alloc: Global, word: &str, wanted: Wanted, fault: FileFault, help: &mut String) -> Ending
     ensures line { MemoryOrTold result (λ line. line ≡ unreadable_line word.now) }
     ensures memory { fault ≡ file_fault.Memory → result ≡ ending.Memory }
     ensures other { is_output result ≡ false }
@@ -98,7 +105,11 @@ fn no_file(alloc: Global, word: &str, fault: FileFault, help: &mut String) -> En
     if fault == FileFault::Memory {
         return Ending::Memory;
     }
-    add(help, file_help(alloc, word, fault));
+    let more = match wanted {
+        Wanted::Table => file_help(alloc, word, fault),
+        Wanted::Script => script_file_help(alloc, word, fault),
+    };
+    add(help, more);
     unreadable(alloc, word)
 }
 
@@ -121,7 +132,7 @@ pub fn script_at<R: std::rt::Files + AllocGlobal, F: Files>(
     let alloc = rt.alloc();
     let bytes = match read_file(rt, word, files, SCRIPT_BYTES) {
         Ok(bytes) => bytes,
-        Err(fault) => return Err(no_file(alloc, word, fault, help)),
+        Err(fault) => return Err(no_file(alloc, word, Wanted::Script, fault, help)),
     };
     match read_script(alloc, bytes.as_slice()) {
         Ok(script) => {

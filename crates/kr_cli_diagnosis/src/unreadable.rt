@@ -2,7 +2,8 @@
 ghost use Rattle.std.specs.Prelude.{[], IfOk, string_bytes};
 ghost use Rattle.kr_cli_diagnosis.specs.Help.{IsHelp};
 
-use crate::bundled::near_help;
+use crate::bundled::{is_bundled, near_help};
+use crate::help::Help;
 use kr_cli::FileFault;
 use std::alloc::{AllocError, Global};
 
@@ -22,4 +23,17 @@ pub fn file_help(alloc: Global, word: &str, fault: FileFault) -> Result<String, 
     ensures help { IfOk result (λ text. IsHelp word.now [] (string_bytes text)) }
 {
     near_help(alloc, word, said(fault))
+}
+
+/// What helps at a word whose script can't be read: why, or that the word is that of a bundled table.
+pub fn script_file_help(alloc: Global, word: &str, fault: FileFault) -> Result<String, AllocError>
+    ensures help { IfOk result (λ text. IsHelp word.now [] (string_bytes text)) }
+{
+    let what = if is_bundled(word) {
+        "this is a bundled table, and a script is expected here"
+    } else {
+        said(fault)
+    };
+    let help = Help::of(alloc, None, what)?;
+    help.print(alloc, word, &[])
 }
