@@ -1,11 +1,12 @@
 #!/usr/bin/env python3
-"""Holds the definitions of crates/kr_ghost against a second form of them, which is written from docs alone (model.py): random
+"""Holds the definitions of crates/kr_ghost against a second form of them, by docs/GHOSTS.md (model.py): random
 tables, near the three of that crate and others, with their failed cases; and random runs under them, with replies, locks, pairs
 and ghosts. Each is written as a law of the definitions, and the prover computes both sides.
 
     compare.py [SEED [TABLES [RUNS]]]     RUNS under each table
 
-Under a table that the second form calls safe every run has to be serializable in commit order. The laws are proved in a copy of
+A table of which no case fails has to be safe by the second form, and under a table that is safe every run has to be serializable
+in commit order. The laws are proved in a copy of
 the crates, by `rt ci`. Status 1 where something differs, and then the folder that is printed has the copy."""
 
 import collections
@@ -251,13 +252,15 @@ def run_law(name, at, run, moves, replies):
 
 
 def laws(seed, tables, runs):
-    """The text of the laws, and how many runs aren't serial under a table that is safe, and what was counted."""
+    """The text of the laws, how many runs aren't serial under a safe table or accepted tables aren't safe, and what was counted."""
     rng, text, wrong, counts = random.Random(seed), [HEAD], 0, collections.Counter()
     for at in range(tables):
         table, name = some_table(rng), f't{at}'
         safe = is_safe(table)
         counts['safe' if safe else 'unsafe' if safe is False else 'too large'] += 1
-        counts['accepted'] += not failed_cases(table)[0]
+        accepted = not failed_cases(table)[0]
+        counts['accepted'] += accepted
+        wrong += accepted and safe is False
         text += [table_text(name, table), cases_law(name, table)]
         for i in range(runs):
             run, moves, replies = some_run(rng, table)
@@ -281,7 +284,7 @@ def main():
     (folder / 'printed').write_text(done.stdout + done.stderr)
     print(f'ghosts: {tables} tables, {tables * runs} runs; ' + ', '.join(f'{n} {it}' for it, n in sorted(counts.items())))
     if done.returncode or wrong:
-        print(f'ghosts: {wrong} runs under safe tables are not serial' if wrong else f'ghosts: what differs is in {folder}/printed')
+        print(f'ghosts: {wrong} runs under safe tables are not serial, or accepted tables not safe' if wrong else f'ghosts: what differs is in {folder}/printed')
         return 1
     shutil.rmtree(folder)
     return 0

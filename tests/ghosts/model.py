@@ -1,4 +1,4 @@
-"""A second form of the model with ghosts, written from docs/GHOSTS.md and docs/DEFINITIONS.md alone: the steps and purges of a
+"""A second form of the model with ghosts, by docs/GHOSTS.md and docs/DEFINITIONS.md: the steps and purges of a
 run, the cases, and which tables are safe. Modes are numbers, 0 for none; a request is a mode and whether it is kept to commit."""
 
 END = float('inf')
