@@ -11,7 +11,7 @@ use Rattle.kr_model.proofs.Tested.{and_first, and_second}
 use Rattle.kr_change.specs.declared.change.Change.{Change}
 use Rattle.kr_change.specs.declared.change.Change.TheVariants.{Request, Convert, Compatible}
 use Rattle.kr_model.specs.Words.{row_number, side_number}
-use Rattle.kr_change.specs.Changes.{changed, is_change, is_mode, is_request, is_offered, has_side, is_place, concerns, moves_keys}
+use Rattle.kr_change.specs.Changes.{changed, is_change, is_mode, is_request, is_offered, has_side, is_same_place, concerns, moves_keys}
 
 -- 0 is no mode
 none_is_not : (m : ℕ) → 0 < m → (0 == m) ≡ false
@@ -88,8 +88,8 @@ moves_by false w h = h
 -- a row that moves no key asks the same whatever is held
 no_move : (p : Protocol) (row : Row) (side : Side) (owns : Option ℕ) (one : Option (ℕ × Span)) (r : Row) (s : Side) (own : ℕ)
     → (moves_keys row || is_none owns) ≡ true → MovesNoKey r → p.ask r s own ≡ p.ask r s 0
-    → cond (is_place row side r s && concerns owns own) one (p.ask r s own) ≡ cond (is_place row side r s && concerns owns 0) one (p.ask r s 0)
-no_move p row side None one r s own by moves same = ap (λ o. cond (is_place row side r s && true) one o) same
+    → cond (is_same_place row side r s && concerns owns own) one (p.ask r s own) ≡ cond (is_same_place row side r s && concerns owns 0) one (p.ask r s 0)
+no_move p row side None one r s own by moves same = ap (λ o. cond (is_same_place row side r s && true) one o) same
 no_move p row side (Some w) one r s own by moves same =
     let apart = moves_apart row r (moves_by (moves_keys row) w by) moves in
     ap (λ t. cond ((t && (side_number side == side_number s)) && concerns (Some w) own) one (p.ask r s own)) apart
@@ -99,7 +99,7 @@ no_move p row side (Some w) one r s own by moves same =
 -- where no updates are offered, an update requests nothing
 no_update : (p : Protocol) (row : Row) (side : Side) (owns : Option ℕ) (one : Option (ℕ × Span)) (s : Side) (own : ℕ)
     → is_offered p row ≡ true → p.updates ≡ false → p.ask Update s own ≡ None
-    → cond (is_place row side Update s && concerns owns own) one (p.ask Update s own) ≡ None
+    → cond (is_same_place row side Update s && concerns owns own) one (p.ask Update s own) ≡ None
 no_update p FetchHit side owns one s own is off none = none
 no_update p FetchMiss side owns one s own is off none = none
 no_update p ScanKey side owns one s own is off none = none
@@ -123,7 +123,7 @@ changed_lawful p (Request row side owns one) laws is = record {
   convert-modes = λ h q first second. to_changed p (Request row side owns one) (p.convert h q)
       (laws.convert-modes h q (from_changed p (Request row side owns one) h first) (from_changed p (Request row side owns one) q second));
   ask-mode = λ r s own q sp low e. to_changed p (Request row side owns one) q
-      (asked_is_mode p (is_place row side r s && concerns owns own) q sp one (p.ask r s own) (and_first (is_request p one) rest is) (laws.ask-mode r s own q sp low) e);
+      (asked_is_mode p (is_same_place row side r s && concerns owns own) q sp one (p.ask r s own) (and_first (is_request p one) rest is) (laws.ask-mode r s own q sp low) e);
   ask-no_move = λ r s own moves low. no_move p row side owns one r s own (and_first (moves_keys row || is_none owns) offered more) moves (laws.ask-no_move r s own moves low);
   ask-no_update = λ s own off low. no_update p row side owns one s own (and_first (is_offered p row) (has_side row side) (and_second (moves_keys row || is_none owns) offered more)) off (laws.ask-no_update s own off low);
 }

@@ -26,8 +26,8 @@ with_mode m (Convert held requested mode) = Convert held requested m
 with_mode m (Compatible requested held is_compatible) = Compatible requested held is_compatible
 
 -- Whether two places of a table are the same.
-abbrev pub is_place : Row → Side → Row → Side → Bool
-is_place row side r s = (row_number row == row_number r) && (side_number side == side_number s)
+abbrev pub is_same_place : Row → Side → Row → Side → Bool
+is_same_place row side r s = (row_number row == row_number r) && (side_number side == side_number s)
 
 -- Whether a change is of what is requested with the own mode o on the next name: it is of all, or bit o is set.
 abbrev pub concerns : Option ℕ → ℕ → Bool
@@ -48,7 +48,7 @@ convert_after p (Compatible requested held is_compatible) h q = p.convert h q
 
 -- What is requested after a change.
 abbrev pub ask_after : Protocol → Change → Row → Side → ℕ → Option (ℕ × Span)
-ask_after p (Request row side own_next request) r s o = if is_place row side r s && concerns own_next o then request else p.ask r s o
+ask_after p (Request row side own_next request) r s o = if is_same_place row side r s && concerns own_next o then request else p.ask r s o
 ask_after p (Convert held requested mode) r s o = p.ask r s o
 ask_after p (Compatible requested held is_compatible) r s o = p.ask r s o
 

@@ -1,7 +1,7 @@
 //! A protocol with one entry changed.
 ghost use Rattle.std.specs.Prelude.{◌≡◌, ◌≤◌, IsTrue, IfSome, is_some};
 ghost use Rattle.kr_model.specs.Protocol.{IsLawful};
-ghost use Rattle.kr_change.specs.Changes.{changed, concerns, has_side, is_change, is_mode, is_offered, is_place, is_request, moves_keys};
+ghost use Rattle.kr_change.specs.Changes.{changed, concerns, has_side, is_change, is_mode, is_offered, is_same_place, is_request, moves_keys};
 
 use crate::change::Change;
 use kr_model::{Mode, Row, Side, Span};
@@ -92,8 +92,8 @@ fn is_change<P: Protocol>(protocol: &P, change: Change) -> bool
 }
 
 /// Whether two places of a table, each a row and a side, are the same. Takes no memory.
-pub fn is_place(row: Row, side: Side, other_row: Row, other_side: Side) -> bool
-    ensures { result ≡ is_place row side other_row other_side }
+pub fn is_same_place(row: Row, side: Side, other_row: Row, other_side: Side) -> bool
+    ensures { result ≡ is_same_place row side other_row other_side }
 {
     row == other_row && side == other_side
 }
@@ -202,7 +202,9 @@ impl<P: Protocol> Protocol for Changed<'_, P> {
                 own_next: modes,
                 request,
             } => {
-                if is_place(changed_row, changed_side, row, side) && concerns(modes, own_next) {
+                if is_same_place(changed_row, changed_side, row, side)
+                    && concerns(modes, own_next)
+                {
                     return request;
                 }
                 self.base.ask(row, side, own_next)

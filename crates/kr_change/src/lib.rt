@@ -10,7 +10,7 @@ mod every;
 mod names;
 
 pub use change::Change;
-pub use changed::{Changed, is_place};
+pub use changed::{Changed, is_same_place};
 pub use edits::edit_text;
 pub use entries::{conversion_text, entry_text, pair_text, place_text};
 pub use every::{changes_of, is_same_request};

@@ -37,14 +37,7 @@ impl<P: Protocol, I: Ordered, L: Holdings> Stepper<P, I, L> {
         };
         let scan = room::scan_of(&self.active, txn);
         match sight_of(&self.index, scan, touch) {
-            Some(sight) => Some(kr_plan::plan_at(
-                &self.protocol,
-                &self.locks,
-                txn,
-                sight.row,
-                sight.current,
-                sight.next,
-            )),
+            Some(sight) => Some(sight.plan(&self.protocol, &self.locks, txn)),
             None => None,
         }
     }

@@ -98,7 +98,7 @@ fn attempt_at<P: Protocol, I: Ordered, L: Holdings, T, E, F: FnOnce(&Reply) -> R
     let Some(sight) = sight_of(index, scan, touch) else {
         return Err(NotDone::NotGranted(Reply::Refused(Refusal::NoScan)));
     };
-    let plan = kr_plan::plan_at(protocol, locks, txn, sight.row, sight.current, sight.next);
+    let plan = sight.plan(protocol, locks, txn);
     if !kr_plan::granted(protocol, locks, txn, &plan) {
         return Err(NotDone::NotGranted(blocked(alloc, protocol, locks, txn, &plan)));
     }

@@ -42,6 +42,7 @@ fn looked_at(
 
 /// What an attempt answers where it is granted, by the scan in progress and the value of its key; or `Memory` where the
 /// rows of a scan that ends can't be copied.
+#[inline(always)]
 pub(crate) fn reply_at(
     alloc: Global,
     scan: Option<&Scan>,

@@ -1,12 +1,15 @@
 //! What an attempt finds in the index: the row and the names that it goes by, and the value of its key.
 ghost use Rattle.std.specs.Prelude.{◌≡◌, Option, None, Some, IfSome, IfNone, option_map, option_copied};
+ghost use Rattle.kr_model.specs.Locks.{AreWithin};
 ghost use Rattle.kr_model.specs.Map.{Map, get, at};
+ghost use Rattle.kr_model.specs.Plan.{access, plan_by};
 ghost use Rattle.kr_model.specs.State as model;
 ghost use Rattle.kr_model.specs.Step.{name_to_look};
 ghost use Rattle.kr_model.specs.declared.Name.{Name};
 ghost use Rattle.kr_model.specs.declared.Name.TheVariants as name_is;
 ghost use Rattle.kr_model.specs.declared.Row.TheVariants as row_is;
 ghost use Rattle.kr_model.specs.declared.Step.TheVariants as attempt_is;
+ghost use Rattle.kr_plan.specs.Modes.{ArePlanModes};
 ghost use Rattle.kr_txn.specs.Standings.{scan_of};
 ghost use Rattle.kr_machine.specs.Parts.{op_of_key, op_of_touch};
 ghost use Rattle.kr_machine.specs.Pending.{attempt_of};
@@ -14,7 +17,9 @@ ghost use Rattle.kr_machine.specs.Sights.{IsPairAt, IsSight};
 
 use crate::parts::{KeyTouch, Touch};
 use kr_index::{Name, Ordered};
-use kr_model::{Row, Step};
+use kr_locks::Holdings;
+use kr_model::{Plan, Row, Step, Txn};
+use kr_protocol::Protocol;
 use kr_txn::Scan;
 
 /// An attempt, with what it finds in the index.
@@ -30,6 +35,18 @@ pub(crate) struct Sight {
     pub(crate) next: Option<Name>,
     /// The value of its key, if that is present.
     pub(crate) value: Option<u64>,
+}
+
+impl Sight {
+    /// What the attempt requests under these locks.
+    #[inline(always)]
+    pub(crate) fn plan<P: Protocol, L: Holdings>(&self, protocol: &P, locks: &L, txn: Txn) -> Plan
+        requires { AreWithin (P.table protocol.now).count (L.locks locks.now) }
+        ensures plan { result ≡ plan_by (P.table protocol.now) (L.locks locks.now) txn (access self.now.row self.now.current self.now.next) }
+        ensures modes { ArePlanModes (P.table protocol.now).count result }
+    {
+        kr_plan::plan_at(protocol, locks, txn, self.row, self.current, self.next)
+    }
 }
 
 /// The value of a key, if it is present, and the name at it.
@@ -160,6 +177,7 @@ fn next_pair<I: Ordered>(index: &I, scan: &Scan) -> Option<(u64, u64)>
 }
 
 /// What is found, by the scan in progress; `None` where it is to go on with a scan and none is in progress.
+#[inline(always)]
 pub(crate) fn sight_of<I: Ordered>(index: &I, scan: Option<&Scan>, touch: Touch) -> Option<Sight>
     ensures none { IfNone result (attempt_of (I.map index.now) (option_map scan_of (option_copied scan.entry)) (op_of_touch touch) ≡ None) }
     ensures attempt { IfSome result (λ s. attempt_of (I.map index.now) (option_map scan_of (option_copied scan.entry)) (op_of_touch touch) ≡ Some s.attempt) }

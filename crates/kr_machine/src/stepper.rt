@@ -220,14 +220,7 @@ impl<P: Protocol, I: Ordered, L: Holdings> Stepper<P, I, L> {
         let Some(sight) = sight_of(&self.index, scan, touch) else {
             return Err(Reply::Refused(Refusal::NoScan));
         };
-        let plan = kr_plan::plan_at(
-            &self.protocol,
-            &self.locks,
-            txn,
-            sight.row,
-            sight.current,
-            sight.next,
-        );
+        let plan = sight.plan(&self.protocol, &self.locks, txn);
         let alloc = *self.active.allocator();
         if !kr_plan::granted(&self.protocol, &self.locks, txn, &plan) {
             match kr_plan::blockers(alloc, &self.protocol, &self.locks, txn, &plan) {

@@ -8,7 +8,7 @@ use Rattle.kr_model.specs.declared.Side.TheVariants.{Current, Next}
 use Rattle.kr_model.specs.Protocol.{Protocol}
 use Rattle.kr_model.specs.Covers.{modes}
 use Rattle.kr_model.specs.ModeNames.{name_of}
-use Rattle.kr_change.specs.Changes.{is_place}
+use Rattle.kr_change.specs.Changes.{is_same_place}
 use Rattle.kr_change.specs.ChangeNames.{place_words}
 use Rattle.kr_relax_core.specs.declared.unused.Entry.{Entry}
 use Rattle.kr_relax_core.specs.declared.unused.Entry.TheVariants as entry
@@ -19,7 +19,7 @@ use Rattle.kr_relax_text.specs.declared.unused.Group.TheVariants.{Pairs, Convers
 abbrev pub mode_in : Group → Entry → Option ℕ
 mode_in (Pairs of) (entry.Pair requested held) = if of == requested then Some held else None
 mode_in (Conversions of) (entry.Conversion held requested) = if of == held then Some requested else None
-mode_in (Requests of at) (entry.Request row side own_next) = if is_place of at row side then Some own_next else None
+mode_in (Requests of at) (entry.Request row side own_next) = if is_same_place of at row side then Some own_next else None
 mode_in _ _ = None
 
 -- Its name, behind a space.

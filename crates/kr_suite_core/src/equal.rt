@@ -2,7 +2,7 @@
 ghost use Rattle.std.specs.Prelude.{◌≡◌};
 ghost use Rattle.kr_suite_core.specs.Equal.{is_equal, is_same_bool, is_same_own};
 
-use kr_change::{Change, is_place, is_same_request};
+use kr_change::{Change, is_same_place, is_same_request};
 
 /// Whether the own modes are the same.
 fn is_same_own(own: Option<u16>, other: Option<u16>) -> bool
@@ -34,7 +34,7 @@ pub(crate) fn is_equal(one: Change, other: Change) -> bool
                 request: other_request,
             },
         ) => {
-            is_place(row, side, other_row, other_side)
+            is_same_place(row, side, other_row, other_side)
                 && (is_same_own(own_next, other_own) && is_same_request(request, other_request))
         }
         (

@@ -1,6 +1,6 @@
 -- Which causes blame an entry of a table, and the badges that say so.
 use Rattle.std.specs.Prelude.{ℕ, Bool, true, false, ◌==◌, ◌&&◌, ◌+◌, List, [], ◌∷◌, ◌++◌, Option, Some, None, codes, decimal, if◌then◌else◌}
-use Rattle.kr_change.specs.Changes.{is_place}
+use Rattle.kr_change.specs.Changes.{is_same_place}
 use Rattle.kr_change.specs.Every.{is_same_request}
 use Rattle.kr_explain_causes.specs.declared.blame.Blame.{Blame}
 use Rattle.kr_explain_causes.specs.declared.blame.Blame.TheVariants as blame
@@ -12,8 +12,8 @@ use Rattle.kr_view_table.specs.declared.badges.Entry.TheVariants as entry
 abbrev pub blames : Blame → Entry → Bool
 blames (blame.Pair requested held) (entry.Pair q h) = (requested == q) && (held == h)
 blames (blame.Conversion held requested) (entry.Conversion h q) = (held == h) && (requested == q)
-blames (blame.Place row side) (entry.Request r s asked) = is_place row side r s
-blames (blame.Request row side asked) (entry.Request r s request) = is_place row side r s && is_same_request asked request
+blames (blame.Place row side) (entry.Request r s asked) = is_same_place row side r s
+blames (blame.Request row side asked) (entry.Request r s request) = is_same_place row side r s && is_same_request asked request
 blames _ _ = false
 
 -- The badge of the cause of a number: the number, as a link to the cause.

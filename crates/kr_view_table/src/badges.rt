@@ -2,7 +2,7 @@
 ghost use Rattle.std.specs.Prelude.{◌≡◌, IfOk, string_bytes};
 ghost use Rattle.kr_view_table.specs.Badges.{badge, badge_at, badges, blames};
 
-use kr_change::{is_place, is_same_request};
+use kr_change::{is_same_place, is_same_request};
 use kr_explain_causes::Blame;
 use kr_explain_core::Explained;
 use kr_model::{Memory, Mode, Row, Side, Span};
@@ -55,7 +55,7 @@ fn blames(blame: Blame, entry: Entry) -> bool
                 side: other,
                 ..
             },
-        ) => { is_place(row, side, one, other) }
+        ) => { is_same_place(row, side, one, other) }
         (
             Blame::Request { row, side, asked },
             Entry::Request {
@@ -63,7 +63,7 @@ fn blames(blame: Blame, entry: Entry) -> bool
                 side: other,
                 asked: request,
             },
-        ) => is_place(row, side, one, other) && is_same_request(asked, request),
+        ) => is_same_place(row, side, one, other) && is_same_request(asked, request),
         _ => false,
     }
 }

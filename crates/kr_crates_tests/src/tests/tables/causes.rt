@@ -1,6 +1,6 @@
 //! What is to blame, and what mends it, for tables with one entry changed and for a table that requests nothing.
 use kr_cases::{Rejected, check};
-use kr_change::{Change, Changed, is_place, is_same_request};
+use kr_change::{Change, Changed, is_same_place, is_same_request};
 use kr_explain_causes::{Blame, causes, mends, own_next};
 use kr_model::{Cover, FailedCase, Mode, Origin, Requester, Row, Rule, Side, Span};
 use kr_protocol::{Kvl, KvlUpdate, Protocol, RangeKey};
@@ -203,9 +203,9 @@ fn taken(case: Rule, from: Origin) -> FailedCase {
 /// An insert goes by the mode that it is said to own, and a delete by its own mode on the name where its lock is.
 #[test]
 fn places_and_requests_that_are_the_same(rt: HostRuntime) {
-    assert!(rt; is_place(Row::Insert, Side::Next, Row::Insert, Side::Next));
-    assert!(rt; !is_place(Row::Insert, Side::Next, Row::Insert, Side::Current));
-    assert!(rt; !is_place(Row::Insert, Side::Next, Row::Delete, Side::Next));
+    assert!(rt; is_same_place(Row::Insert, Side::Next, Row::Insert, Side::Next));
+    assert!(rt; !is_same_place(Row::Insert, Side::Next, Row::Insert, Side::Current));
+    assert!(rt; !is_same_place(Row::Insert, Side::Next, Row::Delete, Side::Next));
     assert!(rt; is_same_request(None, None));
     assert!(rt; is_same_request(Some((3, Span::Commit)), Some((3, Span::Commit))));
     assert!(rt; !is_same_request(Some((3, Span::Commit)), Some((3, Span::Instant))));

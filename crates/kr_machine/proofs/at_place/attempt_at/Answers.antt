@@ -44,9 +44,9 @@ returns-then-not-granted-clause-not_done g c =
     let scan : option_map scan_of (option_copied c.as_ref-scan.result) ≡ (unwrap_or (find nat_cmp t es) idle).scan = ap (option_map scan_of) c.as_ref-scan.ensures.value ∙ ap (λ (z : Standing). option_map scan_of z.scan) c.index.ensures
     ∙ sym (ap (λ (x : Option Active). (unwrap_or x idle).scan) (found number_of active_of t c.args.active.now.items c.args.place at.within at.others at.here c.index.result.now)) in
     let is : attempt_of m (unwrap_or (find nat_cmp t es) idle).scan o ≡ Some c.in-Some.sight.attempt = ap (λ x. attempt_of m x o) (sym scan) ∙ c.in-Some.ensures.attempt in
-    let is_plan : c.plan_at-plan.result ≡ plan_of p m h t c.in-Some.sight.attempt = c.plan_at-plan.ensures.plan ∙ ap (plan_by p h t) c.in-Some.ensures.sight.access in (
-      is_blocked p s t c.args.touch c.requires.allowed c.in-Some.sight.attempt is c.plan_at-plan.result is_plan c.blocked.result (λ none. false≢true (sym c.if-not-granted.true ∙ c.granted.ensures.1 none)) c.blocked.ensures,
-      not_granted c.blocked.result (blockers p h t (requests c.plan_at-plan.result)) c.blocked.ensures,
+    let is_plan : c.plan-plan.result ≡ plan_of p m h t c.in-Some.sight.attempt = c.plan-plan.ensures.plan ∙ ap (plan_by p h t) c.in-Some.ensures.sight.access in (
+      is_blocked p s t c.args.touch c.requires.allowed c.in-Some.sight.attempt is c.plan-plan.result is_plan c.blocked.result (λ none. false≢true (sym c.if-not-granted.true ∙ c.granted.ensures.1 none)) c.blocked.ensures,
+      not_granted c.blocked.result (blockers p h t (requests c.plan-plan.result)) c.blocked.ensures,
     )
 
 pub do_at-requires-clause-attempt : goal.do_at-requires-clause-attempt
@@ -73,9 +73,9 @@ returns-in-Ok-clause-step g c =
     let scan : option_map scan_of (option_copied c.as_ref-scan.result) ≡ (unwrap_or (find nat_cmp t es) idle).scan = ap (option_map scan_of) c.as_ref-scan.ensures.value ∙ ap (λ (z : Standing). option_map scan_of z.scan) c.index.ensures
     ∙ sym (ap (λ (x : Option Active). (unwrap_or x idle).scan) (found number_of active_of t c.args.active.now.items c.args.place at.within at.others at.here c.index.result.now)) in
     let is : attempt_of m (unwrap_or (find nat_cmp t es) idle).scan o ≡ Some c.in-Some.sight.attempt = ap (λ x. attempt_of m x o) (sym scan) ∙ c.in-Some.ensures.attempt in
-    let is_plan : c.plan_at-plan.result ≡ plan_of p m h t c.in-Some.sight.attempt = c.plan_at-plan.ensures.plan ∙ ap (plan_by p h t) c.in-Some.ensures.sight.access in
+    let is_plan : c.plan-plan.result ≡ plan_of p m h t c.in-Some.sight.attempt = c.plan-plan.ensures.plan ∙ ap (plan_by p h t) c.in-Some.ensures.sight.access in
     let a = c.in-Some.sight.attempt in
-    at_once p s t c.args.touch c.requires.allowed a is c.plan_at-plan.result is_plan c.in_ok-reply.reply (g.I.Ordered.map c.do_at.new.index) (g.L.Holdings.locks c.do_at.new.locks) (entries c.do_at.new.active.items)
+    at_once p s t c.args.touch c.requires.allowed a is c.plan-plan.result is_plan c.in_ok-reply.reply (g.I.Ordered.map c.do_at.new.index) (g.L.Holdings.locks c.do_at.new.locks) (entries c.do_at.new.active.items)
     (c.granted.ensures.0 c.if-not-granted.false) (c.in_ok-reply.ensures.reply m c.in-Some.ensures.sight.value ∙ ap (λ x. reply_of m (rows_of x) a) scan)
     c.in-Ok.ensures.map c.in-Ok.ensures.locks c.in-Ok.ensures.active
 
@@ -92,8 +92,8 @@ returns-in-Err-clause-not_done g c =
     let scan : option_map scan_of (option_copied c.as_ref-scan.result) ≡ (unwrap_or (find nat_cmp t es) idle).scan = ap (option_map scan_of) c.as_ref-scan.ensures.value ∙ ap (λ (z : Standing). option_map scan_of z.scan) c.index.ensures
     ∙ sym (ap (λ (x : Option Active). (unwrap_or x idle).scan) (found number_of active_of t c.args.active.now.items c.args.place at.within at.others at.here c.index.result.now)) in
     let is : attempt_of m (unwrap_or (find nat_cmp t es) idle).scan o ≡ Some c.in-Some.sight.attempt = ap (λ x. attempt_of m x o) (sym scan) ∙ c.in-Some.ensures.attempt in
-    let is_plan : c.plan_at-plan.result ≡ plan_of p m h t c.in-Some.sight.attempt = c.plan_at-plan.ensures.plan ∙ ap (plan_by p h t) c.in-Some.ensures.sight.access in
+    let is_plan : c.plan-plan.result ≡ plan_of p m h t c.in-Some.sight.attempt = c.plan-plan.ensures.plan ∙ ap (plan_by p h t) c.in-Some.ensures.sight.access in
     let a = c.in-Some.sight.attempt in
-    let told : c.in_ok-reply.reply ≡ (step p s t o).0 = answers p s t c.args.touch c.requires.allowed a is c.plan_at-plan.result is_plan c.in_ok-reply.reply (c.granted.ensures.0 c.if-not-granted.false) (c.in_ok-reply.ensures.reply m c.in-Some.ensures.sight.value ∙ ap (λ x. reply_of m (rows_of x) a) scan) in
+    let told : c.in_ok-reply.reply ≡ (step p s t o).0 = answers p s t c.args.touch c.requires.allowed a is c.plan-plan.result is_plan c.in_ok-reply.reply (c.granted.ensures.0 c.if-not-granted.false) (c.in_ok-reply.ensures.reply m c.in-Some.ensures.sight.value ∙ ap (λ x. reply_of m (rows_of x) a) scan) in
     let granted : is_granted (step p s t o).0 ≡ true = sym (ap is_granted told) ∙ c.in_ok-reply.ensures.granted in
     lacks_or_declined p s t o _ _ c.in-Err.why (lacks_memory p s t c.args.touch c.requires.allowed) granted (λ e is. subst (λ r. FnOnceReturnsAt g.F.FnOnce c.args.accept r (Err e)) told is) c.in-Err.ensures.not_done

@@ -27,8 +27,8 @@ returns-in-Ok-clause-refusal g c =
     (subst (λ x. refusal_of (g.P.Protocol.table c.args.self.now.protocol) x c.args.txn (op_of_touch c.args.touch) ≡ None) (sym same) c.requires.allowed) in
     let scan : option_map scan_of (option_copied c.scan_of-scan.result) ≡ (standing s c.args.txn).scan = c.scan_of-scan.ensures ∙ ap (λ xs. (unwrap_or (find nat_cmp c.args.txn (entries xs)) idle).scan) c.deref.ensures.value in
     let asks : attempt_of m (standing s c.args.txn).scan (op_of_touch c.args.touch) ≡ Some c.in-Some.sight.attempt = ap (λ x. attempt_of m x (op_of_touch c.args.touch)) (sym scan) ∙ c.in-Some.ensures.attempt in
-    let is_plan : c.plan_at-plan.result ≡ plan_of p m h c.args.txn c.in-Some.sight.attempt = c.plan_at-plan.ensures.plan ∙ ap (plan_by p h c.args.txn) c.in-Some.ensures.sight.access in
-    let blocked = blocked_step p s c.args.txn c.args.touch c.in-Some.sight.attempt c.plan_at-plan.result c.from_vec.result allowed asks is_plan (c.from_vec.ensures ∙ c.in-Ok.ensures) (λ none. false≢true (sym c.if-not-granted.true ∙ c.granted.ensures.1 none)) in
+    let is_plan : c.plan-plan.result ≡ plan_of p m h c.args.txn c.in-Some.sight.attempt = c.plan-plan.ensures.plan ∙ ap (plan_by p h c.args.txn) c.in-Some.ensures.sight.access in
+    let blocked = blocked_step p s c.args.txn c.args.touch c.in-Some.sight.attempt c.plan-plan.result c.from_vec.result allowed asks is_plan (c.from_vec.ensures ∙ c.in-Ok.ensures) (λ none. false≢true (sym c.if-not-granted.true ∙ c.granted.ensures.1 none)) in
     subst (λ q. IsStep (g.P.Protocol.table q) c.args.self.now.state c.args.txn (op_of_touch c.args.touch) (reply.Blocked c.from_vec.result) c.args.self.now.state) (ap (λ v. v.protocol) c.self.view_is)
     (subst (λ x. IsStep p x c.args.txn (op_of_touch c.args.touch) (reply.Blocked c.from_vec.result) x) same (inl blocked))
 
@@ -54,10 +54,10 @@ returns-in-Ok-reserve-clause-reply g c =
     (subst (λ x. refusal_of (g.P.Protocol.table c.args.self.now.protocol) x c.args.txn (op_of_touch c.args.touch) ≡ None) (sym same) c.requires.allowed) in
     let scan : option_map scan_of (option_copied c.scan_of-scan.result) ≡ (standing s c.args.txn).scan = c.scan_of-scan.ensures ∙ ap (λ xs. (unwrap_or (find nat_cmp c.args.txn (entries xs)) idle).scan) c.deref.ensures.value in
     let asks : attempt_of m (standing s c.args.txn).scan (op_of_touch c.args.touch) ≡ Some c.in-Some.sight.attempt = ap (λ x. attempt_of m x (op_of_touch c.args.touch)) (sym scan) ∙ c.in-Some.ensures.attempt in
-    let is_plan : c.plan_at-plan.result ≡ plan_of p m h c.args.txn c.in-Some.sight.attempt = c.plan_at-plan.ensures.plan ∙ ap (plan_by p h c.args.txn) c.in-Some.ensures.sight.access in
+    let is_plan : c.plan-plan.result ≡ plan_of p m h c.args.txn c.in-Some.sight.attempt = c.plan-plan.ensures.plan ∙ ap (plan_by p h c.args.txn) c.in-Some.ensures.sight.access in
     c.in-Ok-reply_at.ensures.reply m c.in-Some.ensures.sight.value
     ∙ ap (λ x. reply_of m (rows_of x) c.in-Some.sight.attempt) scan
-    ∙ granted_reply p s c.args.txn c.args.touch c.in-Some.sight.attempt c.plan_at-plan.result allowed asks is_plan (c.granted.ensures.0 c.if-not-granted.false)
+    ∙ granted_reply p s c.args.txn c.args.touch c.in-Some.sight.attempt c.plan-plan.result allowed asks is_plan (c.granted.ensures.0 c.if-not-granted.false)
     ∙ ap (λ x. (step p x c.args.txn (op_of_touch c.args.touch)).0) same ∙ ap (λ v. (step (g.P.Protocol.table v.protocol) c.args.self.now.state c.args.txn (op_of_touch c.args.touch)).0) c.self.view_is
 
 pub returns-in-Err-clause-refusal : goal.returns-in-Err-clause-refusal
