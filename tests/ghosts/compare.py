@@ -24,6 +24,7 @@ from model import END, READS, Run, Table, failed_cases, is_safe
 TOP = pathlib.Path(__file__).resolve().parents[2]
 OPENING = [(10, 1), (20, 2), (30, 3)]
 KEYS = (10, 12, 15, 20, 25, 30, 35)
+ACCESSES = {'fetch-hit': 'Fetch', 'scan-key': 'Scan', 'delete': 'Delete', 'update': 'Update', 'revive': 'Revive', 'insert-next': 'Insert'}
 OPS = {'fetch': 4, 'insert': 5, 'delete': 5, 'update': 2, 'scan': 3, 'go': 5, 'commit': 2, 'abort': 1, 'back': 2}
 HEAD = """-- Random tables and runs.
 use Rattle.std.specs.Prelude.{◌≡◌, ℕ, ◌==◌, true, false, [], ◌∷◌, List, Option, Some, None, length, map, refl, slice_index_or}
@@ -39,7 +40,11 @@ use Rattle.kr_model.specs.declared.Span.{Span}
 use Rattle.kr_model.specs.Matrices.{ok_by, convert_by, for_commit, at_once}
 use Rattle.kr_ghost.specs.Protocol.{GhostProtocol, Unlocked, Inherit}
 use Rattle.kr_ghost.specs.Run.{Purge}
-use Rattle.kr_ghost.specs.Covers.{Rule, Conversion, FetchHit, FetchMiss, ScanName, ScanStop, Insert, Split, Delete, Update, Revive, Heir, cases, failed_cases}
+use Rattle.kr_ghost.specs.declared.cases.Rule.{Rule}
+use Rattle.kr_ghost.specs.declared.cases.Rule.TheVariants as rule
+use Rattle.kr_ghost.specs.declared.cases.Access.TheVariants as access
+use Rattle.kr_ghost.specs.declared.cases.Requester.{Requester}
+use Rattle.kr_ghost.specs.Covers.{requester, cases, failed_cases}
 use Rattle.kr_ghost.specs.Worked.{by, shown}
 
 abbrev Asked : Type 0
@@ -231,12 +236,12 @@ def move_text(move):
 
 def cases_law(name, table):
     failed, count = failed_cases(table)
-    found = listed(f'({rule}, {mode})' for rule, mode in failed)
+    found = listed(f'((rule.{rule}, {mode}), requester access.{ACCESSES[row]} {own})' for rule, _, _, mode, (row, own) in failed)
     return f"""
 {name}-count : length (cases {name}) ≡ {count}
 {name}-count = refl
 
-{name}-failed : map {{B = Rule × ℕ}} (λ f. (f.rule, f.mode)) (failed_cases {name}) ≡ {found}
+{name}-failed : map {{B = (Rule × ℕ) × Requester}} (λ f. ((f.rule, f.mode), f.«open»)) (failed_cases {name}) ≡ {found}
 {name}-failed = refl
 """
 

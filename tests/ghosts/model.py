@@ -201,29 +201,60 @@ def whole(index, op):
 # Cases --
 
 
-def serving(table):
-    """Whether a mode serves a cover."""
-    modes = range(table.count + 1)
-    closed = lambda row, held: all(table.conflicts(table.ask(row, own if row == 'insert-next' else 0), own, held) for own in modes)
-    changes = ('delete', 'revive', 'update') if table.updates else ('delete', 'revive')
-    rows = {'ReadKey': changes, 'ReadGap': ('insert-next',), 'ChangedKey': ('fetch-hit', 'scan-key', *changes)}
-    return {(cover, held): all(closed(row, held) for row in list_) for cover, list_ in rows.items() for held in modes}
+ACCESSES = {  # what a lock with the cover has to conflict with: rows, and the places of the report
+    'ReadKey': ('delete', 'revive', 'update'),
+    'ReadGap': ('insert-next',),
+    'ChangedKey': ('fetch-hit', 'scan-key', 'delete', 'revive', 'update'),
+}
+
+
+def first_open(table, cover, held):
+    """The first requester that a lock in this mode lets through, of those that the cover must conflict with: its row, and its mode."""
+    for row in ACCESSES[cover]:
+        if row != 'update' or table.updates:
+            for own in range(table.count + 1):
+                if not table.conflicts(table.ask(row, own if row == 'insert-next' else 0), own, held):
+                    return row, own
+    return None
 
 
 def failed_cases(table):
-    """The cases that fail, in order, each as its rule and the mode that doesn't serve."""
-    serves = serving(table)
+    """The cases that fail, in order, each as its rule, its cover, the modes that it is taken at, the mode that doesn't serve, and
+    the first requester that this lets through; and how many cases there are."""
+    open_ = {(cover, held): first_open(table, cover, held) for cover in ACCESSES for held in range(table.count + 1)}
+    serves = {it: found is None for it, found in open_.items()}
     modes, or_none = range(1, table.count + 1), range(table.count + 1)
-    cases = [('Conversion', cover, serves[cover, h], table.convert[h][q]) for cover in ('ReadKey', 'ReadGap', 'ChangedKey') for h in modes for q in modes]
-    row = lambda rule, cover, name: [(rule, cover, True, table.after(own, table.ask(name))) for own in or_none]
+    cases = [('Conversion', cover, (h, q), serves[cover, h], table.convert[h][q]) for cover in ACCESSES for h in modes for q in modes]
+    row = lambda rule, cover, name: [(rule, cover, (own,), True, table.after(own, table.ask(name))) for own in or_none]
     cases += row('FetchHit', 'ReadKey', 'fetch-hit') + row('FetchMiss', 'ReadGap', 'fetch-miss')
     cases += row('ScanName', 'ReadKey', 'scan-key') + row('ScanName', 'ReadGap', 'scan-key') + row('ScanStop', 'ReadGap', 'scan-stop')
     new = lambda n: table.after(0, table.ask('insert', n))
-    cases += [('Insert', 'ChangedKey', True, new(n)) for n in or_none] + [('Split', 'ReadGap', serves['ReadGap', n], new(n)) for n in or_none]
+    cases += [('Insert', 'ChangedKey', (n, 0), True, new(n)) for n in or_none]
+    cases += [('Split', 'ReadGap', (n, 0), serves['ReadGap', n], new(n)) for n in or_none]
     cases += row('Delete', 'ChangedKey', 'delete') + (row('Update', 'ChangedKey', 'update') if table.updates else []) + row('Revive', 'ChangedKey', 'revive')
     if table.heir:
-        cases += [('Heir', 'ReadGap', serves['ReadKey', h] or serves['ReadGap', h], table.convert[n][table.heir[h]]) for h in modes for n in or_none]
-    return [(rule, mode) for rule, cover, due, mode in cases if due and not serves[cover, mode]], len(cases)
+        heir = lambda h, n: table.convert[n][table.heir[h]]
+        cases += [('Heir', 'ReadGap', (n, h), serves['ReadKey', h] or serves['ReadGap', h], heir(h, n)) for h in modes for n in or_none]
+    failed = [(rule, cover, from_, mode, open_[cover, mode]) for rule, cover, from_, due, mode in cases if due and not serves[cover, mode]]
+    return failed, len(cases)
+
+
+RULES = ('Conversion', 'FetchHit', 'FetchMiss', 'ScanName', 'ScanStop', 'Insert', 'Split', 'Delete', 'Update', 'Revive', 'Heir')
+COVERS = {'ReadKey': 'RK', 'ReadGap': 'RG', 'ChangedKey': 'CK'}
+
+
+def check_report(table, names):
+    """What `kr check` prints of a table whose modes have these names, `none` first."""
+    failed, count = failed_cases(table)
+    report = {'accepted': not failed, 'cases': count}
+    if failed:
+        report['failed'] = []
+    for rule, cover, from_, mode, (row, own) in failed:
+        place = ['insert', 'next', names[own], names[own]] if row == 'insert-next' else [row, 'current', names[own], names[0]]
+        report['failed'].append(
+            {'case': f'G{RULES.index(rule) + 1}', 'cover': COVERS[cover], 'from': [names[it] for it in from_], 'mode': names[mode], 'open': place}
+        )
+    return {**report, 'modes': table.count}
 
 
 # Safe --

@@ -10,10 +10,13 @@ use Rattle.kr_cli.specs.declared.tables.AnyTable.{AnyTable}
 use Rattle.kr_cli.specs.Endings.{MemoryOrTold, line_of}
 use Rattle.kr_cli.specs.Files.{MayBeScript}
 use Rattle.kr_cli.specs.Lines.{HasNoLineFeed, told_line, unreadable_line, script_fault_text}
-use Rattle.kr_cli.specs.Named.{NamesTable, TellsNoTable, TellsUnreadable, TellsNoScript}
-use Rattle.kr_cli.proofs.OneLine.{none_above, none_in_no_table, none_in_no_script}
+use Rattle.kr_cli.specs.Named.{NamesTable, TellsUnreadable, TellsNoScript}
+use Rattle.kr_cli.proofs.OneLine.{none_above, none_in_no_script, told_has_no_line_feed}
+use Rattle.kr_cli_ghost.specs.declared.tables.AnyGhostTable.{AnyGhostTable}
+use Rattle.kr_cli_ghost.specs.Named.{NamesGhosts, TellsNone}
+use Rattle.kr_cli_ghost.proofs.OneLine.{none_in_none}
 use Rattle.kr_batch.specs.Names.{IsFirst, HasFault}
-use Rattle.kr_cli_kr.specs.Program.{Unreported, TellsFirst, TellsTask, Ends}
+use Rattle.kr_cli_kr.specs.Program.{Unreported, IsToldOnlyChecked, TellsFirst, TellsTask, Ends}
 use Rattle.kr_cli_kr.specs.Words.{AreWords}
 use Rattle.kr_cli_kr.specs.declared.tasks.Task.{Task}
 use Rattle.kr_cli_kr.specs.declared.tasks.Task.TheVariants.{Check, Run, Judge, Threads}
@@ -92,7 +95,7 @@ unread may_give words e (inl memory) = let P : Ending → Type 0 = λ x. Ends ma
 unread may_give words e (inr not_understood) = let P : Ending → Type 0 = λ x. Ends may_give words x in subst P (sym not_understood) tt
 
 -- the word of a table names none
-pub no_table : (may_give : List ℕ → Option (List ℕ) → Type 0) (words : List (List ℕ)) (table : List ℕ) (task : Task) (e : Ending) → AreWords words table task → MemoryOrTold e (TellsNoTable may_give table) → Ends may_give words e
+pub no_table : (may_give : List ℕ → Option (List ℕ) → Type 0) (words : List (List ℕ)) (table : List ℕ) (task : Task) (e : Ending) → AreWords words table task → MemoryOrTold e (TellsNone may_give table) → Ends may_give words e
 no_table may_give words table task NotUnderstood ask told = tt
 no_table may_give words table task Memory ask told = tt
 no_table may_give words table task Place ask told = tt
@@ -105,11 +108,23 @@ ends_at may_give words table task t NotUnderstood ask names ends = tt
 ends_at may_give words table task t Memory ask names ends = tt
 ends_at may_give words table task t Place ask names ends = tt
 ends_at may_give words table task t Output ask names ends = tt
-ends_at may_give words table task t (Told line) ask names ends = (table, (task, (ask, inr (t, (names, ends)))))
+ends_at may_give words table task t (Told line) ask names ends = (table, (task, (ask, inr (inr (t, (names, ends))))))
 
 pub task_ends : (may_give : List ℕ → Option (List ℕ) → Type 0) (words : List (List ℕ)) (r : Result Bool Ending) (table : List ℕ) (task : Task) (t : AnyTable) → AreWords words table task → NamesTable may_give table t → IfErr r (Unreported (TellsTask may_give task)) → IfErr r (Ends may_give words)
 task_ends may_give words (Ok well) table task t ask names ends = tt
 task_ends may_give words (Err e) table task t ask names ends = ends_at may_give words table task t e ask names ends
+
+-- the word names a table with ghosts, and what is asked isn't its check
+only_checked_at : (may_give : List ℕ → Option (List ℕ) → Type 0) (words : List (List ℕ)) (table : List ℕ) (task : Task) (t : AnyGhostTable) (e : Ending) → AreWords words table task → NamesGhosts may_give table t → Unreported (IsToldOnlyChecked table task) e → Ends may_give words e
+only_checked_at may_give words table task t NotUnderstood ask names ends = tt
+only_checked_at may_give words table task t Memory ask names ends = tt
+only_checked_at may_give words table task t Place ask names ends = tt
+only_checked_at may_give words table task t Output ask names ends = tt
+only_checked_at may_give words table task t (Told line) ask names ends = (table, (task, (ask, inr (inl (t, (names, ends))))))
+
+pub only_checked : (may_give : List ℕ → Option (List ℕ) → Type 0) (words : List (List ℕ)) (r : Result Bool Ending) (table : List ℕ) (task : Task) (t : AnyGhostTable) → AreWords words table task → NamesGhosts may_give table t → IfErr r (Unreported (IsToldOnlyChecked table task)) → IfErr r (Ends may_give words)
+only_checked may_give words (Ok well) table task t ask names ends = tt
+only_checked may_give words (Err e) table task t ask names ends = only_checked_at may_give words table task t e ask names ends
 
 -- The line has no line feed --
 
@@ -124,5 +139,6 @@ none_in_line may_give words NotUnderstood ends = none_above (codes "words not un
 none_in_line may_give words Memory ends = none_above (codes "out of memory") refl
 none_in_line may_give words Place ends = none_above (codes "place refused") refl
 none_in_line may_give words Output ends = none_above (codes "output: cannot be written") refl
-none_in_line may_give words (Told line) (table, (task, (ask, inl tells))) = none_in_no_table may_give table (string_bytes line) tells
-none_in_line may_give words (Told line) (table, (task, (ask, inr (t, (names, tells))))) = none_in_task may_give task (string_bytes line) tells
+none_in_line may_give words (Told line) (table, (task, (ask, inl tells))) = none_in_none may_give table (string_bytes line) tells
+none_in_line may_give words (Told line) (table, (task, (ask, inr (inl (t, (names, (other, is))))))) = subst HasNoLineFeed (sym is) (told_has_no_line_feed table _)
+none_in_line may_give words (Told line) (table, (task, (ask, inr (inr (t, (names, tells)))))) = none_in_task may_give task (string_bytes line) tells

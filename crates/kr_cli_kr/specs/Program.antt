@@ -1,5 +1,5 @@
 -- What the program writes of the task that words ask for, under the table and of the scripts that they name, and why it ends without that. What files may give is a relation of words to bytes, or to none.
-use Rattle.std.specs.Prelude.{◌≡◌, ℕ, Bool, true, false, List, Option, ◌↔◌, ◌⊎◌, IsTrue, All, map, string_bytes}
+use Rattle.std.specs.Prelude.{◌≡◌, ◌≢◌, ℕ, Bool, true, false, List, Option, ◌↔◌, ◌⊎◌, IsTrue, All, codes, map, string_bytes}
 use Rattle.std.specs.Io.KnownBytes.{Appends}
 use Rattle.kr_model.specs.Protocol.{Protocol, IsLawful}
 use Rattle.kr_model.specs.Covers.{IsCovered}
@@ -8,11 +8,17 @@ use Rattle.kr_cli.specs.declared.endings.Ending.{Ending}
 use Rattle.kr_cli.specs.declared.endings.Ending.TheVariants.{NotUnderstood, Memory, Place, Output, Told}
 use Rattle.kr_cli.specs.declared.tables.AnyTable.{AnyTable}
 use Rattle.kr_cli.specs.Files.{MayBeScript}
-use Rattle.kr_cli.specs.Named.{NamesTable, TellsNoTable, NamesScript, TellsNoScript}
+use Rattle.kr_cli.specs.Lines.{told_line}
+use Rattle.kr_cli.specs.Named.{NamesTable, NamesScript, TellsNoScript}
 use Rattle.kr_cli.specs.Tables.{table_of, names_of}
+use Rattle.kr_ghost.specs.Protocol.{IsLawfulGhost}
+use Rattle.kr_ghost.specs.Covers.{IsCoveredGhost}
+use Rattle.kr_cli_ghost.specs.declared.tables.AnyGhostTable.{AnyGhostTable}
+use Rattle.kr_cli_ghost.specs.Named.{NamesGhosts, TellsNone}
+use Rattle.kr_cli_ghost.specs.Tables as ghost
 use Rattle.kr_batch.specs.Names.{AreNamed, IsFirst}
 use Rattle.kr_cli_kr.specs.Runs.{report_line, IsSerialScript}
-use Rattle.kr_cli_kr.specs.Checks.{check_line}
+use Rattle.kr_cli_kr.specs.Checks.{check_line, ghost_check_line}
 use Rattle.kr_cli_kr.specs.Judges.{judge_lines}
 use Rattle.kr_cli_kr.specs.Threads.{threads_line}
 use Rattle.kr_cli_kr.specs.Words.{AreWords}
@@ -46,6 +52,20 @@ pub record Answers (may_give : List ℕ → Option (List ℕ) → Type 0) (words
   pub lawful : IsLawful (table_of named)
   pub reports : Reports may_give (table_of named) (names_of named) task old new well
 
+-- The whole report of the check that these words ask for was written, of the lawful table with ghosts that one of them names, and the answer is whether it is accepted.
+pub record ChecksGhosts (may_give : List ℕ → Option (List ℕ) → Type 0) (words : List (List ℕ)) (old new : Option (List ℕ)) (well : Bool) : Type 0 where
+  pub table : List ℕ
+  pub named : AnyGhostTable
+  pub ask : AreWords words table Check
+  pub names : NamesGhosts may_give table named
+  pub lawful : IsLawfulGhost (ghost.ghosts_of named)
+  pub reports : Appends old new (ghost_check_line (ghost.ghosts_of named) (ghost.names_of named))
+  pub accepted : IsTrue well ↔ IsCoveredGhost (ghost.ghosts_of named)
+
+-- The whole report that these words ask for was written, of a table without ghosts or with them.
+abbrev pub Does : (List ℕ → Option (List ℕ) → Type 0) → List (List ℕ) → Option (List ℕ) → Option (List ℕ) → Bool → Type 0
+Does may_give words old new well = Answers may_give words old new well ⊎ ChecksGhosts may_give words old new well
+
 -- A task ends without its report, or with a prefix of it: for memory, a place or output, or with a line that is told of a word, of which this holds.
 abbrev pub Unreported : (List ℕ → Type 0) → Ending → Type 0
 Unreported P NotUnderstood = ⊥
@@ -65,10 +85,19 @@ TellsTask may_give (Run word) = TellsNoScript may_give word.now
 TellsTask may_give (Judge words) = TellsFirst may_give (map (λ w. w.now) words.items)
 TellsTask may_give (Threads word workers) = TellsNoScript may_give word.now
 
--- The line tells why the word of a table names none; or why a word of a task names no script, where that of the table names one.
+-- The task isn't a check, and the line tells that a table with ghosts is only checked.
+abbrev pub IsToldOnlyChecked : List ℕ → Task → List ℕ → Type 0
+IsToldOnlyChecked word task line = (task ≢ Check) × (line ≡ told_line word (codes "only check takes a table with ghosts"))
+
+-- The word names a table with ghosts, and what the words ask isn't its check.
+abbrev pub TellsOnlyChecked : (List ℕ → Option (List ℕ) → Type 0) → List ℕ → Task → List ℕ → Type 0
+TellsOnlyChecked may_give table task line = (t : AnyGhostTable) × (NamesGhosts may_give table t × IsToldOnlyChecked table task line)
+
+-- The line tells why the word of a table names none, or that a table with ghosts is only checked; or why a word of a task names no script, where that of the table names one.
 abbrev pub TellsWord : (List ℕ → Option (List ℕ) → Type 0) → List ℕ → Task → List ℕ → Type 0
 TellsWord may_give table task line =
-    TellsNoTable may_give table line ⊎ ((t : AnyTable) × (NamesTable may_give table t × TellsTask may_give task line))
+    TellsNone may_give table line
+    ⊎ (TellsOnlyChecked may_give table task line ⊎ ((t : AnyTable) × (NamesTable may_give table t × TellsTask may_give task line)))
 
 -- Why the program ends without the report that these words ask for, or with a prefix of it. A line is told of a word of a task that they ask for.
 abbrev pub Ends : (List ℕ → Option (List ℕ) → Type 0) → List (List ℕ) → Ending → Type 0

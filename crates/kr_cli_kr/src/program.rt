@@ -12,13 +12,13 @@ ghost use Rattle.kr_cli.specs.declared.endings.Ending.TheVariants as ending;
 ghost use Rattle.kr_batch.specs.Names.{AreNamed, ExplainsNames};
 ghost use Rattle.kr_cli_kr.specs.Runs.{report_line, IsSerialScript};
 ghost use Rattle.kr_cli_kr.specs.Judges.{judge_lines};
-ghost use Rattle.kr_cli_kr.specs.Program.{Answers, Ends, Reports, TellsFirst, TellsTask, ThreadsReported, Unreported};
+ghost use Rattle.kr_cli_kr.specs.Program.{Does, Ends, Reports, TellsFirst, TellsTask, ThreadsReported, Unreported};
 ghost use Rattle.kr_cli_kr.specs.Threads.{threads_line};
 ghost use Rattle.kr_report.specs.declared.threaded.Threaded.{Threaded};
 ghost use Rattle.kr_threads.specs.Threaded.{IsThreaded};
 ghost use Rattle.kr_cli_kr.specs.declared.faults.OverFault.TheVariants as fault;
 
-use crate::checks::{check_over, write_check};
+use crate::checks::{check_asked, check_over, write_check};
 use crate::faults::OverFault;
 use crate::judges::{LinesFault, judge_over};
 use crate::runs::run_over;
@@ -28,9 +28,9 @@ use crate::words::read_words;
 use kr_batch::{JudgeFault, TextFault, Texts};
 use kr_cases::{Rejected, WhyRejected, check};
 use kr_cli::{
-    Ending, FileFault, Files, SCRIPT_BYTES, at_fault, finish, read_file, table_at, unreadable,
-    whole,
+    Ending, FileFault, Files, SCRIPT_BYTES, at_fault, finish, read_file, unreadable, whole,
 };
+use kr_cli_ghost::{Named, named_at};
 use kr_protocol::{Covered, Protocol};
 use kr_sink::Sink;
 use std::alloc::Global;
@@ -235,7 +235,7 @@ where
 }
 
 /// Does what the words ask under the table that the word of it names, and answers whether the table is accepted, or each run
-/// is serializable. Scripts are read only where that word names a table.
+/// is serializable. A table with ghosts is only checked. Scripts are read only where that word names a table without them.
 fn ask<R: std::rt::Files + AllocGlobal + Threads + Wait + Sync, F: Files + Sync, W: Sink>(
     rt: &R,
     words: &[String],
@@ -245,14 +245,16 @@ fn ask<R: std::rt::Files + AllocGlobal + Threads + Wait + Sync, F: Files + Sync,
 where
     R::File: Send + Sync,
     R::Dir: Send + Sync,
-    ensures answers { IfOk result (Answers (F.may_give files.now) (map string_bytes words.now) (W.taken out.old) (W.taken out.new)) }
+    ensures answers { IfOk result (Does (F.may_give files.now) (map string_bytes words.now) (W.taken out.old) (W.taken out.new)) }
     ensures err { IfErr result (Ends (F.may_give files.now) (map string_bytes words.now)) }
     ensures nothing { IfErr result (λ e. IsTrue (is_output e) ⊎ (out.new ≡ out.old)) }
     ensures cause { IfErr result (λ e. IsTrue (is_output e) → HasCause (W.failures out.old) (W.failures out.new)) }
 {
     let asked = read_words(rt.alloc(), words)?;
-    let table = table_at(rt, asked.table, files)?;
-    under(rt, table, &asked.task, files, out)
+    match named_at(rt, asked.table, files)? {
+        Named::Table(table) => under(rt, table, &asked.task, files, out),
+        Named::Ghosts(table) => check_asked(rt.alloc(), &table, &asked, out),
+    }
 }
 
 /// Runs the program on words without its own name, and answers its status: 0 where it accepted a table or each run was
@@ -271,8 +273,8 @@ where
     R::File: Send + Sync,
     R::Dir: Send + Sync,
     ensures within { result ≤ 2 }
-    ensures accepts { result ≡ 0 → Answers (F.may_give files.now) (map string_bytes words.now) (W.taken out.old) (W.taken out.new) true }
-    ensures refuses { result ≡ 1 → Answers (F.may_give files.now) (map string_bytes words.now) (W.taken out.old) (W.taken out.new) false }
+    ensures accepts { result ≡ 0 → Does (F.may_give files.now) (map string_bytes words.now) (W.taken out.old) (W.taken out.new) true }
+    ensures refuses { result ≡ 1 → Does (F.may_give files.now) (map string_bytes words.now) (W.taken out.old) (W.taken out.new) false }
     ensures fault { result ≡ 2 → HasCause (W.failures out.old) (W.failures out.new) ⊎ (out.new ≡ out.old) }
     ensures told { result ≡ 2 → (e : Ending) × (Ends (F.may_give files.now) (map string_bytes words.now) e
         × AppendsFront (E.taken err.old) (E.taken err.new) (ending_line NAME.now e)) }

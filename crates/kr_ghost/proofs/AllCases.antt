@@ -11,7 +11,9 @@ use Rattle.kr_model.specs.Covers.{mode_after}
 use Rattle.kr_model.proofs.Keep.{kept_mode}
 use Rattle.kr_ghost.specs.Protocol.{GhostProtocol, IsLawfulGhost, Purges, Inherit, IsLawfulPurge}
 use Rattle.kr_ghost.specs.Run.{GhostRunsAreSerial}
-use Rattle.kr_ghost.specs.Covers.{Cover, ReadKey, ReadGap, ChangedKey, serves, IsCoveredGhost}
+use Rattle.kr_ghost.specs.declared.cases.Cover.{Cover}
+use Rattle.kr_ghost.specs.declared.cases.Cover.TheVariants.{ReadKey, ReadGap, ChangedKey}
+use Rattle.kr_ghost.specs.Covers.{serves, IsCoveredGhost}
 use Rattle.kr_ghost.specs.Safe.{KeyUse, Free, Read, Inserted, Updated, Deleted, Several, Hold, free, is_changed, is_read, Ask, FetchHit, FetchMiss, ScanName, ScanStop, Insert, Delete, Update, Revive, asked, keeps_out, MayAsk, is_blocked, and_read, after, on_new_key, rolled, Undone, insert, update, delete, to_insert, to_update, to_delete, to_several, Quiet, commit, leave, roll, undo, inherits, Beside, start, turn, ask, quiet, third_asks, third_undoes, new, purge, IsSafeGhost}
 use Rattle.kr_ghost.proofs.Serving.{Serves, Covered, Inherits, covered, weaken as serves_read, no_delete, no_revive, no_update, no_insert, no_fetch, no_scan}
 use Rattle.kr_ghost.proofs.Grants.{AsksMode, open_none}

@@ -17,7 +17,7 @@ use Rattle.kr_theorem.proofs.gaps.Maps.{has_none, has_some}
 use Rattle.kr_ghost.specs.Protocol.{GhostProtocol}
 use Rattle.kr_ghost.specs.State.{GhostState, named, among, stand_by, stand, ghosts_with}
 use Rattle.kr_ghost.specs.Step.{keyed_requests, insert_requests, granted_or_blocked, performed}
-use Rattle.kr_ghost.specs.Covers.{ReadKey}
+use Rattle.kr_ghost.specs.declared.cases.Cover.TheVariants.{ReadKey}
 use Rattle.kr_ghost.specs.Safe.{KeyUse, Inserted, Updated, Deleted, Hold, is_read, is_changed, FetchHit, FetchMiss, ScanStop, Insert, Delete, Update, Revive, keeps_out, and_read, and_changed}
 use Rattle.kr_ghost.proofs.Names.{has-named, present_named, ghost_named, written_names, updated_names, or_first}
 use Rattle.kr_ghost.proofs.Holding.{Protects}

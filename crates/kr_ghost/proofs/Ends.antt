@@ -29,7 +29,7 @@ use Rattle.kr_ghost.specs.Step.{performed, one_taken_back}
 use Rattle.kr_ghost.proofs.Names.{IsMap-named, written_names, restored_names}
 use Rattle.kr_ghost.proofs.Guarded.{Guarded, end_step, back_step}
 use Rattle.kr_ghost.proofs.Invariant.{Invariant, commit_keeps, abort_keeps, back_keeps}
-use Rattle.kr_ghost.specs.Covers.{ChangedKey}
+use Rattle.kr_ghost.specs.declared.cases.Cover.TheVariants.{ChangedKey}
 use Rattle.kr_ghost.proofs.Holding.{Holds, Protects, olds, Fits, some_olds, fits_some}
 use Rattle.kr_ghost.proofs.Sim.{Sim}
 use Rattle.kr_ghost.proofs.Left.{commit_sim, leave_sim, back_sim, undo_all, replaced}

@@ -7,7 +7,8 @@ use Rattle.kr_model.specs.declared.Name.TheVariants.{Key}
 use Rattle.kr_model.specs.Map.{Map, IsMap, at}
 use Rattle.kr_theorem.proofs.gaps.Gaps.{has, Reach, at-key, at-unique, reach-refl, reach-at, reach-dec, at-stable, Alike, alike-outside, at-insert, at-delete}
 use Rattle.kr_theorem.proofs.step.Parts.{Part, Parts, blank, Touched, Changed, changed_touched, blank_untouched, with_part, with_other, by_part, whose}
-use Rattle.kr_ghost.specs.Covers.{Cover, ReadKey, ReadGap, ChangedKey}
+use Rattle.kr_ghost.specs.declared.cases.Cover.{Cover}
+use Rattle.kr_ghost.specs.declared.cases.Cover.TheVariants.{ReadKey, ReadGap, ChangedKey}
 use Rattle.kr_ghost.proofs.Names.{key_is}
 use Rattle.kr_ghost.proofs.Holding.{Holds, Protects, weaken}
 

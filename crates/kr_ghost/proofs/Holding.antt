@@ -8,7 +8,8 @@ use Rattle.kr_model.proofs.Actives.{tied}
 use Rattle.kr_model.proofs.Keep.{same, same_holder, same_itself}
 use Rattle.kr_theorem.proofs.gaps.Undo.{ChangedIn}
 use Rattle.kr_ghost.specs.Protocol.{GhostProtocol}
-use Rattle.kr_ghost.specs.Covers.{Cover, ReadKey, ReadGap, ChangedKey}
+use Rattle.kr_ghost.specs.declared.cases.Cover.{Cover}
+use Rattle.kr_ghost.specs.declared.cases.Cover.TheVariants.{ReadKey, ReadGap, ChangedKey}
 use Rattle.kr_ghost.specs.Safe.{KeyUse, Free, Read, Inserted, Updated, Deleted, Several, Hold, is_changed, is_read, Ask, FetchHit, FetchMiss, ScanName, ScanStop, Insert, Delete, Update, Revive, keeps_out, by_key, and_read, and_changed, key_after, gap_after, after}
 use Rattle.kr_ghost.proofs.Names.{or_first}
 

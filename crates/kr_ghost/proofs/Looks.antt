@@ -29,7 +29,7 @@ use Rattle.kr_theorem.proofs.step.Scans.{LooksFrom, one_more, no_more, from_in_r
 use Rattle.kr_ghost.specs.Protocol.{GhostProtocol, IsLawfulGhost}
 use Rattle.kr_ghost.specs.State.{GhostState, named, among}
 use Rattle.kr_ghost.specs.Step.{on, current, next, look_requests, granted_or_blocked, after_effect, rows_with, name_read, looked, attempted_scan}
-use Rattle.kr_ghost.specs.Covers.{ReadKey, ReadGap}
+use Rattle.kr_ghost.specs.declared.cases.Cover.TheVariants.{ReadKey, ReadGap}
 use Rattle.kr_ghost.specs.Safe.{Hold, Ask, FetchMiss, ScanName, ScanStop, Insert, asked, MayAsk, present_after, key_after, after, IsSafeGhost}
 use Rattle.kr_ghost.proofs.Names.{has-named, key_is, same_of}
 use Rattle.kr_ghost.proofs.Grants.{Free}

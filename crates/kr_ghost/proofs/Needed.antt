@@ -21,14 +21,17 @@ use Rattle.kr_model.proofs.Tested.{lawful_by_test}
 use Rattle.kr_ghost.specs.Protocol.{GhostProtocol, IsLawfulGhost, Inherit}
 use Rattle.kr_ghost.specs.State.{opened}
 use Rattle.kr_ghost.specs.Run.{Move, Purge, run}
-use Rattle.kr_ghost.specs.Covers.{Rule, Conversion, FetchHit, FetchMiss, ScanName, ScanStop, Insert, Split, Delete, Update, Revive, Heir, Case, failed_cases}
+use Rattle.kr_ghost.specs.declared.cases.Rule.{Rule}
+use Rattle.kr_ghost.specs.declared.cases.Rule.TheVariants.{Conversion, FetchHit, FetchMiss, ScanName, ScanStop, Insert, Split, Delete, Update, Revive, Heir}
+use Rattle.kr_ghost.specs.declared.cases.FailedCase.{FailedCase}
+use Rattle.kr_ghost.specs.Covers.{failed_cases}
 use Rattle.kr_ghost.specs.Needed.{IsNeeded}
 use Rattle.kr_ghost.specs.Worked.{three, by, after_delete, dropped}
 use Rattle.kr_ghost.proofs.Bundled.{requested_is, mode_is}
 use Rattle.kr_ghost.proofs.Wrong.{then_commit, differ, wrong}
 
 -- From the rules of all failed cases, one after another.
-each_of : (fs : List Case) (r : Rule) (n : ℕ) → map (λ f. f.rule) fs ≡ replicate n r → AllByRecursion (λ f. f.rule ≡ r) fs
+each_of : (fs : List FailedCase) (r : Rule) (n : ℕ) → map (λ f. f.rule) fs ≡ replicate n r → AllByRecursion (λ f. f.rule ≡ r) fs
 each_of [] r n h = tt
 each_of (f ∷ fs) r zero h = absurd (cc)
 each_of (f ∷ fs) r (suc n) h = (first f.rule (map (λ f. f.rule) fs) h, each_of fs r n (rest f.rule (map (λ f. f.rule) fs) h))

@@ -18,7 +18,8 @@ use Rattle.kr_theorem.proofs.gaps.Undo.{ChangedIn}
 use Rattle.kr_theorem.proofs.step.Parts.{Parts, Changed}
 use Rattle.kr_ghost.specs.Protocol.{GhostProtocol, IsLawfulGhost, Inherit, IsLawfulPurge}
 use Rattle.kr_ghost.specs.Safe.{KeyUse, Free as KeyFree, Read, Inserted, Updated, Deleted, Several, Hold, idle, free, is_changed, is_read, Insert, Revive, inherits, Beside, turn, purge, IsSafeGhost}
-use Rattle.kr_ghost.specs.Covers.{Cover, ReadKey, ReadGap, ChangedKey}
+use Rattle.kr_ghost.specs.declared.cases.Cover.{Cover}
+use Rattle.kr_ghost.specs.declared.cases.Cover.TheVariants.{ReadKey, ReadGap, ChangedKey}
 use Rattle.kr_ghost.proofs.Names.{key_is, same_of, or_first, or_second}
 use Rattle.kr_ghost.proofs.Grants.{open_none}
 use Rattle.kr_ghost.proofs.Holding.{Holds, Protects, olds, olds_at, Fits, fits_none}

@@ -24,7 +24,7 @@ use Rattle.kr_theorem.proofs.step.Parts.{Touched, Changed}
 use Rattle.kr_ghost.specs.Protocol.{GhostProtocol, IsLawfulGhost, Purges, Unlocked, Inherit, IsLawfulPurge}
 use Rattle.kr_ghost.specs.State.{GhostState, named, among, stand_by, stand, is_ghost}
 use Rattle.kr_ghost.specs.Step.{has_change, is_locked, lets_purge, may_purge, locks_purged, without_ghost, purged}
-use Rattle.kr_ghost.specs.Covers.{ReadKey, ReadGap}
+use Rattle.kr_ghost.specs.declared.cases.Cover.TheVariants.{ReadKey, ReadGap}
 use Rattle.kr_ghost.specs.Safe.{Hold, idle, free, Beside, IsSafeGhost}
 use Rattle.kr_ghost.proofs.Names.{IsMap-named, ghost_named, purged_here, purged_apart, key_is}
 use Rattle.kr_ghost.proofs.Holding.{Holds, Protects}

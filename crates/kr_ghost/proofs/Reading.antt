@@ -20,7 +20,7 @@ use Rattle.kr_theorem.proofs.step.ReadKeeps.{reading}
 use Rattle.kr_ghost.specs.Protocol.{GhostProtocol}
 use Rattle.kr_ghost.specs.State.{GhostState, named}
 use Rattle.kr_ghost.specs.Step.{on}
-use Rattle.kr_ghost.specs.Covers.{ReadKey, ReadGap}
+use Rattle.kr_ghost.specs.declared.cases.Cover.TheVariants.{ReadKey, ReadGap}
 use Rattle.kr_ghost.specs.Safe.{Hold, free, is_read, Ask, FetchMiss, ScanStop, Insert, asked, MayAsk, present_after, and_read, key_after, after}
 use Rattle.kr_ghost.proofs.Grants.{Free}
 use Rattle.kr_ghost.proofs.Holding.{Holds, Protects, with_hold, hold_here, read_reads, changed_keeps_out, olds, olds_at, Fits, fits_read}

@@ -1,18 +1,24 @@
 -- What a lock that serves a cover keeps all others from, and what the cases say of the mode after each request.
-use Rattle.std.specs.Prelude.{◌≡◌, ℕ, ◌≤◌, Bool, true, false, not, ◌&&◌, ◌||◌, if◌then◌else◌, List, [], ◌∷◌, Option, map, filter, refl}
+use Rattle.std.specs.Prelude.{◌≡◌, ℕ, ◌≤◌, Bool, true, false, not, ◌||◌, if◌then◌else◌, cond, List, [], ◌∷◌, ◌++◌, Option, None, map, filter, refl}
 use Rattle.std.specs.List.{flat_map}
-use Rattle.std.proofs.Common.{sym, ◌∙◌, ap, subst, inl, inr, true≢false}
+use Rattle.std.proofs.Common.{sym, ap, subst, inl, inr, true≢false}
 use Rattle.kr_model.specs.declared.Row.TheVariants as row
 use Rattle.kr_model.specs.declared.Side.TheVariants.{Next}
 use Rattle.kr_model.specs.declared.Span.{Span}
 use Rattle.kr_model.specs.declared.Origin.TheVariants as origin
-use Rattle.kr_model.specs.Protocol.{Protocol, IsMode}
+use Rattle.kr_model.specs.Protocol.{IsMode}
 use Rattle.kr_model.specs.Covers.{modes, modes_or_none, conflicts_with, mode_after, is_empty}
-use Rattle.kr_model.proofs.Guarantees.{In, in_left, in_right, in_map, in_flat_map, in_modes, in_modes_or_none, none_passes}
-use Rattle.kr_theorem.proofs.run.Actives.{or_left, or_right}
+use Rattle.kr_model.proofs.Guarantees.{In, in_left, in_right, in_map, in_flat_map, in_modes, in_modes_or_none, none_passes, each_none, in_updating}
 use Rattle.kr_ghost.specs.Protocol.{GhostProtocol, Purges, Unlocked, Inherit}
 use Rattle.kr_ghost.specs.Step.{current, next}
-use Rattle.kr_ghost.specs.Covers.{Cover, ReadKey, ReadGap, ChangedKey, grants, grants_change, grants_read, grants_insert, serves, Rule, Conversion, FetchHit, FetchMiss, ScanName, ScanStop, Insert, Split, Delete, Update, Revive, Heir, Case, case, conversions, covers, mode_on_new, mode_inherited, heirs, cases_of, all_rules, cases, holds, IsCoveredGhost}
+use Rattle.kr_ghost.specs.declared.cases.Cover.{Cover}
+use Rattle.kr_ghost.specs.declared.cases.Cover.TheVariants.{ReadKey, ReadGap, ChangedKey}
+use Rattle.kr_ghost.specs.declared.cases.Rule.{Rule}
+use Rattle.kr_ghost.specs.declared.cases.Rule.TheVariants.{Conversion, FetchHit, FetchMiss, ScanName, ScanStop, Insert, Split, Delete, Update, Revive, Heir}
+use Rattle.kr_ghost.specs.declared.cases.Access.{Access}
+use Rattle.kr_ghost.specs.declared.cases.Access.TheVariants as access
+use Rattle.kr_ghost.specs.declared.cases.Requester.{Requester}
+use Rattle.kr_ghost.specs.Covers.{accesses, asked, requester, requesters, is_open, open_requesters, serves, Case, case, conversions, covers, mode_on_new, mode_inherited, heirs, all_covers, cases_of, all_rules, cases, failed_at, failure, IsCoveredGhost}
 
 -- The mode serves the cover.
 abbrev pub Serves : GhostProtocol → Cover → ℕ → Type 0
@@ -29,56 +35,51 @@ pub not_false : (b : Bool) → not b ≡ false → b ≡ true
 not_false true e = refl
 not_false false e = absurd (cc)
 
--- A mode that lets nobody in conflicts with the request of each.
-kept_out : (p : Protocol) (h : ℕ) (asked : ℕ → Option (ℕ × Span)) → grants p h asked ≡ false → (o : ℕ) → o ≤ p.count → conflicts_with p h o (asked o) ≡ true
-kept_out p h asked none o io =
-    not_false (conflicts_with p h o (asked o))
-    (none_passes (λ o. not (conflicts_with p h o (asked o))) (modes_or_none p)
-    (not_false (is_empty (filter (λ o. not (conflicts_with p h o (asked o))) (modes_or_none p))) none) o (in_modes_or_none p o io))
+-- Where nothing of two lists passes, nothing of the second does.
+rest_empty : {A : Type 0} (test : A → Bool) (xs ys : List A) → is_empty (filter test (xs ++ ys)) ≡ true → is_empty (filter test ys) ≡ true
+rest_empty test [] ys h = h
+rest_empty test (x ∷ xs) ys h = by (test x) h (rest_empty test xs ys)
+  where
+    by : (b : Bool) → is_empty (cond b (x ∷ filter test (xs ++ ys)) (filter test (xs ++ ys))) ≡ true → (is_empty (filter test (xs ++ ys)) ≡ true → is_empty (filter test ys) ≡ true)
+        → is_empty (filter test ys) ≡ true
+    by true h rest = absurd (cc)
+    by false h rest = rest h
 
 module _ (p : GhostProtocol) (h : ℕ) where
   -- A changed key is protected as one that was read.
   pub weaken : Serves p ChangedKey h → Serves p ReadKey h
-  weaken s = ap not (or_right (grants_read p h) (grants_change p h) (not_true (grants_read p h || grants_change p h) s))
+  weaken s =
+      rest_empty (is_open p h) (requesters p access.Scan) (flat_map (requesters p) (accesses p ReadKey))
+      (rest_empty (is_open p h) (requesters p access.Fetch) (requesters p access.Scan ++ flat_map (requesters p) (accesses p ReadKey)) s)
 
   module _ (o : ℕ) (io : o ≤ p.table.count) where
-    abbrev deleters : Bool
-    deleters = grants p.table h (λ o. current p row.Delete)
+    -- A lock that serves a cover conflicts with each access that it must conflict with.
+    kept_out : (c : Cover) (a : Access) → In a (accesses p c) → Serves p c h → conflicts_with p.table h o (asked p a o) ≡ true
+    kept_out c a i s =
+        not_false (conflicts_with p.table h o (asked p a o))
+        (none_passes (is_open p h) (flat_map (requesters p) (accesses p c)) s (requester a o)
+        (in_flat_map (requesters p) a (requester a o) (accesses p c) i (in_map (requester a) o (modes_or_none p.table) (in_modes_or_none p.table o io))))
 
-    abbrev revivers : Bool
-    revivers = grants p.table h (λ o. p.revive)
-
-    abbrev updaters : Bool
-    updaters = p.table.updates && grants p.table h (λ o. current p row.Update)
-
-    unchanged : Serves p ReadKey h → ((deleters || revivers) || updaters) ≡ false
-    unchanged s = not_true (grants_change p h) s
-
-    -- A lock that serves a read key keeps off who would delete, revive or update it.
+    -- One that serves a read key keeps off who would delete, revive or update it.
     pub no_delete : Serves p ReadKey h → conflicts_with p.table h o (current p row.Delete) ≡ true
-    no_delete s = kept_out p.table h (λ o. current p row.Delete) (or_left deleters revivers (or_left (deleters || revivers) updaters (unchanged s))) o io
+    no_delete s = kept_out ReadKey access.Delete (inl refl) s
 
     pub no_revive : Serves p ReadKey h → conflicts_with p.table h o p.revive ≡ true
-    no_revive s = kept_out p.table h (λ o. p.revive) (or_right deleters revivers (or_left (deleters || revivers) updaters (unchanged s))) o io
+    no_revive s = kept_out ReadKey access.Revive (inr (inl refl)) s
 
     pub no_update : p.table.updates ≡ true → Serves p ReadKey h → conflicts_with p.table h o (current p row.Update) ≡ true
-    no_update up s =
-        kept_out p.table h (λ o. current p row.Update)
-        (ap (λ b. b && grants p.table h (λ o. current p row.Update)) (sym up) ∙ or_right (deleters || revivers) updaters (unchanged s)) o io
+    no_update up s = kept_out ReadKey access.Update (inr (inr (in_updating p.table access.Update (access.Update ∷ []) up (inl refl)))) s
 
     -- One that serves a read gap keeps off who would insert into it.
     pub no_insert : Serves p ReadGap h → conflicts_with p.table h o (p.table.ask row.Insert Next o) ≡ true
-    no_insert s = kept_out p.table h (λ o. p.table.ask row.Insert Next o) (not_true (grants_insert p h) s) o io
-
-    unread : Serves p ChangedKey h → grants_read p h ≡ false
-    unread s = or_left (grants_read p h) (grants_change p h) (not_true (grants_read p h || grants_change p h) s)
+    no_insert s = kept_out ReadGap access.Insert (inl refl) s
 
     -- One that serves a changed key keeps off who would read it.
     pub no_fetch : Serves p ChangedKey h → conflicts_with p.table h o (current p row.FetchHit) ≡ true
-    no_fetch s = kept_out p.table h (λ o. current p row.FetchHit) (or_left (grants p.table h (λ o. current p row.FetchHit)) (grants p.table h (λ o. current p row.ScanKey)) (unread s)) o io
+    no_fetch s = kept_out ChangedKey access.Fetch (inl refl) s
 
     pub no_scan : Serves p ChangedKey h → conflicts_with p.table h o (current p row.ScanKey) ≡ true
-    no_scan s = kept_out p.table h (λ o. current p row.ScanKey) (or_right (grants p.table h (λ o. current p row.FetchHit)) (grants p.table h (λ o. current p row.ScanKey)) (unread s)) o io
+    no_scan s = kept_out ChangedKey access.Scan (inr (inl refl)) s
 
 -- The cases --
 
@@ -98,20 +99,20 @@ in_rules Update = inr (inr (inr (inr (inr (inr (inr (inr (inl refl))))))))
 in_rules Revive = inr (inr (inr (inr (inr (inr (inr (inr (inr (inl refl)))))))))
 in_rules Heir = inr (inr (inr (inr (inr (inr (inr (inr (inr (inr (inl refl))))))))))
 
-due_serves : (a b : Bool) → (not a || b) ≡ true → a ≡ true → b ≡ true
-due_serves true b h e = h
-due_serves false b h e = absurd (true≢false (sym e))
+none_open : (c : Case) (due : Bool) (rs : List Requester) → (if due then failed_at c rs else None) ≡ None → due ≡ true → is_empty rs ≡ true
+none_open c true [] h e = refl
+none_open c true (r ∷ rs) h e = absurd (cc)
+none_open c false rs h e = absurd (true≢false (sym e))
 
 -- A case of a covered protocol that is due holds.
 case_holds : (p : GhostProtocol) → IsCoveredGhost p → (r : Rule) (c : Case) → In c (cases_of p r) → c.due ≡ true → Serves p c.cover c.mode
 case_holds p cov r c i due =
-    due_serves c.due (serves p c.cover c.mode)
-    (not_false (holds p c) (none_passes (λ c. not (holds p c)) (cases p) (ap is_empty cov) c (in_flat_map (cases_of p) r c all_rules (in_rules r) i))) due
+    none_open c c.due (open_requesters p c.cover c.mode) (each_none (failure p) (cases p) (ap is_empty cov) c (in_flat_map (cases_of p) r c all_rules (in_rules r) i)) due
 
 in_covers : (p : GhostProtocol) (r : Rule) (c : Cover) (asked : Option (ℕ × Span)) (o : ℕ) → o ≤ p.table.count → In (case r c (origin.Own o) true (mode_after p.table o asked)) (covers p r c asked)
 in_covers p r c asked o io = in_map (λ o. case r c (origin.Own o) true (mode_after p.table o asked)) o (modes_or_none p.table) (in_modes_or_none p.table o io)
 
-in_all_covers : (c : Cover) → In c (ReadKey ∷ ReadGap ∷ ChangedKey ∷ [])
+in_all_covers : (c : Cover) → In c all_covers
 in_all_covers ReadKey = inl refl
 in_all_covers ReadGap = inr (inl refl)
 in_all_covers ChangedKey = inr (inr (inl refl))
@@ -141,7 +142,7 @@ module _ (p : GhostProtocol) (cov : IsCoveredGhost p) where
   converted c h q ih iq s =
       let k = case Conversion c (origin.Conversion h q) (serves p c h) (p.table.convert h q) in
       case_holds p cov Conversion k
-      (in_flat_map (conversions p) c k (ReadKey ∷ ReadGap ∷ ChangedKey ∷ []) (in_all_covers c)
+      (in_flat_map (conversions p) c k all_covers (in_all_covers c)
       (in_two (λ h q. case Conversion c (origin.Conversion h q) (serves p c h) (p.table.convert h q)) h q (modes p.table) (modes p.table) (in_modes p.table h ih) (in_modes p.table q iq)))
       s
 

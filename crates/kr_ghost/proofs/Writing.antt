@@ -32,7 +32,8 @@ use Rattle.kr_theorem.proofs.step.Replay.{answer, after_op}
 use Rattle.kr_ghost.specs.Protocol.{GhostProtocol}
 use Rattle.kr_ghost.specs.State.{GhostState, named, ghosts_with}
 use Rattle.kr_ghost.specs.Step.{on}
-use Rattle.kr_ghost.specs.Covers.{Cover, ReadKey, ReadGap, ChangedKey}
+use Rattle.kr_ghost.specs.declared.cases.Cover.{Cover}
+use Rattle.kr_ghost.specs.declared.cases.Cover.TheVariants.{ReadKey, ReadGap, ChangedKey}
 use Rattle.kr_ghost.specs.Safe.{KeyUse, Hold, idle, free, is_changed, Ask, Insert, asked, keeps_out, MayAsk, present_after, and_changed, key_after, after, on_new_key, Beside, new}
 use Rattle.kr_ghost.proofs.Names.{IsMap-named, written_here, written_apart}
 use Rattle.kr_ghost.proofs.Grants.{Free, unblocked}

@@ -1,3 +1,4 @@
+pub mod Words
 pub mod Protocol
 pub mod State
 pub mod Step

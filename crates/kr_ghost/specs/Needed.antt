@@ -6,7 +6,8 @@ use Rattle.kr_model.specs.Serial.{AreSerial}
 use Rattle.kr_ghost.specs.Protocol.{GhostProtocol, IsLawfulGhost}
 use Rattle.kr_ghost.specs.State.{opened}
 use Rattle.kr_ghost.specs.Run.{Move, run}
-use Rattle.kr_ghost.specs.Covers.{Rule, failed_cases}
+use Rattle.kr_ghost.specs.declared.cases.Rule.{Rule}
+use Rattle.kr_ghost.specs.Covers.{failed_cases}
 
 -- Some run under p isn't serializable in commit order.
 abbrev pub GoesWrong : GhostProtocol → Type 0

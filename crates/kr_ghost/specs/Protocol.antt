@@ -1,5 +1,5 @@
 -- A locking protocol under which a deleted key stays in the index as a ghost until it is purged.
-use Rattle.std.specs.Prelude.{◌≡◌, ℕ, ◌≤◌, Option, Some}
+use Rattle.std.specs.Prelude.{◌≡◌, ℕ, ◌≤◌, Bool, false, true, Option, Some}
 use Rattle.kr_model.specs.declared.Span.{Span}
 use Rattle.kr_model.specs.Protocol.{Protocol, IsLawful, IsMode}
 
@@ -7,6 +7,16 @@ use Rattle.kr_model.specs.Protocol.{Protocol, IsLawful, IsMode}
 pub data Purges : Type 0 where
   Unlocked : Purges
   Inherit : (ℕ → ℕ) → Purges
+
+-- Whether the locks on a ghost that is purged are inherited.
+abbrev pub inherits : Purges → Bool
+inherits Unlocked = false
+inherits (Inherit heir) = true
+
+-- The mode on the next name of who has the mode h on a ghost that is purged; 0 for none, as where the purge waits until there is no lock.
+abbrev pub heir_of : Purges → ℕ → ℕ
+heir_of Unlocked h = 0
+heir_of (Inherit heir) h = heir h
 
 -- A protocol and what it says of ghosts. No row but insert looks at the own mode on the next name, and a delete requests nothing there.
 pub record GhostProtocol : Type 0 where

@@ -4,6 +4,8 @@
 //! contract is a law. `docs/GHOSTS.md` tells the definitions.
 #![tactic(auto)]
 
+mod cases;
+
 ghost use Rattle.std.specs.Prelude.{◌≡◌, ℕ, List, [], ◌∷◌, length};
 ghost use Rattle.kr_model.specs.declared.Name.TheVariants.{Key};
 ghost use Rattle.kr_model.specs.declared.Reply.TheVariants as reply;
@@ -13,11 +15,14 @@ ghost use Rattle.kr_model.specs.Map.{Map, IsMap};
 ghost use Rattle.kr_ghost.specs.State.{opened};
 ghost use Rattle.kr_ghost.specs.Run.{GhostRunsAreSerial, Move, Purge, run};
 ghost use Rattle.kr_ghost.specs.WellFormed.{IsGhostState};
-ghost use Rattle.kr_ghost.specs.Covers.{Rule, cases, IsCoveredGhost};
+ghost use Rattle.kr_ghost.specs.declared.cases.Rule.{Rule};
+ghost use Rattle.kr_ghost.specs.Covers.{cases, IsCoveredGhost};
 ghost use Rattle.kr_ghost.specs.Safe.{IsSafeGhost};
 ghost use Rattle.kr_ghost.specs.Tables.{record_gap, range_ghost, next_key_ghost};
 ghost use Rattle.kr_ghost.specs.Needed.{IsNeeded, GoesWrong};
 ghost use Rattle.kr_ghost.specs.Worked.{by, shown, after_delete, drops_locks, inherits_only_gaps, inserts_plainly, revives_freely, purges_locked, range_inserts_plainly, next_inserts_plainly};
+
+pub use cases::{Access, Cover, FailedCase, Requester, Rule, access_words, cover_code, rule_code};
 
 /// The main theorem for indexes with ghosts: every run under a lawful and safe protocol is serializable in commit order. For
 /// every list of moves, which are steps that transactions attempt on any keys and purges of any keys at any time, with blocked

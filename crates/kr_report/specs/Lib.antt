@@ -1,5 +1,6 @@
 pub mod Report
 pub mod CheckReport
+pub mod GhostCheckReport
 pub mod ThreadsReport
 pub mod Follows
 pub mod Dealt

@@ -9,7 +9,12 @@ use kr_protocol::{Protocol, name_or_empty};
 use serde_json::{Value, json};
 use std::alloc::{AllocError, Global};
 
-fn from_value<P: Protocol>(alloc: Global, protocol: &P, from: Origin) -> Result<Value, AllocError>
+/// The names of the modes that a case is taken at.
+pub(crate) fn from_value<P: Protocol>(
+    alloc: Global,
+    protocol: &P,
+    from: Origin,
+) -> Result<Value, AllocError>
     ensures { IfOk result (λ v. view v ≡ from_data (P.names protocol.now) from) }
 {
     match from {

@@ -1,14 +1,17 @@
 -- Lengths, first faults and documents that are none.
-use Rattle.std.proofs.Common.{◌≡◌, ℕ, length, List, [], ◌∷◌, ◌++◌, Option, Some, None, Err, true, false, refl, arith, is_some, option_map, Bor}
+use Rattle.std.proofs.Common.{◌≡◌, ℕ, ◌&&◌, codes, Bool, length, List, [], ◌∷◌, ◌++◌, Option, Some, None, Err, true, false, refl, arith, is_some, option_map, Bor}
 use Rattle.std.specs.Prelude.{IsUtf8, IfSome, if◌then◌else◌}
 use Rattle.std.specs.Str.{is_utf8}
 use Rattle.std.proofs.lemmas.Str.{IsUtf8-from_is_utf8}
 use Rattle.toml.specs.View.{view, items_view}
 use Rattle.toml.specs.declared.value.Value.{Value}
+use Rattle.toml.specs.Data.{Data, Members, member, as_table}
 use Rattle.toml.specs.Parse.{parse_document}
 use Rattle.kr_model.specs.Firsts.{first}
-use Rattle.kr_table.specs.Faults.{Fault, Tells, fault_of, not_toml}
-use Rattle.kr_table.specs.Members.{items_len}
+use Rattle.kr_table.specs.declared.rows.Rows.{Rows}
+use Rattle.kr_table.specs.DocumentFaults.{is_row, row_faults, side_faults}
+use Rattle.kr_table.specs.Faults.{Fault, Tells, fault_of, not_toml, rule}
+use Rattle.kr_table.specs.Members.{items_len, members_of}
 use Rattle.kr_table.specs.Reading.{reading_of, document}
 use Rattle.kr_table.specs.declared.faults.TableFault.{TableFault}
 
@@ -30,6 +33,15 @@ tells_first (Some f) fs gs h = first_append fs gs f h
 
 pub tells_more : (e : TableFault) (fs gs : List Fault) → Tells e fs → Tells e (fs ++ gs)
 tells_more e fs gs h = tells_first (fault_of e) fs gs h
+
+and_false : (b : Bool) → (b && false) ≡ false
+and_false true = refl
+and_false false = refl
+
+-- a row that is no table is told before the rows after it
+pub row_told : (r : Rows) (modes : List (List ℕ)) (row : List ℕ) (d : Data) (ms : Members) (e : TableFault) → as_table d ≡ None → Tells e (rule (codes "rules." ++ row) ∷ [])
+    → Tells e (row_faults r modes (member row d ms))
+row_told r modes row d ms e none h = rw (none, and_false (is_row r row)) (tells_more e (rule (codes "rules." ++ row) ∷ []) (side_faults r modes row (members_of d) ++ row_faults r modes ms) h)
 
 pub no_document : (bytes : List ℕ) → (IsUtf8 bytes → parse_document bytes ≡ None) → reading_of (document bytes) ≡ Err not_toml
 no_document bytes h =

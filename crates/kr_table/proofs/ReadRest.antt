@@ -12,7 +12,8 @@ use Rattle.kr_model.specs.declared.Span.TheVariants.{Instant, Commit}
 use Rattle.kr_model.specs.ModeNames.{name_of}
 use Rattle.kr_model.specs.Firsts.{unless}
 use Rattle.kr_table.specs.Faults.{convert}
-use Rattle.kr_table.specs.DocumentFaults.{is_mode, is_mode_text, pair_faults, held_faults, missing_of, missing_pairs, clauses_faults, is_changing, is_own_text}
+use Rattle.kr_table.specs.declared.rows.Rows.{Rows}
+use Rattle.kr_table.specs.DocumentFaults.{is_mode, is_mode_text, pair_faults, held_faults, missing_of, missing_pairs, clauses_faults, sees_own, is_own_text}
 use Rattle.kr_table.specs.Members.{pair_in, members_of}
 use Rattle.kr_table.specs.Tables.{Request, in_range, asks_mode}
 use Rattle.kr_table.specs.Reading.{number, square, converts, text_of, asked, request}
@@ -194,10 +195,10 @@ own_back names (o ∷ os) (Some (q, s) ∷ rs) d e l r =
     two_parts (asked names (own_clauses names (o ∷ os) (Some (q, s) ∷ rs)) o ∷ []) (map (asked names (own_clauses names (o ∷ os) (Some (q, s) ∷ rs))) os) (Some (q, s) ∷ []) rs
     (ap (λ x. x ∷ []) here) (own_later names o q s (own_clauses names os rs) os e.0 ∙ own_back names os rs d e.1 (omega arith) p.1)
 
-pub plain_good : (names : List (List ℕ)) (row side : List ℕ) (r : Request) → asks_mode (length names) r ≡ true → clauses_faults names row side 0 (plain_clauses names r) ≡ []
-plain_good names row side None h = refl
-plain_good names row side (Some (q, Instant)) h = rw (mode_name_of names q h)
-plain_good names row side (Some (q, Commit)) h = rw (mode_name_of names q h)
+pub plain_good : (rows : Rows) (names : List (List ℕ)) (row side : List ℕ) (r : Request) → asks_mode (length names) r ≡ true → clauses_faults rows names row side 0 (plain_clauses names r) ≡ []
+plain_good rows names row side None h = refl
+plain_good rows names row side (Some (q, Instant)) h = rw (mode_name_of names q h)
+plain_good rows names row side (Some (q, Commit)) h = rw (mode_name_of names q h)
 
 abbrev pub Owns : List (List ℕ) → List (List ℕ) → Type 0
 Owns modes [] = Unit {0}
@@ -214,14 +215,14 @@ owns_within modes (n ∷ ns) w = (owns_at (is_mode modes n) w.0 (bytes_eq n (cod
 pub all_owns : (names : List (List ℕ)) → Owns names (codes "none" ∷ names)
 all_owns names = (refl, owns_within names names (within_itself names))
 
-pub own_good : (names : List (List ℕ)) (row side : List ℕ) (i : ℕ) (owns : List (List ℕ)) (rs : List Request) → is_changing row ≡ true → Owns names owns → list_all (asks_mode (length names)) rs ≡ true
-    → clauses_faults names row side i (own_clauses names owns rs) ≡ []
-own_good names row side i [] rs c w r = refl
-own_good names row side i (o ∷ os) [] c w r = refl
-own_good names row side i (o ∷ os) (None ∷ rs) c w r = own_good names row side i os rs c w.1 r
-own_good names row side i (o ∷ os) (Some (q, Instant) ∷ rs) c w r =
+pub own_good : (rows : Rows) (names : List (List ℕ)) (row side : List ℕ) (i : ℕ) (owns : List (List ℕ)) (rs : List Request) → sees_own rows row ≡ true → Owns names owns → list_all (asks_mode (length names)) rs ≡ true
+    → clauses_faults rows names row side i (own_clauses names owns rs) ≡ []
+own_good rows names row side i [] rs c w r = refl
+own_good rows names row side i (o ∷ os) [] c w r = refl
+own_good rows names row side i (o ∷ os) (None ∷ rs) c w r = own_good rows names row side i os rs c w.1 r
+own_good rows names row side i (o ∷ os) (Some (q, Instant) ∷ rs) c w r =
     let p = and_parts (in_range (length names) q) (list_all (asks_mode (length names)) rs) r in
-    rw (mode_name_of names q p.0, c, w.0, own_good names row side (i + 1) os rs c w.1 p.1)
-own_good names row side i (o ∷ os) (Some (q, Commit) ∷ rs) c w r =
+    rw (mode_name_of names q p.0, c, w.0, own_good rows names row side (i + 1) os rs c w.1 p.1)
+own_good rows names row side i (o ∷ os) (Some (q, Commit) ∷ rs) c w r =
     let p = and_parts (in_range (length names) q) (list_all (asks_mode (length names)) rs) r in
-    rw (mode_name_of names q p.0, c, w.0, own_good names row side (i + 1) os rs c w.1 p.1)
+    rw (mode_name_of names q p.0, c, w.0, own_good rows names row side (i + 1) os rs c w.1 p.1)

@@ -9,6 +9,7 @@ use Rattle.std.proofs.lemmas.Bool.{and_parts}
 use Rattle.std.proofs.lemmas.Bool.Decides.{nat_tests}
 use Rattle.toml.specs.Data.{Data, string, integer, float, boolean, datetime, array, table, Items, no_items, item, Members, no_members, member, get, get_member, as_str, as_array, as_table}
 use Rattle.kr_model.specs.Firsts.{unless}
+use Rattle.kr_table.specs.declared.rows.Rows.{Rows}
 use Rattle.kr_table.specs.Faults.{Fault, mode_count, mode_name, convert, rule}
 use Rattle.kr_table.specs.DocumentFaults.{count_faults, mode_faults, is_good_text, is_mode, is_mode_text, is_clause, are_clause_words, is_span, is_row, is_side, pair_faults, held_faults, missing_of, missing_pairs, row_faults, side_faults, clauses_faults, clause_faults, own_faults, clause_path, content_faults, entry_faults, missing_faults}
 use Rattle.kr_table.specs.Members.{items_len, names_of, with_some, pair_in, members_of, items_within, items_in, text_in}
@@ -172,46 +173,46 @@ mode_of_clause true true false d h = h
 mode_of_clause true false c d h = cc
 mode_of_clause false b c d h = cc
 
-clauses_good : (modes : List (List ℕ)) (row side : List ℕ) (i : ℕ) (ds : Items) → clauses_faults modes row side i ds ≡ [] → good_clauses modes ds ≡ true
-clauses_good modes row side i no_items e = refl
-clauses_good modes row side i (item d ds) e =
-    let p = both_empty (clause_faults modes row side i d) (clauses_faults modes row side (i + 1) ds) e in
-    let q = both_empty (unless (is_clause modes d) (rule (clause_path row side i))) (own_faults modes row side i (get (codes "own") d)) p.0 in
+clauses_good : (r : Rows) (modes : List (List ℕ)) (row side : List ℕ) (i : ℕ) (ds : Items) → clauses_faults r modes row side i ds ≡ [] → good_clauses modes ds ≡ true
+clauses_good r modes row side i no_items e = refl
+clauses_good r modes row side i (item d ds) e =
+    let p = both_empty (clause_faults r modes row side i d) (clauses_faults r modes row side (i + 1) ds) e in
+    let q = both_empty (unless (is_clause modes d) (rule (clause_path row side i))) (own_faults r modes row side i (get (codes "own") d)) p.0 in
     let t = held_by (is_clause modes d) (rule (clause_path row side i)) q.0 in
     let m = mode_of_clause (is_some (as_table d)) (are_clause_words (members_of d)) (is_mode_text modes (text_in (codes "mode") d)) (is_span (text_in (codes "span") d)) t in
-    rw (m, clauses_good modes row side (i + 1) ds p.1)
+    rw (m, clauses_good r modes row side (i + 1) ds p.1)
 
-side_get : (u : Bool) (modes : List (List ℕ)) (row side : List ℕ) (ms : Members) → side_faults u modes row ms ≡ [] → good_list modes (get_member side ms) ≡ true
-side_get u modes row side no_members e = refl
-side_get u modes row side (member l d ms) e =
-    let p = both_empty (unless (is_side u row l && is_some (as_array d)) (rule (codes "rules." ++ row ++ codes "." ++ l))) (clauses_faults modes row l 0 (items_within d) ++ side_faults u modes row ms) e in
-    let q = both_empty (clauses_faults modes row l 0 (items_within d)) (side_faults u modes row ms) p.1 in
-    found_at (good_list modes) (slice_cmp nat_cmp side l) d (get_member side ms) (clauses_good modes row l 0 (items_within d) q.0) (side_get u modes row side ms q.1)
+side_get : (r : Rows) (modes : List (List ℕ)) (row side : List ℕ) (ms : Members) → side_faults r modes row ms ≡ [] → good_list modes (get_member side ms) ≡ true
+side_get r modes row side no_members e = refl
+side_get r modes row side (member l d ms) e =
+    let p = both_empty (unless (is_side r row l && is_some (as_array d)) (rule (codes "rules." ++ row ++ codes "." ++ l))) (clauses_faults r modes row l 0 (items_within d) ++ side_faults r modes row ms) e in
+    let q = both_empty (clauses_faults r modes row l 0 (items_within d)) (side_faults r modes row ms) p.1 in
+    found_at (good_list modes) (slice_cmp nat_cmp side l) d (get_member side ms) (clauses_good r modes row l 0 (items_within d) q.0) (side_get r modes row side ms q.1)
 
-side_data : (u : Bool) (modes : List (List ℕ)) (row side : List ℕ) (d : Data) → side_faults u modes row (members_of d) ≡ [] → good_list modes (get side d) ≡ true
-side_data u modes row side (table ms) e = side_get u modes row side ms e
-side_data u modes row side (string s) e = refl
-side_data u modes row side (integer z) e = refl
-side_data u modes row side (float x) e = refl
-side_data u modes row side (boolean b) e = refl
-side_data u modes row side (datetime t) e = refl
-side_data u modes row side (array ds) e = refl
+side_data : (r : Rows) (modes : List (List ℕ)) (row side : List ℕ) (d : Data) → side_faults r modes row (members_of d) ≡ [] → good_list modes (get side d) ≡ true
+side_data r modes row side (table ms) e = side_get r modes row side ms e
+side_data r modes row side (string s) e = refl
+side_data r modes row side (integer z) e = refl
+side_data r modes row side (float x) e = refl
+side_data r modes row side (boolean b) e = refl
+side_data r modes row side (datetime t) e = refl
+side_data r modes row side (array ds) e = refl
 
-row_get : (u : Bool) (modes : List (List ℕ)) (row side : List ℕ) (ms : Members) → row_faults u modes ms ≡ [] → good_sides modes side (get_member row ms) ≡ true
-row_get u modes row side no_members e = refl
-row_get u modes row side (member l d ms) e =
-    let p = both_empty (unless (is_row u l && is_some (as_table d)) (rule (codes "rules." ++ l))) (side_faults u modes l (members_of d) ++ row_faults u modes ms) e in
-    let q = both_empty (side_faults u modes l (members_of d)) (row_faults u modes ms) p.1 in
-    found_at (good_sides modes side) (slice_cmp nat_cmp row l) d (get_member row ms) (side_data u modes l side d q.0) (row_get u modes row side ms q.1)
+row_get : (r : Rows) (modes : List (List ℕ)) (row side : List ℕ) (ms : Members) → row_faults r modes ms ≡ [] → good_sides modes side (get_member row ms) ≡ true
+row_get r modes row side no_members e = refl
+row_get r modes row side (member l d ms) e =
+    let p = both_empty (unless (is_row r l && is_some (as_table d)) (rule (codes "rules." ++ l))) (side_faults r modes l (members_of d) ++ row_faults r modes ms) e in
+    let q = both_empty (side_faults r modes l (members_of d)) (row_faults r modes ms) p.1 in
+    found_at (good_sides modes side) (slice_cmp nat_cmp row l) d (get_member row ms) (side_data r modes l side d q.0) (row_get r modes row side ms q.1)
 
-row_data : (u : Bool) (modes : List (List ℕ)) (row side : List ℕ) (d : Data) → row_faults u modes (members_of d) ≡ [] → good_sides modes side (get row d) ≡ true
-row_data u modes row side (table ms) e = row_get u modes row side ms e
-row_data u modes row side (string s) e = refl
-row_data u modes row side (integer z) e = refl
-row_data u modes row side (float x) e = refl
-row_data u modes row side (boolean b) e = refl
-row_data u modes row side (datetime t) e = refl
-row_data u modes row side (array ds) e = refl
+row_data : (r : Rows) (modes : List (List ℕ)) (row side : List ℕ) (d : Data) → row_faults r modes (members_of d) ≡ [] → good_sides modes side (get row d) ≡ true
+row_data r modes row side (table ms) e = row_get r modes row side ms e
+row_data r modes row side (string s) e = refl
+row_data r modes row side (integer z) e = refl
+row_data r modes row side (float x) e = refl
+row_data r modes row side (boolean b) e = refl
+row_data r modes row side (datetime t) e = refl
+row_data r modes row side (array ds) e = refl
 
 list_good : (modes : List (List ℕ)) (o : Option Data) → good_list modes o ≡ true → good_clauses modes (unwrap_or (option_and_then as_array o) no_items) ≡ true
 list_good modes None h = refl
@@ -231,8 +232,8 @@ request_good modes own (item d ds) h =
     let p = and_parts (is_mode_text modes (text_in (codes "mode") d)) (good_clauses modes ds) h in
     first_good (fits own d) (length modes) (request modes d) (asked modes ds own) (text_numbered modes (text_in (codes "mode") d) p.0) (request_good modes own ds p.1)
 
-pub row_good : (u : Bool) (modes : List (List ℕ)) (row side own : List ℕ) (d : Data) → row_faults u modes (members_of d) ≡ [] → asks_mode (length modes) (asked modes (clauses_of d row side) own) ≡ true
-row_good u modes row side own d e = request_good modes own (clauses_of d row side) (sides_good modes side (get row d) (row_data u modes row side d e))
+pub row_good : (r : Rows) (modes : List (List ℕ)) (row side own : List ℕ) (d : Data) → row_faults r modes (members_of d) ≡ [] → asks_mode (length modes) (asked modes (clauses_of d row side) own) ≡ true
+row_good r modes row side own d e = request_good modes own (clauses_of d row side) (sides_good modes side (get row d) (row_data r modes row side d e))
 
 all_asked : (modes : List (List ℕ)) (m : ℕ) (ds : Items) (owns : List (List ℕ)) → ((own : List ℕ) → asks_mode m (asked modes ds own) ≡ true)
     → list_all (asks_mode m) (map (asked modes ds) owns) ≡ true
@@ -243,28 +244,28 @@ each_length : (modes : List (List ℕ)) (ds : Items) (owns : List (List ℕ)) �
 each_length modes ds [] = refl
 each_length modes ds (o ∷ os) = let more = each_length modes ds os in omega arith
 
-pub each_good : (u : Bool) (modes : List (List ℕ)) (row side : List ℕ) (d : Data) → row_faults u modes (members_of d) ≡ [] → IsAsked (length modes) (asked_each modes (clauses_of d row side))
-each_good u modes row side d e =
+pub each_good : (r : Rows) (modes : List (List ℕ)) (row side : List ℕ) (d : Data) → row_faults r modes (members_of d) ≡ [] → IsAsked (length modes) (asked_each modes (clauses_of d row side))
+each_good r modes row side d e =
     let ds = clauses_of d row side in
     record {
       whole = let l = each_length modes ds (codes "none" ∷ modes) in grind (arith, l);
-      modes = all_asked modes (length modes) ds (codes "none" ∷ modes) (λ own. row_good u modes row side own d e);
+      modes = all_asked modes (length modes) ds (codes "none" ∷ modes) (λ own. row_good r modes row side own d e);
     }
 
-update_good : (u : Bool) (modes : List (List ℕ)) (d : Data) → row_faults u modes (members_of d) ≡ [] → asks_mode (length modes) (unwrap_or (asked_update u modes d) None) ≡ true
-update_good true modes d e = row_good true modes (codes "update") (codes "current") (codes "none") d e
-update_good false modes d e = refl
+update_good : (r : Rows) (u : Bool) (modes : List (List ℕ)) (d : Data) → row_faults r modes (members_of d) ≡ [] → asks_mode (length modes) (unwrap_or (asked_update u modes d) None) ≡ true
+update_good r true modes d e = row_good r modes (codes "update") (codes "current") (codes "none") d e
+update_good r false modes d e = refl
 
 -- the whole --
 
-pub sound : (u : Bool) (ds : Items) (b c r : Data) → count_faults (items_len ds) ≡ [] → mode_faults 0 [] ds ≡ [] → content_faults u (names_of ds) b c r ≡ []
+pub sound : (rows : Rows) (u : Bool) (ds : Items) (b c r : Data) → count_faults (items_len ds) ≡ [] → mode_faults 0 [] ds ≡ [] → content_faults rows (names_of ds) b c r ≡ []
     → IsTable (table_of_parts u (names_of ds) b c r)
-sound u ds b c r count names content =
+sound rows u ds b c r count names content =
     let modes = names_of ds in
     let p1 = both_empty (entry_faults modes (members_of b)) _ content in
     let p2 = both_empty (missing_faults modes b) _ p1.1 in
     let p3 = both_empty (held_faults modes (members_of c)) _ p2.1 in
-    let p4 = both_empty (missing_pairs modes modes c) (row_faults u modes (members_of r)) p3.1 in
+    let p4 = both_empty (missing_pairs modes modes c) (row_faults rows modes (members_of r)) p3.1 in
     let n = held_by (nat_lt 0 (items_len ds) && nat_lt (items_len ds) 16) mode_count count in
     let few = and_parts (nat_lt 0 (items_len ds)) (nat_lt (items_len ds) 16) n in
     let len = all_named 0 [] ds names in
@@ -275,15 +276,15 @@ sound u ds b c r count names content =
       compatible = square_length (stands b) modes modes;
       conversion = square_length (converts modes c) modes modes;
       conversions = all_converted modes c modes modes p3.0 p4.0;
-      fetch_hit = row_good u modes (codes "fetch-hit") (codes "current") (codes "none") r p4.1;
-      fetch_miss = row_good u modes (codes "fetch-miss") (codes "next") (codes "none") r p4.1;
-      scan_key = row_good u modes (codes "scan-key") (codes "current") (codes "none") r p4.1;
-      scan_stop = row_good u modes (codes "scan-stop") (codes "next") (codes "none") r p4.1;
-      insert_current = each_good u modes (codes "insert") (codes "current") r p4.1;
-      insert_next = each_good u modes (codes "insert") (codes "next") r p4.1;
-      delete_current = each_good u modes (codes "delete") (codes "current") r p4.1;
-      delete_next = each_good u modes (codes "delete") (codes "next") r p4.1;
-      update = update_good u modes r p4.1;
+      fetch_hit = row_good rows modes (codes "fetch-hit") (codes "current") (codes "none") r p4.1;
+      fetch_miss = row_good rows modes (codes "fetch-miss") (codes "next") (codes "none") r p4.1;
+      scan_key = row_good rows modes (codes "scan-key") (codes "current") (codes "none") r p4.1;
+      scan_stop = row_good rows modes (codes "scan-stop") (codes "next") (codes "none") r p4.1;
+      insert_current = each_good rows modes (codes "insert") (codes "current") r p4.1;
+      insert_next = each_good rows modes (codes "insert") (codes "next") r p4.1;
+      delete_current = each_good rows modes (codes "delete") (codes "current") r p4.1;
+      delete_next = each_good rows modes (codes "delete") (codes "next") r p4.1;
+      update = update_good rows u modes r p4.1;
     }
 
 pub few_names : (names : List (String Global)) (ds : Items) → count_faults (items_len ds) ≡ [] → mode_faults 0 [] ds ≡ [] → map string_bytes names ≡ names_of ds → length names ≤ 15

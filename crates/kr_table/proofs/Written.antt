@@ -2,7 +2,8 @@
 use Rattle.std.proofs.Common.{◌≡◌, ℕ, is_some, Option, List, [], ◌∷◌, length, Bool, true, false, Some, None, refl, sym, ap, subst, ◌∙◌, arith, codes, Ok}
 use Rattle.std.specs.Prelude.{pos, unwrap_or}
 use Rattle.toml.specs.Data.{Data, integer, array, table, Items, Members, no_members}
-use Rattle.kr_table.specs.DocumentFaults.{content_faults, row_faults, count_faults, format_faults, name_faults, updates_in}
+use Rattle.kr_table.specs.declared.rows.Rows.TheVariants.{Plain, Updates}
+use Rattle.kr_table.specs.DocumentFaults.{content_faults, row_faults, count_faults, format_faults, name_faults, updates_in, rows_of}
 use Rattle.kr_table.specs.Members.{items_len, integer_in, list_in}
 use Rattle.kr_table.specs.Tables.{Request, TableData, IsAsked, IsTable, asks_mode}
 use Rattle.kr_table.specs.Reading.{square, stands, converts, asked, asked_each, asked_update, clauses_of, table_of_parts, judged}
@@ -83,37 +84,37 @@ parts_back x t (Some r) e =
     parts_from x t (table (rules_with x (Some r))) true refl refl refl refl refl refl refl refl
     (ap (λ z. Some z) (plain_back x.modes.names r (codes "none") (distinct_from [] x.modes.names t.named) (subst (λ o. asks_mode (length x.modes.names) (unwrap_or o None) ≡ true) e t.update)) ∙ sym e)
 
-rules_good : (x : TableData) → IsTable x → (u : Option Request) → x.update ≡ u → row_faults (is_some u) x.modes.names (rules_with x u) ≡ []
+rules_good : (x : TableData) → IsTable x → (u : Option Request) → x.update ≡ u → row_faults (rows_of (is_some u)) x.modes.names (rules_with x u) ≡ []
 rules_good x t None e =
     let owns = codes "none" ∷ x.modes.names in
     let w = all_owns x.modes.names in
     rw (
-      own_good x.modes.names (codes "delete") (codes "current") 0 owns x.delete_current refl w t.delete_current.modes,
-      own_good x.modes.names (codes "delete") (codes "next") 0 owns x.delete_next refl w t.delete_next.modes,
-      plain_good x.modes.names (codes "fetch-hit") (codes "current") x.fetch_hit t.fetch_hit,
-      plain_good x.modes.names (codes "fetch-miss") (codes "next") x.fetch_miss t.fetch_miss,
-      own_good x.modes.names (codes "insert") (codes "current") 0 owns x.insert_current refl w t.insert_current.modes,
-      own_good x.modes.names (codes "insert") (codes "next") 0 owns x.insert_next refl w t.insert_next.modes,
-      plain_good x.modes.names (codes "scan-key") (codes "current") x.scan_key t.scan_key,
-      plain_good x.modes.names (codes "scan-stop") (codes "next") x.scan_stop t.scan_stop,
+      own_good Plain x.modes.names (codes "delete") (codes "current") 0 owns x.delete_current refl w t.delete_current.modes,
+      own_good Plain x.modes.names (codes "delete") (codes "next") 0 owns x.delete_next refl w t.delete_next.modes,
+      plain_good Plain x.modes.names (codes "fetch-hit") (codes "current") x.fetch_hit t.fetch_hit,
+      plain_good Plain x.modes.names (codes "fetch-miss") (codes "next") x.fetch_miss t.fetch_miss,
+      own_good Plain x.modes.names (codes "insert") (codes "current") 0 owns x.insert_current refl w t.insert_current.modes,
+      own_good Plain x.modes.names (codes "insert") (codes "next") 0 owns x.insert_next refl w t.insert_next.modes,
+      plain_good Plain x.modes.names (codes "scan-key") (codes "current") x.scan_key t.scan_key,
+      plain_good Plain x.modes.names (codes "scan-stop") (codes "next") x.scan_stop t.scan_stop,
     )
 rules_good x t (Some r) e =
     let owns = codes "none" ∷ x.modes.names in
     let w = all_owns x.modes.names in
     rw (
-      own_good x.modes.names (codes "delete") (codes "current") 0 owns x.delete_current refl w t.delete_current.modes,
-      own_good x.modes.names (codes "delete") (codes "next") 0 owns x.delete_next refl w t.delete_next.modes,
-      plain_good x.modes.names (codes "fetch-hit") (codes "current") x.fetch_hit t.fetch_hit,
-      plain_good x.modes.names (codes "fetch-miss") (codes "next") x.fetch_miss t.fetch_miss,
-      own_good x.modes.names (codes "insert") (codes "current") 0 owns x.insert_current refl w t.insert_current.modes,
-      own_good x.modes.names (codes "insert") (codes "next") 0 owns x.insert_next refl w t.insert_next.modes,
-      plain_good x.modes.names (codes "scan-key") (codes "current") x.scan_key t.scan_key,
-      plain_good x.modes.names (codes "scan-stop") (codes "next") x.scan_stop t.scan_stop,
-      plain_good x.modes.names (codes "update") (codes "current") r (subst (λ o. asks_mode (length x.modes.names) (unwrap_or o None) ≡ true) e t.update),
+      own_good Updates x.modes.names (codes "delete") (codes "current") 0 owns x.delete_current refl w t.delete_current.modes,
+      own_good Updates x.modes.names (codes "delete") (codes "next") 0 owns x.delete_next refl w t.delete_next.modes,
+      plain_good Updates x.modes.names (codes "fetch-hit") (codes "current") x.fetch_hit t.fetch_hit,
+      plain_good Updates x.modes.names (codes "fetch-miss") (codes "next") x.fetch_miss t.fetch_miss,
+      own_good Updates x.modes.names (codes "insert") (codes "current") 0 owns x.insert_current refl w t.insert_current.modes,
+      own_good Updates x.modes.names (codes "insert") (codes "next") 0 owns x.insert_next refl w t.insert_next.modes,
+      plain_good Updates x.modes.names (codes "scan-key") (codes "current") x.scan_key t.scan_key,
+      plain_good Updates x.modes.names (codes "scan-stop") (codes "next") x.scan_stop t.scan_stop,
+      plain_good Updates x.modes.names (codes "update") (codes "current") r (subst (λ o. asks_mode (length x.modes.names) (unwrap_or o None) ≡ true) e t.update),
     )
 
 content_good : (x : TableData) → IsTable x → (u : Option Request) → x.update ≡ u
-    → content_faults (is_some u) x.modes.names (table (with_compatible x.modes.names x.modes.names x.modes.compatible no_members)) (table (with_conversion x.modes.names x.modes.names x.modes.conversion no_members)) (table (rules_with x u)) ≡ []
+    → content_faults (rows_of (is_some u)) x.modes.names (table (with_compatible x.modes.names x.modes.names x.modes.compatible no_members)) (table (with_conversion x.modes.names x.modes.names x.modes.conversion no_members)) (table (rules_with x u)) ≡ []
 content_good x t u e =
     let d : Distinct x.modes.names = distinct_from [] x.modes.names t.named in
     let w = within_itself x.modes.names in
@@ -136,7 +137,7 @@ reads_back x t u e format up names list =
     let c = table (with_conversion x.modes.names x.modes.names x.modes.conversion no_members) in
     let r = table (rules_with x u) in
     judged_parts (is_some u) (table (written_with x u)) (strings x.modes.names) b c r format up names list refl refl refl refl refl refl count (good_strings 0 [] x.modes.names t.named)
-    (subst (λ l. content_faults (is_some u) l b c r ≡ []) (sym same) (content_good x t u e))
+    (subst (λ l. content_faults (rows_of (is_some u)) l b c r ≡ []) (sym same) (content_good x t u e))
     ∙ ap Ok (ap (λ l. table_of_parts (is_some u) l b c r) same ∙ parts_back x t u e)
 
 by_update : (x : TableData) → IsTable x → (u : Option Request) → x.update ≡ u → judged (table (written_with x u)) ≡ Ok x

@@ -3,6 +3,8 @@ use Rattle.std.specs.Prelude.{ℕ, ℤ, pos, ◌+◌, ◌&&◌, ◌||◌, codes,
 use Rattle.std.specs.Ordering.{int_eq}
 use Rattle.toml.specs.Data.{Data, Items, no_items, item, Members, no_members, member, get, as_str, as_array, as_table}
 use Rattle.kr_model.specs.Firsts.{unless}
+use Rattle.kr_table.specs.declared.rows.Rows.{Rows}
+use Rattle.kr_table.specs.declared.rows.Rows.TheVariants.{Plain, Updates, Ghosts}
 use Rattle.kr_table.specs.Faults.{Fault, format, field, mode_count, mode_name, compatible, convert, rule, own_not_allowed}
 use Rattle.kr_table.specs.Members.{integer_in, list_in, table_in, text_in, items_in, data_in, pair_in, members_of, items_within, items_len, with_some, modes_in}
 
@@ -126,25 +128,44 @@ missing_pairs (h ∷ hs) modes d = missing_of h modes d ++ missing_pairs hs mode
 
 -- Rules --
 
--- Whether the row is of an operation that moves keys; such a row has both sides, and clauses with `own`.
-abbrev pub is_changing : List ℕ → Bool
-is_changing row = bytes_eq row (codes "insert") || bytes_eq row (codes "delete")
+-- The rows of a table whose deleted keys go at once, by whether it offers updates.
+abbrev pub rows_of : Bool → Rows
+rows_of false = Plain
+rows_of true = Updates
 
--- Whether the row asks at the current name; the row of updates is there only where they are offered.
-abbrev pub has_current : Bool → List ℕ → Bool
-has_current u row = bytes_eq row (codes "fetch-hit") || bytes_eq row (codes "scan-key") || is_changing row || (u && bytes_eq row (codes "update"))
+-- Whether a table with these rows offers updates.
+abbrev pub has_updates : Rows → Bool
+has_updates Plain = false
+has_updates Updates = true
+has_updates Ghosts = true
+
+-- Whether deletes leave ghosts in a table with these rows.
+abbrev pub has_ghosts : Rows → Bool
+has_ghosts Plain = false
+has_ghosts Updates = false
+has_ghosts Ghosts = true
+
+-- Whether the row goes by the own mode on the next name: an insert, and a delete that leaves no ghost. Such a row has both sides, and clauses with `own`.
+abbrev pub sees_own : Rows → List ℕ → Bool
+sees_own r row = bytes_eq row (codes "insert") || (not (has_ghosts r) && bytes_eq row (codes "delete"))
+
+-- Whether the row asks at the current name; the row of updates is there only where they are offered, and that of an insert of a ghost where there are ghosts.
+abbrev pub has_current : Rows → List ℕ → Bool
+has_current r row =
+    bytes_eq row (codes "fetch-hit") || bytes_eq row (codes "scan-key") || bytes_eq row (codes "insert") || bytes_eq row (codes "delete")
+    || (has_updates r && bytes_eq row (codes "update")) || (has_ghosts r && bytes_eq row (codes "revive"))
 
 -- Whether the row asks at the next name.
-abbrev pub has_next : List ℕ → Bool
-has_next row = bytes_eq row (codes "fetch-miss") || bytes_eq row (codes "scan-stop") || is_changing row
+abbrev pub has_next : Rows → List ℕ → Bool
+has_next r row = bytes_eq row (codes "fetch-miss") || bytes_eq row (codes "scan-stop") || sees_own r row
 
 -- Whether there is a row of this name.
-abbrev pub is_row : Bool → List ℕ → Bool
-is_row u row = has_current u row || has_next row
+abbrev pub is_row : Rows → List ℕ → Bool
+is_row r row = has_current r row || has_next r row
 
 -- Whether the row has a side of this name.
-abbrev pub is_side : Bool → List ℕ → List ℕ → Bool
-is_side u row side = (bytes_eq side (codes "current") && has_current u row) || (bytes_eq side (codes "next") && has_next row)
+abbrev pub is_side : Rows → List ℕ → List ℕ → Bool
+is_side r row side = (bytes_eq side (codes "current") && has_current r row) || (bytes_eq side (codes "next") && has_next r row)
 
 -- Whether a clause may have a member of this name.
 abbrev pub is_clause_word : List ℕ → Bool
@@ -183,46 +204,46 @@ is_own modes (Some ds) = all_own modes ds
 abbrev pub clause_path : List ℕ → List ℕ → ℕ → List ℕ
 clause_path row side i = codes "rules." ++ row ++ codes "." ++ side ++ codes "." ++ decimal i
 
--- The faults of the `own` of a clause, if it has one: it may stand in a row that moves keys alone.
-abbrev pub own_faults : List (List ℕ) → List ℕ → List ℕ → ℕ → Option Data → List Fault
-own_faults modes row side i None = []
-own_faults modes row side i (Some d) =
-    unless (is_changing row) (own_not_allowed (clause_path row side i))
+-- The faults of the `own` of a clause, if it has one: it may stand only in a row that goes by the own mode.
+abbrev pub own_faults : Rows → List (List ℕ) → List ℕ → List ℕ → ℕ → Option Data → List Fault
+own_faults r modes row side i None = []
+own_faults r modes row side i (Some d) =
+    unless (sees_own r row) (own_not_allowed (clause_path row side i))
     ++ unless (is_own modes (as_array d)) (rule (clause_path row side i))
 
 -- The faults of a clause.
-abbrev pub clause_faults : List (List ℕ) → List ℕ → List ℕ → ℕ → Data → List Fault
-clause_faults modes row side i d = unless (is_clause modes d) (rule (clause_path row side i)) ++ own_faults modes row side i (get (codes "own") d)
+abbrev pub clause_faults : Rows → List (List ℕ) → List ℕ → List ℕ → ℕ → Data → List Fault
+clause_faults r modes row side i d = unless (is_clause modes d) (rule (clause_path row side i)) ++ own_faults r modes row side i (get (codes "own") d)
 
 -- The faults of each clause of a side, from an index on.
-abbrev pub clauses_faults : List (List ℕ) → List ℕ → List ℕ → ℕ → Items → List Fault
-clauses_faults modes row side i no_items = []
-clauses_faults modes row side i (item d ds) = clause_faults modes row side i d ++ clauses_faults modes row side (i + 1) ds
+abbrev pub clauses_faults : Rows → List (List ℕ) → List ℕ → List ℕ → ℕ → Items → List Fault
+clauses_faults r modes row side i no_items = []
+clauses_faults r modes row side i (item d ds) = clause_faults r modes row side i d ++ clauses_faults r modes row side (i + 1) ds
 
 -- Each side that is no array or that the row hasn't, and the faults of its clauses, before the next side.
-abbrev pub side_faults : Bool → List (List ℕ) → List ℕ → Members → List Fault
-side_faults u modes row no_members = []
-side_faults u modes row (member side d ms) =
-    unless (is_side u row side && is_some (as_array d)) (rule (codes "rules." ++ row ++ codes "." ++ side))
-    ++ (clauses_faults modes row side 0 (items_within d) ++ side_faults u modes row ms)
+abbrev pub side_faults : Rows → List (List ℕ) → List ℕ → Members → List Fault
+side_faults r modes row no_members = []
+side_faults r modes row (member side d ms) =
+    unless (is_side r row side && is_some (as_array d)) (rule (codes "rules." ++ row ++ codes "." ++ side))
+    ++ (clauses_faults r modes row side 0 (items_within d) ++ side_faults r modes row ms)
 
 -- Each row that is no table or unknown, and the faults of its sides, before the next row.
-abbrev pub row_faults : Bool → List (List ℕ) → Members → List Fault
-row_faults u modes no_members = []
-row_faults u modes (member row d ms) =
-    unless (is_row u row && is_some (as_table d)) (rule (codes "rules." ++ row))
-    ++ (side_faults u modes row (members_of d) ++ row_faults u modes ms)
+abbrev pub row_faults : Rows → List (List ℕ) → Members → List Fault
+row_faults r modes no_members = []
+row_faults r modes (member row d ms) =
+    unless (is_row r row && is_some (as_table d)) (rule (codes "rules." ++ row))
+    ++ (side_faults r modes row (members_of d) ++ row_faults r modes ms)
 
 -- The whole --
 
--- The faults of `compatible`, `convert` and `rules`, given whether updates are offered and the names of the modes.
-abbrev pub content_faults : Bool → List (List ℕ) → Data → Data → Data → List Fault
-content_faults u modes entries conversions rules =
+-- The faults of `compatible`, `convert` and `rules`, given which rows the table has and the names of the modes.
+abbrev pub content_faults : Rows → List (List ℕ) → Data → Data → Data → List Fault
+content_faults r modes entries conversions rules =
     entry_faults modes (members_of entries)
     ++ (missing_faults modes entries
     ++ (held_faults modes (members_of conversions)
     ++ (missing_pairs modes modes conversions
-    ++ row_faults u modes (members_of rules))))
+    ++ row_faults r modes (members_of rules))))
 
 -- All faults of a document, each kind without regard to the others.
 abbrev pub faults : Data → List Fault
@@ -235,4 +256,4 @@ faults d =
     ++ (table_faults (codes "rules") d
     ++ (count_faults (items_len (items_in (codes "modes") d))
     ++ (mode_faults 0 [] (items_in (codes "modes") d)
-    ++ content_faults (updates_in d) (modes_in d) (data_in (codes "compatible") d) (data_in (codes "convert") d) (data_in (codes "rules") d))))))))
+    ++ content_faults (rows_of (updates_in d)) (modes_in d) (data_in (codes "compatible") d) (data_in (codes "convert") d) (data_in (codes "rules") d))))))))

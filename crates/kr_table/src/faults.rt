@@ -21,7 +21,7 @@ pub enum TableFault {
     /// The bytes are no TOML document.
     #[error("fault 2 NotToml")]
     NotToml,
-    /// The format is a whole number other than 1.
+    /// The format is a whole number that the reader doesn't take: [`read`](crate::read) takes 1 and 2.
     #[error("fault 3 Format")]
     Format,
     /// The member of this name is unknown, missing or of the wrong kind.
@@ -46,7 +46,7 @@ pub enum TableFault {
     /// word or a name that is unknown or missing.
     #[error("fault 9 Rule at {0}")]
     Rule(String),
-    /// The clause at this path has an `own`, in a row that changes nothing.
+    /// The clause at this path has an `own`, in a row that doesn't go by the own mode.
     #[error("fault 10 OwnNotAllowed at {0}")]
     OwnNotAllowed(String),
     /// A growth was refused.

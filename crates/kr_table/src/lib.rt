@@ -3,13 +3,15 @@
 
 pub mod bundled;
 mod faults;
-mod making;
+pub mod making;
 mod reading;
+mod rows;
 mod table;
-mod walk;
+pub mod walk;
 mod writing;
 
 pub use faults::TableFault;
 pub use reading::read;
-pub use table::Table;
+pub use rows::Rows;
+pub use table::{Parts, Table};
 pub use writing::{WriteFault, write};

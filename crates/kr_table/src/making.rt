@@ -1,4 +1,5 @@
-//! What a document without faults gives.
+//! What a document without faults gives. A reader of another format of tables calls these for what
+//! it shares with them.
 ghost use Rattle.std.specs.Prelude.{◌≡◌, ◌≤◌, ◌++◌, ◌∷◌, IfOk, OnOk, [], codes, length, map, string_bytes, unwrap_or};
 ghost use Rattle.toml.specs.View.{view, items_view};
 ghost use Rattle.kr_modes.specs.Matrix.{IsMatrix};
@@ -15,7 +16,7 @@ use std::alloc::Global;
 use toml::Value;
 
 /// The number of a mode's name, 0 where it isn't there.
-fn number(modes: &[String], name: &str) -> Mode
+pub fn number(modes: &[String], name: &str) -> Mode
     requires { length modes.now ≤ 15 }
     ensures { result ≡ spec.number (map string_bytes modes.now) name.now }
 {
@@ -52,7 +53,7 @@ fn items_at<'a>(value: &'a Value, name: &str) -> &'a [Value]
 }
 
 /// The text at a name, and an empty one where none stands there.
-fn text_at<'a>(value: &'a Value, name: &str) -> &'a str
+pub fn text_at<'a>(value: &'a Value, name: &str) -> &'a str
     ensures { result.now ≡ unwrap_or (text_in name.now (view value.entry.now)) [] }
 {
     match value.get(name).and_then(Value::as_str) {
@@ -202,7 +203,7 @@ fn asked_each(
 }
 
 /// What a row requests whose operation moves no key.
-fn asked_at(modes: &[String], rules: &Value, row: &str, side: &str) -> Option<(Mode, Span)>
+pub fn asked_at(modes: &[String], rules: &Value, row: &str, side: &str) -> Option<(Mode, Span)>
     requires { length modes.now ≤ 15 }
     ensures { result ≡ spec.asked (map string_bytes modes.now) (spec.clauses_of (view rules.now) row.now side.now) (codes "none") }
 {

@@ -8,6 +8,7 @@ ghost use Rattle.kr_table.specs.Answer.{Gives};
 
 use crate::faults::{MAX_BYTES, TableFault};
 use crate::making::parts_of;
+use crate::rows::Rows;
 use crate::table::Table;
 use crate::walk::{list_at, modes_of, table_at, test_content, test_count, test_format, test_names};
 use std::alloc::Global;
@@ -48,7 +49,8 @@ fn table_of(alloc: Global, value: &Value) -> Result<Table, TableFault>
         Ok(names) => names,
         Err(e) => return Err(e),
     };
-    test_content(alloc, updates, names.as_slice(), compatible, convert, rules)?;
+    let rows = Rows::new(updates);
+    test_content(alloc, rows, names.as_slice(), compatible, convert, rules)?;
     match parts_of(alloc, updates, names, compatible, convert, rules) {
         Ok(parts) => Ok(Table::new(parts)),
         Err(_) => Err(TableFault::Memory),

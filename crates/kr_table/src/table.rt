@@ -36,8 +36,8 @@ pub struct Table {
 }
 
 impl Table {
-    /// The table of these parts.
-    pub(crate) fn new(parts: Parts) -> Table
+    /// The table of these parts. Takes no memory.
+    pub fn new(parts: Parts) -> Table
         requires { IsTable (data_of parts) }
         ensures { result.parts ≡ parts }
     {

@@ -4,6 +4,7 @@ mod alike;
 mod cases;
 mod causes;
 mod decide;
+mod ghosts;
 mod model;
 mod modes;
 mod ordered;

@@ -25,7 +25,8 @@ pub fn test_format(alloc: Global, value: &Value) -> Result<bool, TableFault>
     }
 }
 
-fn is_member_name(name: &str) -> bool
+/// Whether a table of format 1 or 2 has a member of this name.
+pub fn is_member_name(name: &str) -> bool
     ensures { result ≡ spec.is_member_name name.now }
 {
     name == "format"

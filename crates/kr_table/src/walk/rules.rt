@@ -7,40 +7,46 @@ ghost use Rattle.kr_table.specs.Members.{text_in};
 ghost use Rattle.kr_table.specs.DocumentFaults as spec;
 
 use crate::faults::TableFault;
+use crate::rows::Rows;
 use crate::walk::modes::is_mode;
 use crate::walk::paths::{own_clause, rule_clause, rule_row, rule_side};
 use std::alloc::Global;
 use toml::{Table, Value};
 
-/// Whether the row is of an operation that moves keys.
-fn is_changing(row: &str) -> bool
-    ensures { result ≡ spec.is_changing row.now }
+/// Whether the row goes by the own mode on the next name.
+fn sees_own(rows: Rows, row: &str) -> bool
+    ensures { result ≡ spec.sees_own rows row.now }
 {
-    row == "insert" || row == "delete"
+    row == "insert" || (!rows.has_ghosts() && row == "delete")
 }
 
-fn has_current(updates: bool, row: &str) -> bool
-    ensures { result ≡ spec.has_current updates row.now }
+fn has_current(rows: Rows, row: &str) -> bool
+    ensures { result ≡ spec.has_current rows row.now }
 {
-    row == "fetch-hit" || row == "scan-key" || is_changing(row) || (updates && row == "update")
+    row == "fetch-hit"
+        || row == "scan-key"
+        || row == "insert"
+        || row == "delete"
+        || (rows.has_updates() && row == "update")
+        || (rows.has_ghosts() && row == "revive")
 }
 
-fn has_next(row: &str) -> bool
-    ensures { result ≡ spec.has_next row.now }
+fn has_next(rows: Rows, row: &str) -> bool
+    ensures { result ≡ spec.has_next rows row.now }
 {
-    row == "fetch-miss" || row == "scan-stop" || is_changing(row)
+    row == "fetch-miss" || row == "scan-stop" || sees_own(rows, row)
 }
 
-fn is_row(updates: bool, row: &str) -> bool
-    ensures { result ≡ spec.is_row updates row.now }
+fn is_row(rows: Rows, row: &str) -> bool
+    ensures { result ≡ spec.is_row rows row.now }
 {
-    has_current(updates, row) || has_next(row)
+    has_current(rows, row) || has_next(rows, row)
 }
 
-fn is_side(updates: bool, row: &str, side: &str) -> bool
-    ensures { result ≡ spec.is_side updates row.now side.now }
+fn is_side(rows: Rows, row: &str, side: &str) -> bool
+    ensures { result ≡ spec.is_side rows row.now side.now }
 {
-    (side == "current" && has_current(updates, row)) || (side == "next" && has_next(row))
+    (side == "current" && has_current(rows, row)) || (side == "next" && has_next(rows, row))
 }
 
 fn is_clause_word(word: &str) -> bool
@@ -115,18 +121,19 @@ fn is_own(modes: &[String], value: &Value) -> bool
 /// Tests the `own` of the clause at an index.
 fn test_own(
     alloc: Global,
+    rows: Rows,
     modes: &[String],
     row: &str,
     side: &str,
     i: usize,
     clause: &Value,
 ) -> Result<(), TableFault>
-    ensures { Passes result (spec.own_faults (map string_bytes modes.now) row.now side.now i (get (codes "own") (view clause.now))) }
+    ensures { Passes result (spec.own_faults rows (map string_bytes modes.now) row.now side.now i (get (codes "own") (view clause.now))) }
 {
     match clause.get("own") {
         None => Ok(()),
         Some(own) => {
-            if !is_changing(row) {
+            if !sees_own(rows, row) {
                 return Err(own_clause(alloc, row, side, i));
             }
             if !is_own(modes, own) {
@@ -140,32 +147,34 @@ fn test_own(
 /// Tests the clause at an index.
 fn test_clause(
     alloc: Global,
+    rows: Rows,
     modes: &[String],
     row: &str,
     side: &str,
     i: usize,
     clause: &Value,
 ) -> Result<(), TableFault>
-    ensures { Passes result (spec.clause_faults (map string_bytes modes.now) row.now side.now i (view clause.now)) }
+    ensures { Passes result (spec.clause_faults rows (map string_bytes modes.now) row.now side.now i (view clause.now)) }
 {
     if !is_clause(modes, clause) {
         return Err(rule_clause(alloc, row, side, i));
     }
-    test_own(alloc, modes, row, side, i, clause)
+    test_own(alloc, rows, modes, row, side, i, clause)
 }
 
 /// Tests each clause of a side.
 fn test_clauses(
     alloc: Global,
+    rows: Rows,
     modes: &[String],
     row: &str,
     side: &str,
     list: &[Value],
 ) -> Result<(), TableFault>
-    ensures { Passes result (spec.clauses_faults (map string_bytes modes.now) row.now side.now 0 (items_view list.now)) }
+    ensures { Passes result (spec.clauses_faults rows (map string_bytes modes.now) row.now side.now 0 (items_view list.now)) }
 {
     for (i, clause) in list.iter().enumerate() {
-        if let Err(e) = test_clause(alloc, modes, row, side, i, clause) {
+        if let Err(e) = test_clause(alloc, rows, modes, row, side, i, clause) {
             return Err(e);
         }
     }
@@ -175,21 +184,21 @@ fn test_clauses(
 /// Tests each side of a row, with its clauses.
 fn test_sides(
     alloc: Global,
-    updates: bool,
+    rows: Rows,
     modes: &[String],
     row: &str,
     sides: &Table,
 ) -> Result<(), TableFault>
-    ensures { Passes result (spec.side_faults updates (map string_bytes modes.now) row.now (members_view sides.now.entries)) }
+    ensures { Passes result (spec.side_faults rows (map string_bytes modes.now) row.now (members_view sides.now.entries)) }
 {
     for (side, value) in sides.iter() {
         let Some(list) = value.as_array() else {
             return Err(rule_side(alloc, row, side.as_str()));
         };
-        if !is_side(updates, row, side.as_str()) {
+        if !is_side(rows, row, side.as_str()) {
             return Err(rule_side(alloc, row, side.as_str()));
         }
-        test_clauses(alloc, modes, row, side.as_str(), list.as_slice())?;
+        test_clauses(alloc, rows, modes, row, side.as_str(), list.as_slice())?;
     }
     Ok(())
 }
@@ -197,20 +206,20 @@ fn test_sides(
 /// Tests each row of `rules`, with its sides.
 pub fn test_rows(
     alloc: Global,
-    updates: bool,
+    rows: Rows,
     modes: &[String],
     rules: &Table,
 ) -> Result<(), TableFault>
-    ensures { Passes result (spec.row_faults updates (map string_bytes modes.now) (members_view rules.now.entries)) }
+    ensures { Passes result (spec.row_faults rows (map string_bytes modes.now) (members_view rules.now.entries)) }
 {
     for (row, value) in rules.iter() {
         let Some(sides) = value.as_table() else {
             return Err(rule_row(alloc, row.as_str()));
         };
-        if !is_row(updates, row.as_str()) {
+        if !is_row(rows, row.as_str()) {
             return Err(rule_row(alloc, row.as_str()));
         }
-        test_sides(alloc, updates, modes, row.as_str(), sides)?;
+        test_sides(alloc, rows, modes, row.as_str(), sides)?;
     }
     Ok(())
 }

@@ -10,7 +10,7 @@ use std::thread::Threads;
 
 /// A fault, of which one line is told.
 const FAULT: Row = Row {
-    table: "format = 3",
+    table: "format = 4",
     script: "{",
     status: 2,
     ..RUN

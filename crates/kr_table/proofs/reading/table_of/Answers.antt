@@ -21,15 +21,15 @@ parts_of-requires-clause-few c = few_names c.in-Ok.names.items (items_view c.in_
 
 pub parts_of-requires-clause-matrix : goal.parts_of-requires-clause-matrix
 parts_of-requires-clause-matrix c =
-    modes_sound c.in_ok-updates.updates c.in-Ok.names.items (items_view c.in_ok-list.list.now) (view c.in_ok-compatible.compatible.now) (view c.in_ok-convert.convert.now) (view c.in_ok-rules.rules.now)
+    modes_sound c.new-rows.result c.in-Ok.names.items (items_view c.in_ok-list.list.now) (view c.in_ok-compatible.compatible.now) (view c.in_ok-convert.convert.now) (view c.in_ok-rules.rules.now)
     c.in_ok-test_count.ensures c.in-Ok.ensures.0 c.in-Ok.ensures.1
-    (subst (λ xs. content_faults c.in_ok-updates.updates (map string_bytes xs) (view c.in_ok-compatible.compatible.now) (view c.in_ok-convert.convert.now) (view c.in_ok-rules.rules.now) ≡ []) c.as_slice.ensures.value c.in_ok-test_content.ensures)
+    (subst (λ xs. content_faults c.new-rows.result (map string_bytes xs) (view c.in_ok-compatible.compatible.now) (view c.in_ok-convert.convert.now) (view c.in_ok-rules.rules.now) ≡ []) c.as_slice.ensures.value c.in_ok-test_content.ensures)
 
 pub new-requires : goal.new-requires
 new-requires c =
-    table_sound c.in_ok-updates.updates c.in-Ok-parts_of.parts c.in-Ok.names.items (items_view c.in_ok-list.list.now) (view c.in_ok-compatible.compatible.now) (view c.in_ok-convert.convert.now) (view c.in_ok-rules.rules.now)
+    table_sound c.new-rows.result c.in_ok-updates.updates c.in-Ok-parts_of.parts c.in-Ok.names.items (items_view c.in_ok-list.list.now) (view c.in_ok-compatible.compatible.now) (view c.in_ok-convert.convert.now) (view c.in_ok-rules.rules.now)
     c.in_ok-test_count.ensures c.in-Ok.ensures.0 c.in-Ok.ensures.1
-    (subst (λ xs. content_faults c.in_ok-updates.updates (map string_bytes xs) (view c.in_ok-compatible.compatible.now) (view c.in_ok-convert.convert.now) (view c.in_ok-rules.rules.now) ≡ []) c.as_slice.ensures.value c.in_ok-test_content.ensures)
+    (subst (λ xs. content_faults c.new-rows.result (map string_bytes xs) (view c.in_ok-compatible.compatible.now) (view c.in_ok-convert.convert.now) (view c.in_ok-rules.rules.now) ≡ []) c.as_slice.ensures.value c.in_ok-test_content.ensures)
     c.in-Ok-parts_of.ensures
 
 pub returns-in-Ok-parts_of : goal.returns-in-Ok-parts_of
@@ -38,5 +38,6 @@ returns-in-Ok-parts_of c =
     c.in_ok-updates.ensures.0 c.in_ok-updates.ensures.1 (subst (λ o. name_faults (unwrap_or o no_members) ≡ []) c.in-Some.ensures c.in_ok-test_names.ensures) c.in_ok-list.ensures
     c.in_ok-compatible.ensures.0 c.in_ok-compatible.ensures.1 c.in_ok-convert.ensures.0 c.in_ok-convert.ensures.1 c.in_ok-rules.ensures.0 c.in_ok-rules.ensures.1
     c.in_ok-test_count.ensures c.in-Ok.ensures.0 c.in-Ok.ensures.1
-    (subst (λ xs. content_faults c.in_ok-updates.updates (map string_bytes xs) (view c.in_ok-compatible.compatible.now) (view c.in_ok-convert.convert.now) (view c.in_ok-rules.rules.now) ≡ []) c.as_slice.ensures.value c.in_ok-test_content.ensures)
+    (subst (λ r. content_faults r (map string_bytes c.in-Ok.names.items) (view c.in_ok-compatible.compatible.now) (view c.in_ok-convert.convert.now) (view c.in_ok-rules.rules.now) ≡ []) c.new-rows.ensures
+    (subst (λ xs. content_faults c.new-rows.result (map string_bytes xs) (view c.in_ok-compatible.compatible.now) (view c.in_ok-convert.convert.now) (view c.in_ok-rules.rules.now) ≡ []) c.as_slice.ensures.value c.in_ok-test_content.ensures))
     (subst (λ p. data_of p ≡ table_of_parts c.in_ok-updates.updates (map string_bytes c.in-Ok.names.items) (view c.in_ok-compatible.compatible.now) (view c.in_ok-convert.convert.now) (view c.in_ok-rules.rules.now)) (sym c.new.ensures) c.in-Ok-parts_of.ensures)

@@ -1,0 +1,14 @@
+-- A line that says why a word names no table, with ghosts or without, has no line feed.
+use Rattle.std.specs.Prelude.{◌≡◌, ◌⊎◌, ℕ, List, Option}
+use Rattle.std.proofs.Common.{inl, inr, subst, sym}
+use Rattle.kr_cli.specs.Lines.{HasNoLineFeed, told_line}
+use Rattle.kr_cli.proofs.OneLine.{told_has_no_line_feed}
+use Rattle.kr_cli_ghost.specs.Named.{TellsNone}
+
+told_none : (word what line : List ℕ) → line ≡ told_line word what → HasNoLineFeed line
+told_none word what line is = subst HasNoLineFeed (sym is) (told_has_no_line_feed word what)
+
+pub none_in_none : (may_give : List ℕ → Option (List ℕ) → Type 0) (word line : List ℕ) → TellsNone may_give word line → HasNoLineFeed line
+none_in_none may_give word line (inl (none, is)) = told_none word _ line is
+none_in_none may_give word line (inr (bytes, (had, inl (three, (f, (is_fault, is)))))) = told_none word _ line is
+none_in_none may_give word line (inr (bytes, (had, inr (other, (f, (is_fault, is)))))) = told_none word _ line is

@@ -1,0 +1,4 @@
+pub mod Grouped
+pub mod Asked
+pub mod Counted
+pub mod CaseCount

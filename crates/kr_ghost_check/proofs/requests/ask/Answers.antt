@@ -1,0 +1,10 @@
+use Rattle.std.proofs.Common.{ap, sym, ◌∙◌}
+use Rattle.kr_ghost_check.proofs.Asked.{asked_within}
+use Rattle.kr_ghost_check.proofs.requests.ask.Goals as goal
+
+pub returns-clause-in_range : goal.returns-clause-in_range
+returns-clause-in_range g c =
+    let laws = g.met.P.GhostProtocol.lawful_ghosts c.args.protocol.now in
+    let p = g.P.GhostProtocol.ghosts c.args.protocol.now in
+    asked_within p.table (p.table.ask c.args.row c.args.side c.args.own_next) c.ask.result (λ q span e. laws.table.ask-mode c.args.row c.args.side c.args.own_next q span c.requires e)
+    (c.ask.ensures ∙ ap (λ t. t.ask c.args.row c.args.side c.args.own_next) (sym (g.met.P.GhostProtocol.tables c.args.protocol.now)))

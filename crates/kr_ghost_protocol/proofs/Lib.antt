@@ -1,0 +1,2 @@
+pub mod RecordGapRows
+pub mod NextKeyGhostTables

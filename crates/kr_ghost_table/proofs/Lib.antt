@@ -1,0 +1,4 @@
+pub mod Bounds
+pub mod Documents
+pub mod Laws
+pub mod Whole

@@ -1,0 +1,44 @@
+-- What a table with ghosts says, and its meaning as a locking protocol.
+use Rattle.std.specs.Prelude.{◌≡◌, ◌==◌, ◌&&◌, ℕ, zero, suc, List, length, Bool, true, nat_le, Option, Some, None, slice_index_or}
+use Rattle.std.specs.List.{list_all}
+use Rattle.kr_table.specs.Tables.{Request, TableData, IsTable, protocol_of, asks_mode}
+use Rattle.kr_ghost.specs.Protocol.{GhostProtocol, Purges, Unlocked, Inherit}
+
+-- The table as one without ghosts, what an insert of a ghost requests on it, and the heir of each mode, from 1, or nothing where a purge waits until there is no lock. An heir is 0 where nothing is inherited.
+pub record GhostData : Type 0 where
+  pub table : TableData
+  pub revive : Request
+  pub purge : Option (List ℕ)
+
+-- Its meaning --
+
+-- The heir of a mode; 0 is no lock, and has none.
+abbrev pub heir_at : List ℕ → ℕ → ℕ
+heir_at hs zero = 0
+heir_at hs (suc h) = slice_index_or hs h 0
+
+-- What becomes of the locks on a ghost that is purged.
+abbrev pub purges_of : Option (List ℕ) → Purges
+purges_of None = Unlocked
+purges_of (Some hs) = Inherit (heir_at hs)
+
+-- The protocol that a table is.
+abbrev pub ghost_protocol_of : GhostData → GhostProtocol
+ghost_protocol_of x = record { table = protocol_of x.table; revive = x.revive; purges = purges_of x.purge }
+
+-- What holds of every table, as tests --
+
+-- Whether an heir is one of m modes, or none.
+abbrev pub is_heir : ℕ → ℕ → Bool
+is_heir m h = nat_le h m
+
+-- Whether there is an heir for each of m modes, if there are any, and each is one of these or none.
+abbrev pub are_heirs : ℕ → Option (List ℕ) → Bool
+are_heirs m None = true
+are_heirs m (Some hs) = length hs == m && list_all (is_heir m) hs
+
+-- A table, and no request or heir that leaves its modes.
+pub record IsGhostTable (x : GhostData) : Type 0 where
+  pub table : IsTable x.table
+  pub revive : asks_mode (length x.table.modes.names) x.revive ≡ true
+  pub heirs : are_heirs (length x.table.modes.names) x.purge ≡ true

@@ -1,0 +1,105 @@
+//! A table with ghosts in memory.
+ghost use Rattle.std.specs.Prelude.{◌≡◌, refl};
+ghost use Rattle.kr_table.specs.Tables.{protocol_of};
+ghost use Rattle.kr_table.specs.Answer.{table_data};
+ghost use Rattle.kr_ghost_table.specs.Tables.{IsGhostTable, ghost_protocol_of};
+ghost use Rattle.kr_ghost_table.specs.Shown.{data_of, heirs_of};
+ghost use Rattle.kr_ghost_table.specs.Lawful.{RevivesByMode, LeavesModes, lawful_ghosts_of};
+
+use kr_ghost_protocol::GhostProtocol;
+use kr_protocol::{Mode, Protocol, Row, Side, Span};
+use kr_table::Table;
+
+/// A table with ghosts that was read: its modes, what its rows request, and what becomes of the locks on a ghost that is purged. It
+/// takes memory only where it is read.
+#[derive(Debug, Drop)]
+pub struct GhostTable {
+    table: Table,
+    revive: Option<(Mode, Span)>,
+    heirs: Option<Vec<Mode>>,
+    ghost sound: { IsGhostTable (data_of table revive heirs) },
+    ghost revives: { RevivesByMode (data_of table revive heirs) },
+    ghost leaves: { LeavesModes (protocol_of (table_data table)) (heirs_of heirs) },
+}
+
+impl GhostTable {
+    /// The table of these parts: the heir of each mode from 1, 0 for none, or no heirs where a purge waits until there is no lock.
+    pub(crate) fn new(
+        table: Table,
+        revive: Option<(Mode, Span)>,
+        heirs: Option<Vec<Mode>>,
+    ) -> GhostTable
+        requires { IsGhostTable (data_of table revive heirs) }
+        ensures { data_of result.table result.revive result.heirs ≡ data_of table revive heirs }
+    {
+        GhostTable {
+            table,
+            revive,
+            heirs,
+        }
+    }
+}
+
+impl Protocol for GhostTable {
+    ghost table = { λ t. protocol_of (table_data t.table) };
+
+    ghost names = { λ t. (table_data t.table).modes.names };
+
+    fn count(&self) -> Mode {
+        self.table.count()
+    }
+
+    fn ok(&self, requested: Mode, held: Mode) -> bool {
+        self.table.ok(requested, held)
+    }
+
+    fn row(&self, requested: Mode) -> u16 {
+        self.table.row(requested)
+    }
+
+    fn convert(&self, held: Mode, requested: Mode) -> Mode {
+        self.table.convert(held, requested)
+    }
+
+    fn name(&self, mode: Mode) -> &str {
+        self.table.name(mode)
+    }
+
+    fn ask(&self, row: Row, side: Side, own_next: Mode) -> Option<(Mode, Span)> {
+        self.table.ask(row, side, own_next)
+    }
+
+    fn updates(&self) -> bool {
+        self.table.updates()
+    }
+
+    ghost lawful = { λ t. t.table.lawful };
+
+    ghost named = { λ t. t.table.named };
+}
+
+impl GhostProtocol for GhostTable {
+    ghost ghosts = { λ t. ghost_protocol_of (data_of t.table t.revive t.heirs) };
+
+    fn revive(&self) -> Option<(Mode, Span)> {
+        self.revive
+    }
+
+    fn inherits(&self) -> bool {
+        self.heirs.is_some()
+    }
+
+    fn heir(&self, mode: Mode) -> Mode {
+        if mode == 0 {
+            return 0;
+        }
+        match &self.heirs {
+            Some(heirs) => heirs[mode as usize - 1],
+            None => 0,
+        }
+    }
+
+    ghost tables = { λ t. refl };
+
+    ghost lawful_ghosts = { λ t. lawful_ghosts_of (data_of t.table t.revive t.heirs) t.table.lawful t.revives t.leaves };
+}
