@@ -16,10 +16,16 @@ import subprocess
 import sys
 import tempfile
 
+try:
+    import tomllib
+except ImportError:
+    print('ghosts: left out, since it needs Python 3.11 or later')
+    sys.exit(0)
+
 sys.dont_write_bytecode = True
 
 from compare import next_key_ghost, range_ghost, record_gap, some_table
-from model import RULES, check_report, is_safe
+from model import ROWS, RULES, Table, check_report, is_safe
 
 BUNDLED = {'@record-gap': record_gap, '@range-ghost': range_ghost, '@next-key-ghost': next_key_ghost}
 TOP = pathlib.Path(__file__).resolve().parents[2]
@@ -71,6 +77,24 @@ def text_of(rng, table, names):
     return '\n'.join(lines) + '\n'
 
 
+def read(file):
+    """The table of a file of format 3 without faults."""
+    document = tomllib.loads(file.read_text())
+    names = ['none', *document['modes']]
+    number, every = {it: at for at, it in enumerate(names)}, range(len(names))
+    ok = [[not q or not h or names[h] in document['compatible'][names[q]] for h in every] for q in every]
+    convert = [[h or q if not h or not q else number[document['convert'][names[h]][names[q]]] for q in every] for h in every]
+
+    def asked(row, side, own=0):
+        fits = (it for it in document['rules'].get(row, {}).get(side, []) if names[own] in it.get('own', names))
+        return next(((number[it['mode']], it['span'] == 'commit') for it in fits), None)
+
+    rows = {row: asked(row, 'next' if row in ('fetch-miss', 'scan-stop') else 'current') for row in ROWS if 'insert' not in row}
+    rows |= {row: [asked('insert', side, own) for own in every] for row, side in (('insert', 'current'), ('insert-next', 'next'))}
+    purge = document['purge']
+    return Table(ok, convert, rows, None if purge == 'unlocked' else [0, *(number[purge[it]] for it in names[1:])], True)
+
+
 def differs(program, folder, word, report):
     ran = subprocess.run([program, 'check', word], cwd=folder, capture_output=True, text=True)
     wanted = json.dumps(report, separators=(',', ':'), ensure_ascii=False) + '\n', '', 0 if report['accepted'] else 1
@@ -86,10 +110,13 @@ def main():
     program, seed, tables = pathlib.Path(sys.argv[1]).resolve(), *(int(it) for it in [*sys.argv[2:], *('1', '1000')[len(sys.argv) - 2 :]])
     rng, counts, folder = random.Random(seed), collections.Counter(), pathlib.Path(tempfile.mkdtemp())
     for word, make in BUNDLED.items():
-        file, report = TOP / f'tables/ghosts/{word[1:]}.toml', None
-        names = ['none', *[it.strip('" ') for it in file.read_text().split('modes = [', 1)[1].split(']', 1)[0].split(',')]]
+        file = TOP / f'tables/ghosts/{word[1:]}.toml'
+        names = ['none', *tomllib.loads(file.read_text())['modes']]
         report = check_report(make(), names)
         if differs(program, folder, word, report) or differs(program, folder, str(file), report):
+            return 1
+        if vars(read(file)) != vars(make()):
+            print(f'ghosts: {file} is another table than {word}')
             return 1
     for _ in range(tables):
         table = some_table(rng)
