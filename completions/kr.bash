@@ -23,8 +23,8 @@ _kr() {
   cur=${words[-1]}
   case ${words[0]##*/}.${#words[@]}.${words[1]} in
   kr.2.*) _kr_words check run judge threads ;;
-  kr.3.check) _kr_table @record-gap @range-ghost @next-key-ghost ;;
-  kr.3.run | kr.3.judge | kr.3.threads) _kr_table ;;
+  kr.3.check | kr.3.run | kr.3.judge) _kr_table @record-gap @range-ghost @next-key-ghost ;;
+  kr.3.threads) _kr_table ;;
   kr.4.run | kr.4.threads | kr.*.judge) _kr_files .json ;;
   kr.5.threads) _kr_words --workers ;;
   kr_explain.2.* | kr_view.2.* | kr_suite.2.* | kr_relax.2.*) _kr_table --help -h --version ;;

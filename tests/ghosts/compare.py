@@ -39,7 +39,7 @@ use Rattle.kr_model.specs.declared.Side.TheVariants.{Current, Next}
 use Rattle.kr_model.specs.declared.Span.{Span}
 use Rattle.kr_model.specs.Matrices.{ok_by, convert_by, for_commit, at_once}
 use Rattle.kr_ghost.specs.Protocol.{GhostProtocol, Unlocked, Inherit}
-use Rattle.kr_ghost.specs.Run.{Purge}
+use Rattle.kr_ghost.specs.declared.moves.Move.TheVariants.{Purge}
 use Rattle.kr_ghost.specs.declared.cases.Rule.{Rule}
 use Rattle.kr_ghost.specs.declared.cases.Rule.TheVariants as rule
 use Rattle.kr_ghost.specs.declared.cases.Access.TheVariants as access
@@ -161,14 +161,14 @@ def some_table(rng):
 
 
 def some_run(rng, table):
-    """A run, with its moves and replies."""
+    """A run, with its moves and the answer to each: the reply to a step, and to a purge whether it took the ghost away."""
     run, moves, replies = Run(table, OPENING), [], []
     slots = list(range(1, rng.randint(3, 5)))  # the transactions that go on; a new one most often comes where one has ended
     for _ in range(rng.randint(6, 24)):
-        if rng.random() < 0.18:
+        if rng.random() < 0.25 and (run.ghosts or rng.random() < 0.1):
             ghosts = sorted(run.ghosts)
-            moves.append(('purge', rng.choice(ghosts) if ghosts and rng.random() < 0.8 else rng.choice(KEYS)))
-            run.purge(moves[-1][1])
+            moves.append(('purge', rng.choice(ghosts) if ghosts and rng.random() < 0.9 else rng.choice(KEYS)))
+            replies.append(['purged'] if run.purge(moves[-1][1]) else ['kept'])
             continue
         kind = rng.choices(list(OPS), list(OPS.values()))[0]
         key = rng.choice(KEYS)
@@ -251,7 +251,7 @@ def run_law(name, at, run, moves, replies):
     held = listed(f'(({"End" if n == END else f"Key {n}"}, {u}), {mode})' for (n, u), mode in locks)
     return f"""
 {name}-run{at} : shown {name} ({listed(map(move_text, moves))})
-    ≡ record {{ replies = {listed(map(reply_text, replies))}; locks = {held}; pairs = {pairs(sorted(run.index.items()))}; ghosts = {listed(sorted(run.ghosts))} }}
+    ≡ record {{ replies = {listed(reply_text(it) for it in replies if it[0] not in ('purged', 'kept'))}; locks = {held}; pairs = {pairs(sorted(run.index.items()))}; ghosts = {listed(sorted(run.ghosts))} }}
 {name}-run{at} = refl
 """
 

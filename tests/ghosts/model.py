@@ -163,9 +163,10 @@ class Run:
         return ['undone', len(now.changes)]
 
     def purge(self, key):
+        """Purges a ghost, and says whether it did."""
         held = {u: mode for (name, u), mode in self.locks.items() if name == key}
         if key not in self.ghosts or any(key == it for now in self.active.values() for it, _ in now.changes) or self.table.heir is None and held:
-            return
+            return False
         self.ghosts.discard(key)
         name = self.name_from(key)
         for u, mode in held.items():
@@ -173,11 +174,25 @@ class Run:
             heir = self.table.heir[mode]
             if heir and not self.active[u].rolling:
                 self.locks[name, u] = self.table.convert[self.own(u, name)][heir]
+        return True
+
+    def verdict(self, opening):
+        """The first answer of the committed programs that isn't the one that they have one after another in commit order."""
+        index = dict(opening)
+        for txn in self.committed:
+            for at, (op, reply) in enumerate(self.log.get(txn, []), 1):
+                if reply != (serial := whole(index, op)):
+                    return ['not-serial', txn, at, reply, serial]
+        return ['serial']
 
     def is_serial(self, opening):
-        """Whether the committed programs have the answers that they have one after another in commit order."""
-        index = dict(opening)
-        return all(whole(index, op) == reply for txn in self.committed for op, reply in self.log.get(txn, []))
+        return self.verdict(opening) == ['serial']
+
+    def report(self, opening, names, replies):
+        """What `kr run` prints of a run with these replies, where the modes have these names, `none` first."""
+        locks = [[key if key != END else 'End', txn, names[mode]] for (key, txn), mode in sorted(self.locks.items())]
+        index = [list(it) for it in sorted(self.index.items())]
+        return {'ghosts': sorted(self.ghosts), 'index': index, 'locks': locks, 'replies': replies, 'unfinished': sorted(self.active), 'verdict': self.verdict(opening)}
 
 
 def whole(index, op):

@@ -21,6 +21,14 @@ MemoryOrTold Place P = ⊥
 MemoryOrTold Output P = ⊥
 MemoryOrTold (Told line) P = P (string_bytes line)
 
+-- A task ends without its report, or with a prefix of it: for memory, a place or output, or with a line that is told of a word, of which this holds.
+abbrev pub Unreported : (List ℕ → Type 0) → Ending → Type 0
+Unreported P NotUnderstood = ⊥
+Unreported P Memory = Unit {0}
+Unreported P Place = Unit {0}
+Unreported P Output = Unit {0}
+Unreported P (Told line) = P (string_bytes line)
+
 -- What is told behind the program's name.
 abbrev pub line_of : Ending → List ℕ
 line_of NotUnderstood = codes "words not understood"

@@ -1,5 +1,5 @@
 -- What is told of bytes that are no table, with ghosts or without.
-use Rattle.std.specs.Prelude.{◌≡◌, ◌⊎◌, ℕ, List, Option, Some, None, IfSome, Ok, Err, true, false, refl, string_bytes}
+use Rattle.std.specs.Prelude.{◌≡◌, ◌⊎◌, ℕ, List, Option, Some, IfSome, Err, true, false, refl, string_bytes}
 use Rattle.std.proofs.Common.{inl, inr}
 use Rattle.kr_table.specs.declared.faults.TableFault.{TableFault}
 use Rattle.kr_table.specs.declared.faults.TableFault.TheVariants as told_as

@@ -16,16 +16,13 @@ use Rattle.kr_cli.specs.Named.{NamesTable, NamesScript}
 use Rattle.kr_cli.specs.Tables.{table_of, names_of}
 use Rattle.kr_cli_kr.specs.Runs.{report_line, IsSerialScript}
 use Rattle.kr_cli_kr.specs.Threads.{threads_line}
-use Rattle.kr_ghost.specs.Covers.{IsCoveredGhost}
 use Rattle.kr_cli_ghost.specs.declared.tables.AnyGhostTable.{AnyGhostTable}
 use Rattle.kr_cli_ghost.specs.Lawful.{lawful_ghosts_of}
 use Rattle.kr_cli_ghost.specs.Named.{NamesGhosts}
 use Rattle.kr_cli_ghost.specs.Tables as ghost
-use Rattle.kr_cli_kr.specs.Checks.{ghost_check_line}
-use Rattle.kr_cli_kr.specs.Program.{Reports, Does}
+use Rattle.kr_cli_kr.specs.Program.{Reports, ReportsGhosts, WritesReport}
 use Rattle.kr_cli_kr.specs.Words.{AreWords}
 use Rattle.kr_cli_kr.specs.declared.tasks.Task.{Task}
-use Rattle.kr_cli_kr.specs.declared.tasks.Task.TheVariants.{Check}
 
 -- a word names the script that bytes which may be had for it read as
 names_script : (may_give : List ℕ → Option (List ℕ) → Type 0) (word bytes read : List ℕ) (s : Script) → read ≡ bytes → MayBeScript may_give word (Some bytes) → reading read ≡ Ok s → NamesScript may_give word s
@@ -44,13 +41,13 @@ threads_reported may_give p word bytes read old new serial same had (s, (d, (rea
     (is_serial, (s, (names_script may_give word bytes read s same had reads, (d, (threaded, written)))))
 
 -- it is under the table that a word names, which is lawful
-pub answered : (may_give : List ℕ → Option (List ℕ) → Type 0) (words : List (List ℕ)) (r : Result Bool Ending) (table : List ℕ) (task : Task) (t : AnyTable) (old new : Option (List ℕ)) → AreWords words table task → NamesTable may_give table t → IfOk r (Reports may_give (table_of t) (names_of t) task old new) → IfOk r (Does may_give words old new)
+pub answered : (may_give : List ℕ → Option (List ℕ) → Type 0) (words : List (List ℕ)) (r : Result Bool Ending) (table : List ℕ) (task : Task) (t : AnyTable) (old new : Option (List ℕ)) → AreWords words table task → NamesTable may_give table t → IfOk r (Reports may_give (table_of t) (names_of t) task old new) → IfOk r (WritesReport may_give words old new)
 answered may_give words (Ok well) table task t old new ask names reports =
     inl (record { table = table; task = task; named = t; ask = ask; names = names; lawful = lawful_of t; reports = reports })
 answered may_give words (Err e) table task t old new ask names reports = tt
 
--- or it is the check of the table with ghosts that a word names
-pub checked : (may_give : List ℕ → Option (List ℕ) → Type 0) (words : List (List ℕ)) (r : Result Bool Ending) (table : List ℕ) (task : Task) (t : AnyGhostTable) (old new : Option (List ℕ)) → AreWords words table task → NamesGhosts may_give table t → IfOk r (λ _. task ≡ Check) → IfOk r (λ _. Appends old new (ghost_check_line (ghost.ghosts_of t) (ghost.names_of t))) → IfOk r (λ well. IsTrue well ↔ IsCoveredGhost (ghost.ghosts_of t)) → IfOk r (Does may_give words old new)
-checked may_give words (Ok well) table task t old new ask names check reports accepted =
-    inr (record { table = table; named = t; ask = subst (λ (k : Task). AreWords words table k) check ask; names = names; lawful = lawful_ghosts_of t; reports = reports; accepted = accepted })
-checked may_give words (Err e) table task t old new ask names check reports accepted = tt
+-- or under the table with ghosts that a word names, which is lawful too
+pub answered_ghosts : (may_give : List ℕ → Option (List ℕ) → Type 0) (words : List (List ℕ)) (r : Result Bool Ending) (table : List ℕ) (task : Task) (t : AnyGhostTable) (old new : Option (List ℕ)) → AreWords words table task → NamesGhosts may_give table t → IfOk r (ReportsGhosts may_give (ghost.ghosts_of t) (ghost.names_of t) task old new) → IfOk r (WritesReport may_give words old new)
+answered_ghosts may_give words (Ok well) table task t old new ask names reports =
+    inr (record { table = table; task = task; named = t; ask = ask; names = names; lawful = lawful_ghosts_of t; reports = reports })
+answered_ghosts may_give words (Err e) table task t old new ask names reports = tt

@@ -1,9 +1,10 @@
 -- What the program writes of the task that words ask for, under the table and of the scripts that they name, and why it ends without that. What files may give is a relation of words to bytes, or to none.
-use Rattle.std.specs.Prelude.{◌≡◌, ◌≢◌, ℕ, Bool, true, false, List, Option, ◌↔◌, ◌⊎◌, IsTrue, All, codes, map, string_bytes}
+use Rattle.std.specs.Prelude.{◌≡◌, ℕ, Bool, true, false, List, Option, ◌↔◌, ◌⊎◌, IsTrue, All, codes, map, string_bytes}
 use Rattle.std.specs.Io.KnownBytes.{Appends}
 use Rattle.kr_model.specs.Protocol.{Protocol, IsLawful}
 use Rattle.kr_model.specs.Covers.{IsCovered}
 use Rattle.kr_script.specs.Script.{Script}
+use Rattle.kr_ghost_script.specs.Script.{GhostScript}
 use Rattle.kr_cli.specs.declared.endings.Ending.{Ending}
 use Rattle.kr_cli.specs.declared.endings.Ending.TheVariants.{NotUnderstood, Memory, Place, Output, Told}
 use Rattle.kr_cli.specs.declared.tables.AnyTable.{AnyTable}
@@ -11,7 +12,7 @@ use Rattle.kr_cli.specs.Files.{MayBeScript}
 use Rattle.kr_cli.specs.Lines.{told_line}
 use Rattle.kr_cli.specs.Named.{NamesTable, NamesScript, TellsNoScript}
 use Rattle.kr_cli.specs.Tables.{table_of, names_of}
-use Rattle.kr_ghost.specs.Protocol.{IsLawfulGhost}
+use Rattle.kr_ghost.specs.Protocol.{GhostProtocol, IsLawfulGhost}
 use Rattle.kr_ghost.specs.Covers.{IsCoveredGhost}
 use Rattle.kr_cli_ghost.specs.declared.tables.AnyGhostTable.{AnyGhostTable}
 use Rattle.kr_cli_ghost.specs.Named.{NamesGhosts, TellsNone}
@@ -20,6 +21,7 @@ use Rattle.kr_batch.specs.Names.{AreNamed, IsFirst}
 use Rattle.kr_cli_kr.specs.Runs.{report_line, IsSerialScript}
 use Rattle.kr_cli_kr.specs.Checks.{check_line, ghost_check_line}
 use Rattle.kr_cli_kr.specs.Judges.{judge_lines}
+use Rattle.kr_cli_ghost.specs.Runs.{ghost_report_line, ghost_judge_lines, IsSerialGhosts, NamesGhostScript, NameGhostScripts, TellsNoGhostScript, TellsFirstGhost}
 use Rattle.kr_cli_kr.specs.Threads.{threads_line}
 use Rattle.kr_cli_kr.specs.Words.{AreWords}
 use Rattle.kr_report.specs.declared.threaded.Threaded.{Threaded}
@@ -52,27 +54,28 @@ pub record Answers (may_give : List ℕ → Option (List ℕ) → Type 0) (words
   pub lawful : IsLawful (table_of named)
   pub reports : Reports may_give (table_of named) (names_of named) task old new well
 
--- The whole report of the check that these words ask for was written, of the lawful table with ghosts that one of them names, and the answer is whether it is accepted.
-pub record ChecksGhosts (may_give : List ℕ → Option (List ℕ) → Type 0) (words : List (List ℕ)) (old new : Option (List ℕ)) (well : Bool) : Type 0 where
+-- The same of a task under a table with ghosts, of the scripts that its words name, which may have purges. No threads run under one.
+abbrev pub ReportsGhosts : (List ℕ → Option (List ℕ) → Type 0) → GhostProtocol → List (List ℕ) → Task → Option (List ℕ) → Option (List ℕ) → Bool → Type 0
+ReportsGhosts may_give p names Check old new well = Appends old new (ghost_check_line p names) × (IsTrue well ↔ IsCoveredGhost p)
+ReportsGhosts may_give p names (Run word) old new well =
+    (s : GhostScript) × (NamesGhostScript may_give word.now s × (Appends old new (ghost_report_line p names s) × (IsTrue well ↔ IsSerialGhosts p s)))
+ReportsGhosts may_give p names (Judge words) old new well = (ss : List GhostScript) × (NameGhostScripts may_give (map (λ w. w.now) words.items) ss
+    × (Appends old new (ghost_judge_lines p (map (λ w. w.now) words.items) ss) × (IsTrue well ↔ All (IsSerialGhosts p) ss)))
+ReportsGhosts may_give p names (Threads word workers) old new well = ⊥
+
+-- The whole report of the task that these words ask for was written, under the lawful table with ghosts that one of them names.
+pub record AnswersGhosts (may_give : List ℕ → Option (List ℕ) → Type 0) (words : List (List ℕ)) (old new : Option (List ℕ)) (well : Bool) : Type 0 where
   pub table : List ℕ
+  pub task : Task
   pub named : AnyGhostTable
-  pub ask : AreWords words table Check
+  pub ask : AreWords words table task
   pub names : NamesGhosts may_give table named
   pub lawful : IsLawfulGhost (ghost.ghosts_of named)
-  pub reports : Appends old new (ghost_check_line (ghost.ghosts_of named) (ghost.names_of named))
-  pub accepted : IsTrue well ↔ IsCoveredGhost (ghost.ghosts_of named)
+  pub reports : ReportsGhosts may_give (ghost.ghosts_of named) (ghost.names_of named) task old new well
 
 -- The whole report that these words ask for was written, of a table without ghosts or with them.
-abbrev pub Does : (List ℕ → Option (List ℕ) → Type 0) → List (List ℕ) → Option (List ℕ) → Option (List ℕ) → Bool → Type 0
-Does may_give words old new well = Answers may_give words old new well ⊎ ChecksGhosts may_give words old new well
-
--- A task ends without its report, or with a prefix of it: for memory, a place or output, or with a line that is told of a word, of which this holds.
-abbrev pub Unreported : (List ℕ → Type 0) → Ending → Type 0
-Unreported P NotUnderstood = ⊥
-Unreported P Memory = Unit {0}
-Unreported P Place = Unit {0}
-Unreported P Output = Unit {0}
-Unreported P (Told line) = P (string_bytes line)
+abbrev pub WritesReport : (List ℕ → Option (List ℕ) → Type 0) → List (List ℕ) → Option (List ℕ) → Option (List ℕ) → Bool → Type 0
+WritesReport may_give words old new well = Answers may_give words old new well ⊎ AnswersGhosts may_give words old new well
 
 -- The line tells why the first of the words that names no script names none.
 abbrev pub TellsFirst : (List ℕ → Option (List ℕ) → Type 0) → List (List ℕ) → List ℕ → Type 0
@@ -85,19 +88,19 @@ TellsTask may_give (Run word) = TellsNoScript may_give word.now
 TellsTask may_give (Judge words) = TellsFirst may_give (map (λ w. w.now) words.items)
 TellsTask may_give (Threads word workers) = TellsNoScript may_give word.now
 
--- The task isn't a check, and the line tells that a table with ghosts is only checked.
-abbrev pub IsToldOnlyChecked : List ℕ → Task → List ℕ → Type 0
-IsToldOnlyChecked word task line = (task ≢ Check) × (line ≡ told_line word (codes "only check takes a table with ghosts"))
+-- The line tells why a word of a task under a table with ghosts names no script; of several, it is the first. Or it tells that threads run under no such table.
+abbrev pub TellsGhostTask : (List ℕ → Option (List ℕ) → Type 0) → List ℕ → Task → List ℕ → Type 0
+TellsGhostTask may_give table Check = λ line. ⊥
+TellsGhostTask may_give table (Run word) = TellsNoGhostScript may_give word.now
+TellsGhostTask may_give table (Judge words) = TellsFirstGhost may_give (map (λ w. w.now) words.items)
+TellsGhostTask may_give table (Threads word workers) = λ line. line ≡ told_line table (codes "threads takes no table with ghosts")
 
--- The word names a table with ghosts, and what the words ask isn't its check.
-abbrev pub TellsOnlyChecked : (List ℕ → Option (List ℕ) → Type 0) → List ℕ → Task → List ℕ → Type 0
-TellsOnlyChecked may_give table task line = (t : AnyGhostTable) × (NamesGhosts may_give table t × IsToldOnlyChecked table task line)
-
--- The line tells why the word of a table names none, or that a table with ghosts is only checked; or why a word of a task names no script, where that of the table names one.
+-- The line tells why the word of a table names none; or, where it names one, why a word of a task names no script, or that threads run under no table with ghosts.
 abbrev pub TellsWord : (List ℕ → Option (List ℕ) → Type 0) → List ℕ → Task → List ℕ → Type 0
 TellsWord may_give table task line =
     TellsNone may_give table line
-    ⊎ (TellsOnlyChecked may_give table task line ⊎ ((t : AnyTable) × (NamesTable may_give table t × TellsTask may_give task line)))
+    ⊎ (((t : AnyGhostTable) × (NamesGhosts may_give table t × TellsGhostTask may_give table task line))
+    ⊎ ((t : AnyTable) × (NamesTable may_give table t × TellsTask may_give task line)))
 
 -- Why the program ends without the report that these words ask for, or with a prefix of it. A line is told of a word of a task that they ask for.
 abbrev pub Ends : (List ℕ → Option (List ℕ) → Type 0) → List (List ℕ) → Ending → Type 0

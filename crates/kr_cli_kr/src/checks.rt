@@ -3,19 +3,11 @@ ghost use Rattle.std.specs.Prelude.{◌≡◌, ◌⊎◌, ◌↔◌, [], IfOk, I
 ghost use Rattle.std.specs.Io.KnownBytes.{Appends};
 ghost use Rattle.kr_model.specs.Covers.{IsCovered};
 ghost use Rattle.kr_ghost.specs.Covers.{IsCoveredGhost};
-ghost use Rattle.kr_sink.specs.Puts.{HasCause};
-ghost use Rattle.kr_cli.specs.Endings.{is_output};
-ghost use Rattle.kr_cli_ghost.specs.Tables.{ghosts_of, names_of};
 ghost use Rattle.kr_cli_kr.specs.Checks.{line_of, check_line, ghost_check_line, ExplainsLine};
-ghost use Rattle.kr_cli_kr.specs.Program.{IsToldOnlyChecked, Unreported};
 ghost use Rattle.kr_cli_kr.specs.declared.faults.OverFault.TheVariants as fault;
-ghost use Rattle.kr_cli_kr.specs.declared.tasks.Task.TheVariants as task;
 
 use crate::faults::OverFault;
-use crate::tasks::{Asked, Task};
 use kr_cases::{FailedCase, Rejected, WhyRejected, check};
-use kr_cli::Ending;
-use kr_cli_ghost::AnyGhostTable;
 use kr_ghost_check::failed_cases;
 use kr_ghost_protocol::GhostProtocol;
 use kr_protocol::Protocol;
@@ -86,27 +78,5 @@ pub fn check_ghosts<P: GhostProtocol, W: Sink>(
     match print(out, text.as_str()) {
         Ok(()) => Ok(is_accepted),
         Err(_) => Err(OverFault::Print),
-    }
-}
-
-/// Does what is asked under a table with ghosts: its check, and else the program ends with a line that tells that only that is
-/// done. At a fault nothing is written but a prefix of the report.
-pub fn check_asked<W: Sink>(
-    alloc: Global,
-    table: &AnyGhostTable,
-    asked: &Asked,
-    out: &mut W,
-) -> Result<bool, Ending>
-    ensures check { IfOk result (λ _. asked.now.task ≡ task.Check) }
-    ensures ok { IfOk result (λ _.
-        Appends (W.taken out.old) (W.taken out.new) (ghost_check_line (ghosts_of table.now) (names_of table.now))) }
-    ensures accepted { IfOk result (λ accepted. IsTrue accepted ↔ IsCoveredGhost (ghosts_of table.now)) }
-    ensures err { IfErr result (Unreported (IsToldOnlyChecked asked.now.table.now asked.now.task)) }
-    ensures nothing { IfErr result (λ e. IsTrue (is_output e) ⊎ (out.new ≡ out.old)) }
-    ensures cause { IfErr result (λ e. IsTrue (is_output e) → HasCause (W.failures out.old) (W.failures out.new)) }
-{
-    match asked.task {
-        Task::Check => Ok(check_ghosts(alloc, table, out)?),
-        _ => Err(Ending::told(alloc, asked.table, "only check takes a table with ghosts")),
     }
 }

@@ -4,7 +4,7 @@ ghost use Rattle.std.specs.Io.KnownBytes.{Appends};
 ghost use Rattle.kr_model.specs.Covers.{IsCovered};
 ghost use Rattle.kr_sink.specs.Puts.{AppendsFront, HasCause};
 ghost use Rattle.kr_script.specs.Script.{Script};
-ghost use Rattle.kr_cli.specs.Endings.{TellsOneLine, is_output, ending_line};
+ghost use Rattle.kr_cli.specs.Endings.{TellsOneLine, Unreported, is_output, ending_line};
 ghost use Rattle.kr_cli.specs.Files.{MayBeScript};
 ghost use Rattle.kr_cli.specs.Named.{NamesScript, TellsNoScript};
 ghost use Rattle.kr_cli.specs.declared.endings.Ending.{Ending};
@@ -12,14 +12,15 @@ ghost use Rattle.kr_cli.specs.declared.endings.Ending.TheVariants as ending;
 ghost use Rattle.kr_batch.specs.Names.{AreNamed, ExplainsNames};
 ghost use Rattle.kr_cli_kr.specs.Runs.{report_line, IsSerialScript};
 ghost use Rattle.kr_cli_kr.specs.Judges.{judge_lines};
-ghost use Rattle.kr_cli_kr.specs.Program.{Does, Ends, Reports, TellsFirst, TellsTask, ThreadsReported, Unreported};
+ghost use Rattle.kr_cli_kr.specs.Program.{WritesReport, Ends, Reports, TellsFirst, TellsTask, ThreadsReported};
 ghost use Rattle.kr_cli_kr.specs.Threads.{threads_line};
 ghost use Rattle.kr_report.specs.declared.threaded.Threaded.{Threaded};
 ghost use Rattle.kr_threads.specs.Threaded.{IsThreaded};
 ghost use Rattle.kr_cli_kr.specs.declared.faults.OverFault.TheVariants as fault;
 
-use crate::checks::{check_asked, check_over, write_check};
+use crate::checks::{check_over, write_check};
 use crate::faults::OverFault;
+use crate::ghosts::under_ghosts;
 use crate::judges::{LinesFault, judge_over};
 use crate::runs::run_over;
 use crate::tasks::{Task, Workers};
@@ -235,7 +236,8 @@ where
 }
 
 /// Does what the words ask under the table that the word of it names, and answers whether the table is accepted, or each run
-/// is serializable. A table with ghosts is only checked. Scripts are read only where that word names a table without them.
+/// is serializable. A table with ghosts is checked, and scripts, which may have purges, are run and judged under it; `threads`
+/// takes none. Scripts are read only where that word names a table.
 fn ask<R: std::rt::Files + AllocGlobal + Threads + Wait + Sync, F: Files + Sync, W: Sink>(
     rt: &R,
     words: &[String],
@@ -245,7 +247,7 @@ fn ask<R: std::rt::Files + AllocGlobal + Threads + Wait + Sync, F: Files + Sync,
 where
     R::File: Send + Sync,
     R::Dir: Send + Sync,
-    ensures answers { IfOk result (Does (F.may_give files.now) (map string_bytes words.now) (W.taken out.old) (W.taken out.new)) }
+    ensures answers { IfOk result (WritesReport (F.may_give files.now) (map string_bytes words.now) (W.taken out.old) (W.taken out.new)) }
     ensures err { IfErr result (Ends (F.may_give files.now) (map string_bytes words.now)) }
     ensures nothing { IfErr result (λ e. IsTrue (is_output e) ⊎ (out.new ≡ out.old)) }
     ensures cause { IfErr result (λ e. IsTrue (is_output e) → HasCause (W.failures out.old) (W.failures out.new)) }
@@ -253,16 +255,17 @@ where
     let asked = read_words(rt.alloc(), words)?;
     match named_at(rt, asked.table, files)? {
         Named::Table(table) => under(rt, table, &asked.task, files, out),
-        Named::Ghosts(table) => check_asked(rt.alloc(), &table, &asked, out),
+        Named::Ghosts(table) => under_ghosts(rt, &table, &asked, files, out),
     }
 }
 
 /// Runs the program on words without its own name, and answers its status: 0 where it accepted a table or each run was
 /// serializable, 1 where it rejected a table or a run wasn't, and 2 where it told a fault on `err`. At 0 and 1 the whole report
 /// of the task that the words ask for is written on `out`, under the table and of the scripts that they name, and nothing on
-/// `err`; at a fault of words, files, tables, scripts or memory nothing is written on `out`. The line on `err` tells of a word
-/// of such a task why it names no table or no script, or that words aren't understood, or that memory, a place or output was
-/// refused. It has no line feed but its last byte.
+/// `err`; at a fault of words, files, tables, scripts or memory nothing is written on `out`. A table with ghosts is
+/// checked, and scripts, which may have purges, are run and judged under it; `threads` takes none. The line on `err` tells of a
+/// word of such a task why it names no table or no script, or that `threads` takes no table with ghosts, or that words aren't
+/// understood, or that memory, a place or output was refused. It has no line feed but its last byte.
 pub fn execute<
     R: std::rt::Files + AllocGlobal + Threads + Wait + Sync,
     F: Files + Sync,
@@ -273,8 +276,8 @@ where
     R::File: Send + Sync,
     R::Dir: Send + Sync,
     ensures within { result ≤ 2 }
-    ensures accepts { result ≡ 0 → Does (F.may_give files.now) (map string_bytes words.now) (W.taken out.old) (W.taken out.new) true }
-    ensures refuses { result ≡ 1 → Does (F.may_give files.now) (map string_bytes words.now) (W.taken out.old) (W.taken out.new) false }
+    ensures accepts { result ≡ 0 → WritesReport (F.may_give files.now) (map string_bytes words.now) (W.taken out.old) (W.taken out.new) true }
+    ensures refuses { result ≡ 1 → WritesReport (F.may_give files.now) (map string_bytes words.now) (W.taken out.old) (W.taken out.new) false }
     ensures fault { result ≡ 2 → HasCause (W.failures out.old) (W.failures out.new) ⊎ (out.new ≡ out.old) }
     ensures told { result ≡ 2 → (e : Ending) × (Ends (F.may_give files.now) (map string_bytes words.now) e
         × AppendsFront (E.taken err.old) (E.taken err.new) (ending_line NAME.now e)) }

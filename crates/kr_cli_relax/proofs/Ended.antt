@@ -1,5 +1,5 @@
 -- Why the program ends without what is wanted, and what was written where it doesn't.
-use Rattle.std.specs.Prelude.{◌≡◌, ℕ, List, Bool, Option, Result, Ok, Err, IfOk, IfErr, codes}
+use Rattle.std.specs.Prelude.{◌≡◌, ℕ, List, Bool, Option, Result, Ok, Err, IfOk, IfErr}
 use Rattle.std.proofs.Common.{inl, inr}
 use Rattle.kr_model.specs.Protocol.{Protocol, IsLawful}
 use Rattle.kr_model.specs.Safe.{IsSafe}

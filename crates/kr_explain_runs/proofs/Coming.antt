@@ -32,7 +32,6 @@ use Rattle.kr_explain_runs.specs.Comes.{CanComeTo, LeadsTo}
 use Rattle.kr_explain_runs.specs.Requests.{IsRequestOf, access_in, name_at}
 use Rattle.kr_explain_runs.specs.Reached.{AreAlikeAt, EndsIn, IsReached, index_of, points}
 use Rattle.kr_explain_runs.proofs.Steps as steps
-use Rattle.kr_explain_runs.proofs.Steps.{keys}
 
 -- Tests --
 

@@ -1,5 +1,5 @@
 -- Groups of cases, one behind another.
-use Rattle.std.proofs.Common.{◌≡◌, ◌++◌, [], ◌∷◌, ℕ, List, Bool, true, false, Option, Some, None, ◌&&◌, ◌==◌, if◌then◌else◌, refl, sym, ap, subst, ◌∙◌, append_assoc, codes, ◌+◌, ◌<◌, ◌≤◌, drop, length, get_or}
+use Rattle.std.proofs.Common.{◌≡◌, ◌++◌, [], ◌∷◌, ℕ, List, Bool, true, false, Some, None, ◌&&◌, ◌==◌, if◌then◌else◌, refl, sym, ap, ◌∙◌, append_assoc, codes, ◌+◌, ◌<◌, ◌≤◌, drop, length, get_or}
 use Rattle.std.specs.List.{filter_map, cons_option}
 use Rattle.std.specs.Fmt.{decimal}
 use Rattle.std.proofs.lemmas.List.{append-nil, drop_more, drop_all}

@@ -1,8 +1,8 @@
 -- Modes of a choice, one behind another.
-use Rattle.std.proofs.Common.{◌≡◌, ◌++◌, [], ◌∷◌, ℕ, ◌+◌, ◌<◌, ◌≤◌, List, Bool, true, false, ◌==◌, if◌then◌else◌, map, drop, length, get_or, refl, sym, ap, subst, ◌∙◌, append_assoc, codes, ◌-◌, arith}
+use Rattle.std.proofs.Common.{◌≡◌, ◌++◌, [], ◌∷◌, ℕ, ◌+◌, ◌<◌, ◌≤◌, List, Bool, true, false, ◌==◌, map, drop, length, get_or, refl, sym, ap, ◌∙◌, append_assoc, codes, ◌-◌, arith}
 use Rattle.std.proofs.lemmas.List.{append-nil, drop_more, drop_all, length-drop}
 use Rattle.std.proofs.lemmas.Bool.Decides.{nat_tests}
-use Rattle.kr_explain_text.specs.Lists.{others_listed, listed, mode_word, modes_listed, item_words}
+use Rattle.kr_explain_text.specs.Lists.{others_listed, mode_word, modes_listed, item_words}
 
 -- whether there is none
 abbrev pub is_end : List ℕ → Bool

@@ -1,5 +1,5 @@
 -- The title of a cause.
-use Rattle.std.specs.Prelude.{◌≡◌, ℕ, List, [], ◌∷◌, ◌++◌, ◌==◌, ◌&&◌, Bool, true, false, Option, Some, None, if◌then◌else◌, codes, decimal, count_by, length}
+use Rattle.std.specs.Prelude.{◌≡◌, ℕ, List, [], ◌∷◌, ◌++◌, ◌==◌, Bool, Option, Some, None, if◌then◌else◌, codes, decimal, count_by, length}
 use Rattle.std.specs.List.{filter_map}
 use Rattle.kr_model.specs.declared.FailedCase.{FailedCase}
 use Rattle.kr_model.specs.declared.Row.{Row}

@@ -21,7 +21,9 @@ use Rattle.kr_theorem.proofs.run.Programs.{state_after}
 use Rattle.kr_ghost.specs.Protocol.{GhostProtocol, IsLawfulGhost, Purges, Unlocked, Inherit, IsLawfulPurge}
 use Rattle.kr_ghost.specs.State.{GhostState, opened, named, among, Absent, stand_by, stand, is_ghost}
 use Rattle.kr_ghost.specs.Step.{step, locks_purged, lets_purge, is_locked, has_change, may_purge, without_ghost, purged}
-use Rattle.kr_ghost.specs.Run.{Move, Attempt, Purge, run}
+use Rattle.kr_ghost.specs.declared.moves.Move.{Move}
+use Rattle.kr_ghost.specs.declared.moves.Move.TheVariants.{Attempt, Purge}
+use Rattle.kr_ghost.specs.Run.{run}
 use Rattle.kr_ghost.specs.WellFormed.{IsGhostState}
 use Rattle.kr_ghost.proofs.Names.{key_is, IsMap-named, has-named, among_others, among_none, purged_here, purged_apart}
 use Rattle.kr_ghost.proofs.Locking.{not_at}

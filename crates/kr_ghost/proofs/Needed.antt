@@ -20,7 +20,9 @@ use Rattle.kr_model.specs.Difference.{Difference, first_difference}
 use Rattle.kr_model.proofs.Tested.{lawful_by_test}
 use Rattle.kr_ghost.specs.Protocol.{GhostProtocol, IsLawfulGhost, Inherit}
 use Rattle.kr_ghost.specs.State.{opened}
-use Rattle.kr_ghost.specs.Run.{Move, Purge, run}
+use Rattle.kr_ghost.specs.declared.moves.Move.{Move}
+use Rattle.kr_ghost.specs.declared.moves.Move.TheVariants.{Purge}
+use Rattle.kr_ghost.specs.Run.{run}
 use Rattle.kr_ghost.specs.declared.cases.Rule.{Rule}
 use Rattle.kr_ghost.specs.declared.cases.Rule.TheVariants.{Conversion, FetchHit, FetchMiss, ScanName, ScanStop, Insert, Split, Delete, Update, Revive, Heir}
 use Rattle.kr_ghost.specs.declared.cases.FailedCase.{FailedCase}
@@ -31,10 +33,10 @@ use Rattle.kr_ghost.proofs.Bundled.{requested_is, mode_is}
 use Rattle.kr_ghost.proofs.Wrong.{then_commit, differ, wrong}
 
 -- From the rules of all failed cases, one after another.
-each_of : (fs : List FailedCase) (r : Rule) (n : ℕ) → map (λ f. f.rule) fs ≡ replicate n r → AllByRecursion (λ f. f.rule ≡ r) fs
+each_of : (fs : List FailedCase) (r : Rule) (n : ℕ) → map (λ f. f.case) fs ≡ replicate n r → AllByRecursion (λ f. f.case ≡ r) fs
 each_of [] r n h = tt
 each_of (f ∷ fs) r zero h = absurd (cc)
-each_of (f ∷ fs) r (suc n) h = (first f.rule (map (λ f. f.rule) fs) h, each_of fs r n (rest f.rule (map (λ f. f.rule) fs) h))
+each_of (f ∷ fs) r (suc n) h = (first f.case (map (λ f. f.case) fs) h, each_of fs r n (rest f.case (map (λ f. f.case) fs) h))
   where
     first : (a : Rule) (others : List Rule) → a ∷ others ≡ r ∷ replicate n r → a ≡ r
     first a others e = cc
@@ -42,8 +44,8 @@ each_of (f ∷ fs) r (suc n) h = (first f.rule (map (λ f. f.rule) fs) h, each_o
     rest : (a : Rule) (others : List Rule) → a ∷ others ≡ r ∷ replicate n r → others ≡ replicate n r
     rest a others e = cc
 
-only : (p : GhostProtocol) (r : Rule) (n : ℕ) → map (λ f. f.rule) (failed_cases p) ≡ replicate n r → All (λ f. f.rule ≡ r) (failed_cases p)
-only p r n h = All-from_recursion (λ f. f.rule ≡ r) (failed_cases p) (each_of (failed_cases p) r n h)
+only : (p : GhostProtocol) (r : Rule) (n : ℕ) → map (λ f. f.case) (failed_cases p) ≡ replicate n r → All (λ f. f.case ≡ r) (failed_cases p)
+only p r n h = All-from_recursion (λ f. f.case ≡ r) (failed_cases p) (each_of (failed_cases p) r n h)
 
 -- Key-value locking with ghosts, whose locks the next name inherits as S.
 abbrev shared_heir : ℕ → ℕ
@@ -79,7 +81,7 @@ abbrev asking : (Row → Side → ℕ → Option (ℕ × Span)) → GhostProtoco
 asking ask = record { table = table_asking ask; revive = for_commit X; purges = Inherit shared_heir }
 
 -- A table of which no case but n of the rule fails, and a run of it with a difference.
-needed : (p : GhostProtocol) (r : Rule) (n : ℕ) (moves : List Move) (d : Difference) → IsLawfulGhost p → map (λ f. f.rule) (failed_cases p) ≡ replicate n r
+needed : (p : GhostProtocol) (r : Rule) (n : ℕ) (moves : List Move) (d : Difference) → IsLawfulGhost p → map (λ f. f.case) (failed_cases p) ≡ replicate n r
     → first_difference three (programs (run p (opened three) moves).history) ≡ Some d → IsNeeded r
 needed p r n moves d laws all differs = (p, laws, only p r n all, wrong p moves d differs)
 

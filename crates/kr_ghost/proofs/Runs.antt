@@ -19,7 +19,9 @@ use Rattle.kr_ghost.specs.Protocol.{GhostProtocol, IsLawfulGhost}
 use Rattle.kr_ghost.specs.State.{GhostState, opened}
 use Rattle.kr_ghost.specs.Step.{step, performed, unless_refused, attempted_scan, purged}
 use Rattle.kr_ghost.specs.Safe.{free, start, IsSafeGhost}
-use Rattle.kr_ghost.specs.Run.{Move, Attempt, Purge, run, GhostRunsAreSerial}
+use Rattle.kr_ghost.specs.declared.moves.Move.{Move}
+use Rattle.kr_ghost.specs.declared.moves.Move.TheVariants.{Attempt, Purge}
+use Rattle.kr_ghost.specs.Run.{run, GhostRunsAreSerial}
 use Rattle.kr_ghost.proofs.Serving.{not_false}
 use Rattle.kr_ghost.proofs.Holding.{none_left}
 use Rattle.kr_ghost.proofs.Sim.{status}

@@ -12,7 +12,9 @@ use Rattle.kr_model.proofs.SerialLaws.{none_if_serial}
 use Rattle.kr_model.proofs.Tested.{lawful_by_test}
 use Rattle.kr_ghost.specs.Protocol.{GhostProtocol, IsLawfulGhost}
 use Rattle.kr_ghost.specs.State.{opened}
-use Rattle.kr_ghost.specs.Run.{Move, Purge, run}
+use Rattle.kr_ghost.specs.declared.moves.Move.{Move}
+use Rattle.kr_ghost.specs.declared.moves.Move.TheVariants.{Purge}
+use Rattle.kr_ghost.specs.Run.{run}
 use Rattle.kr_ghost.specs.Safe.{IsSafeGhost}
 use Rattle.kr_ghost.specs.Needed.{GoesWrong}
 use Rattle.kr_ghost.specs.Worked.{three, by, after_delete, only_gaps, drops_locks, inherits_only_gaps, inserts_plainly, revives_freely, purges_locked, range_inserts_plainly, next_inserts_plainly}

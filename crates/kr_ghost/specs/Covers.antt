@@ -130,7 +130,7 @@ cases p = flat_map (cases_of p) all_rules
 -- The case failed at the first of the requesters that its mode lets through, if there is one.
 abbrev pub failed_at : Case → List Requester → Option FailedCase
 failed_at c [] = None
-failed_at c (x ∷ xs) = Some (record { rule = c.rule; cover = c.cover; from = c.from; mode = c.mode; «open» = x })
+failed_at c (hole ∷ holes) = Some (record { case = c.rule; cover = c.cover; from = c.from; mode = c.mode; hole = hole })
 
 -- The failure of a case, or nothing where it holds.
 abbrev pub failure : GhostProtocol → Case → Option FailedCase

@@ -5,7 +5,8 @@ use Rattle.kr_model.specs.Run.{programs}
 use Rattle.kr_model.specs.Serial.{AreSerial}
 use Rattle.kr_ghost.specs.Protocol.{GhostProtocol, IsLawfulGhost}
 use Rattle.kr_ghost.specs.State.{opened}
-use Rattle.kr_ghost.specs.Run.{Move, run}
+use Rattle.kr_ghost.specs.declared.moves.Move.{Move}
+use Rattle.kr_ghost.specs.Run.{run}
 use Rattle.kr_ghost.specs.declared.cases.Rule.{Rule}
 use Rattle.kr_ghost.specs.Covers.{failed_cases}
 
@@ -15,4 +16,4 @@ GoesWrong p = (opening : Map) × (moves : List Move) × IsMap opening × (AreSer
 
 -- The theorem fails without the rule: some lawful protocol fails no case but those of the rule, and goes wrong.
 abbrev pub IsNeeded : Rule → Type 0
-IsNeeded rule = (p : GhostProtocol) × IsLawfulGhost p × All (λ f. f.rule ≡ rule) (failed_cases p) × GoesWrong p
+IsNeeded rule = (p : GhostProtocol) × IsLawfulGhost p × All (λ f. f.case ≡ rule) (failed_cases p) × GoesWrong p

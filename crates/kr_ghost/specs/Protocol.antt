@@ -18,7 +18,7 @@ abbrev pub heir_of : Purges → ℕ → ℕ
 heir_of Unlocked h = 0
 heir_of (Inherit heir) h = heir h
 
--- A protocol and what it says of ghosts. No row but insert looks at the own mode on the next name, and a delete requests nothing there.
+-- A protocol and what it says of ghosts. No row but insert looks at the own mode on the next name, and no step asks what a delete requests there.
 pub record GhostProtocol : Type 0 where
   -- its modes, matrices and rows
   pub table : Protocol

@@ -1,17 +1,13 @@
 -- Runs of an index with ghosts: operations of transactions, and purges at any time between them.
-use Rattle.std.specs.Prelude.{ℕ, List, [], ◌∷◌}
-use Rattle.kr_model.specs.declared.Event.{Event}
+use Rattle.std.specs.Prelude.{List, [], ◌∷◌}
 use Rattle.kr_model.specs.Map.{Map, IsMap}
 use Rattle.kr_model.specs.Run.{Entry}
 use Rattle.kr_model.specs.Serial.{IsSerialRun}
+use Rattle.kr_ghost.specs.declared.moves.Move.{Move}
+use Rattle.kr_ghost.specs.declared.moves.Move.TheVariants.{Attempt, Purge}
 use Rattle.kr_ghost.specs.Protocol.{GhostProtocol}
 use Rattle.kr_ghost.specs.State.{GhostState, opened}
 use Rattle.kr_ghost.specs.Step.{step, purged}
-
--- What comes next: an operation of a transaction, or a purge, which is of no transaction.
-pub data Move : Type 0 where
-  Attempt : Event → Move
-  Purge : ℕ → Move
 
 -- The steps with their replies, in order, and the state after the last move.
 pub record GhostTrace : Type 0 where

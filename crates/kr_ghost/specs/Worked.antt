@@ -14,7 +14,9 @@ use Rattle.kr_model.specs.Matrices.{for_commit}
 use Rattle.kr_model.specs.Run.{replies_of}
 use Rattle.kr_ghost.specs.Protocol.{GhostProtocol, Inherit}
 use Rattle.kr_ghost.specs.State.{opened}
-use Rattle.kr_ghost.specs.Run.{Move, Attempt, run}
+use Rattle.kr_ghost.specs.declared.moves.Move.{Move}
+use Rattle.kr_ghost.specs.declared.moves.Move.TheVariants.{Attempt}
+use Rattle.kr_ghost.specs.Run.{run}
 use Rattle.kr_ghost.specs.Tables.{record_gap, record_gap_ask, range_ghost, range_ghost_ask, next_key_ghost, next_key_ask, locks_gap, G-N, N-X, KW}
 
 -- The keys 10, 20 and 30, with the values 1, 2 and 3.

@@ -70,7 +70,7 @@ pub struct Requester {
 #[derive(Clone, Copy, Debug, PartialEq, Eq)]
 pub struct FailedCase {
     /// The group of the case.
-    pub rule: Rule,
+    pub case: Rule,
     /// What the lock has to protect.
     pub cover: Cover,
     /// The modes that the case is taken at: for `Heir` that held on the next name, and that of the lock on the ghost.
@@ -78,7 +78,7 @@ pub struct FailedCase {
     /// The mode that has to serve the cover.
     pub mode: Mode,
     /// The first requester that it lets through.
-    pub open: Requester,
+    pub hole: Requester,
 }
 
 /// The code of a group of cases.

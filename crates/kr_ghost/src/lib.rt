@@ -5,6 +5,7 @@
 #![tactic(auto)]
 
 mod cases;
+mod moves;
 
 ghost use Rattle.std.specs.Prelude.{◌≡◌, ℕ, List, [], ◌∷◌, length};
 ghost use Rattle.kr_model.specs.declared.Name.TheVariants.{Key};
@@ -13,7 +14,9 @@ ghost use Rattle.kr_model.specs.declared.Op.TheVariants as op;
 ghost use Rattle.kr_ghost.specs.Protocol.{GhostProtocol, IsLawfulGhost};
 ghost use Rattle.kr_model.specs.Map.{Map, IsMap};
 ghost use Rattle.kr_ghost.specs.State.{opened};
-ghost use Rattle.kr_ghost.specs.Run.{GhostRunsAreSerial, Move, Purge, run};
+ghost use Rattle.kr_ghost.specs.Run.{GhostRunsAreSerial, run};
+ghost use Rattle.kr_ghost.specs.declared.moves.Move.{Move};
+ghost use Rattle.kr_ghost.specs.declared.moves.Move.TheVariants.{Purge};
 ghost use Rattle.kr_ghost.specs.WellFormed.{IsGhostState};
 ghost use Rattle.kr_ghost.specs.declared.cases.Rule.{Rule};
 ghost use Rattle.kr_ghost.specs.Covers.{cases, IsCoveredGhost};
@@ -23,6 +26,7 @@ ghost use Rattle.kr_ghost.specs.Needed.{IsNeeded, GoesWrong};
 ghost use Rattle.kr_ghost.specs.Worked.{by, shown, after_delete, drops_locks, inherits_only_gaps, inserts_plainly, revives_freely, purges_locked, range_inserts_plainly, next_inserts_plainly};
 
 pub use cases::{Access, Cover, FailedCase, Requester, Rule, access_words, cover_code, rule_code};
+pub use moves::Move;
 
 /// The main theorem for indexes with ghosts: every run under a lawful and safe protocol is serializable in commit order. For
 /// every list of moves, which are steps that transactions attempt on any keys and purges of any keys at any time, with blocked

@@ -102,12 +102,12 @@ pub(crate) fn failure<P: GhostProtocol>(
     }
     let mode = mode_at(protocol, rule, held, own);
     match first_open(protocol, cover, mode) {
-        Some(open) => Some(FailedCase {
-            rule,
+        Some(hole) => Some(FailedCase {
+            case: rule,
             cover,
             from: origin_at(rule, held, own),
             mode,
-            open,
+            hole,
         }),
         None => None,
     }

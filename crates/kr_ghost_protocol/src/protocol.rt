@@ -5,8 +5,8 @@ ghost use Rattle.kr_ghost.specs.Protocol.{GhostProtocol, IsLawfulGhost, heir_of,
 use kr_protocol::{Mode, Protocol, Span};
 
 /// A locking protocol of an index in which a deleted key stays as a ghost until it is purged. What it is as a `Protocol` are its
-/// modes and its rows; a delete requests nothing on the next name, and only an insert goes by the own mode there. No call takes
-/// memory or fails.
+/// modes and its rows. No step asks what its delete requests on the next name, and only its insert may go by the own mode there.
+/// No call takes memory or fails.
 pub trait GhostProtocol: Protocol {
     /// Its tables, and what it says of ghosts.
     ghost ghosts: { Self → GhostProtocol };

@@ -1,4 +1,9 @@
 pub mod Bounds
+pub mod Deletes
 pub mod Documents
+pub mod EveryMember
+pub mod HeirsBack
 pub mod Laws
 pub mod Whole
+pub mod Written
+pub mod WrittenForm

@@ -1,5 +1,5 @@
 -- A document's parts put together.
-use Rattle.std.proofs.Common.{◌≡◌, ℕ, List, [], ◌++◌, map, Option, Some, None, Ok, Err, true, is_some, subst, sym, ap, ◌∙◌, codes}
+use Rattle.std.proofs.Common.{◌≡◌, ℕ, List, [], ◌++◌, map, Option, Some, None, Ok, Err, true, is_some, refl, subst, sym, ap, ◌∙◌, codes}
 use Rattle.std.specs.Prelude.{IfSome}
 use Rattle.toml.specs.Data.{Data, Items, get, as_table}
 use Rattle.kr_model.specs.Firsts.{first}
@@ -17,6 +17,7 @@ use Rattle.kr_ghost_table.specs.Tables.{GhostData, IsGhostTable}
 use Rattle.kr_ghost_table.specs.Reading.{table_of, table_of_members, judged, unless_faulty}
 use Rattle.kr_ghost_table.specs.Answer.{Gives}
 use Rattle.kr_ghost_table.proofs.Bounds.{all_heirs}
+use Rattle.kr_ghost_table.proofs.Deletes.{delete_alike, delete_nothing}
 
 rows_good : (modes : List (List ℕ)) (b c r : Data) → content_faults Ghosts modes b c r ≡ [] → row_faults Ghosts modes (members_of r) ≡ []
 rows_good modes b c r content =
@@ -42,9 +43,13 @@ table_sound d none =
     let b = data_in (codes "compatible") d in
     let c = data_in (codes "convert") d in
     let r = data_in (codes "rules") d in
+    let rows = rows_good (modes_in d) b c r p10.1 in
     record {
       table = sound Ghosts true (items_in (codes "modes") d) b c r p9.0 p10.0 p10.1;
-      revive = row_good Ghosts (modes_in d) (codes "revive") (codes "current") (codes "none") r (rows_good (modes_in d) b c r p10.1);
+      updates = refl;
+      delete_current = delete_alike (modes_in d) r rows;
+      delete_next = delete_nothing (modes_in d) r rows;
+      revive = row_good Ghosts (modes_in d) (codes "revive") (codes "current") (codes "none") r rows;
       heirs = all_heirs (modes_in d) (data_in (codes "purge") d) (as_table (data_in (codes "purge") d));
     }
 

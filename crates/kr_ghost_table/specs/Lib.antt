@@ -5,3 +5,4 @@ pub mod Lawful
 pub mod Reading
 pub mod Shown
 pub mod Answer
+pub mod Writing

@@ -1,5 +1,5 @@
 -- What a table with ghosts says, and its meaning as a locking protocol.
-use Rattle.std.specs.Prelude.{◌≡◌, ◌==◌, ◌&&◌, ℕ, zero, suc, List, length, Bool, true, nat_le, Option, Some, None, slice_index_or}
+use Rattle.std.specs.Prelude.{◌≡◌, ◌==◌, ◌&&◌, ℕ, zero, suc, List, length, All, Bool, true, nat_le, Option, Some, None, is_some, slice_index_or}
 use Rattle.std.specs.List.{list_all}
 use Rattle.kr_table.specs.Tables.{Request, TableData, IsTable, protocol_of, asks_mode}
 use Rattle.kr_ghost.specs.Protocol.{GhostProtocol, Purges, Unlocked, Inherit}
@@ -37,8 +37,15 @@ abbrev pub are_heirs : ℕ → Option (List ℕ) → Bool
 are_heirs m None = true
 are_heirs m (Some hs) = length hs == m && list_all (is_heir m) hs
 
--- A table, and no request or heir that leaves its modes.
+-- What a delete requests on its key: the same at each own mode.
+abbrev pub delete_of : TableData → Request
+delete_of x = slice_index_or x.delete_current 0 None
+
+-- A table that offers updates. Its delete requests the same at each own mode, and nothing on the next name; no request or heir leaves its modes.
 pub record IsGhostTable (x : GhostData) : Type 0 where
   pub table : IsTable x.table
+  pub updates : is_some x.table.update ≡ true
+  pub delete_current : All (λ r. r ≡ delete_of x.table) x.table.delete_current
+  pub delete_next : All (λ r. r ≡ None) x.table.delete_next
   pub revive : asks_mode (length x.table.modes.names) x.revive ≡ true
   pub heirs : are_heirs (length x.table.modes.names) x.purge ≡ true

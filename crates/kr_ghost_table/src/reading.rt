@@ -19,8 +19,8 @@ use kr_table::{Table, TableFault};
 use std::alloc::{AllocError, Global};
 use toml::Value;
 
-/// A table has no more bytes.
-const MAX_BYTES: usize = 65_536;
+/// A table has no more bytes, as it is read and as it is written.
+pub(crate) const MAX_BYTES: usize = 65_536;
 
 /// The table that the bytes are, or the first of their faults. `Memory` comes only where a growth was refused, and so at no text
 /// that is too long.

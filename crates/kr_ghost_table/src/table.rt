@@ -14,9 +14,9 @@ use kr_table::Table;
 /// takes memory only where it is read.
 #[derive(Debug, Drop)]
 pub struct GhostTable {
-    table: Table,
-    revive: Option<(Mode, Span)>,
-    heirs: Option<Vec<Mode>>,
+    pub(crate) table: Table,
+    pub(crate) revive: Option<(Mode, Span)>,
+    pub(crate) heirs: Option<Vec<Mode>>,
     ghost sound: { IsGhostTable (data_of table revive heirs) },
     ghost revives: { RevivesByMode (data_of table revive heirs) },
     ghost leaves: { LeavesModes (protocol_of (table_data table)) (heirs_of heirs) },

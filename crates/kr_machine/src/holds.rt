@@ -59,12 +59,7 @@ pub(crate) fn hold<P: Protocol, L: Holdings>(
 }
 
 /// Puts back the mode before, where the side's request was to commit. Takes no memory.
-pub(crate) fn give_back<L: Holdings>(
-    locks: &mut L,
-    txn: Txn,
-    side: Option<(Name, Mode, Span)>,
-    was: Mode,
-)
+pub fn give_back<L: Holdings>(locks: &mut L, txn: Txn, side: Option<(Name, Mode, Span)>, was: Mode)
     requires { HoldsSide (L.locks locks.old) txn side }
     ensures { L.locks locks.new ≡ put_back (L.locks locks.old) txn side was }
 {
@@ -76,7 +71,7 @@ pub(crate) fn give_back<L: Holdings>(
 }
 
 /// Keeps the modes of both sides' requests, and answers the modes before. Where a growth is refused, no lock changes.
-pub(crate) fn hold_both<P: Protocol, L: Holdings>(
+pub fn hold_both<P: Protocol, L: Holdings>(
     protocol: &P,
     locks: &mut L,
     txn: Txn,

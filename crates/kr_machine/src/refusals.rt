@@ -74,7 +74,7 @@ fn standing_refusal(
 }
 
 /// The first refusal that applies, `Memory` aside.
-pub(crate) fn refusal<P: Protocol>(
+pub fn refusal<P: Protocol>(
     protocol: &P,
     ended: &Ended,
     active: &[Standing],

@@ -25,7 +25,7 @@ pub(crate) fn scan_of(active: &[Standing], txn: Txn) -> Option<&Scan>
 }
 
 /// Takes room for a transaction among the active ones, now, and among the ended ones, later.
-pub(crate) fn make_room(ended: &mut Ended, active: &mut Vec<Standing>) -> Result<(), Memory>
+pub fn make_room(ended: &mut Ended, active: &mut Vec<Standing>) -> Result<(), Memory>
     requires { vec_len active.old ≤ ended.old.room }
     ensures ended { ended.new.numbers ≡ ended.old.numbers }
     ensures active { active.new.items ≡ active.old.items }
@@ -117,7 +117,7 @@ pub(crate) fn put_down(active: &mut Vec<Standing>, txn: Txn, standing: Standing,
 }
 
 /// Lets a transaction go: it holds no lock any more, and has ended. Takes no memory.
-pub(crate) fn leave<L: Holdings>(locks: &mut L, ended: &mut Ended, txn: Txn)
+pub fn leave<L: Holdings>(locks: &mut L, ended: &mut Ended, txn: Txn)
     requires { 0 < ended.old.room }
     ensures locks { L.locks locks.new ≡ release (L.locks locks.old) txn }
     ensures ended { ended.new.numbers ≡ add_once txn ended.old.numbers }

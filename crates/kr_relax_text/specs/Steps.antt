@@ -1,5 +1,5 @@
 -- The last step of a script, beside the steps of the other transactions.
-use Rattle.std.specs.Prelude.{ℕ, ◌-◌, ◌==◌, List, [], ◌++◌, Option, Some, None, codes, decimal, flat_map, length, slice_get, if◌then◌else◌}
+use Rattle.std.specs.Prelude.{ℕ, ◌-◌, ◌==◌, List, [], ◌++◌, codes, decimal, flat_map, length, slice_get, if◌then◌else◌}
 use Rattle.std.specs.Option.{option_map_or}
 use Rattle.kr_model.specs.declared.Event.{Event}
 use Rattle.kr_explain_text.specs.Spoken.{op_words}

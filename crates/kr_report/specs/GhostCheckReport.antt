@@ -26,11 +26,11 @@ requester_data names x =
 -- A failed case.
 abbrev pub failed_data : List (List ℕ) → FailedCase → Data
 failed_data names f =
-    object (member (codes "case") (string (rule_code f.rule))
+    object (member (codes "case") (string (rule_code f.case))
     (member (codes "cover") (string (cover_code f.cover))
     (member (codes "from") (from_data names f.from)
     (member (codes "mode") (mode_data names f.mode)
-    (member (codes "open") (requester_data names f.open) no_members)))))
+    (member (codes "open") (requester_data names f.hole) no_members)))))
 
 -- Failed cases, in their order.
 abbrev pub failed_list : List (List ℕ) → List FailedCase → Data

@@ -41,12 +41,12 @@ fn failed_value<P: Protocol>(
 ) -> Result<Value, AllocError>
     ensures { IfOk result (λ v. view v ≡ failed_data (P.names protocol.now) failed) }
 {
-    let case = rule_code(failed.rule);
+    let case = rule_code(failed.case);
     let cover = cover_code(failed.cover);
     let from = from_value(alloc, protocol, failed.from)?;
     let mode = name_or_empty(protocol, failed.mode);
-    let open = requester_value(alloc, protocol, failed.open)?;
-    json!(in alloc; {"case": case, "cover": cover, "from": from, "mode": mode, "open": open})
+    let hole = requester_value(alloc, protocol, failed.hole)?;
+    json!(in alloc; {"case": case, "cover": cover, "from": from, "mode": mode, "open": hole})
 }
 
 fn failed_values<P: Protocol>(

@@ -20,6 +20,8 @@ pub use dealt::Dealt;
 pub use faults::{StepFault, WhyNotDone};
 pub use following::follows;
 pub use ghost_reports::report_ghost_check;
+pub use replies::write_verdict;
 pub use reports::{report_played, report_run, report_verdict};
 pub use threaded::{Answered, Threaded, ThreadsShown};
 pub use threads_reports::{report_threads, report_threads_shown};
+pub use writing::write_locks;

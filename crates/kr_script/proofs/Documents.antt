@@ -7,7 +7,7 @@ use Rattle.std.proofs.lemmas.Str.{is_utf8-from_IsUtf8}
 use Rattle.json.specs.Lex.{tokens}
 use Rattle.json.specs.Token.{Token}
 use Rattle.json.specs.Json as json
-use Rattle.json.specs.Json.{parse_map, after_end_array, read_key, items, members, value}
+use Rattle.json.specs.Json.{parse_map, after_end_array, read_key, items, value}
 use Rattle.json.proofs.Grammar.{value_is, value-begin_array, value-begin_object, after_end_array-shorter, read_key-shorter, items_more, items_end, members_more, members_end}
 use Rattle.serde_json.specs.Data.{Data, unsigned, string, array, object, item, no_members, member, put}
 use Rattle.serde_json.specs.Events.{items_len}

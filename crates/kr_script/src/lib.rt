@@ -6,7 +6,7 @@ mod faults;
 mod line;
 mod parts;
 mod plain;
-mod reading;
+pub mod reading;
 mod replies;
 mod script;
 mod steps;

@@ -19,12 +19,14 @@ use kr_model::Event;
 use serde_json::{Map, Value};
 use std::alloc::Global;
 
-const MAX_BYTES: usize = 16_777_216;
+/// The most bytes that a script has.
+pub const MAX_BYTES: usize = 16_777_216;
 
 /// The most pairs that a script has, and the most steps.
 pub const MAX_ELEMENTS: usize = 100_000;
 
-fn field(alloc: Global, name: &str) -> ScriptFault
+/// The fault of the member of this name, or `Memory` where the name can't be copied.
+pub fn field(alloc: Global, name: &str) -> ScriptFault
     ensures { Tells result (fault.field name.now ∷ []) }
 {
     match String::from_str(alloc, name) {
@@ -62,7 +64,8 @@ fn is_member_name(name: &str) -> bool
     name == "format" || name == "opening" || name == "steps"
 }
 
-fn test_names(alloc: Global, members: &Map<String, Value>) -> Result<(), ScriptFault>
+/// Tests that no member is unknown.
+pub fn test_names(alloc: Global, members: &Map<String, Value>) -> Result<(), ScriptFault>
     ensures { Passes result (name_faults (members_view members.now.entries)) }
 {
     for (name, _) in members.iter() {
@@ -73,7 +76,8 @@ fn test_names(alloc: Global, members: &Map<String, Value>) -> Result<(), ScriptF
     Ok(())
 }
 
-fn list_at<'a>(alloc: Global, value: &'a Value, name: &str) -> Result<&'a [Value], ScriptFault>
+/// The array at a member, or the fault that it is missing or no array.
+pub fn list_at<'a>(alloc: Global, value: &'a Value, name: &str) -> Result<&'a [Value], ScriptFault>
     ensures { MatchResult result
         (λ s. list_in name.now (view value.entry.now) ≡ Some (items_view s.now))
         (λ e. Tells e (list_faults name.now (view value.entry.now))) }
@@ -84,7 +88,8 @@ fn list_at<'a>(alloc: Global, value: &'a Value, name: &str) -> Result<&'a [Value
     }
 }
 
-fn test_size(alloc: Global, list: &[Value], name: &str) -> Result<(), ScriptFault>
+/// Tests that the member of this name has at most 100,000 elements.
+pub fn test_size(alloc: Global, list: &[Value], name: &str) -> Result<(), ScriptFault>
     ensures { Passes result (unless (nat_lt (items_len (items_view list.now)) 100001) (fault.too_many name.now)) }
 {
     if list.len() > MAX_ELEMENTS {
@@ -104,6 +109,7 @@ pub fn pair_of(value: &Value) -> Option<(u64, u64)>
     }
 }
 
+/// Whether a key is above the one before it.
 pub fn is_above(key: u64, before: Option<u64>) -> bool
     ensures { result ≡ is_above key before }
 {

@@ -26,7 +26,8 @@ pub fn judge(alloc: Global, ran: &Ran) -> Result<Verdict, Memory>
     judge_programs(alloc, ran.opening.as_slice(), ran.programs.as_slice())
 }
 
-/// Judges committed programs, in the order of the list, against an opening map.
+/// Judges committed programs, in the order of the list, against an opening map whose keys rise strictly, as `judge` does. The only
+/// fault is `Memory`.
 pub fn judge_programs(
     alloc: Global,
     opening: &[(u64, u64)],

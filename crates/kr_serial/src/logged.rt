@@ -70,8 +70,9 @@ fn log_each<P: Protocol, I: Ordered, L: Holdings>(
     Ok(())
 }
 
-/// Notes a step with its reply in a log, or fails where a growth is refused.
-fn note(alloc: Global, log: &mut Log, event: Event, reply: &Reply) -> Result<(), Memory>
+/// Notes a step with its reply in a log, and nothing where it was blocked or refused, or undid a change. The only fault is that a
+/// growth is refused.
+pub fn note(alloc: Global, log: &mut Log, event: Event, reply: &Reply) -> Result<(), Memory>
     ensures { OnOk result (log.new.log ≡ logged log.old.log (event, reply.now)) }
 {
     match reply {

@@ -8,7 +8,7 @@ mod reading;
 mod rows;
 mod table;
 pub mod walk;
-mod writing;
+pub mod writing;
 
 pub use faults::TableFault;
 pub use reading::read;

@@ -44,6 +44,13 @@ impl Table {
         Table { parts }
     }
 
+    /// What the table is made of.
+    pub fn parts(&self) -> &Parts
+        ensures { result.now ≡ self.now.parts }
+    {
+        &self.parts
+    }
+
     /// The mode with exactly this name. `none` is the name of no mode.
     pub fn find(&self, name: &str) -> Option<Mode>
         ensures some { IfSome result (IsNamed (data_of self.now.parts).modes name.now) }

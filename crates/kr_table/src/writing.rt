@@ -11,8 +11,8 @@ ghost use Rattle.kr_table.specs.Answer.{table_data};
 ghost use Rattle.kr_table.specs.Writing as spec;
 ghost use Rattle.kr_table.specs.Writing.{IsTextOf, IsTooLong, IsLongText};
 
-mod entries;
-mod rules;
+pub mod entries;
+pub mod rules;
 
 use crate::faults::MAX_BYTES;
 use crate::table::{Parts, Table};

@@ -1,5 +1,5 @@
 -- Which causes blame an entry of a table, and the badges that say so.
-use Rattle.std.specs.Prelude.{ℕ, Bool, true, false, ◌==◌, ◌&&◌, ◌+◌, List, [], ◌∷◌, ◌++◌, Option, Some, None, codes, decimal, if◌then◌else◌}
+use Rattle.std.specs.Prelude.{ℕ, Bool, false, ◌==◌, ◌&&◌, ◌+◌, List, [], ◌∷◌, ◌++◌, codes, decimal, if◌then◌else◌}
 use Rattle.kr_change.specs.Changes.{is_same_place}
 use Rattle.kr_change.specs.Every.{is_same_request}
 use Rattle.kr_explain_causes.specs.declared.blame.Blame.{Blame}

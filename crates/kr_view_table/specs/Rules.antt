@@ -8,7 +8,7 @@ use Rattle.kr_model.specs.declared.Span.{Span}
 use Rattle.kr_model.specs.declared.Span.TheVariants.{Instant, Commit}
 use Rattle.kr_model.specs.ModeNames.{name_of}
 use Rattle.kr_model.specs.Protocol.{Protocol}
-use Rattle.kr_model.specs.Covers.{if_updating, modes_or_none}
+use Rattle.kr_model.specs.Covers.{modes_or_none}
 use Rattle.kr_view_scenes.specs.Escape.{escaped}
 use Rattle.kr_explain_text.specs.Lists.{modes_listed}
 use Rattle.kr_model.specs.Words.{row_word}

@@ -10,7 +10,7 @@ use kr_modes::Mode;
 use std::alloc::Global;
 use toml::{Table as Document, Value};
 
-/// Puts a value at a name.
+/// Puts a value at a name. `Memory` comes only where a growth was refused.
 pub fn put_in(alloc: Global, table: &mut Document, name: &str, value: Value) -> Result<(), Memory>
     ensures { OnOk result (members_view table.new.entries ≡ spec.put name.now (view value) (members_view table.old.entries)) }
 {
@@ -59,7 +59,7 @@ pub fn compatibility(alloc: Global, names: &[String], matrix: &[bool]) -> Result
     Ok(entries)
 }
 
-/// The name of a mode.
+/// The name of a mode, `none` for 0.
 pub fn name_at(names: &[String], mode: Mode) -> &str
     ensures { result.now ≡ name_of (map string_bytes names.now) mode }
 {

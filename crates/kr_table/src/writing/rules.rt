@@ -130,8 +130,8 @@ fn both_sides(alloc: Global, current: Value, next: Value) -> Result<Value, Memor
     Ok(Value::Table(sides))
 }
 
-/// Puts a row of one side, whose operation moves no key, at its name.
-fn put_one_side(
+/// Puts a row of one side, whose operation moves no key, at its name. `Memory` comes only where a growth was refused.
+pub fn put_one_side(
     alloc: Global,
     rules: &mut Document,
     row: &str,
@@ -145,8 +145,9 @@ fn put_one_side(
     put_in(alloc, rules, row, one_side(alloc, side, clauses)?)
 }
 
-/// Puts a row of both sides, with a request for each own mode, from 0, for no lock, at its name.
-fn put_both_sides(
+/// Puts a row of both sides, with a request for each own mode, from 0, for no lock, at its name. `Memory` comes only where a
+/// growth was refused.
+pub fn put_both_sides(
     alloc: Global,
     rules: &mut Document,
     row: &str,

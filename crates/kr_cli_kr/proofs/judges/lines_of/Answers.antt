@@ -1,4 +1,4 @@
-use Rattle.std.proofs.Common.{◌≡◌, ◌+◌, ◌<◌, ◌++◌, [], ◌∷◌, map, take, length, get_or, string_bytes, sym, ap, ◌∙◌, arith, append_assoc}
+use Rattle.std.proofs.Common.{◌≡◌, ◌<◌, ◌++◌, [], ◌∷◌, map, take, length, get_or, string_bytes, sym, ap, ◌∙◌, arith, append_assoc}
 use Rattle.kr_report.specs.Report.{verdict_text}
 use Rattle.kr_cli_kr.specs.Judges.{lines, reports_of}
 use Rattle.kr_cli_kr.proofs.Reported.{lines_more, lines_all}

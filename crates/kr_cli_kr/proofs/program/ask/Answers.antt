@@ -1,7 +1,7 @@
 use Rattle.std.specs.Prelude.{map, string_bytes}
 use Rattle.std.proofs.Common.{rules}
-use Rattle.kr_cli_kr.proofs.Answered.{answered, checked}
-use Rattle.kr_cli_kr.proofs.Ended.{unread, no_table, only_checked, task_ends}
+use Rattle.kr_cli_kr.proofs.Answered.{answered, answered_ghosts}
+use Rattle.kr_cli_kr.proofs.Ended.{unread, no_table, task_ends, ghost_task_ends}
 use Rattle.kr_cli_kr.proofs.program.ask.Goals as goal
 
 pub returns-in_err-asked-clause-err : goal.returns-in_err-asked-clause-err
@@ -27,7 +27,7 @@ returns-in-Table-clause-err g c = task_ends (g.F.Files.may_give c.args.files.now
 pub returns-clause-answers : goal.returns-clause-answers
 returns-clause-answers g c =
     let taken = g.W.Sink.taken in
-    checked (g.F.Files.may_give c.args.files.now) (map string_bytes c.args.words.now) c.check_asked.result c.in_ok-asked.asked.table.now c.in_ok-asked.asked.task c.in-Ghosts.table (taken c.args.out.now) (taken c.check_asked.new.out) c.in_ok-asked.ensures.words (rw c.in-Ghosts.is at c.in_ok-table.ensures.table) c.check_asked.ensures.check c.check_asked.ensures.ok c.check_asked.ensures.accepted
+    answered_ghosts (g.F.Files.may_give c.args.files.now) (map string_bytes c.args.words.now) c.under_ghosts.result c.in_ok-asked.asked.table.now c.in_ok-asked.asked.task c.in-Ghosts.table (taken c.args.out.now) (taken c.under_ghosts.new.out) c.in_ok-asked.ensures.words (rw c.in-Ghosts.is at c.in_ok-table.ensures.table) c.under_ghosts.ensures.reports
 
 pub returns-clause-err : goal.returns-clause-err
-returns-clause-err g c = only_checked (g.F.Files.may_give c.args.files.now) (map string_bytes c.args.words.now) c.check_asked.result c.in_ok-asked.asked.table.now c.in_ok-asked.asked.task c.in-Ghosts.table c.in_ok-asked.ensures.words (rw c.in-Ghosts.is at c.in_ok-table.ensures.table) c.check_asked.ensures.err
+returns-clause-err g c = ghost_task_ends (g.F.Files.may_give c.args.files.now) (map string_bytes c.args.words.now) c.under_ghosts.result c.in_ok-asked.asked.table.now c.in_ok-asked.asked.task c.in-Ghosts.table c.in_ok-asked.ensures.words (rw c.in-Ghosts.is at c.in_ok-table.ensures.table) c.under_ghosts.ensures.err

@@ -1,4 +1,4 @@
-use Rattle.std.proofs.Common.{◌≡◌, ◌∙◌, sym, subst}
+use Rattle.std.proofs.Common.{◌∙◌, sym, subst}
 use Rattle.kr_cli_kr.specs.Runs.{Explains}
 use Rattle.kr_cli_kr.proofs.Unprinted.{unprinted, fault_told}
 use Rattle.kr_cli_kr.proofs.runs.run_over.Goals as goal

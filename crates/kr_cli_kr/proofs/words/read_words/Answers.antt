@@ -1,10 +1,10 @@
 use Rattle.std.proofs.lemmas.Grind.{common_steps}
-use Rattle.std.proofs.Common.{◌≡◌, ℕ, List, [], ◌∷◌, ◌++◌, Some, All, map, get_or, string_bytes, suc, ap, subst, sym, inl, inr, refl, arith}
+use Rattle.std.proofs.Common.{◌≡◌, ℕ, List, [], ◌∷◌, ◌++◌, Some, All, map, get_or, string_bytes, suc, ap, subst, sym, inl, inr, arith}
 use Rattle.std.specs.Prelude.{codes, slice_get}
 use Rattle.std.specs.Fmt.{decimal}
 use Rattle.std.proofs.lemmas.List.Elements.{All-map}
 use Rattle.kr_cli.specs.Words.{IsPlain}
-use Rattle.kr_cli_kr.specs.Words.{AreLeft, AreWords, AskThreads, HasWorkers, HaveForm, LeavesWords, count_of, scripts_of}
+use Rattle.kr_cli_kr.specs.Words.{AreLeft, AskThreads, HasWorkers, HaveForm, LeavesWords, count_of, scripts_of}
 use Rattle.kr_cli_kr.specs.declared.tasks.Task.{Task}
 use Rattle.kr_cli_kr.specs.declared.tasks.Task.TheVariants.{Check, Run, Judge, Threads}
 use Rattle.kr_cli_kr.specs.declared.tasks.Workers.{Workers}

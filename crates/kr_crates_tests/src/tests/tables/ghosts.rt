@@ -1,9 +1,14 @@
-//! Tables whose deletes leave ghosts: the bundled ones, and one that is read, with their checks.
+//! Tables whose deletes leave ghosts: the bundled ones, as protocols and as texts that are read and written, and one that is read, with
+//! their checks.
 
+mod texts;
+
+use self::texts::{NEXT_KEY_GHOST, RANGE_GHOST, RECORD_GAP};
+use super::table::likeness::are_alike;
 use kr_ghost::{Access, Cover, FailedCase, Requester, Rule, access_words, cover_code, rule_code};
 use kr_ghost_check::{cases, failed_cases};
 use kr_ghost_protocol::{GhostProtocol, NextKeyGhost, RangeGhost, RecordGap};
-use kr_ghost_table::{GhostTable, GhostTableFault, has_ghosts, read};
+use kr_ghost_table::{GhostTable, GhostTableFault, has_ghosts, read, write};
 use kr_model::Origin;
 use kr_protocol::{Mode, Span};
 use kr_report::report_ghost_check;
@@ -89,6 +94,39 @@ fn table_of(rt: &impl Abort, alloc: Global, texts: &[&str]) -> Result<GhostTable
     }
 }
 
+/// Whether two protocols say the same of ghosts.
+fn have_ghosts_alike<P: GhostProtocol, Q: GhostProtocol>(one: &P, other: &Q) -> bool {
+    for mode in 0..one.count() + 1 {
+        if mode > other.count() || one.heir(mode) != other.heir(mode) {
+            return false;
+        }
+    }
+    one.revive() == other.revive() && one.inherits() == other.inherits()
+}
+
+/// Reads the table that a text is, which is this protocol, writes it, and reads that back.
+fn is_read_back<P: GhostProtocol>(
+    rt: &impl Abort,
+    alloc: Global,
+    text: &str,
+    protocol: &P,
+) -> Result<(), Fail> {
+    let table = table_of(rt, alloc, &[text])?;
+    holds!(rt; are_alike(&table, protocol) && have_ghosts_alike(&table, protocol), text);
+    let written = write(alloc, &table)?;
+    let again = table_of(rt, alloc, &[written.as_str()])?;
+    holds!(rt; are_alike(&table, &again) && have_ghosts_alike(&table, &again), text);
+    Ok(())
+}
+
+#[test]
+fn bundled_tables_are_read_back(rt: HostRuntime) -> Result<(), Fail> {
+    let alloc = rt.alloc();
+    is_read_back(&rt, alloc, RECORD_GAP, &RecordGap)?;
+    is_read_back(&rt, alloc, RANGE_GHOST, &RangeGhost)?;
+    is_read_back(&rt, alloc, NEXT_KEY_GHOST, &NextKeyGhost)
+}
+
 #[test]
 fn a_table_is_read(rt: HostRuntime) -> Result<(), Fail> {
     let table = table_of(&rt, rt.alloc(), &[ONE, REVIVE])?;
@@ -107,20 +145,20 @@ fn an_insert_of_a_ghost_that_requests_nothing(rt: HostRuntime) -> Result<(), Fai
     let table = table_of(&rt, alloc, &[ONE])?;
     let failed = failed_cases(alloc, &table)?;
     let first = FailedCase {
-        rule: Rule::FetchHit,
+        case: Rule::FetchHit,
         cover: Cover::ReadKey,
         from: Origin::Own(0),
         mode: 1,
-        open: Requester {
+        hole: Requester {
             access: Access::Revive,
             own: 0,
         },
     };
     same!(rt; failed.len(), 12);
     same!(rt; failed[0], first);
-    same!(rt; rule_code(first.rule), "G2");
+    same!(rt; rule_code(first.case), "G2");
     same!(rt; cover_code(first.cover), "RK");
-    same!(rt; access_words(first.open.access), ("revive", "current"));
+    same!(rt; access_words(first.hole.access), ("revive", "current"));
     Ok(())
 }
 

@@ -2,7 +2,7 @@ mod ample;
 mod answers;
 mod bundled;
 mod faults;
-mod likeness;
+pub mod likeness;
 mod lines;
 mod unreached;
 mod updates;

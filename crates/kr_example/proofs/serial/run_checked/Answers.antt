@@ -1,4 +1,4 @@
-use Rattle.std.proofs.Common.{◌≡◌, sym, subst, IfOk, Ok, Result}
+use Rattle.std.proofs.Common.{◌≡◌, sym, subst, IfOk, Result}
 use Rattle.kr_model.specs.State.{start}
 use Rattle.kr_model.specs.Run as model
 use Rattle.kr_model.specs.Serial.{IsSerialRun}
@@ -6,7 +6,6 @@ use Rattle.kr_table.specs.declared.table.Table.{Table}
 use Rattle.kr_table.specs.Tables.{TableData, protocol_of}
 use Rattle.kr_table.specs.Shown.{data_of}
 use Rattle.kr_table.specs.Faults.{Fault}
-use Rattle.kr_table.specs.Reading.{reading}
 use Rattle.kr_example.proofs.serial.run_checked.Goals as goal
 
 -- The table that was checked is the one that was read.

@@ -1,6 +1,6 @@
-use Rattle.std.proofs.Common.{ℕ, List, Bool, subst, sym, ap, ◌∙◌, ◌++◌, codes, string_bytes}
+use Rattle.std.proofs.Common.{ℕ, List, subst, ap, ◌∙◌, string_bytes}
 use Rattle.kr_explain_text.specs.Lines.{IsParagraph}
-use Rattle.kr_explain_text.specs.Edits.{IsEdit, wish_words, modes_of}
+use Rattle.kr_explain_text.specs.Edits.{wish_words}
 use Rattle.kr_explain_text.proofs.mending.wish_of.Goals as goal
 
 pub returns : goal.returns

@@ -1,6 +1,6 @@
 use Rattle.std.proofs.Common.{arith}
 use Rattle.std.proofs.lemmas.Grind.{common_steps}
-use Rattle.std.proofs.Common.{◌≡◌, true, false, is_some, suc, sym, ◌∙◌, ap}
+use Rattle.std.proofs.Common.{is_some, suc, sym, ◌∙◌, ap}
 use Rattle.kr_index.proofs.TreeLaws.{least_present}
 use Rattle.kr_index.proofs.Ordered.pair_after.Goals as goal
 

@@ -1,4 +1,4 @@
-use Rattle.std.proofs.Common.{◌≡◌, true, false, is_some, sym, ◌∙◌, ap}
+use Rattle.std.proofs.Common.{is_some, sym, ◌∙◌, ap}
 use Rattle.kr_index.proofs.TreeLaws.{least_present}
 use Rattle.kr_index.proofs.Ordered.pair_from.Goals as goal
 

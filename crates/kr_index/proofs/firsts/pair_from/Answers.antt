@@ -1,4 +1,4 @@
-use Rattle.std.proofs.Common.{◌≡◌, true, is_some, refl, sym, ◌∙◌, ap}
+use Rattle.std.proofs.Common.{true, is_some, sym, ◌∙◌, ap}
 use Rattle.kr_index.specs.Slots.{pairs_of, value_in}
 use Rattle.kr_index.proofs.SlotLaws.{get-pairs}
 use Rattle.kr_index.proofs.SkipLaws.{end_from}

@@ -1,5 +1,4 @@
-use Rattle.std.proofs.Common.{◌≡◌, true, false, is_some, sym, ◌∙◌, ap}
-use Rattle.kr_model.specs.Map.{get}
+use Rattle.std.proofs.Common.{is_some, sym, ◌∙◌, ap}
 use Rattle.kr_index.specs.Slots.{pairs_of}
 use Rattle.kr_index.proofs.TreeLaws.{least_present}
 use Rattle.kr_index.proofs.firsts.pair_past.Goals as goal

@@ -1,4 +1,4 @@
-use Rattle.std.proofs.Common.{◌≡◌, ◌==◌, ◌<◌, ◌^◌, List, ℕ, ap, sym, subst, false, slice_index, ne_eqb, ◌∙◌, Some}
+use Rattle.std.proofs.Common.{◌≡◌, ◌==◌, ◌<◌, ◌^◌, ap, sym, subst, false, slice_index, ne_eqb, ◌∙◌, Some}
 use Rattle.std.specs.Option.{SomeIff}
 use Rattle.fast_float.specs.Text.{IsInteger, digits_of, scan}
 use Rattle.serde_json.specs.Data.{unsigned}

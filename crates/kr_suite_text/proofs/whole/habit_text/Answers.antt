@@ -1,4 +1,4 @@
-use Rattle.std.proofs.Common.{◌≡◌, ◌∙◌, ap, map, string_bytes}
+use Rattle.std.proofs.Common.{◌∙◌, ap, map, string_bytes}
 use Rattle.kr_suite_text.proofs.Played.{played_is}
 use Rattle.kr_suite_text.proofs.whole.habit_text.Goals as goal
 

@@ -1,4 +1,4 @@
-use Rattle.std.proofs.Common.{◌≡◌, ◌∙◌, ap, sym, subst, refl, Bool, true, false, Option, Some, None, [], is_some}
+use Rattle.std.proofs.Common.{◌≡◌, ◌∙◌, ap, sym, subst, refl, false, Option, Some, None, [], is_some}
 use Rattle.kr_model.specs.declared.Refusal.{Refusal}
 use Rattle.kr_model.specs.Step.{refusal_of}
 use Rattle.kr_txn.specs.Standings.{entries}

@@ -1,4 +1,4 @@
-use Rattle.std.specs.Prelude.{◌≡◌, ℕ, false, ◌&&◌, ◌||◌, ◌==◌, nat_lt, None, cond, refl}
+use Rattle.std.specs.Prelude.{ℕ, false, ◌&&◌, ◌||◌, ◌==◌, nat_lt, None, cond, refl}
 use Rattle.std.specs.Int.{bit_at}
 use Rattle.std.proofs.Common.{arith, subst, sym}
 use Rattle.kr_model.specs.Protocol.{Protocol}

@@ -1,0 +1,4 @@
+pub mod SlotLaws
+pub mod GhostLaws
+pub mod NameLaws
+pub mod Views

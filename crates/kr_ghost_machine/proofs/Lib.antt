@@ -1,0 +1,6 @@
+pub mod Inherited
+pub mod Purgeable
+pub mod Resting
+pub mod Backs
+pub mod Attempted
+pub mod Listed

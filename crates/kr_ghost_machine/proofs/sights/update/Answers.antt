@@ -1,0 +1,44 @@
+use Rattle.std.proofs.Common.{◌≡◌, ap, sym, ◌∙◌}
+use Rattle.std.specs.Prelude.{false, is_some}
+use Rattle.kr_model.specs.Map.{at, get}
+use Rattle.kr_model.specs.Plan.{requests}
+use Rattle.kr_model.specs.State.{standing}
+use Rattle.kr_model.specs.Step.{updated}
+use Rattle.kr_model.specs.declared.Row.TheVariants as row
+use Rattle.kr_ghost.specs.State.{among, named, stand_by}
+use Rattle.kr_ghost.specs.Step.{keyed_requests}
+use Rattle.kr_ghost_machine.specs.Deeds.{effect_of, ghosts_after}
+use Rattle.kr_ghost_machine.specs.Machine.{shown}
+use Rattle.kr_ghost_machine.proofs.Attempted.{attempted_as, no_ghost_less}
+use Rattle.kr_ghost_machine.proofs.sights.update.Goals as goal
+use Rattle.kr_ghost_machine.proofs.sights.update.Goals.{in-None, in-Some}
+
+pub returns-clause-performs : goal.returns-clause-performs
+returns-clause-performs g c ended active =
+    let p = g.P.GhostProtocol.ghosts c.args.protocol.now in
+    let x = c.args.index.now in
+    let h = g.L.Holdings.locks c.args.locks.now in
+    let t = c.args.txn in
+    let k = c.args.key in
+    let s = shown x h ended active in
+    let a = standing s.state t in
+    let look = c.look-look.result in
+    let n = at (named x.map x.ghosts) k in
+    let asked : keyed_requests p row.Update k n (stand_by (get x.map k) (among x.ghosts k)) ≡ requests c.keyed-plan.result =
+    sym (c.keyed-plan.ensures.requests
+    ∙ ap (λ z. keyed_requests p row.Update k z (stand_by look.value look.is_ghost)) c.look-look.ensures.name
+    ∙ ap (λ z. keyed_requests p row.Update k n (stand_by z look.is_ghost)) c.look-look.ensures.value
+    ∙ ap (λ z. keyed_requests p row.Update k n (stand_by (get x.map k) z)) c.look-look.ensures.is_ghost) in
+    elim c.match-look.branch [
+      | in-Some w ↦
+          let there = sym c.look-look.ensures.value ∙ w.in-Some.is in
+          let no_ghost : among x.ghosts k ≡ false = sym c.look-look.ensures.is_ghost ∙ c.look-look.ensures.apart (ap is_some w.in-Some.is) in
+          attempted_as p s t _ _ _ _ _ _ asked
+          (ap (updated x.map a k c.args.value) there ∙ sym (ap (λ d. effect_of d x.map a) w.deed-is))
+          (sym (ap (λ d. ghosts_after d x.ghosts) w.deed-is ∙ no_ghost_less x.ghosts k no_ghost))
+      | in-None w ↦
+          let absent = sym c.look-look.ensures.value ∙ w.in-None.is in
+          attempted_as p s t _ _ _ _ _ _ asked
+          (ap (updated x.map a k c.args.value) absent ∙ sym (ap (λ d. effect_of d x.map a) w.deed-is))
+          (sym (ap (λ d. ghosts_after d x.ghosts) w.deed-is))
+    ]

@@ -1,0 +1,3 @@
+pub mod Machine
+pub mod Deeds
+pub mod Sights

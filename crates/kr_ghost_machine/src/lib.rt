@@ -1,0 +1,17 @@
+//! A machine: an index with ghosts on which transactions do steps under a locking protocol, and from which ghosts are purged.
+#![tactic(auto)]
+
+mod attempts;
+mod deeds;
+mod ends;
+mod grants;
+mod heirs;
+mod purges;
+mod requests;
+mod scans;
+mod sights;
+mod standings;
+mod stepper;
+
+pub use kr_model::{Memory, Mode, Name, Txn};
+pub use stepper::GhostStepper;

@@ -1,0 +1,4 @@
+pub mod StepKinds
+pub mod Logs
+pub mod Rest
+pub mod Left

@@ -1,0 +1,18 @@
+use Rattle.std.proofs.Common.{refl, ◌≡◌, ◌∙◌, ap}
+use Rattle.std.proofs.lemmas.Result.{IfOk-weaker}
+use Rattle.kr_model.specs.Run.{programs}
+use Rattle.kr_serial.proofs.Wholes.{serial_exactly}
+use Rattle.kr_ghost.specs.Protocol.{GhostProtocol}
+use Rattle.kr_ghost.specs.Run.{run}
+use Rattle.kr_ghost.specs.State.{opened}
+use Rattle.kr_ghost_run.specs.Ran.{verdict_of_moves}
+use Rattle.kr_ghost_run.proofs.runs.judge_moves.Goals as goal
+
+pub returns-clause-serial : goal.returns-clause-serial
+returns-clause-serial g c =
+    let p = g.P.GhostProtocol.ghosts c.args.protocol.now in
+    let r = run p (opened c.args.opening.now) c.args.moves.now in
+    let same : g.P.GhostProtocol.ghosts c.new-stepper.result.protocol.now ≡ p = rw c.new-stepper.ensures.protocol refl in
+    IfOk-weaker c.judge_on.result _ _
+    (λ v is. serial_exactly v c.args.opening.now (programs r.history) (is ∙ ap (λ (q : GhostProtocol). verdict_of_moves q c.args.opening.now c.args.moves.now) same))
+    c.judge_on.ensures

@@ -1,0 +1,10 @@
+//! Runs of an index with ghosts: moves done one after another, and the verdict on what the transactions did.
+#![tactic(auto)]
+
+mod noted;
+mod ran;
+mod runs;
+
+pub use kr_serial::{Triples, Verdict};
+pub use ran::{Answer, GhostRan};
+pub use runs::{judge_moves, run_moves};
