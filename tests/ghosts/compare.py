@@ -241,7 +241,7 @@ def cases_law(name, table):
 {name}-count : length (cases {name}) ≡ {count}
 {name}-count = refl
 
-{name}-failed : map {{B = (Rule × ℕ) × Requester}} (λ f. ((f.rule, f.mode), f.«open»)) (failed_cases {name}) ≡ {found}
+{name}-failed : map {{B = (Rule × ℕ) × Requester}} (λ f. ((f.case, f.mode), f.hole)) (failed_cases {name}) ≡ {found}
 {name}-failed = refl
 """
 
