@@ -23,7 +23,7 @@ pub fn format_fault(alloc: Global, document: &Document) -> Result<Help, AllocErr
     Help::of(
         alloc,
         document.member(alloc, "format")?,
-        "expected 1, or 2 for a table that offers updates; only kr check, run and judge take 3",
+        "expected 1, 2 for a table that offers updates or, where the program takes it, 3 for one with ghosts",
     )
 }
 

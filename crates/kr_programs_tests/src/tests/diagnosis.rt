@@ -11,7 +11,7 @@ fn at_a_table(rt: HostRuntime) -> Result<(), Fail> {
     assert_eq!(rt;
         told.as_str(),
         concat!(
-            "t:1:10: expected 1, or 2 for a table that offers updates; only kr check, run and judge take 3\n",
+            "t:1:10: expected 1, 2 for a table that offers updates or, where the program takes it, 3 for one with ghosts\n",
             "  1 | format = 3\n",
             "    |          ^\n",
         )
