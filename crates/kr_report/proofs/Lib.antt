@@ -1,9 +1,2 @@
 pub mod NoFloats
 pub mod Writes
-pub mod Hands
-pub mod Firsts
-pub mod FaultPlaces
-pub mod Operations
-pub mod Wants
-pub mod Undone
-pub mod Whole

@@ -61,8 +61,8 @@ fn write_fault(out: &mut String, fault: &StepFault) -> Result<(), AllocError>
     out.push_str("]")
 }
 
-/// Writes the steps that weren't done.
-fn write_faults(out: &mut String, faults: &[StepFault]) -> Result<(), AllocError>
+/// Writes an array of the steps that weren't done.
+pub fn write_faults(out: &mut String, faults: &[StepFault]) -> Result<(), AllocError>
     ensures { OnOk result (string_bytes out.new ≡ string_bytes out.old ++ compact_text (faults_data faults.now)) }
 {
     out.push_str("[")?;

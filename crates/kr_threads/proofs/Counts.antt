@@ -11,11 +11,12 @@ use Rattle.std.proofs.lemmas.List.Elements.{All-push}
 use Rattle.std.proofs.lemmas.List.Sums.{count_by_more_yes, count_by_more_no, count_by-le-length}
 use Rattle.kr_model.specs.declared.Event.{Event}
 use Rattle.kr_model.specs.declared.Op.TheVariants.{Go}
-use Rattle.kr_report.specs.declared.faults.StepFault.{StepFault}
-use Rattle.kr_report.specs.Follows.{AreRising}
-use Rattle.kr_report.specs.Dealt.{txn_at}
+use Rattle.kr_workers.specs.declared.faults.StepFault.{StepFault}
+use Rattle.kr_workers.specs.Follows.{AreRising}
+use Rattle.kr_workers.specs.Dealt.{txn_at}
 use Rattle.kr_threads.specs.declared.left_out.LeftOut.{LeftOut}
-use Rattle.kr_threads.specs.Placed.{done_by, missed_before, AreNumbers, AreCounts, count_in, IsNumber, IsStart, IsBetween}
+use Rattle.kr_workers.specs.Counts.{done_by, missed_before, count_in}
+use Rattle.kr_threads.specs.Placed.{AreNumbers, AreCounts, IsNumber, IsStart, IsBetween}
 
 nobody : Event
 nobody = record { txn = 0; op = Go }

@@ -11,9 +11,10 @@ use Rattle.kr_model.specs.Map.{Map}
 use Rattle.kr_model.specs.Run as model
 use Rattle.kr_history.specs.declared.name.Entry.{Entry}
 use Rattle.kr_engine.specs.Histories.{events_with_replies}
-use Rattle.kr_report.specs.declared.faults.StepFault.{StepFault}
+use Rattle.kr_workers.specs.declared.faults.StepFault.{StepFault}
 use Rattle.kr_threads.specs.declared.left_out.LeftOut.{LeftOut}
-use Rattle.kr_threads.specs.Placed.{done_by, missed_before, IsPast, IsUpTo, AreDoneUpTo, AreDoneBefore, IsBetween}
+use Rattle.kr_workers.specs.Counts.{done_by, missed_before}
+use Rattle.kr_threads.specs.Placed.{IsPast, IsUpTo, AreDoneUpTo, AreDoneBefore, IsBetween}
 use Rattle.kr_threads.specs.Told.{IsTold, IsLeftOut, AreTold}
 
 -- No more are done up to a place than in all.

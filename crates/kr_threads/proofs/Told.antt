@@ -18,11 +18,12 @@ use Rattle.kr_engine.specs.Seats.{Held, Shows, IsRefused, IsDeadlock, SeesFault,
 use Rattle.kr_engine.specs.declared.faults.Receipt.{Receipt}
 use Rattle.kr_engine.specs.declared.faults.EngineFault.{EngineFault}
 use Rattle.kr_engine.specs.declared.faults.EngineFault.TheVariants as fault
-use Rattle.kr_report.specs.declared.faults.WhyNotDone.TheVariants.{Deadlock, Refused}
-use Rattle.kr_report.specs.declared.faults.StepFault.{StepFault}
+use Rattle.kr_workers.specs.declared.faults.WhyNotDone.TheVariants.{Deadlock, Refused}
+use Rattle.kr_workers.specs.declared.faults.StepFault.{StepFault}
 use Rattle.kr_threads.specs.declared.left_out.LeftOut.{LeftOut}
 use Rattle.kr_threads.specs.Placed.{IsPast, IsUpTo}
-use Rattle.kr_threads.specs.Told.{is_blocked_reply, IsCaused, IsToldAt, IsLeftOut, AreTold, IsNext, Working, IsWorker}
+use Rattle.kr_workers.specs.Waits.{is_blocked_reply}
+use Rattle.kr_threads.specs.Told.{IsCaused, IsToldAt, IsLeftOut, AreTold, IsNext, Working, IsWorker}
 
 some_same : {A : Type 0} (a b : A) → Some a ≡ Some b → a ≡ b
 some_same a b is = cc (is)

@@ -1,20 +1,11 @@
 -- Where in a history a step was left out.
-use Rattle.std.specs.Prelude.{◌≡◌, ◌≢◌, ◌==◌, ◌-◌, ◌&&◌, ◌<◌, ◌≤◌, ◌+◌, ℕ, nat_eq, nat_lt, List, Option, Some, None, length, take, slice_index_or, unwrap_or}
-use Rattle.std.specs.List.{count_by}
-use Rattle.std.specs.HashMap.{HashMap, get}
+use Rattle.std.specs.Prelude.{◌≡◌, ◌≢◌, ◌-◌, ◌<◌, ◌≤◌, ◌+◌, ℕ, List, Option, Some, None, length, take, slice_index_or}
+use Rattle.std.specs.HashMap.{HashMap}
 use Rattle.kr_model.specs.declared.Event.{Event}
 use Rattle.kr_model.specs.Run as model
-use Rattle.kr_report.specs.declared.faults.StepFault.{StepFault}
-use Rattle.kr_report.specs.Dealt.{txn_at}
+use Rattle.kr_workers.specs.Dealt.{txn_at}
+use Rattle.kr_workers.specs.Counts.{done_by, count_in}
 use Rattle.kr_threads.specs.declared.left_out.LeftOut.{LeftOut}
-
--- How many of the events are of this transaction.
-abbrev pub done_by : ℕ → List Event → ℕ
-done_by t es = count_by (λ e. e.txn == t) es
-
--- How many of the faults are of steps of this transaction that come before this one.
-abbrev pub missed_before : List StepFault → ℕ → ℕ → ℕ
-missed_before faults t n = count_by (λ f. (f.txn == t) && nat_lt f.step n) faults
 
 -- Places --
 
@@ -39,10 +30,6 @@ pub record IsStart (txns : List ℕ) (i first : ℕ) : Type 0 where
 -- Each event's number is how many of the events up to it are of its transaction.
 pub record AreNumbers (numbers : List ℕ) (es : List Event) : Type 0 where
   pub each : (k : ℕ) → k < length numbers → slice_index_or numbers k 0 ≡ done_by (txn_at es k) (take (k + 1) es)
-
--- How many events a map has of a transaction.
-abbrev pub count_in : {S : Type 0} → HashMap ℕ ℕ S → ℕ → ℕ
-count_in counts t = unwrap_or (get nat_eq counts t) 0
 
 -- The map has how many of the events are of each transaction.
 abbrev pub AreCounts : {S : Type 0} → HashMap ℕ ℕ S → List Event → Type 0

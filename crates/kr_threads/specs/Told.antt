@@ -3,8 +3,6 @@ use Rattle.std.specs.Prelude.{◌≡◌, ◌<◌, ◌≤◌, ◌+◌, ℕ, lengt
 use mathlib.Core.List.{IsPrefix}
 use Rattle.kr_model.specs.declared.Event.{Event}
 use Rattle.kr_model.specs.declared.Op.{Op}
-use Rattle.kr_model.specs.declared.Reply.{Reply}
-use Rattle.kr_model.specs.declared.Reply.TheVariants as reply
 use Rattle.kr_model.specs.Protocol.{Protocol}
 use Rattle.kr_model.specs.Map.{Map}
 use Rattle.kr_model.specs.State.{State}
@@ -17,16 +15,13 @@ use Rattle.kr_history.specs.declared.name.Entry.{Entry}
 use Rattle.kr_engine.specs.Seats.{Held}
 use Rattle.kr_engine.specs.declared.closing.History.{History}
 use Rattle.kr_engine.specs.Closed.{Lent, IsClosed}
-use Rattle.kr_report.specs.declared.faults.WhyNotDone.{WhyNotDone}
-use Rattle.kr_report.specs.declared.faults.WhyNotDone.TheVariants.{Deadlock, Refused}
-use Rattle.kr_report.specs.declared.faults.StepFault.{StepFault}
+use Rattle.kr_workers.specs.declared.faults.WhyNotDone.{WhyNotDone}
+use Rattle.kr_workers.specs.declared.faults.WhyNotDone.TheVariants.{Deadlock, Refused}
+use Rattle.kr_workers.specs.declared.faults.StepFault.{StepFault}
+use Rattle.kr_workers.specs.Waits.{is_blocked_reply}
 use Rattle.kr_threads.specs.declared.left_out.LeftOut.{LeftOut}
-use Rattle.kr_threads.specs.Placed.{done_by, missed_before, IsPast, IsUpTo}
-
--- Whether a reply says that the step is blocked.
-abbrev pub is_blocked_reply : Reply → Bool
-is_blocked_reply (reply.Blocked us) = true
-is_blocked_reply _ = false
+use Rattle.kr_workers.specs.Counts.{done_by, missed_before}
+use Rattle.kr_threads.specs.Placed.{IsPast, IsUpTo}
 
 -- A refusal's reply is the definition's to t's operation in this state, and is neither granted nor blocked: a step that is blocked waits. A deadlock's transactions are a cycle from t: each has an operation that the next blocks in this state, the last's blocked by t, whose own is this one.
 abbrev pub IsCause : Protocol → State → ℕ → Op → WhyNotDone → Type 0

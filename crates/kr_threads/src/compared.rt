@@ -3,7 +3,7 @@ ghost use Rattle.std.specs.Prelude.{◌≡◌, List, IfOk};
 ghost use Rattle.kr_model.specs.declared.Event.{Event};
 ghost use Rattle.kr_model.specs.Protocol.{Protocol};
 ghost use Rattle.kr_model.specs.Map.{Map, IsMap};
-ghost use Rattle.kr_report.specs.Dealt.{AreDealt};
+ghost use Rattle.kr_workers.specs.Dealt.{AreDealt};
 ghost use Rattle.kr_threads.specs.Told.{IsWorked};
 ghost use Rattle.kr_threads.specs.Threaded.{IsCompared, IsThreaded, ShowsThreads};
 
@@ -12,7 +12,8 @@ use crate::left_out::{LeftOut, faults_of};
 use crate::placing::are_placed;
 use crate::run::RunFault;
 use kr_engine::History;
-use kr_report::{Dealt, StepFault, Threaded, ThreadsShown, follows};
+use kr_report::{Threaded, ThreadsShown};
+use kr_workers::{Dealt, StepFault, follows};
 use std::alloc::{AllocError, Global};
 
 /// What the workers did: the closed history, in which no transaction is active at the end, and the steps that were left out.

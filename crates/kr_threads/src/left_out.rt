@@ -5,7 +5,7 @@ ghost use Rattle.kr_model.specs.Map.{Map};
 ghost use Rattle.kr_model.specs.Run as model;
 ghost use Rattle.kr_threads.specs.Told.{IsToldAt, IsLeftOut};
 
-use kr_report::StepFault;
+use kr_workers::StepFault;
 use std::alloc::{AllocError, Global};
 
 /// A step that was left out, between two steps of its transaction that were done.

@@ -3,7 +3,6 @@
 
 mod calls;
 mod compared;
-mod gate;
 mod history;
 mod left_out;
 mod placing;
@@ -12,5 +11,5 @@ mod run;
 mod turn;
 mod work;
 
-pub use gate::{Gate, Passage};
+pub use kr_workers::{Gate, Passage};
 pub use run::{RunFault, run_threads, show_threads};

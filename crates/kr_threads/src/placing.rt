@@ -1,7 +1,8 @@
 //! Whether steps were left out where their transactions came to them.
 ghost use Rattle.std.specs.Prelude.{◌≡◌, ◌<◌, ◌-◌, true, All, IfOk, map, length};
-ghost use Rattle.kr_report.specs.Follows.{AreRising};
-ghost use Rattle.kr_threads.specs.Placed.{missed_before, count_in, AreNumbers, AreCounts, IsNumber, IsBetween, AreDoneUpTo, AreDoneBefore, IsStart};
+ghost use Rattle.kr_workers.specs.Follows.{AreRising};
+ghost use Rattle.kr_workers.specs.Counts.{missed_before, count_in};
+ghost use Rattle.kr_threads.specs.Placed.{AreNumbers, AreCounts, IsNumber, IsBetween, AreDoneUpTo, AreDoneBefore, IsStart};
 
 use crate::left_out::LeftOut;
 use kr_model::{Event, Txn};

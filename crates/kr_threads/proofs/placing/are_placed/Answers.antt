@@ -1,7 +1,8 @@
 use Rattle.std.proofs.Common.{◌-◌, subst, map}
 use Rattle.std.specs.Prelude.{All}
 use Rattle.std.proofs.lemmas.List.{take_all}
-use Rattle.kr_threads.specs.Placed.{IsBetween, missed_before}
+use Rattle.kr_workers.specs.Counts.{missed_before}
+use Rattle.kr_threads.specs.Placed.{IsBetween}
 use Rattle.kr_threads.proofs.Counts.{placed_more, starts_before}
 use Rattle.kr_threads.proofs.placing.are_placed.Goals as goal
 

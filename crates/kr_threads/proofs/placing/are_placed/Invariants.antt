@@ -1,7 +1,8 @@
 use Rattle.std.proofs.Common.{◌<◌, ◌-◌, map, take}
 use Rattle.std.specs.Prelude.{All}
-use Rattle.kr_report.specs.Follows.{AreRising}
-use Rattle.kr_threads.specs.Placed.{IsStart, IsBetween, missed_before}
+use Rattle.kr_workers.specs.Follows.{AreRising}
+use Rattle.kr_workers.specs.Counts.{missed_before}
+use Rattle.kr_threads.specs.Placed.{IsStart, IsBetween}
 use Rattle.kr_threads.proofs.placing.are_placed.Given as goal
 
 -- the steps so far were left out where their transactions came to them

@@ -1,0 +1,5 @@
+pub mod Follows
+pub mod Dealt
+pub mod Fates
+pub mod Waits
+pub mod Counts
