@@ -7,7 +7,7 @@ ghost use Rattle.kr_ghost.specs.State.{among, ghosts_with, named};
 ghost use Rattle.kr_ghost_index.specs.Index.{changes, with_change};
 
 use crate::slots::{
-    Slot, change, changes_of, first_from, name_past, remove, settle, slots_of, undo,
+    Slot, change, changes_of, copy_of, first_from, name_past, remove, settle, slots_of, undo,
 };
 use kr_model::{Items, Memory, Name, Pairs};
 use std::alloc::Global;
@@ -27,8 +27,8 @@ pub struct Look {
 
 /// An index of present keys with their values, and of ghosts, which are deleted keys that haven't been purged.
 ///
-/// It counts the changes of each key that can still be undone: a key with such a change is never purged. `pairs` and `ghosts` look
-/// at all names, and each other call at a logarithmic number of them.
+/// It counts the changes of each key that can still be undone: a key with such a change is never purged. `pairs`, `ghosts` and
+/// `try_copy` look at all names, and each other call at a logarithmic number of them.
 #[derive(Drop)]
 pub struct GhostIndex {
     slots: BTreeMap<u64, Slot>,
@@ -177,6 +177,15 @@ impl GhostIndex {
             }
         }
         Ok(Items::from_vec(list))
+    }
+
+    /// A copy, with the ghosts and with the count of each key's changes that are left; or `Memory` where a growth is refused. Its
+    /// time is linear in the number of names.
+    pub fn try_copy(&self, alloc: Global) -> Result<GhostIndex, Memory>
+        ensures { IfOk result (λ copy. copy ≡ self.now) }
+    {
+        let slots = copy_of(alloc, &self.slots)?;
+        Ok(GhostIndex { slots })
     }
 
     /// The keys of the pairs rise, and so do the ghosts, none of which is present. Only proofs need the call, which does nothing.

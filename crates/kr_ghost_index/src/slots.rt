@@ -48,6 +48,26 @@ pub fn slots_of(alloc: Global, pairs: &[(u64, u64)]) -> Result<BTreeMap<u64, Slo
     tree_of(alloc, entries)
 }
 
+/// The entries of a tree, in their order.
+fn entries_of(alloc: Global, slots: &BTreeMap<u64, Slot>) -> Result<Vec<(u64, Slot)>, Memory>
+    ensures { IfOk result (λ entries. entries.items ≡ slots.now.entries) }
+{
+    let mut entries = Vec::with_capacity(alloc, slots.len())?;
+    for (key, slot) in slots {
+        entries.push((*key, *slot))?;
+    }
+    Ok(entries)
+}
+
+/// A tree with the same entries.
+pub fn copy_of(alloc: Global, slots: &BTreeMap<u64, Slot>) -> Result<BTreeMap<u64, Slot>, Memory>
+    requires { IsInOrder slots.now.entries }
+    ensures { IfOk result (λ copy. copy.entries ≡ slots.now.entries) }
+{
+    let entries = entries_of(alloc, slots)?;
+    tree_of(alloc, entries)
+}
+
 /// The first key not below `from` that has a slot, with the slot.
 pub fn first_from(slots: &BTreeMap<u64, Slot>, from: u64) -> Option<(u64, Slot)>
     ensures { result ≡ first_from slots.now.entries from }

@@ -18,6 +18,7 @@ use Rattle.kr_model.proofs.RisingNumbers.{has, has-lockers}
 use Rattle.kr_ghost.specs.Protocol as protocol
 use Rattle.kr_ghost.specs.Protocol.{Purges, Unlocked, Inherit, IsLawfulPurge, heir_of}
 use Rattle.kr_ghost.specs.Step.{inherits, all_inherit, locks_purged}
+use Rattle.kr_ghost_machine.specs.Heirs.{HasInherited}
 
 -- Where locks are inherited, the heirs' modes are modes, and a purge leaves what the holders of locks inherit.
 pub fit_of : (p : Protocol) (x : Purges) → protocol.inherits x ≡ true → IsLawfulPurge p x → IsLawfulPurge p (Inherit (heir_of x))
@@ -40,7 +41,7 @@ same_locks h l rise none rise' none' same_own =
     same_entries holder_cmp holder_total holder_exact h l (t_of _ rise) (t_of _ rise') (λ (q : Holder). own_found (find holder_cmp q h) (find holder_cmp q l) (none q) (none' q) (same_own q.1 q.0))
 
 -- The mode after one lock is set.
-set_here : (h : Locks) (t : ℕ) (n : Name) (m : ℕ) → own (keep_or_drop h t n m) t n ≡ m
+pub set_here : (h : Locks) (t : ℕ) (n : Name) (m : ℕ) → own (keep_or_drop h t n m) t n ≡ m
 set_here h t n m = own-kept h t t n n m ∙ ap (λ b. cond b m (own h t n)) (same_itself (n, t))
 
 pub set_apart : (h : Locks) (t : ℕ) (n : Name) (m u : ℕ) (x : Name) → ((u ≡ t) × (x ≡ n) → ⊥) → own (keep_or_drop h t n m) u x ≡ own h u x
@@ -53,37 +54,37 @@ set_apart h t n m u x out = own-kept h t u n x m ∙ ap (λ b. cond b m (own h u
     other true is = absurd (out (second x n u t (same_holder (x, u) (n, t) is)))
     other false is = is
 
+-- What a lock becomes is a mode or none, and one kept so leaves locks.
+pub convert_within : (p : Protocol) → IsLawful p → (h q : ℕ) → h ≤ p.count → q ≤ p.count → p.convert h q ≤ p.count
+convert_within p laws h q ih iq = ⊎_elim
+    (λ e. subst (λ z. p.convert z q ≤ p.count) (sym e) (subst (λ z. z ≤ p.count) (sym (laws.convert-none_held q iq)) iq))
+    (λ a. ⊎_elim
+    (λ e. subst (λ z. p.convert h z ≤ p.count) (sym e) (subst (λ z. z ≤ p.count) (sym (laws.convert-none_asked h ih)) ih))
+    (λ b. let m = laws.convert-modes h q (record { some = omega (arith, a); in_range = ih }) (record { some = omega (arith, b); in_range = iq }) in m.in_range)
+    (cases_eq q 0))
+    (cases_eq h 0)
+
+pub kept_locks : (p : Protocol) (h : Locks) (t : ℕ) (x : Name) (m : ℕ) → m ≤ p.count → AreLocks p h → AreLocks p (keep_or_drop h t x m)
+kept_locks p h t x m le l = record {
+  rise = IsLocks-keep h t x m l.rise;
+  within = AreWithin-keep p.count h t x m l.within le;
+  no_none = HasNoNone-keep h t x m l.no_none;
+}
+
 module _ (p : Protocol) (laws : IsLawful p) (heir : ℕ → ℕ) (fit : IsLawfulPurge p (Inherit heir)) (s : State) (locks : AreLocks p s.locks) (k : ℕ) (n : Name) (apart : n ≢ Key k) where
-  convert_within : (h q : ℕ) → h ≤ p.count → q ≤ p.count → p.convert h q ≤ p.count
-  convert_within h q ih iq = ⊎_elim
-      (λ e. subst (λ z. p.convert z q ≤ p.count) (sym e) (subst (λ z. z ≤ p.count) (sym (laws.convert-none_held q iq)) iq))
-      (λ a. ⊎_elim
-      (λ e. subst (λ z. p.convert h z ≤ p.count) (sym e) (subst (λ z. z ≤ p.count) (sym (laws.convert-none_asked h ih)) ih))
-      (λ b. let m = laws.convert-modes h q (record { some = omega (arith, a); in_range = ih }) (record { some = omega (arith, b); in_range = iq }) in m.in_range)
-      (cases_eq q 0))
-      (cases_eq h 0)
-
-  -- One that inherits keeps locks locks.
-  kept_locks : (h : Locks) (t : ℕ) (x : Name) (m : ℕ) → m ≤ p.count → AreLocks p h → AreLocks p (keep_or_drop h t x m)
-  kept_locks h t x m le l = record {
-    rise = IsLocks-keep h t x m l.rise;
-    within = AreWithin-keep p.count h t x m l.within le;
-    no_none = HasNoNone-keep h t x m l.no_none;
-  }
-
   -- One that hands its lock on, before that on the ghost goes.
   abbrev moved : Locks → ℕ → Locks
   moved h u = if is_rolling s u then h else keep_or_drop h u n (p.convert (own h u n) (heir (own h u (Key k))))
 
   moved_locks : (b : Bool) (h : Locks) (u m : ℕ) → m ≤ p.count → AreLocks p h → AreLocks p (if b then h else keep_or_drop h u n m)
   moved_locks true h u m le l = l
-  moved_locks false h u m le l = kept_locks h u n m le l
+  moved_locks false h u m le l = kept_locks p h u n m le l
 
   pub inherits_locks : (h : Locks) (u : ℕ) → AreLocks p h → AreLocks p (inherits p heir s k n u h)
   inherits_locks h u l =
-      kept_locks (moved h u) u (Key k) 0 (omega arith)
+      kept_locks p (moved h u) u (Key k) 0 (omega arith)
       (moved_locks (is_rolling s u) h u (p.convert (own h u n) (heir (own h u (Key k))))
-      (convert_within (own h u n) (heir (own h u (Key k))) (l.within u n) (fit.1 (own h u (Key k)) (l.within u (Key k)))) l)
+      (convert_within p laws (own h u n) (heir (own h u (Key k))) (l.within u n) (fit.1 (own h u (Key k)) (l.within u (Key k)))) l)
 
   -- Every other transaction keeps its locks.
   moved_other : (b : Bool) (h : Locks) (v m u : ℕ) (x : Name) → u ≢ v → own (if b then h else keep_or_drop h v n m) u x ≡ own h u x
@@ -127,7 +128,7 @@ module _ (p : Protocol) (laws : IsLawful p) (heir : ℕ → ℕ) (fit : IsLawful
     where
       by : (b : Bool) → (if b then own s.locks u n else p.convert (own s.locks u n) (heir (own s.locks u (Key k)))) ≤ p.count
       by true = locks.within u n
-      by false = convert_within (own s.locks u n) (heir (own s.locks u (Key k))) (locks.within u n) (fit.1 (own s.locks u (Key k)) (locks.within u (Key k)))
+      by false = convert_within p laws (own s.locks u n) (heir (own s.locks u (Key k))) (locks.within u n) (fit.1 (own s.locks u (Key k)) (locks.within u (Key k)))
 
   from_after : (h : Locks) (u : ℕ) → After h u → After (inherits p heir s k n u h) u
   from_after h u w = record {
@@ -233,3 +234,21 @@ module _ (p : Protocol) (laws : IsLawful p) (heir : ℕ → ℕ) (fit : IsLawful
       second : (a b : Bool) → (a || b) ≡ false → b ≡ false
       second true b h = absurd (true≢false h)
       second false b h = h
+
+  -- Locks that each of these has inherited, and nobody else, are those.
+  pub as_inherited : (us : List ℕ) (l : Locks) → IsLocks l → HasNoNone l → ((u : ℕ) → has us u ≡ false → (x : Name) → own l u x ≡ own s.locks u x)
+      → ((u : ℕ) → has us u ≡ true → HasInherited p heir s.locks l k n (is_rolling s u) u) → l ≡ after_all us
+  as_inherited us l rise none others these = let all = all_locks us in same_locks l (after_all us) rise none all.rise all.no_none (λ u x. by u x (has us u) refl)
+    where
+      by : (u : ℕ) (x : Name) (b : Bool) → has us u ≡ b → own l u x ≡ own (after_all us) u x
+      by u x false out = others u out x ∙ sym (no_more us u out x)
+      by u x true there =
+          let one = these u there in
+          let after : After (after_all us) u = ⊎_elim (λ a. a) (λ b. absurd (true≢false (sym there ∙ b.0))) (among_or_not us u) in
+          ⊎_elim
+          (λ is. ap (own l u) is ∙ one.key ∙ sym (ap (own (after_all us) u) is ∙ after.ghost))
+          (λ nk. ⊎_elim
+          (λ is. ap (own l u) is ∙ one.next ∙ sym (ap (own (after_all us) u) is ∙ after.next))
+          (λ nn. one.others x nk nn ∙ sym (elsewhere_all us u x nk nn))
+          (name_or_not x n))
+          (name_or_not x (Key k))

@@ -4,3 +4,5 @@ pub mod Resting
 pub mod Backs
 pub mod Attempted
 pub mod Listed
+pub mod Copied
+pub mod Handed

@@ -1,16 +1,16 @@
 -- The active transactions of a list, by their numbers.
-use Rattle.std.specs.Prelude.{◌≡◌, ℕ, zero, suc, ◌-◌, ◌<◌, Bool, true, false, ◌||◌, ◌==◌, cond, List, [], ◌∷◌, Some, None, map, refl, T}
+use Rattle.std.specs.Prelude.{◌≡◌, ℕ, suc, ◌<◌, Bool, true, false, ◌||◌, ◌==◌, cond, List, [], ◌∷◌, Option, Some, None, map, refl, T}
 use Rattle.std.specs.Ordering.{nat_cmp, eq_by_cmp, is_lt}
 use Rattle.std.specs.FinMap.{find, is_sorted}
 use Rattle.std.specs.FinMap.Entries.{below_all}
-use Rattle.std.proofs.Common.{◌∙◌, ap, subst, ⊎_elim, ◌≢◌, arith, length, get_or, drop}
+use Rattle.std.proofs.Common.{sym, ◌∙◌, ap, ⊎_elim, ◌≢◌, arith, length, get_or}
 use Rattle.std.proofs.lemmas.Bool.{cases_eq}
 use Rattle.std.proofs.lemmas.Bool.Decides.{nat_tests}
 use Rattle.kr_model.specs.declared.Name.{Name}
 use Rattle.kr_model.specs.Locks.{Locks, own}
-use Rattle.kr_model.proofs.MapLaws.{t_of}
+use Rattle.kr_model.specs.State.{Active}
 use Rattle.kr_model.proofs.RisingNumbers.{has}
-use Rattle.kr_model.proofs.Trees.{first, second}
+use Rattle.kr_model.proofs.Trees.{t_of, of_t, first, second}
 use Rattle.kr_txn.specs.declared.Standing.{Standing}
 use Rattle.kr_txn.specs.Standings.{IsInOrder, active_of, entries, number_of}
 
@@ -30,15 +30,17 @@ not_listed (x ∷ xs) u out = ap (λ b. cond b (Some (active_of x)) (find nat_cm
     by true h more = absurd (cc)
     by false h more = more h
 
--- The numbers from place i - 1 on.
-pub numbers_from : (xs : List Standing) (i : ℕ) (d : Standing) → 0 < i → i - 1 < length xs → drop (i - 1) (numbers xs) ≡ number_of (get_or xs (i - 1) d) ∷ drop i (numbers xs)
-numbers_from xs zero d some lt = absurd (omega arith)
-numbers_from xs (suc j) d some lt = let is : suc j - 1 ≡ j = omega arith in rw is (from xs j (subst (λ z. z < length xs) is lt))
+-- A number that is among them is found.
+pub listed : (xs : List Standing) (u : ℕ) → has (numbers xs) u ≡ true → find nat_cmp u (entries xs) ≡ None → ⊥
+listed [] u there out = cc
+listed (x ∷ xs) u there out = by (u == x.txn) (same_test u x.txn) there (listed xs u)
   where
-    from : (xs : List Standing) (j : ℕ) → j < length xs → drop j (numbers xs) ≡ number_of (get_or xs j d) ∷ drop (suc j) (numbers xs)
-    from [] j lt = absurd (omega arith)
-    from (x ∷ xs) zero lt = refl
-    from (x ∷ xs) (suc j) lt = from xs j (omega arith)
+    by : (b : Bool) → eq_by_cmp nat_cmp u x.txn ≡ b → (b || has (numbers xs) u) ≡ true → (has (numbers xs) u ≡ true → find nat_cmp u (entries xs) ≡ None → ⊥) → ⊥
+    by true e h more = some_none (sym (ap (λ b. cond b (Some (active_of x)) (find nat_cmp u (entries xs))) e) ∙ out)
+      where
+        some_none : ◌≡◌ {A = Option Active} (Some (active_of x)) None → ⊥
+        some_none e = cc
+    by false e h more = more h (sym (ap (λ b. cond b (Some (active_of x)) (find nat_cmp u (entries xs))) e) ∙ out)
 
 -- Where none of them has a lock on a name, and who isn't among them holds none, nobody has.
 pub nobody_locks : (h : Locks) (n : Name) (xs : List Standing) → ((j : ℕ) (d : Standing) → j < length xs → own h (number_of (get_or xs j d)) n ≡ 0) → (u : ℕ) → (find nat_cmp u (entries xs) ≡ None → own h u n ≡ 0) → own h u n ≡ 0
@@ -51,29 +53,19 @@ nobody_locks h n (x ∷ xs) none u out = ⊎_elim
     differ : (u k : ℕ) → u ≢ k → (u == k) ≡ false
     differ u k ne = grind (arith, nat_tests)
 
--- In a list that rises each is found --
+-- In a list that rises the first isn't found among the others.
+pub first_apart : (x : Standing) (xs : List Standing) → IsInOrder (x ∷ xs) → find nat_cmp x.txn (entries xs) ≡ None
+first_apart x xs order = below x.txn (entries xs) (first (below_all nat_cmp x.txn (entries xs)) (is_sorted nat_cmp (entries xs)) (t_of (is_sorted nat_cmp (entries (x ∷ xs))) order))
+  where
+    apart : (k u : ℕ) → T (is_lt (nat_cmp k u)) → eq_by_cmp nat_cmp k u ≡ false
+    apart k u h = grind (arith, nat_tests)
 
-less : (k x : ℕ) → T (is_lt (nat_cmp k x)) → k < x
-less k x h = grind (arith, nat_tests)
+    below : (k : ℕ) (es : List (ℕ × Active)) → T (below_all nat_cmp k es) → find nat_cmp k es ≡ None
+    below k [] h = refl
+    below k (e ∷ es) h =
+        ap (λ b. cond b (Some e.1) (find nat_cmp k es)) (apart k e.0 (first (is_lt (nat_cmp k e.0)) (below_all nat_cmp k es) h))
+        ∙ below k es (second (is_lt (nat_cmp k e.0)) (below_all nat_cmp k es) h)
 
-below_at : (k : ℕ) (xs : List Standing) (j : ℕ) (d : Standing) → T (below_all nat_cmp k (entries xs)) → j < length xs → k < number_of (get_or xs j d)
-below_at k [] j d h lt = absurd (omega arith)
-below_at k (x ∷ xs) zero d h lt = less k x.txn (first (is_lt (nat_cmp k x.txn)) (below_all nat_cmp k (entries xs)) h)
-below_at k (x ∷ xs) (suc j) d h lt = below_at k xs j d (second (is_lt (nat_cmp k x.txn)) (below_all nat_cmp k (entries xs)) h) (omega arith)
-
-same_number : (u : ℕ) → eq_by_cmp nat_cmp u u ≡ true
-same_number u = grind (arith, nat_tests)
-
-apart : (k u : ℕ) → k < u → eq_by_cmp nat_cmp u k ≡ false
-apart k u lt = grind (arith, nat_tests)
-
-found_in : (xs : List Standing) (j : ℕ) (d : Standing) → T (is_sorted nat_cmp (entries xs)) → j < length xs → find nat_cmp (number_of (get_or xs j d)) (entries xs) ≡ Some (active_of (get_or xs j d))
-found_in [] j d rise lt = absurd (omega arith)
-found_in (x ∷ xs) zero d rise lt = ap (λ b. cond b (Some (active_of x)) (find nat_cmp x.txn (entries xs))) (same_number x.txn)
-found_in (x ∷ xs) (suc j) d rise lt =
-    let u = number_of (get_or xs j d) in
-    let below = below_at x.txn xs j d (first (below_all nat_cmp x.txn (entries xs)) (is_sorted nat_cmp (entries xs)) rise) (omega arith) in
-    ap (λ b. cond b (Some (active_of x)) (find nat_cmp u (entries xs))) (apart x.txn u below) ∙ found_in xs j d (second (below_all nat_cmp x.txn (entries xs)) (is_sorted nat_cmp (entries xs)) rise) (omega arith)
-
-pub each_found : (xs : List Standing) (j : ℕ) (d : Standing) → IsInOrder xs → j < length xs → find nat_cmp (number_of (get_or xs j d)) (entries xs) ≡ Some (active_of (get_or xs j d))
-each_found xs j d order lt = found_in xs j d (t_of (is_sorted nat_cmp (entries xs)) order) lt
+-- And the others rise.
+pub others_rise : (x : Standing) (xs : List Standing) → IsInOrder (x ∷ xs) → IsInOrder xs
+others_rise x xs order = of_t (is_sorted nat_cmp (entries xs)) (second (below_all nat_cmp x.txn (entries xs)) (is_sorted nat_cmp (entries xs)) (t_of (is_sorted nat_cmp (entries (x ∷ xs))) order))

@@ -16,11 +16,12 @@ use Rattle.kr_model.proofs.Actives.{or_true}
 use Rattle.kr_model.proofs.RisingNumbers.{has, has-lockers}
 use Rattle.kr_model.proofs.Tested.{and_first, and_second}
 use Rattle.kr_ghost.specs.Protocol.{GhostProtocol, Inherit, Purges, Unlocked, inherits}
-use Rattle.kr_ghost.specs.State.{among, is_ghost, named, stand_by}
+use Rattle.kr_ghost.specs.State.{GhostState, among, is_ghost, named, stand_by}
 use Rattle.kr_ghost.specs.Step.{has_change, is_locked, lets_purge, locks_purged, may_purge, purged, without_ghost}
 use Rattle.kr_machine.specs.Pins.{changes_of, all_changes_of}
 use Rattle.kr_ghost_index.specs.Index.{GhostIndex, changes}
 use Rattle.kr_ghost_machine.specs.Machine.{shown}
+use Rattle.kr_ghost_machine.specs.Memory.{purge_may_lack_memory}
 use Rattle.kr_ghost_machine.proofs.Backs.{made}
 
 same_test : (k c : ℕ) → eq_by_cmp nat_cmp k c ≡ (k == c)
@@ -147,6 +148,11 @@ module _ (p : GhostProtocol) (x : GhostIndex) (h : Locks) (ended : List ℕ) (es
       ap (λ m. made m y.ghosts l ended es) maps ∙ ap (λ g. made x.map g l ended es) ghosts
       ∙ ap (λ z. made x.map left z ended es) (locks ∙ ap (λ z. locks_purged table p.purges (shown x h ended es).state k z) name ∙ ap (λ t. locks_purged t p.purges (shown x h ended es).state k (at (named x.map left) k)) (sym same))
       ∙ sym (ap (λ b. if b then without_ghost p (shown x h ended es) k else shown x h ended es) is)
+
+-- Where a ghost is purged, locks are inherited, and there is one on it, a purge may be refused memory.
+pub may_lack : (p : GhostProtocol) (s : GhostState) (k : ℕ) → may_purge p s k ≡ true → inherits p.purges ≡ true → is_locked s.state.locks (Key k) ≡ true → purge_may_lack_memory p s k ≡ true
+may_lack p s k may heirs locked =
+    ap (λ b. b && inherits p.purges && is_locked s.state.locks (Key k)) may ∙ ap (λ b. true && b && is_locked s.state.locks (Key k)) heirs ∙ ap (λ b. true && true && b) locked
 
 -- Where locks aren't inherited, a purge leaves them.
 pub left_locked : (p : Protocol) (x : Purges) (s : State) (k : ℕ) (n : Name) → inherits x ≡ false → locks_purged p x s k n ≡ s.locks

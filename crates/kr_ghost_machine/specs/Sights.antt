@@ -1,5 +1,5 @@
 -- What an operation comes to that isn't refused.
-use Rattle.std.specs.Prelude.{◌≡◌, ℕ, Option, Some, None}
+use Rattle.std.specs.Prelude.{◌≡◌, ℕ, false, Option, Some, None}
 use Rattle.kr_model.specs.declared.Op.{Op}
 use Rattle.kr_model.specs.declared.Op.TheVariants as op
 use Rattle.kr_model.specs.declared.Refusal.TheVariants as refusal
@@ -7,6 +7,7 @@ use Rattle.kr_model.specs.declared.Reply.TheVariants as reply
 use Rattle.kr_model.specs.Map.{Map}
 use Rattle.kr_model.specs.Plan.{requests}
 use Rattle.kr_model.specs.State.{Scan, standing}
+use Rattle.kr_model.specs.Step.{takes_no_memory}
 use Rattle.kr_plan.specs.Modes.{ArePlanModes}
 use Rattle.kr_ghost.specs.Protocol.{GhostProtocol}
 use Rattle.kr_ghost.specs.State.{GhostState}
@@ -30,9 +31,9 @@ abbrev pub HasRange : ℕ × ℕ → Option Scan → Type 0
 HasRange r None = ⊥
 HasRange r (Some c) = (c.lo ≡ r.0) × (c.hi ≡ r.1)
 
--- The operation o of t comes to this.
+-- The operation o of t comes to this; what requests locks neither ends the transaction nor undoes a change.
 abbrev pub IsPart : GhostProtocol → GhostState → ℕ → Op → Part → Type 0
-IsPart p s t o (part.Attempt x) = (performed p s t o ≡ attempt_of p s t x) × IsSight p.table.count s.state.map x
+IsPart p s t o (part.Attempt x) = (performed p s t o ≡ attempt_of p s t x) × IsSight p.table.count s.state.map x × (takes_no_memory o ≡ false)
 IsPart p s t o part.Commit = o ≡ op.Commit
 IsPart p s t o part.Abort = o ≡ op.Abort
 IsPart p s t o part.Back = o ≡ op.Back

@@ -8,21 +8,21 @@ ghost use Rattle.kr_ghost_machine.specs.Deeds.{effect_of, ghosts_after};
 ghost use Rattle.kr_ghost_machine.specs.Machine.{IsGhostMachine, shown};
 ghost use Rattle.kr_ghost_machine.specs.Sights.{IsSight, attempt_of};
 
+use crate::endings::{Endings, make_room};
 use crate::sights::Sight;
 use crate::{grants, standings};
 use kr_ghost_index::GhostIndex;
 use kr_ghost_protocol::GhostProtocol;
 use kr_locks::{Holdings, Memory};
-use kr_machine::room::make_room;
 use kr_model::{Reply, Txn, Txns};
-use kr_txn::{Ended, Standing, put_in};
+use kr_txn::{Standing, put_in};
 
 /// Takes the memory of a granted attempt, and does it. Where a growth is refused, nothing changes.
 fn grant<P: GhostProtocol, L: Holdings>(
     protocol: &P,
     index: &mut GhostIndex,
     locks: &mut L,
-    ended: &mut Ended,
+    ended: &mut Endings,
     active: &mut Vec<Standing>,
     txn: Txn,
     sight: Sight,
@@ -60,7 +60,7 @@ pub(crate) fn attempt<P: GhostProtocol, L: Holdings>(
     protocol: &P,
     index: &mut GhostIndex,
     locks: &mut L,
-    ended: &mut Ended,
+    ended: &mut Endings,
     active: &mut Vec<Standing>,
     txn: Txn,
     sight: Sight,

@@ -1,5 +1,5 @@
 //! The end of a transaction, and a change undone.
-ghost use Rattle.std.specs.Prelude.{◌≡◌, ℕ, ◌+◌, ◌≤◌, IfOk, OnErr, OnOk, if◌then◌else◌, unwrap_or, vec_len};
+ghost use Rattle.std.specs.Prelude.{◌≡◌, ℕ, ◌+◌, ◌≤◌, IfOk, IsErr, None, OnErr, OnOk, if◌then◌else◌, unwrap_or, vec_len};
 ghost use Rattle.std.specs.Ordering.{nat_cmp};
 ghost use Rattle.std.specs.FinMap.{find};
 ghost use Rattle.kr_model.specs.Map.{restore_all};
@@ -16,11 +16,11 @@ ghost use Rattle.kr_machine.specs.Pins.{all_changes_of, changes_of};
 ghost use Rattle.kr_ghost_index.specs.Index.{changes};
 ghost use Rattle.kr_ghost_machine.specs.Machine.{IsAtRest, shown};
 
+use crate::endings::{Endings, leave, make_room};
 use kr_ghost_index::GhostIndex;
 use kr_locks::{Holdings, Memory};
-use kr_machine::room::{leave, make_room};
 use kr_model::{Refusal, Reply, Txn};
-use kr_txn::{Ended, Standing, put_in, take_out};
+use kr_txn::{Standing, put_in, take_out};
 
 /// Lets the changes of a transaction stand. Takes no memory.
 fn settle(index: &mut GhostIndex, standing: Standing)
@@ -49,7 +49,7 @@ fn undo(index: &mut GhostIndex, standing: Standing)
 }
 
 /// Takes an active transaction out of the list, or makes a new one, which is to end and has room for that.
-fn take_leave(ended: &mut Ended, active: &mut Vec<Standing>, txn: Txn) -> Result<Standing, Memory>
+fn take_leave(ended: &mut Endings, active: &mut Vec<Standing>, txn: Txn) -> Result<Standing, Memory>
     requires order { IsInOrder active.old.items }
     requires room { vec_len active.old ≤ ended.old.room }
     ensures ended { ended.new.numbers ≡ ended.old.numbers }
@@ -58,6 +58,7 @@ fn take_leave(ended: &mut Ended, active: &mut Vec<Standing>, txn: Txn) -> Result
     ensures noted { IfOk result (λ s. (q : ℕ) → all_changes_of (entries active.old.items) q ≡ all_changes_of (entries active.new.items) q + changes_of (active_of s).changes q) }
     ensures room { OnOk result (vec_len active.new + 1 ≤ ended.new.room) }
     ensures err { OnErr result (entries active.new.items ≡ entries active.old.items) }
+    ensures memory { IsErr result → find nat_cmp txn (entries active.old.items) ≡ None }
     ensures err_room { OnErr result (vec_len active.new ≤ ended.new.room) }
 {
     match take_out(active, txn) {
@@ -74,7 +75,7 @@ fn take_leave(ended: &mut Ended, active: &mut Vec<Standing>, txn: Txn) -> Result
 pub(crate) fn end<L: Holdings>(
     index: &mut GhostIndex,
     locks: &mut L,
-    ended: &mut Ended,
+    ended: &mut Endings,
     active: &mut Vec<Standing>,
     txn: Txn,
     aborts: bool,
@@ -82,6 +83,7 @@ pub(crate) fn end<L: Holdings>(
     requires at_rest { IsAtRest index.old (L.locks locks.old) ended.old active.old }
     ensures step { IfOk result (λ r. (p : GhostProtocol) → performed p (shown index.old (L.locks locks.old) ended.old.numbers (entries active.old.items)) txn (if aborts then op_is.Abort else op_is.Commit) ≡ (r, shown index.new (L.locks locks.new) ended.new.numbers (entries active.new.items))) }
     ensures err { OnErr result (shown index.new (L.locks locks.new) ended.new.numbers (entries active.new.items) ≡ shown index.old (L.locks locks.old) ended.old.numbers (entries active.old.items)) }
+    ensures memory { IsErr result → find nat_cmp txn (entries active.old.items) ≡ None }
     ensures at_rest { IsAtRest index.new (L.locks locks.new) ended.new active.new }
     ensures locks { (p : Protocol) → AreLocks p (L.locks locks.old) → AreLocks p (L.locks locks.new) }
 {
@@ -101,7 +103,7 @@ pub(crate) fn end<L: Holdings>(
 pub(crate) fn back<L: Holdings>(
     index: &mut GhostIndex,
     locks: &L,
-    ended: &Ended,
+    ended: &Endings,
     active: &mut Vec<Standing>,
     txn: Txn,
 ) -> Reply

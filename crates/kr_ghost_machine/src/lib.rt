@@ -1,8 +1,11 @@
 //! A machine: an index with ghosts on which transactions do steps under a locking protocol, and from which ghosts are purged.
 #![tactic(auto)]
 
+mod asked;
 mod attempts;
+mod copies;
 mod deeds;
+mod endings;
 mod ends;
 mod grants;
 mod heirs;

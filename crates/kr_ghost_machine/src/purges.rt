@@ -1,5 +1,5 @@
 //! Whether a ghost may be purged, and its purge.
-ghost use Rattle.std.specs.Prelude.{◌≡◌, ℕ, List, IfOk, OnOk};
+ghost use Rattle.std.specs.Prelude.{◌≡◌, ℕ, List, IfOk, IsErr, IsTrue, OnErr, OnOk};
 ghost use Rattle.kr_model.specs.declared.Name.TheVariants.{Key};
 ghost use Rattle.kr_model.proofs.Requests.{AreLocks};
 ghost use Rattle.kr_txn.specs.Standings.{IsInOrder, entries};
@@ -7,6 +7,7 @@ ghost use Rattle.kr_ghost.specs.Step.{is_locked, may_purge, purged};
 ghost use Rattle.kr_machine.specs.Pins.{all_changes_of};
 ghost use Rattle.kr_ghost_index.specs.Index.{changes};
 ghost use Rattle.kr_ghost_machine.specs.Machine.{AreHeld, shown};
+ghost use Rattle.kr_ghost_machine.specs.Memory.{purge_may_lack_memory};
 
 use crate::heirs::inherit_all;
 use kr_ghost_index::GhostIndex;
@@ -46,8 +47,8 @@ fn may_purge<P: GhostProtocol, L: Holdings>(
         && (protocol.inherits() || !is_locked(locks, active, key))
 }
 
-/// Purges a key, if it may be, and answers whether it did. Where a growth is refused, some locks on it may be inherited already,
-/// and others not yet.
+/// Purges a key, if it may be, and answers whether it did. Where a growth is refused, nothing changes. Only the purge of a ghost
+/// with a lock that is inherited takes memory.
 pub(crate) fn purge<P: GhostProtocol, L: Holdings>(
     protocol: &P,
     index: &mut GhostIndex,
@@ -61,6 +62,9 @@ pub(crate) fn purge<P: GhostProtocol, L: Holdings>(
     requires locks { AreLocks (P.table protocol.now) (L.locks locks.old) }
     ensures purged { IfOk result (λ is_purged. (ended : List ℕ) → is_purged ≡ may_purge (P.ghosts protocol.now) (shown index.old (L.locks locks.old) ended (entries active.now)) key) }
     ensures state { OnOk result ((ended : List ℕ) → shown index.new (L.locks locks.new) ended (entries active.now) ≡ purged (P.ghosts protocol.now) (shown index.old (L.locks locks.old) ended (entries active.now)) key) }
+    ensures err_index { OnErr result (index.new ≡ index.old) }
+    ensures err_locks { OnErr result (L.locks locks.new ≡ L.locks locks.old) }
+    ensures memory { IsErr result → (ended : List ℕ) → IsTrue (purge_may_lack_memory (P.ghosts protocol.now) (shown index.old (L.locks locks.old) ended (entries active.now)) key) }
     ensures held { AreHeld (L.locks locks.new) (entries active.now) }
     ensures counted { (q : ℕ) → changes index.new q ≡ all_changes_of (entries active.now) q }
     ensures locks { AreLocks (P.table protocol.now) (L.locks locks.new) }

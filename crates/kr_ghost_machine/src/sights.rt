@@ -175,7 +175,7 @@ fn look<P: GhostProtocol, L: Holdings>(
 }
 
 /// The range that is left to the scan in progress of a transaction, if there is one.
-fn range_left(active: &[Standing], txn: Txn) -> Option<(u64, u64)>
+pub(crate) fn range_left(active: &[Standing], txn: Txn) -> Option<(u64, u64)>
     ensures some { IfSome result (λ r. HasRange r (unwrap_or (find nat_cmp txn (entries active.now)) idle).scan) }
     ensures none { IfNone result ((unwrap_or (find nat_cmp txn (entries active.now)) idle).scan ≡ None) }
 {

@@ -1,20 +1,24 @@
 //! The machine.
-ghost use Rattle.std.specs.Prelude.{◌≡◌, ◌≤◌, ℕ, All, IfOk, OnOk, OnErr, [], if◌then◌else◌, map};
-ghost use Rattle.kr_model.specs.State.{start};
+ghost use Rattle.std.specs.Prelude.{◌≡◌, ◌≤◌, ◌&&◌, ℕ, All, IfOk, IsErr, IsTrue, OnOk, OnErr, [], false, if◌then◌else◌, is_some, map};
+ghost use Rattle.kr_model.specs.State.{active_of, start};
+ghost use Rattle.kr_model.specs.Step.{may_lack_memory, takes_no_memory};
 ghost use Rattle.kr_model.specs.declared.Op.TheVariants as op_is;
 ghost use Rattle.kr_ghost.specs.Step.{may_purge, performed, purged, step};
 ghost use Rattle.kr_ghost_index.specs.Index.{changes};
+ghost use Rattle.kr_ghost_machine.specs.Memory.{purge_may_lack_memory};
 
 use crate::attempts::attempt;
+use crate::copies;
+use crate::endings::Endings;
 use crate::ends::{back, end};
 use crate::purges::purge;
 use crate::sights::{Part, part_of};
 use kr_ghost_index::GhostIndex;
 use kr_ghost_protocol::GhostProtocol;
-use kr_locks::Holdings;
+use kr_locks::{Buckets, Holdings};
 use kr_machine::refusals::refusal;
 use kr_model::{Items, Memory, Mode, Name, Op, Pairs, Refusal, Reply, Txn, Txns};
-use kr_txn::{Ended, Standing};
+use kr_txn::Standing;
 use std::alloc::Global;
 use std::marker::Model;
 
@@ -26,7 +30,7 @@ pub struct GhostStepper<P: GhostProtocol, L: Holdings> {
     pub(crate) protocol: P,
     pub(crate) index: GhostIndex,
     pub(crate) locks: L,
-    pub(crate) ended: Ended,
+    pub(crate) ended: Endings,
     pub(crate) active: Vec<Standing>,
 }
 
@@ -53,19 +57,21 @@ impl<P: GhostProtocol, L: Holdings> GhostStepper<P, L> {
             protocol,
             index,
             locks,
-            ended: Ended::new(alloc),
+            ended: Endings::new(alloc),
             active: Vec::new(alloc),
         }
     }
 
     /// Attempts one operation of a transaction, and answers the reply. At an error a growth was refused, and nothing has
-    /// changed.
+    /// changed. That comes in place of no refusal, and the end of an active transaction takes no memory, nor does a change
+    /// undone.
     pub fn step(&mut self, txn: Txn, op: Op) -> Result<Reply, Memory>
         ensures step { IfOk result (λ reply. step (P.ghosts self.old.protocol) self.old.state txn op ≡ (reply, self.new.state)) }
         ensures err { OnErr result (self.new ≡ self.old) }
+        ensures memory { IsErr result → IsTrue (may_lack_memory (P.ghosts self.old.protocol).table self.old.state.state txn op) }
         ensures protocol { self.new.protocol ≡ self.old.protocol }
     {
-        let refusal = refusal(&self.protocol, &self.ended, &self.active, txn, op);
+        let refusal = refusal(&self.protocol, self.ended.ended(), &self.active, txn, op);
         if let Some(refusal) = refusal {
             return Ok(Reply::Refused(refusal));
         }
@@ -76,6 +82,7 @@ impl<P: GhostProtocol, L: Holdings> GhostStepper<P, L> {
     fn perform(&mut self, txn: Txn, op: Op) -> Result<Reply, Memory>
         ensures step { IfOk result (λ reply. performed (P.ghosts self.old.protocol) self.old.state txn op ≡ (reply, self.new.state)) }
         ensures err { OnErr result (self.new ≡ self.old) }
+        ensures memory { IsErr result → (takes_no_memory op && is_some (active_of self.old.state.state txn)) ≡ false }
         ensures protocol { self.new.protocol ≡ self.old.protocol }
     {
         let part = part_of(
@@ -113,6 +120,7 @@ impl<P: GhostProtocol, L: Holdings> GhostStepper<P, L> {
     fn end(&mut self, txn: Txn, aborts: bool) -> Result<Reply, Memory>
         ensures step { IfOk result (λ reply. performed (P.ghosts self.old.protocol) self.old.state txn (if aborts then op_is.Abort else op_is.Commit) ≡ (reply, self.new.state)) }
         ensures err { OnErr result (self.new ≡ self.old) }
+        ensures memory { IsErr result → is_some (active_of self.old.state.state txn) ≡ false }
         ensures protocol { self.new.protocol ≡ self.old.protocol }
     {
         end(
@@ -126,11 +134,13 @@ impl<P: GhostProtocol, L: Holdings> GhostStepper<P, L> {
     }
 
     /// Purges a ghost, and answers whether it did: not where the key is no ghost, where an active transaction can still undo
-    /// a change of it, or where it is locked and the protocol doesn't let locks be inherited. At an error a growth was refused;
-    /// then some locks may be inherited already, and others not yet.
+    /// a change of it, or where it is locked and the protocol doesn't let locks be inherited. At an error a growth was refused,
+    /// and nothing has changed. Only the purge of a ghost with a lock that is inherited takes memory.
     pub fn purge(&mut self, key: u64) -> Result<bool, Memory>
         ensures purged { IfOk result (λ is_purged. is_purged ≡ may_purge (P.ghosts self.old.protocol) self.old.state key) }
         ensures state { OnOk result (self.new.state ≡ purged (P.ghosts self.old.protocol) self.old.state key) }
+        ensures err { OnErr result (self.new ≡ self.old) }
+        ensures memory { IsErr result → IsTrue (purge_may_lack_memory (P.ghosts self.old.protocol) self.old.state key) }
         ensures protocol { self.new.protocol ≡ self.old.protocol }
     {
         purge(
@@ -169,5 +179,26 @@ impl<P: GhostProtocol, L: Holdings> GhostStepper<P, L> {
         ensures { IfOk result (λ txns. txns ≡ map (λ a. a.0) self.now.state.state.active) }
     {
         kr_txn::numbers(*self.active.allocator(), &self.active)
+    }
+}
+
+impl<P: GhostProtocol + Copy, L: Holdings> GhostStepper<P, L> {
+    /// A second machine in the same state, over the same protocol; or `Memory` where a growth is refused. Its time is linear in
+    /// the number of names, locks and transactions, also of those that have ended.
+    pub fn try_copy(&self) -> Result<GhostStepper<P, Buckets>, Memory>
+        ensures { IfOk result (λ copy. copy ≡ self.now) }
+    {
+        let alloc = *self.active.allocator();
+        let active = copies::active(alloc, &self.active)?;
+        let ended = self.ended.try_copy()?;
+        let index = self.index.try_copy(alloc)?;
+        let locks = copies::locks(alloc, &self.locks)?;
+        Ok(GhostStepper {
+            protocol: self.protocol,
+            index,
+            locks,
+            ended,
+            active,
+        })
     }
 }

@@ -24,7 +24,7 @@ pub fn write_ghosts(out: &mut String, ghosts: &[u64]) -> Result<(), AllocError>
 
 /// Writes the answer to a move.
 #[tactic(auto, unfolding(serde_json::proofs::OnLiterals::serde_json_on_literals))]
-fn write_answer(out: &mut String, answer: &Answer) -> Result<(), AllocError>
+pub fn write_answer(out: &mut String, answer: &Answer) -> Result<(), AllocError>
     ensures { OnOk result (string_bytes out.new ≡ string_bytes out.old ++ compact_text (answer_data answer.now)) }
 {
     match answer {

@@ -72,6 +72,8 @@ fn ran_on<P: GhostProtocol, L: Holdings>(
 /// The verdict on such a run: the operations of its committed programs are run whole on the opening map, one after another in
 /// commit order, and each answer is compared with the one given. It copies nothing of the state after the last move. The only
 /// fault is `Memory`.
+///
+/// Where the protocol is safe the verdict is `Serial`. A covered protocol is safe.
 pub fn judge_moves<P: GhostProtocol>(
     alloc: Global,
     protocol: &P,
@@ -81,6 +83,7 @@ pub fn judge_moves<P: GhostProtocol>(
     requires { IsMap opening.now }
     ensures verdict { IfOk result (λ v. v ≡ verdict_of_moves (P.ghosts protocol.now) opening.now moves.now) }
     ensures serial { IfOk result (λ v. (v ≡ verdict.Serial) ↔ AreSerial opening.now (let r = run (P.ghosts protocol.now) (opened opening.now) moves.now in programs r.history)) }
+    ensures safe { IsSafeGhost (P.ghosts protocol.now) → IfOk result (λ v. v ≡ verdict.Serial) }
 {
     let index = GhostIndex::from_pairs(alloc, opening)?;
     let mut stepper = GhostStepper::new(alloc, protocol, index, Buckets::new(alloc));

@@ -7,7 +7,7 @@ use Rattle.kr_ghost.specs.State.{named}
 use Rattle.kr_txn.specs.Standings.{entries}
 use Rattle.kr_ghost.specs.Step.{without_ghost}
 use Rattle.kr_ghost_machine.specs.Machine.{shown}
-use Rattle.kr_ghost_machine.proofs.Purgeable.{has_none, is_among, left_locked, purged_as}
+use Rattle.kr_ghost_machine.proofs.Purgeable.{has_none, is_among, left_locked, may_lack, purged_as, somebody}
 use Rattle.kr_ghost_machine.proofs.purges.purge.Goals as goal
 use Rattle.kr_ghost_machine.proofs.purges.purge.Goals.{else-inherits, then-inherits+in_ok-inherit_all}
 
@@ -59,3 +59,10 @@ returns-clause-state g c ended =
       | then-inherits+in_ok-inherit_all w ↦ ap (λ z. g.L.Holdings.locks z) w.locks-is ∙ w.in_ok-inherit_all.ensures.ok x.map ended
       | else-inherits w ↦ ap (λ z. g.L.Holdings.locks z) w.locks-is ∙ sym (left_locked table p.purges s.state k n (sym c.inherits.ensures ∙ w.if-inherits.false))
     ])
+
+pub returns-in_err-inherit_all-clause-memory : goal.returns-in_err-inherit_all-clause-memory
+returns-in_err-inherit_all-clause-memory g c is ended =
+    let p = g.P.GhostProtocol.ghosts c.args.protocol.now in
+    let h = g.L.Holdings.locks c.args.locks.now in
+    let held = c.in_err-inherit_all.ensures.memory refl in
+    may_lack p (shown c.args.index.now h ended (entries c.args.active.now)) c.args.key (sym (c.may_purge.ensures ended) ∙ c.if-not-may_purge.false) (sym c.inherits.ensures ∙ c.if-inherits.true) (somebody h (Key c.args.key) held.0 held.1)

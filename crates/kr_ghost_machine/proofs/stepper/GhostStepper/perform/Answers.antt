@@ -1,6 +1,7 @@
-use Rattle.std.proofs.Common.{◌≡◌, [], ap, sym, ◌∙◌, subst, IfOk}
+use Rattle.std.proofs.Common.{◌≡◌, ◌&&◌, [], is_some, ap, sym, ◌∙◌, subst, IfOk}
 use Rattle.kr_model.specs.Protocol.{Protocol}
 use Rattle.kr_model.specs.declared.Op.TheVariants as op
+use Rattle.kr_model.specs.State.{active_of}
 use Rattle.kr_ghost.specs.Step.{performed}
 use Rattle.kr_ghost_machine.specs.Sights.{IsSight}
 use Rattle.kr_ghost_machine.proofs.stepper.GhostStepper.perform.Goals as goal
@@ -25,3 +26,6 @@ returns-in-Back-clause-step g c =
     let t = c.args.txn in
     ap (performed (g.P.GhostProtocol.ghosts c.args.self.now.protocol) c.args.self.now.state t) (c.in-Back.ensures [])
     ∙ ap (λ v. performed (g.P.GhostProtocol.ghosts v.protocol) v.state t op.Back) (sym c.self.view_is) ∙ c.back.ensures.step (g.P.GhostProtocol.ghosts c.self.inside.protocol)
+
+pub returns-in-Attempt-clause-memory : goal.returns-in-Attempt-clause-memory
+returns-in-Attempt-clause-memory g c err = let is = c.in-Attempt.ensures [] in ap (λ b. b && is_some (active_of c.args.self.now.state.state c.args.txn)) is.2
