@@ -7,3 +7,4 @@ mod requests;
 mod rules;
 
 pub use checker::{cases, failed_cases};
+pub use open::first_open;

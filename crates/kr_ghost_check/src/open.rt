@@ -42,11 +42,7 @@ fn first_at<P: GhostProtocol>(protocol: &P, held: Mode, access: Access) -> Optio
 }
 
 /// The first requester that a lock in mode `held` lets through, of those that the cover must conflict with.
-pub(crate) fn first_open<P: GhostProtocol>(
-    protocol: &P,
-    cover: Cover,
-    held: Mode,
-) -> Option<Requester>
+pub fn first_open<P: GhostProtocol>(protocol: &P, cover: Cover, held: Mode) -> Option<Requester>
     requires { held ≤ (P.ghosts protocol.now).table.count }
     ensures { result ≡ first (open_requesters (P.ghosts protocol.now) cover held) }
 {

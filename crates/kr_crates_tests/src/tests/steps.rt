@@ -1,5 +1,6 @@
 //! Tests of a machine and its parts.
 
+mod ghosts;
 mod index;
 mod locks;
 mod machine;

@@ -1,6 +1,7 @@
 //! Tables whose deletes leave ghosts: the bundled ones, as protocols and as texts that are read and written, and one that is read, with
 //! their checks.
 
+mod safe;
 mod texts;
 
 use self::texts::{NEXT_KEY_GHOST, RANGE_GHOST, RECORD_GAP};

@@ -1,0 +1,5 @@
+pub mod Holds
+pub mod Ways
+pub mod Heirs
+pub mod Found
+pub mod Holes
