@@ -1,3 +1,4 @@
 pub mod Ended
 pub mod Written
+pub mod GhostWritten
 pub mod Caused

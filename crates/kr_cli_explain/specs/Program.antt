@@ -10,13 +10,22 @@ use Rattle.kr_explain_core.specs.Told.{IsText}
 use Rattle.kr_explain_core.specs.Lines.{IsLineOf}
 use Rattle.kr_explain_core.specs.declared.explanation.Explanation.{Explanation}
 use Rattle.kr_explain_core.specs.declared.run.Run.{Run}
+use Rattle.kr_ghost.specs.Protocol.{GhostProtocol, IsLawfulGhost}
+use Rattle.kr_ghost.specs.Safe.{IsSafeGhost}
+use Rattle.kr_ghost_explain.specs.Explained as ghosts
+use Rattle.kr_ghost_explain.specs.Lines.{IsGhostLineOf}
+use Rattle.kr_ghost_explain.specs.declared.explanation.GhostExplanation.{GhostExplanation}
+use Rattle.kr_ghost_explain.specs.declared.schedule.GhostSchedule.{GhostSchedule}
+use Rattle.kr_ghost_explain_text.specs.Told.{IsGhostText}
 use Rattle.kr_cli.specs.declared.endings.Ending.{Ending}
 use Rattle.kr_cli.specs.declared.endings.Ending.TheVariants.{NotUnderstood, Memory, Place, Output, Told}
-use Rattle.kr_cli.specs.declared.tables.AnyTable.{AnyTable}
 use Rattle.kr_cli.specs.Lines.{told_line}
-use Rattle.kr_cli.specs.Named.{NamesTable, TellsNoTable}
 use Rattle.kr_cli.specs.Questions.{IsNoQuestion}
 use Rattle.kr_cli.specs.Tables.{names_of, table_of}
+use Rattle.kr_cli_ghost.specs.Named.{Names, TellsNone}
+use Rattle.kr_cli_ghost.specs.Tables as ghost
+use Rattle.kr_cli_ghost.specs.declared.named.Named.{Named}
+use Rattle.kr_cli_ghost.specs.declared.named.Named.TheVariants.{Table, Ghosts}
 use Rattle.kr_cli_explain.specs.Words.{words_of, AskNothingOfTables, IsAsked}
 use Rattle.kr_cli_explain.specs.declared.words.Wanted.{Wanted}
 use Rattle.kr_cli_explain.specs.declared.words.Wanted.TheVariants as wanted
@@ -60,29 +69,86 @@ abbrev pub TellsMissing : Protocol → List ℕ → Wanted → List ℕ → Type
 TellsMissing p table wanted.Explanation line = ⊥
 TellsMissing p table (wanted.Script number) line = TellsNoRun p table number line
 
--- Why the program ends without what is wanted of a table, or with a prefix of it.
-abbrev pub EndsReport : Protocol → List ℕ → Wanted → Ending → Type 0
-EndsReport p table wanted NotUnderstood = ⊥
-EndsReport p table wanted Memory = Unit {0}
-EndsReport p table wanted Place = ⊥
-EndsReport p table wanted Output = Unit {0}
-EndsReport p table wanted (Told line) = TellsMissing p table wanted (string_bytes line)
+-- Tables with ghosts --
 
--- What these words ask for was written, of the lawful table that the first of them names.
+-- A whole text of an explanation of a table with ghosts and these names of its modes was written, and the answer is whether the table is safe.
+pub record ExplainsGhosts (p : GhostProtocol) (names : List (List ℕ)) (old new : Option (List ℕ)) (safe : Bool) : Type 0 where
+  pub explanation : GhostExplanation
+  pub text : List ℕ
+  pub explained : ghosts.IsGhostExplained p explanation
+  -- the text begins with the verdict, and has each cause with its title
+  pub is_text : IsGhostText names explanation text
+  pub verdict : ghosts.is_safe explanation ≡ safe
+  pub is_so : IsTrue safe ↔ IsSafeGhost p
+  pub written : Appends old new text
+
+-- A line was written that reads as the script of a table's schedule of this number, which goes wrong under the table.
+pub record WritesGhostScript (p : GhostProtocol) (number : ℕ) (old new : Option (List ℕ)) : Type 0 where
+  pub explanation : GhostExplanation
+  pub schedule : GhostSchedule
+  pub explained : ghosts.IsGhostExplained p explanation
+  pub numbered : ghosts.schedule_at number explanation ≡ Some schedule
+  pub wrong : ghosts.IsWrong p schedule
+  pub is_line : IsGhostLineOf schedule.script (string_bytes schedule.line)
+  pub written : Appends old new (string_bytes schedule.line ++ 10 ∷ [])
+
+-- What is wanted of a table with ghosts was written, and the answer is whether the table is safe; one of which there is a script isn't.
+abbrev pub ReportsGhosts : GhostProtocol → List (List ℕ) → Wanted → Option (List ℕ) → Option (List ℕ) → Bool → Type 0
+ReportsGhosts p names wanted.Explanation old new safe = ExplainsGhosts p names old new safe
+ReportsGhosts p names (wanted.Script number) old new safe = (safe ≡ false) × WritesGhostScript p number old new
+
+-- A table with ghosts has no schedule of this number; and the line tells that of the word that names the table.
+pub record TellsNoSchedule (p : GhostProtocol) (table : List ℕ) (number : ℕ) (line : List ℕ) : Type 0 where
+  pub explanation : GhostExplanation
+  pub explained : ghosts.IsGhostExplained p explanation
+  pub none : ghosts.schedule_at number explanation ≡ None
+  pub told : line ≡ told_line table (codes "no script " ++ decimal number)
+
+-- The line tells why there isn't what is wanted of a table with ghosts: only a script may be missing.
+abbrev pub TellsGhostMissing : GhostProtocol → List ℕ → Wanted → List ℕ → Type 0
+TellsGhostMissing p table wanted.Explanation line = ⊥
+TellsGhostMissing p table (wanted.Script number) line = TellsNoSchedule p table number line
+
+-- Tables of both kinds --
+
+-- A table that a word names is lawful.
+abbrev pub IsLawfulTable : Named → Type 0
+IsLawfulTable (Table t) = IsLawful (table_of t)
+IsLawfulTable (Ghosts t) = IsLawfulGhost (ghost.ghosts_of t)
+
+-- What is wanted of it was written, and the answer is whether it is safe.
+abbrev pub ReportsTable : Named → Wanted → Option (List ℕ) → Option (List ℕ) → Bool → Type 0
+ReportsTable (Table t) = Reports (table_of t) (names_of t)
+ReportsTable (Ghosts t) = ReportsGhosts (ghost.ghosts_of t) (ghost.names_of t)
+
+-- The line tells why there isn't what is wanted of it.
+abbrev pub TellsOfTable : Named → List ℕ → Wanted → List ℕ → Type 0
+TellsOfTable (Table t) = TellsMissing (table_of t)
+TellsOfTable (Ghosts t) = TellsGhostMissing (ghost.ghosts_of t)
+
+-- Why the program ends without what is wanted of a table, or with a prefix of it: for memory, for output, or with a line, of which this holds.
+abbrev pub EndsReport : (List ℕ → Type 0) → Ending → Type 0
+EndsReport Tells NotUnderstood = ⊥
+EndsReport Tells Memory = Unit {0}
+EndsReport Tells Place = ⊥
+EndsReport Tells Output = Unit {0}
+EndsReport Tells (Told line) = Tells (string_bytes line)
+
+-- What these words ask for was written, of the lawful table that the first of them names, with ghosts or without.
 pub record Answers (may_give : List ℕ → Option (List ℕ) → Type 0) (words : List (List ℕ)) (old new : Option (List ℕ)) (safe : Bool) : Type 0 where
   pub table : List ℕ
   pub wanted : Wanted
-  pub named : AnyTable
+  pub named : Named
   pub words_are : words ≡ words_of table wanted
   pub asked : IsAsked table wanted
-  pub names : NamesTable may_give table named
-  pub lawful : IsLawful (table_of named)
-  pub reports : Reports (table_of named) (names_of named) wanted old new safe
+  pub names : Names may_give table named
+  pub lawful : IsLawfulTable named
+  pub reports : ReportsTable named wanted old new safe
 
 -- The line tells why the word of a table names none; or what is missing of the table that it names.
 abbrev pub TellsWord : (List ℕ → Option (List ℕ) → Type 0) → List ℕ → Wanted → List ℕ → Type 0
 TellsWord may_give table wanted line =
-    TellsNoTable may_give table line ⊎ ((t : AnyTable) × (NamesTable may_give table t × TellsMissing (table_of t) table wanted line))
+    TellsNone may_give table line ⊎ ((t : Named) × (Names may_give table t × TellsOfTable t table wanted line))
 
 -- The words aren't understood: they ask nothing about the program, and for nothing of a table.
 abbrev pub AskNothing : List (List ℕ) → Type 0

@@ -2,7 +2,7 @@
 ghost use Rattle.std.specs.Prelude.{◌≡◌, ◌⊎◌, IfOk, IfErr, IsTrue};
 ghost use Rattle.kr_sink.specs.Puts.{HasCause};
 ghost use Rattle.kr_cli.specs.Endings.{is_output};
-ghost use Rattle.kr_cli_explain.specs.Program.{Explains, WritesScript, EndsReport};
+ghost use Rattle.kr_cli_explain.specs.Program.{EndsReport, Explains, TellsMissing, WritesScript};
 ghost use Rattle.kr_cli_explain.specs.declared.words.Wanted.TheVariants as wanted;
 
 use kr_cli::Ending;
@@ -20,7 +20,7 @@ pub fn write_explanation<P: Protocol, W: Sink>(
     out: &mut W,
 ) -> Result<bool, Ending>
     ensures explains { IfOk result (Explains (P.table protocol.now) (P.names protocol.now) (W.taken out.old) (W.taken out.new)) }
-    ensures err { IfErr result (EndsReport (P.table protocol.now) table.now wanted.Explanation) }
+    ensures err { IfErr result (EndsReport (TellsMissing (P.table protocol.now) table.now wanted.Explanation)) }
     ensures nothing { IfErr result (λ e. IsTrue (is_output e) ⊎ (out.new ≡ out.old)) }
     ensures cause { IfErr result (λ e. IsTrue (is_output e) → HasCause (W.failures out.old) (W.failures out.new)) }
 {
@@ -42,7 +42,7 @@ pub fn write_script<P: Protocol, W: Sink>(
     out: &mut W,
 ) -> Result<(), Ending>
     ensures script { IfOk result (λ _. WritesScript (P.table protocol.now) number (W.taken out.old) (W.taken out.new)) }
-    ensures err { IfErr result (EndsReport (P.table protocol.now) table.now (wanted.Script number)) }
+    ensures err { IfErr result (EndsReport (TellsMissing (P.table protocol.now) table.now (wanted.Script number))) }
     ensures nothing { IfErr result (λ e. IsTrue (is_output e) ⊎ (out.new ≡ out.old)) }
     ensures cause { IfErr result (λ e. IsTrue (is_output e) → HasCause (W.failures out.old) (W.failures out.new)) }
 {

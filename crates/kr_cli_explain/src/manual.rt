@@ -8,7 +8,9 @@ pub const NAME: &str = "kr_explain";
 pub const USAGE: &str = "usage: kr_explain TABLE [--script N]";
 
 /// What the words mean, and the statuses.
-pub const WORDS: &str = r#"  TABLE       @kvl, @kvl-update, @im, @range-key, or a file in TOML
+pub const WORDS: &str =
+    r#"  TABLE       @kvl, @kvl-update, @im, @range-key, @record-gap, @range-ghost,
+              @next-key-ghost, or a file in TOML
   --script N  print the script of the schedule of cause N, for kr run
   -h, --help  print this text
   --version   print the version

@@ -9,14 +9,17 @@ ghost use Rattle.kr_cli.specs.Questions.{IsQuestion, IsNoQuestion};
 ghost use Rattle.kr_cli.specs.declared.endings.Ending.{Ending};
 ghost use Rattle.kr_cli.specs.declared.endings.Ending.TheVariants as ending;
 ghost use Rattle.kr_cli.specs.declared.questions.Question.{Question};
-ghost use Rattle.kr_cli_explain.specs.Program.{Answers, AskNothing, Ends, EndsReport, Reports};
+ghost use Rattle.kr_cli_explain.specs.Program.{Answers, AskNothing, Ends, EndsReport, IsLawfulTable, Reports, ReportsGhosts, ReportsTable, TellsGhostMissing, TellsMissing, TellsOfTable};
 ghost use Rattle.kr_cli_explain.specs.Words.{AskNothingOfTables};
 
 use crate::explaining::{write_explanation, write_script};
+use crate::ghosts::{write_ghost_explanation, write_ghost_script};
 use crate::manual::{MANUAL, NAME, USAGE, WORDS};
 use crate::words::{Wanted, read_words};
 use kr_cli::{Ending, Files, VERSION, lemma_lawful, question_in};
-use kr_cli_diagnosis::table_at;
+use kr_cli_finding::named_with_help;
+use kr_cli_ghost::Named;
+use kr_ghost_protocol::GhostProtocol;
 use kr_protocol::Protocol;
 use kr_sink::Sink;
 use std::alloc::Global;
@@ -31,7 +34,7 @@ fn report<P: Protocol, W: Sink>(
     out: &mut W,
 ) -> Result<bool, Ending>
     ensures reports { IfOk result (Reports (P.table protocol.now) (P.names protocol.now) wanted (W.taken out.old) (W.taken out.new)) }
-    ensures err { IfErr result (EndsReport (P.table protocol.now) table.now wanted) }
+    ensures err { IfErr result (EndsReport (TellsMissing (P.table protocol.now) table.now wanted)) }
     ensures nothing { IfErr result (λ e. IsTrue (is_output e) ⊎ (out.new ≡ out.old)) }
     ensures cause { IfErr result (λ e. IsTrue (is_output e) → HasCause (W.failures out.old) (W.failures out.new)) }
 {
@@ -41,6 +44,51 @@ fn report<P: Protocol, W: Sink>(
             write_script(alloc, protocol, table, number, out)?;
             Ok(false)
         }
+    }
+}
+
+/// The same of a protocol with ghosts.
+fn report_ghosts<P: GhostProtocol, W: Sink>(
+    alloc: Global,
+    protocol: &P,
+    table: &str,
+    wanted: Wanted,
+    out: &mut W,
+) -> Result<bool, Ending>
+    ensures reports { IfOk result (ReportsGhosts (P.ghosts protocol.now) (P.names protocol.now) wanted (W.taken out.old) (W.taken out.new)) }
+    ensures err { IfErr result (EndsReport (TellsGhostMissing (P.ghosts protocol.now) table.now wanted)) }
+    ensures nothing { IfErr result (λ e. IsTrue (is_output e) ⊎ (out.new ≡ out.old)) }
+    ensures cause { IfErr result (λ e. IsTrue (is_output e) → HasCause (W.failures out.old) (W.failures out.new)) }
+{
+    match wanted {
+        Wanted::Explanation => write_ghost_explanation(alloc, protocol, table, out),
+        Wanted::Script(number) => {
+            write_ghost_script(alloc, protocol, table, number, out)?;
+            Ok(false)
+        }
+    }
+}
+
+/// The same of a table that the word names, with ghosts or without.
+fn report_table<W: Sink>(
+    alloc: Global,
+    named: &Named,
+    table: &str,
+    wanted: Wanted,
+    out: &mut W,
+) -> Result<bool, Ending>
+    ensures reports { IfOk result (ReportsTable named.now wanted (W.taken out.old) (W.taken out.new)) }
+    ensures err { IfErr result (EndsReport (TellsOfTable named.now table.now wanted)) }
+    ensures lawful { IsLawfulTable named.now }
+    ensures nothing { IfErr result (λ e. IsTrue (is_output e) ⊎ (out.new ≡ out.old)) }
+    ensures cause { IfErr result (λ e. IsTrue (is_output e) → HasCause (W.failures out.old) (W.failures out.new)) }
+{
+    match named {
+        Named::Table(it) => {
+            lemma_lawful(it);
+            report(alloc, it, table, wanted, out)
+        }
+        Named::Ghosts(it) => report_ghosts(alloc, it, table, wanted, out),
     }
 }
 
@@ -63,9 +111,8 @@ fn explained<R: std::rt::Files + AllocGlobal, F: Files, W: Sink>(
     ensures help { AddsLines (string_bytes help.old) (string_bytes help.new) }
 {
     let asked = read_words(words)?;
-    let table = table_at(rt, asked.table, files, help)?;
-    lemma_lawful(&table);
-    report(rt.alloc(), &table, asked.table, asked.wanted, out)
+    let table = named_with_help(rt, asked.table, files, help)?;
+    report_table(rt.alloc(), &table, asked.table, asked.wanted, out)
 }
 
 /// Does what the words ask, of the program or of a table, and answers whether a table that they name is safe. Where they name

@@ -5,11 +5,11 @@ use Rattle.kr_cli_explain.proofs.program.explained.Goals as goal
 
 pub returns-clause-answers : goal.returns-clause-answers
 returns-clause-answers g c =
-    report_answers (g.F.Files.may_give c.args.files.now) (map string_bytes c.args.words.now) (g.W.Sink.taken c.args.out.now) (g.W.Sink.taken c.report.new.out) c.report.result c.in_ok-asked.asked.table.now c.in_ok-asked.asked.wanted c.in_ok-table.table c.in_ok-asked.ensures.words c.in_ok-asked.ensures.asked c.in_ok-table.ensures.table c.lemma_lawful.ensures c.report.ensures.reports
+    report_answers (g.F.Files.may_give c.args.files.now) (map string_bytes c.args.words.now) (g.W.Sink.taken c.args.out.now) (g.W.Sink.taken c.report_table.new.out) c.report_table.result c.in_ok-asked.asked.table.now c.in_ok-asked.asked.wanted c.in_ok-table.table c.in_ok-asked.ensures.words c.in_ok-asked.ensures.asked c.in_ok-table.ensures.table c.report_table.ensures.lawful c.report_table.ensures.reports
 
 pub returns-clause-err : goal.returns-clause-err
 returns-clause-err g c =
-    report_ends (g.F.Files.may_give c.args.files.now) (map string_bytes c.args.words.now) c.report.result c.in_ok-asked.asked.table.now c.in_ok-asked.asked.wanted c.in_ok-table.table c.in_ok-asked.ensures.words c.in_ok-asked.ensures.asked c.in_ok-table.ensures.table c.report.ensures.err
+    report_ends (g.F.Files.may_give c.args.files.now) (map string_bytes c.args.words.now) c.report_table.result c.in_ok-asked.asked.table.now c.in_ok-asked.asked.wanted c.in_ok-table.table c.in_ok-asked.ensures.words c.in_ok-asked.ensures.asked c.in_ok-table.ensures.table c.report_table.ensures.err
 
 pub returns-clause-unknown : goal.returns-clause-unknown
 returns-clause-unknown g c unknown = absurd (unknown c.in_ok-asked.asked.table.now c.in_ok-asked.asked.wanted c.in_ok-asked.ensures.asked c.in_ok-asked.ensures.words)

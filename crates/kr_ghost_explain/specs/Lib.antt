@@ -1,0 +1,5 @@
+pub mod Wrong
+pub mod Lines
+pub mod Blames
+pub mod Blamed
+pub mod Explained

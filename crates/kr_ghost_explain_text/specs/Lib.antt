@@ -1,0 +1,3 @@
+pub mod Words
+pub mod Titles
+pub mod Told

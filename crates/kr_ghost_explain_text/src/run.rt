@@ -1,0 +1,85 @@
+//! A schedule that goes wrong, as it is shown: its opening index, its moves, and the first answer that differs.
+
+use crate::rows::rows_of;
+use kr_explain_text::{answer_text, op_text, pairs_text, txns_text, write_rows};
+use kr_ghost_protocol::GhostProtocol;
+use kr_ghost_run::run_moves;
+use kr_ghost_script::GhostScript;
+use kr_model::{Memory, Op, Program, Txn};
+use kr_serial::{Verdict, judge_programs};
+use std::alloc::Global;
+
+/// A schedule, behind an empty line.
+pub(crate) fn run_text<P: GhostProtocol>(
+    alloc: Global,
+    protocol: &P,
+    script: &GhostScript,
+) -> Result<String, Memory> {
+    let opening = opening_text(alloc, script.opening())?;
+    let mut out = format!(in alloc; "\n\nA schedule that goes wrong. Initial index: {opening}.\n")?;
+    let rows = rows_of(alloc, protocol, script)?;
+    write_rows(alloc, &mut out, &rows, 12)?;
+    let differs = differs_text(alloc, protocol, script)?;
+    out.push_str(differs.as_str())?;
+    Ok(out)
+}
+
+/// The pairs of an opening index.
+fn opening_text(alloc: Global, opening: &[(u64, u64)]) -> Result<String, Memory> {
+    if opening.is_empty() {
+        return String::from_str(alloc, "empty");
+    }
+    pairs_text(alloc, opening)
+}
+
+/// The first answer that differs from that of the serial run.
+fn differs_text<P: GhostProtocol>(
+    alloc: Global,
+    protocol: &P,
+    script: &GhostScript,
+) -> Result<String, Memory> {
+    let ran = run_moves(alloc, protocol, script.opening(), script.moves())?;
+    let programs = ran.programs.as_slice();
+    match &judge_programs(alloc, script.opening(), programs)? {
+        Verdict::Serial => Ok(String::new(alloc)),
+        Verdict::NotSerial {
+            txn,
+            operation,
+            given,
+            serial,
+        } => {
+            let op = op_text(alloc, operation_of(programs, *txn, *operation))?;
+            let given = answer_text(alloc, given)?;
+            let serial = answer_text(alloc, serial)?;
+            let order = order_text(alloc, programs)?;
+            format!(in alloc;
+                "\n\n   Not serializable: operation {operation} of T{txn}, {op}, returned {given};\n   run serially in commit order ({order}) it returns {serial}."
+            )
+        }
+    }
+}
+
+/// The transactions that committed, in commit order.
+fn order_text(alloc: Global, programs: &[Program]) -> Result<String, Memory> {
+    let mut txns = Vec::new(alloc);
+    for program in programs {
+        txns.push(program.txn)?;
+    }
+    txns_text(alloc, &txns)
+}
+
+/// The operation of this number, from 1, of a transaction's program.
+fn operation_of(programs: &[Program], txn: Txn, operation: u64) -> Op {
+    for program in programs {
+        if program.txn == txn {
+            let mut number: u64 = 1;
+            for (op, _) in program.operations.as_slice() {
+                if number == operation {
+                    return *op;
+                }
+                number = number.saturating_add(1);
+            }
+        }
+    }
+    Op::Commit
+}

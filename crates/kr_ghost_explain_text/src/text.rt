@@ -1,0 +1,118 @@
+//! The text of what is explained of a table with ghosts.
+ghost use Rattle.std.specs.Prelude.{◌<◌, ◌+◌, ◌^◌, IfOk, length, string_bytes};
+ghost use Rattle.kr_ghost_explain_text.specs.Told.{AreTitled, IsGhostText, TellsGhostCauses, TellsGhosts};
+
+use crate::body::body;
+use crate::run::run_text;
+use crate::titles::title;
+use crate::verdict::verdict_text;
+use kr_ghost_explain::{GhostCause, GhostExplanation, GhostFailures, GhostSchedule};
+use kr_ghost_protocol::GhostProtocol;
+use kr_model::Memory;
+use std::alloc::Global;
+
+/// The text for a person, each line ended by a line feed: the verdict, and where cases fail, each cause, and a schedule that goes
+/// wrong where one was found. `word` names the table in the last lines. The table is to be the one that was explained. The only
+/// fault is that a growth was refused.
+pub fn ghost_text<P: GhostProtocol>(
+    alloc: Global,
+    protocol: &P,
+    explanation: &GhostExplanation,
+    word: &str,
+) -> Result<String, Memory>
+    ensures { IfOk result (λ text. IsGhostText (P.names protocol.now) explanation.now (string_bytes text)) }
+{
+    let verdict = verdict_text(alloc, explanation)?;
+    let telling = telling(alloc, protocol, explanation, word)?;
+    format!(in alloc; "{verdict}{telling}\n")
+}
+
+/// What comes between the verdict and the last line feed.
+fn telling<P: GhostProtocol>(
+    alloc: Global,
+    protocol: &P,
+    explanation: &GhostExplanation,
+    word: &str,
+) -> Result<String, Memory>
+    ensures { IfOk result (λ text. TellsGhosts (P.names protocol.now) explanation.now (string_bytes text)) }
+{
+    match explanation {
+        GhostExplanation::Accepted { .. } => Ok(String::new(alloc)),
+        GhostExplanation::Safe(failures) => {
+            let text = causes_text(alloc, protocol, failures, "")?;
+            Ok(text)
+        }
+        GhostExplanation::Rejected(failures) => {
+            let end = end_text(alloc, protocol, &failures.schedule, word)?;
+            let text = causes_text(alloc, protocol, failures, end.as_str())?;
+            Ok(text)
+        }
+    }
+}
+
+/// What is said of each cause, and behind that an end.
+fn causes_text<P: GhostProtocol>(
+    alloc: Global,
+    protocol: &P,
+    failures: &GhostFailures,
+    end: &str,
+) -> Result<String, Memory>
+    ensures { IfOk result (λ text. TellsGhostCauses (P.names protocol.now) failures.now.causes.items (string_bytes text)) }
+{
+    let blocks = blocks(alloc, protocol, 1, failures.causes.as_slice())?;
+    format!(in alloc; "{blocks}{end}")
+}
+
+/// Each of these causes with its title, of which the first has this number.
+fn blocks<P: GhostProtocol>(
+    alloc: Global,
+    protocol: &P,
+    number: usize,
+    causes: &[GhostCause],
+) -> Result<String, Memory>
+    requires { number + length causes.now < 2 ^ 64 }
+    ensures { IfOk result (λ text. AreTitled (P.names protocol.now) number causes.now (string_bytes text)) }
+{
+    match causes {
+        [] => Ok(String::new(alloc)),
+        [cause, others @ ..] => {
+            let title = title(alloc, protocol, number, cause)?;
+            let said = said(alloc, protocol, cause)?;
+            let rest = blocks(alloc, protocol, number + 1, others)?;
+            format!(in alloc; "\n\n{title}{said}{rest}")
+        }
+    }
+}
+
+/// What is said of a cause below its title: that of its first case.
+fn said<P: GhostProtocol>(
+    alloc: Global,
+    protocol: &P,
+    cause: &GhostCause,
+) -> Result<String, Memory> {
+    match cause.cases.first() {
+        Some(case) => body(alloc, protocol, case),
+        None => Ok(String::new(alloc)),
+    }
+}
+
+/// The schedule that goes wrong, and how to replay it; or that none was found.
+fn end_text<P: GhostProtocol>(
+    alloc: Global,
+    protocol: &P,
+    schedule: &Option<GhostSchedule>,
+    word: &str,
+) -> Result<String, Memory> {
+    match schedule {
+        Some(schedule) => {
+            let run = run_text(alloc, protocol, &schedule.script)?;
+            format!(in alloc;
+                "{run}\n\nTo replay the schedule:\n    kr_explain {word} --script 1 >schedule.json\n    kr run {word} schedule.json"
+            )
+        }
+        None => String::from_str(
+            alloc,
+            "\n\nNo schedule that goes wrong was found. That does not prove that no schedule does.",
+        ),
+    }
+}
