@@ -8,6 +8,7 @@ end
 
 complete -c kr_view -f
 complete -c kr_view -n '__kr_view_at 1' -a '@kvl @kvl-update @im @range-key' -d 'bundled table'
+complete -c kr_view -n '__kr_view_at 1' -a '@record-gap @range-ghost @next-key-ghost' -d 'bundled table with ghosts'
 complete -c kr_view -n '__kr_view_at 1' -a '(__fish_complete_suffix .toml | string match -r ".*(?:/|\.toml)\$")'
 complete -c kr_view -n '__kr_view_at 1' -s h -l help -d 'print the usage'
 complete -c kr_view -n '__kr_view_at 1' -l version -d 'print the version'

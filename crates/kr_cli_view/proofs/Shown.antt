@@ -12,24 +12,63 @@ use Rattle.kr_cli.specs.declared.endings.Ending.TheVariants.{NotUnderstood, Memo
 use Rattle.kr_cli.specs.declared.tables.AnyTable.{AnyTable}
 use Rattle.kr_cli.specs.Endings.{MemoryOrTold}
 use Rattle.kr_cli.specs.Files.{MayBeScript}
-use Rattle.kr_cli.specs.Named.{NamesTable, NamesScript}
+use Rattle.kr_cli.specs.Named.{NamesScript}
 use Rattle.kr_cli.specs.Questions.{IsNoQuestion}
 use Rattle.kr_cli.specs.Tables.{names_of, table_of}
 use Rattle.kr_cli_diagnosis.specs.Repeated.{HasNoMemberTwice}
 use Rattle.kr_view_table.specs.Page.{IsTablePage}
 use Rattle.kr_cli_view.specs.Words.{AskNoPage, IsAsked, words_of}
 use Rattle.kr_cli_view.specs.declared.words.Asked.{Asked}
-use Rattle.kr_cli_view.specs.Program.{EndsSo, Explains, IsSerialScript, NamesNoMemberTwice, Shows, ShowsAsked, ShowsPage, ShowsTable, TellsAsked, drawn_of_script}
+use Rattle.kr_cli_ghost.specs.declared.tables.AnyGhostTable.{AnyGhostTable}
+use Rattle.kr_cli_ghost.specs.declared.named.Named.{Named}
+use Rattle.kr_cli_ghost.specs.Lawful.{lawful_ghosts_of}
+use Rattle.kr_cli_ghost.specs.Named.{Names}
+use Rattle.kr_cli_ghost.specs.Runs.{IsSerialGhosts, NamesGhostScript}
+use Rattle.kr_cli_ghost.specs.Tables.{ghosts_of}
+use Rattle.kr_cli_ghost.specs.Tables as ghost
+use Rattle.kr_ghost.specs.Protocol.{GhostProtocol}
+use Rattle.kr_ghost_view_table.specs.Page.{IsGhostTablePage}
+use Rattle.kr_ghost_script.specs.Script.{GhostScript}
+use Rattle.kr_cli_view.specs.Program.{EndsSo, Explains, IsSerialScript, NamesNoMemberTwice, Shows, ShowsAsked, ShowsGhostScript, ShowsGhostTable, ShowsNamed, ShowsPage, ShowsScript, ShowsTable, ShowsTableOf, ShowsUnder, TellsAsked, drawn_of_ghosts, drawn_of_script}
 
--- the page of a lawful table that a word names was written, with the verdict on it
-pub table_shown : (may_give : List ℕ → Option (List ℕ) → Type 0) (r : Result Bool Ending) (t : AnyTable) (table : List ℕ) (old new : Option (List ℕ)) → NamesTable may_give table t → IsLawful (table_of t) → IfOk r (λ safe. (page : List ℕ) × (IsTablePage (table_of t) (names_of t) table page × Appends old new page)) → IfOk r (λ safe. IsTrue safe ↔ IsSafe (table_of t)) → IfOk r (ShowsTable may_give table old new)
-table_shown may_give (Ok safe) t table old new names lawful (page, (is_page, appends)) same = record { named = t; page = page; names = names; lawful = lawful; is_page = is_page; is_so = same; written = appends }
-table_shown may_give (Err e) t table old new names lawful written same = tt
+-- the page of a lawful table was written, with the verdict on it
+pub table_shown : (r : Result Bool Ending) (t : AnyTable) (table : List ℕ) (old new : Option (List ℕ)) → IsLawful (table_of t) → IfOk r (λ safe. (page : List ℕ) × (IsTablePage (table_of t) (names_of t) table page × Appends old new page)) → IfOk r (λ safe. IsTrue safe ↔ IsSafe (table_of t)) → IfOk r (ShowsTableOf t table old new)
+table_shown (Ok safe) t table old new lawful (page, (is_page, appends)) same = record { page = page; lawful = lawful; is_page = is_page; is_so = same; written = appends }
+table_shown (Err e) t table old new lawful written same = tt
 
--- the page of a script's run under a lawful table was written, both of which words name, with the verdict on the run
-pub run_shown : (may_give : List ℕ → Option (List ℕ) → Type 0) (r : Result Bool Ending) (t : AnyTable) (table script : List ℕ) (old new : Option (List ℕ)) (s : Script) → NamesTable may_give table t → IsLawful (table_of t) → NamesScript may_give script s → IfOk r (λ serial. (page : List ℕ) × (IsPage table (drawn_of_script (table_of t) s) serial page × Appends old new page)) → IfOk r (λ serial. IsTrue serial ↔ IsSerialScript (table_of t) s) → IfOk r (Shows may_give table script old new)
-run_shown may_give (Ok serial) t table script old new s names lawful named (page, (is_page, appends)) same = (t, (names, (lawful, (s, (named, (page, (is_page, (appends, same))))))))
-run_shown may_give (Err e) t table script old new s names lawful named written same = tt
+-- the same of a table with ghosts
+pub ghost_table_shown : (r : Result Bool Ending) (t : AnyGhostTable) (table : List ℕ) (old new : Option (List ℕ)) → IfOk r (λ safe. (page : List ℕ) × (IsGhostTablePage (ghosts_of t) (ghost.names_of t) table page safe × Appends old new page)) → IfOk r (ShowsGhostTable t table old new)
+ghost_table_shown (Ok safe) t table old new (page, (is_page, appends)) = record { page = page; lawful = lawful_ghosts_of t; is_page = is_page; written = appends }
+ghost_table_shown (Err e) t table old new written = tt
+
+-- the same of a table that a word names
+pub named_shown : (may_give : List ℕ → Option (List ℕ) → Type 0) (r : Result Bool Ending) (t : Named) (table : List ℕ) (old new : Option (List ℕ)) → Names may_give table t → IfOk r (ShowsNamed t table old new) → IfOk r (ShowsTable may_give table old new)
+named_shown may_give (Ok safe) t table old new names shows = (t, (names, shows))
+named_shown may_give (Err e) t table old new names shows = tt
+
+-- the page of a script's run under a lawful table was written, with the verdict on the run
+pub run_shown : (may_give : List ℕ → Option (List ℕ) → Type 0) (r : Result Bool Ending) (t : AnyTable) (table script : List ℕ) (old new : Option (List ℕ)) (s : Script) → IsLawful (table_of t) → NamesScript may_give script s → IfOk r (λ serial. (page : List ℕ) × (IsPage table (drawn_of_script (table_of t) s) serial page × Appends old new page)) → IfOk r (λ serial. IsTrue serial ↔ IsSerialScript (table_of t) s) → IfOk r (ShowsScript may_give t table script old new)
+run_shown may_give (Ok serial) t table script old new s lawful named (page, (is_page, appends)) same = (lawful, (s, (named, (page, (is_page, (appends, same))))))
+run_shown may_give (Err e) t table script old new s lawful named written same = tt
+
+-- the same under a table with ghosts
+pub ghosts_shown : (may_give : List ℕ → Option (List ℕ) → Type 0) (r : Result Bool Ending) (t : AnyGhostTable) (table script : List ℕ) (old new : Option (List ℕ)) (s : GhostScript) → NamesGhostScript may_give script s → IfOk r (λ serial. (page : List ℕ) × (IsPage table (drawn_of_ghosts (ghosts_of t) s) serial page × Appends old new page)) → IfOk r (λ serial. IsTrue serial ↔ IsSerialGhosts (ghosts_of t) s) → IfOk r (ShowsGhostScript may_give t table script old new)
+ghosts_shown may_give (Ok serial) t table script old new s named (page, (is_page, appends)) same = (lawful_ghosts_of t, (s, (named, (page, (is_page, (appends, same))))))
+ghosts_shown may_give (Err e) t table script old new s named written same = tt
+
+-- the same under a table that a word names
+pub shown_under : (may_give : List ℕ → Option (List ℕ) → Type 0) (r : Result Bool Ending) (t : Named) (table script : List ℕ) (old new : Option (List ℕ)) → Names may_give table t → IfOk r (ShowsUnder may_give t table script old new) → IfOk r (Shows may_give table script old new)
+shown_under may_give (Ok serial) t table script old new names shows = (t, (names, shows))
+shown_under may_give (Err e) t table script old new names shows = tt
+
+-- an ending that tells so tells what follows from it
+pub ends_more : (Tells More : List ℕ → Type 0) (r : Result Bool Ending) → ((line : List ℕ) → Tells line → More line) → IfErr r (EndsSo Tells) → IfErr r (EndsSo More)
+ends_more Tells More (Ok well) by ends = tt
+ends_more Tells More (Err NotUnderstood) by ends = ends
+ends_more Tells More (Err Memory) by ends = ends
+ends_more Tells More (Err Place) by ends = ends
+ends_more Tells More (Err Output) by ends = ends
+ends_more Tells More (Err (Told line)) by ends = by (string_bytes line) ends
 
 -- the page of what is asked was written
 pub asked_shown : (may_give : List ℕ → Option (List ℕ) → Type 0) (words : List (List ℕ)) (r : Result Bool Ending) (a : Asked) (old new : Option (List ℕ)) → words ≡ words_of a → IsAsked a → IfOk r (ShowsPage may_give a old new) → IfOk r (ShowsAsked may_give words old new)
@@ -75,6 +114,12 @@ written bytes page table steps serial old new same is_page appends =
 -- the same of the page of a table
 pub table_written : (p : Protocol) (names : List (List ℕ)) (bytes page table : List ℕ) (old new : Option (List ℕ)) → bytes ≡ page → IsTablePage p names table page → Appends old new bytes → (text : List ℕ) × (IsTablePage p names table text × Appends old new text)
 table_written p names bytes page table old new same is_page appends =
+    let P : List ℕ → Type 0 = λ bs. Appends old new bs in
+    (page, (is_page, subst P same appends))
+
+-- the same of a table with ghosts
+pub ghosts_written : (p : GhostProtocol) (names : List (List ℕ)) (bytes page table : List ℕ) (safe : Bool) (old new : Option (List ℕ)) → bytes ≡ page → IsGhostTablePage p names table page safe → Appends old new bytes → (text : List ℕ) × (IsGhostTablePage p names table text safe × Appends old new text)
+ghosts_written p names bytes page table safe old new same is_page appends =
     let P : List ℕ → Type 0 = λ bs. Appends old new bs in
     (page, (is_page, subst P same appends))
 

@@ -2,10 +2,12 @@
 //! sinks.
 #![tactic(auto)]
 
+mod ghosts;
 mod manual;
 mod program;
 mod words;
 
+pub use ghosts::{write_ghost_page, write_ghost_table_page};
 pub use manual::{MANUAL, NAME, USAGE, WORDS};
 pub use program::{execute, write_page, write_table_page};
 pub use words::{Asked, read_words};

@@ -8,7 +8,9 @@ pub const NAME: &str = "kr_view";
 pub const USAGE: &str = "usage: kr_view TABLE [SCRIPT]";
 
 /// What the words mean, and the statuses.
-pub const WORDS: &str = r#"  TABLE       @kvl, @kvl-update, @im, @range-key, or a file in TOML;
+pub const WORDS: &str =
+    r#"  TABLE       @kvl, @kvl-update, @im, @range-key, @record-gap, @range-ghost,
+              @next-key-ghost, or a file in TOML;
               without SCRIPT, TABLE itself is printed as a page of HTML
   SCRIPT      a file in JSON; its run under TABLE is printed as a page of HTML
   -h, --help  print this text

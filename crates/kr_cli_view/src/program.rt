@@ -7,7 +7,8 @@ ghost use Rattle.kr_sink.specs.Puts.{HasCause};
 ghost use Rattle.kr_cli_diagnosis.specs.Finding.{AreLines, AddsLines};
 ghost use Rattle.kr_cli.specs.Endings.{is_output};
 ghost use Rattle.kr_cli.specs.Manual.{IsTold, answer_of, ending_text};
-ghost use Rattle.kr_cli.specs.Named.{TellsNoTable};
+ghost use Rattle.kr_cli.specs.Named.{TellsNoScript};
+ghost use Rattle.kr_cli_ghost.specs.Named.{TellsNone};
 ghost use Rattle.kr_cli.specs.Questions.{IsQuestion, IsNoQuestion};
 ghost use Rattle.kr_cli.specs.declared.endings.Ending.{Ending};
 ghost use Rattle.kr_cli.specs.declared.endings.Ending.TheVariants as ending;
@@ -15,12 +16,15 @@ ghost use Rattle.kr_cli.specs.declared.questions.Question.{Question};
 ghost use Rattle.kr_view_run.specs.Page.{IsPage};
 ghost use Rattle.kr_view_table.specs.Page.{IsTablePage};
 ghost use Rattle.kr_cli_view.specs.Words.{AskNothing, AskNoPage};
-ghost use Rattle.kr_cli_view.specs.Program.{EndsSo, Explains, IsSerialScript, NameNoMemberTwice, NamesNoMemberTwice, Shows, ShowsAsked, ShowsTable, TellsWord, drawn_of_script};
+ghost use Rattle.kr_cli_view.specs.Program.{EndsSo, Explains, IsSerialScript, NameNoMemberTwice, NamesNoMemberTwice, Shows, ShowsAsked, ShowsNamed, ShowsScript, ShowsTable, ShowsUnder, TellsNoScriptFor, TellsWord, drawn_of_script};
 
+use crate::ghosts::{view_ghosts, write_ghost_table_page};
 use crate::manual::{MANUAL, NAME, USAGE, WORDS};
 use crate::words::{Asked, read_words};
-use kr_cli::{Ending, Files, VERSION, lemma_lawful, question_in};
-use kr_cli_diagnosis::{script_at, table_at};
+use kr_cli::{AnyTable, Ending, Files, VERSION, lemma_lawful, question_in};
+use kr_cli_diagnosis::script_at;
+use kr_cli_finding::named_with_help;
+use kr_cli_ghost::Named;
 use kr_protocol::Protocol;
 use kr_script::Script;
 use kr_sink::{Sink, put_all};
@@ -84,15 +88,60 @@ fn view_table<R: std::rt::Files + AllocGlobal, F: Files, W: Sink>(
     help: &mut String,
 ) -> Result<bool, Ending>
     ensures shows { IfOk result (ShowsTable (F.may_give files.now) word.now (W.taken out.old) (W.taken out.new)) }
-    ensures err { IfErr result (EndsSo (TellsNoTable (F.may_give files.now) word.now)) }
+    ensures err { IfErr result (EndsSo (TellsNone (F.may_give files.now) word.now)) }
     ensures cause { IfErr result (λ e. IsTrue (is_output e) → HasCause (W.failures out.old) (W.failures out.new)) }
     ensures nothing { IfErr result (λ e. IsTrue (is_output e) ⊎ (out.new ≡ out.old)) }
     ensures help { AddsLines (string_bytes help.old) (string_bytes help.new) }
     ensures unhelped { OnOk result (help.new ≡ help.old) }
 {
-    let table = table_at(rt, word, files, help)?;
-    lemma_lawful(&table);
-    write_table_page(rt.alloc(), &table, word, out)
+    let named = named_with_help(rt, word, files, help)?;
+    view_named(rt.alloc(), &named, word, out)
+}
+
+/// Writes the page of a table, with ghosts or without, that the word names, and answers whether the table is safe.
+fn view_named<W: Sink>(
+    alloc: Global,
+    named: &Named,
+    word: &str,
+    out: &mut W,
+) -> Result<bool, Ending>
+    ensures shows { IfOk result (ShowsNamed named.now word.now (W.taken out.old) (W.taken out.new)) }
+    ensures err { IfErr result (λ e. (e ≡ ending.Memory) ⊎ (e ≡ ending.Output)) }
+    ensures cause { IfErr result (λ e. IsTrue (is_output e) → HasCause (W.failures out.old) (W.failures out.new)) }
+    ensures nothing { IfErr result (λ e. IsTrue (is_output e) ⊎ (out.new ≡ out.old)) }
+{
+    match named {
+        Named::Table(table) => {
+            lemma_lawful(table);
+            write_table_page(alloc, table, word, out)
+        }
+        Named::Ghosts(table) => write_ghost_table_page(alloc, table, word, out),
+    }
+}
+
+/// Writes the page of the run of the script that the second word names under a table without ghosts, which the first names, and
+/// answers whether the run is serializable. `help` gets what helps where the second names no script, and a warning of each member
+/// that the script has twice.
+fn view_script<R: std::rt::Files + AllocGlobal, F: Files, W: Sink>(
+    rt: &R,
+    table: &AnyTable,
+    words: (&str, &str),
+    files: &F,
+    out: &mut W,
+    help: &mut String,
+) -> Result<bool, Ending>
+    ensures shows { IfOk result (ShowsScript (F.may_give files.now) table.now words.entry.0.now words.entry.1.now (W.taken out.old) (W.taken out.new)) }
+    ensures err { IfErr result (EndsSo (TellsNoScript (F.may_give files.now) words.entry.1.now)) }
+    ensures cause { IfErr result (λ e. IsTrue (is_output e) → HasCause (W.failures out.old) (W.failures out.new)) }
+    ensures nothing { IfErr result (λ e. IsTrue (is_output e) ⊎ (out.new ≡ out.old)) }
+    ensures help { AddsLines (string_bytes help.old) (string_bytes help.new) }
+    ensures unwarned { NamesNoMemberTwice (F.may_give files.now) words.entry.1.now
+        → OnOk result (string_bytes help.new ≡ string_bytes help.old) }
+{
+    let (word, script) = words;
+    let script = script_at(rt, script, files, help)?;
+    lemma_lawful(table);
+    write_page(rt.alloc(), table, word, &script, out)
 }
 
 /// Writes the page of the run of the script that a word names under the table that another names, and answers whether the run
@@ -113,11 +162,31 @@ fn view_run<R: std::rt::Files + AllocGlobal, F: Files, W: Sink>(
     ensures unwarned { NamesNoMemberTwice (F.may_give files.now) words.entry.1.now
         → OnOk result (string_bytes help.new ≡ string_bytes help.old) }
 {
-    let (word, script) = words;
-    let table = table_at(rt, word, files, help)?;
-    let script = script_at(rt, script, files, help)?;
-    lemma_lawful(&table);
-    write_page(rt.alloc(), &table, word, &script, out)
+    let named = named_with_help(rt, words.0, files, help)?;
+    view_under(rt, &named, words, files, out, help)
+}
+
+/// The same under a table that the first word names.
+fn view_under<R: std::rt::Files + AllocGlobal, F: Files, W: Sink>(
+    rt: &R,
+    named: &Named,
+    words: (&str, &str),
+    files: &F,
+    out: &mut W,
+    help: &mut String,
+) -> Result<bool, Ending>
+    ensures shows { IfOk result (ShowsUnder (F.may_give files.now) named.now words.entry.0.now words.entry.1.now (W.taken out.old) (W.taken out.new)) }
+    ensures err { IfErr result (EndsSo (TellsNoScriptFor (F.may_give files.now) named.now words.entry.1.now)) }
+    ensures cause { IfErr result (λ e. IsTrue (is_output e) → HasCause (W.failures out.old) (W.failures out.new)) }
+    ensures nothing { IfErr result (λ e. IsTrue (is_output e) ⊎ (out.new ≡ out.old)) }
+    ensures help { AddsLines (string_bytes help.old) (string_bytes help.new) }
+    ensures unwarned { NamesNoMemberTwice (F.may_give files.now) words.entry.1.now
+        → OnOk result (string_bytes help.new ≡ string_bytes help.old) }
+{
+    match named {
+        Named::Table(table) => view_script(rt, table, words, files, out, help),
+        Named::Ghosts(table) => view_ghosts(rt, table, words, files, out, help),
+    }
 }
 
 /// Writes the page that the words ask for, and answers whether the table is safe that they name, or the run serializable. `help`

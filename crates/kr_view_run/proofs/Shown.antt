@@ -19,6 +19,11 @@ pub headed : (a ids n b kind was_kind d asked e txn f op was_op g reply was_repl
     → a ++ (ids ++ (n ++ (b ++ (kind ++ (before ++ (asked ++ (g ++ (reply ++ h)))))))) ≡ a ++ ids ++ n ++ b ++ was_kind ++ (before ++ d) ++ n ++ e ++ txn ++ f ++ was_op ++ g ++ was_reply ++ h
 headed a ids n b kind was_kind d asked e txn f op was_op g reply was_reply h p s q r before = rw (p, s, q, r) (simp append_assoc)
 
+-- the same of a purge
+pub purge_headed : (a ids n b kind was_kind d e key g reply was_reply h : List ℕ) → kind ≡ was_kind → reply ≡ was_reply
+    → a ++ (ids ++ (n ++ (b ++ (kind ++ (d ++ (n ++ (e ++ (key ++ (g ++ (reply ++ h)))))))))) ≡ a ++ ids ++ n ++ b ++ was_kind ++ d ++ n ++ e ++ key ++ g ++ was_reply ++ h
+purge_headed a ids n b kind was_kind d e key g reply was_reply h p s = rw (p, s) (simp append_assoc)
+
 -- the beginning of a page as it is written
 pub begun : (a kind name b d look e n h : List ℕ) → a ++ (kind ++ (name ++ (b ++ (d ++ (look ++ (e ++ (kind ++ (n ++ (name ++ (h ++ [])))))))))) ≡ a ++ kind ++ name ++ b ++ d ++ look ++ e ++ kind ++ n ++ name ++ h
 begun a kind name b d look e n h = simp (append_assoc, append-nil)

@@ -1,6 +1,7 @@
 -- What the page of a run is.
-use Rattle.std.specs.Prelude.{ℕ, List, [], ◌∷◌, ◌++◌, Bool, Some, ◌≡◌, codes, decimal, if◌then◌else◌}
+use Rattle.std.specs.Prelude.{ℕ, List, [], ◌∷◌, ◌++◌, Bool, true, false, Some, ◌≡◌, codes, decimal, if◌then◌else◌}
 use Rattle.std.specs.Str.{chars}
+use Rattle.kr_view_scenes.specs.declared.act.Act.TheVariants as act
 use Rattle.kr_view_scenes.specs.Escape.{escaped, unescaped}
 use Rattle.kr_view_scenes.specs.Parts.{IsMadeOfParts}
 use Rattle.kr_view_scenes.specs.Scenes.{NumberedStep}
@@ -11,9 +12,21 @@ use Rattle.kr_view_run.specs.declared.frame.TheConstants.{HEAD, STYLE, LOOK, BOD
 abbrev pub asked_words : ℕ → ℕ → List ℕ → List ℕ
 asked_words number txn op = codes "Step " ++ (decimal number ++ (codes ": transaction " ++ (decimal txn ++ (codes ", " ++ op))))
 
--- The head of the band of a step: its number, its transaction, what it does, and the reply, whose kind is the band's class. Its id is the number behind a text.
+-- What a purge is told to have done, and the class of its band.
+abbrev pub purge_words : Bool → List ℕ
+purge_words true = codes "purged"
+purge_words false = codes "kept"
+
+abbrev pub purge_kind : Bool → List ℕ
+purge_kind true = codes "granted"
+purge_kind false = codes "refused"
+
+-- The head of the band of a step: its number, its transaction, what it does, and the reply, whose kind is the band's class; of a purge its number, the key, and whether it was purged. Its id is the number behind a text.
 abbrev pub band_head : List ℕ → NumberedStep → List ℕ
-band_head ids (n, (e, r)) =
+band_head ids (n, act.Purge k purged) =
+    codes "<section id=\"" ++ ids ++ decimal n ++ codes "\" class=\"" ++ purge_kind purged ++ codes "\">\n<h3><span>Step " ++ decimal n
+    ++ codes ": purge " ++ decimal k ++ codes "</span> <span class=\"reply\">" ++ purge_words purged ++ codes "</span></h3>\n"
+band_head ids (n, act.Attempt e r) =
     codes "<section id=\"" ++ ids ++ decimal n ++ codes "\" class=\"" ++ kind_word r ++ codes "\">\n<h3><span>Step " ++ decimal n
     ++ codes ": transaction " ++ decimal e.txn ++ codes ", " ++ op_words e.op
     ++ codes "</span> <span class=\"reply\">" ++ reply_words r ++ codes "</span></h3>\n"

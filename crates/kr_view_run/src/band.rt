@@ -1,16 +1,17 @@
 //! The band of a step: what was asked and answered in words, and its drawing.
 ghost use Rattle.std.specs.Prelude.{◌≡◌, ◌++◌, ◌∷◌, [], List, IfOk, OnOk, string_bytes};
 ghost use Rattle.kr_view_scenes.specs.Scenes.{NumberedStep, step_of};
+ghost use Rattle.kr_view_scenes.specs.declared.act.Act.TheVariants as act_is;
 ghost use Rattle.kr_view_scenes.specs.Words.{op_words, reply_words};
-ghost use Rattle.kr_view_run.specs.Page.{AreBands, asked_words, band_head};
+ghost use Rattle.kr_view_run.specs.Page.{AreBands, asked_words, band_head, purge_kind, purge_words};
 
 use crate::drawing::write_drawing;
 use crate::frame::BAND_END;
 use kr_locks::Memory;
-use kr_model::{Op, Reply, Span};
+use kr_model::{Event, Op, Reply, Span, Txn};
 use kr_protocol::{Protocol, name_or_empty};
 use kr_view_scenes::{
-    Asked, Columns, Difference, Html, Layout, Mark, Part, Scene, kind_of, write_name,
+    Act, Asked, Columns, Difference, Html, Layout, Mark, Part, Scene, kind_of, write_name,
     write_numbers, write_op, write_reply,
 };
 use std::alloc::Global;
@@ -49,21 +50,66 @@ pub fn push_band<P: Protocol>(
 fn head_of(alloc: Global, ids: &str, scene: &Scene) -> Result<String, Memory>
     ensures { IfOk result (λ head. string_bytes head ≡ band_head ids.now (step_of scene.now)) }
 {
-    let op = op_of(alloc, scene.event.op)?;
-    let reply = reply_of(alloc, &scene.reply)?;
-    let asked = asked_of(alloc, scene, op.as_str())?;
-    let (number, kind) = (scene.number, kind_of(&scene.reply));
-    let (asked, reply) = (asked.as_str(), reply.as_str());
+    match &scene.act {
+        Act::Attempt(event, reply) => attempt_head(alloc, ids, scene.number, *event, reply),
+        Act::Purge(key, is_purged) => purge_head(alloc, ids, scene.number, *key, *is_purged),
+    }
+}
+
+/// The head of the band of an operation that was answered so.
+fn attempt_head(
+    alloc: Global,
+    ids: &str,
+    number: u64,
+    event: Event,
+    reply: &Reply,
+) -> Result<String, Memory>
+    ensures { IfOk result (λ head. string_bytes head ≡ band_head ids.now (number, act_is.Attempt event reply.now)) }
+{
+    let op = op_of(alloc, event.op)?;
+    let told = reply_of(alloc, reply)?;
+    let asked = asked_of(alloc, number, event.txn, op.as_str())?;
+    let kind = kind_of(reply);
+    let (asked, reply) = (asked.as_str(), told.as_str());
     format!(in alloc;
         "<section id=\"{ids}{number}\" class=\"{kind}\">\n<h3><span>{asked}</span> <span class=\"reply\">{reply}</span></h3>\n"
     )
 }
 
-/// Which step of which transaction asks for an operation, whose words these are.
-fn asked_of(alloc: Global, scene: &Scene, op: &str) -> Result<String, Memory>
-    ensures { IfOk result (λ asked. string_bytes asked ≡ asked_words scene.now.number scene.now.event.txn op.now) }
+/// The head of the band of a purge that took its ghost away or not.
+fn purge_head(
+    alloc: Global,
+    ids: &str,
+    number: u64,
+    key: u64,
+    is_purged: bool,
+) -> Result<String, Memory>
+    ensures { IfOk result (λ head. string_bytes head ≡ band_head ids.now (number, act_is.Purge key is_purged)) }
 {
-    let (number, txn) = (scene.number, scene.event.txn);
+    let (kind, reply) = (purge_kind(is_purged), purge_words(is_purged));
+    format!(in alloc;
+        "<section id=\"{ids}{number}\" class=\"{kind}\">\n<h3><span>Step {number}: purge {key}</span> <span class=\"reply\">{reply}</span></h3>\n"
+    )
+}
+
+/// What is told of a purge that took its ghost away or not.
+fn purge_words(is_purged: bool) -> &'static str
+    ensures { result.now ≡ purge_words is_purged }
+{
+    if is_purged { "purged" } else { "kept" }
+}
+
+/// The class of the band of such a purge.
+fn purge_kind(is_purged: bool) -> &'static str
+    ensures { result.now ≡ purge_kind is_purged }
+{
+    if is_purged { "granted" } else { "refused" }
+}
+
+/// Which step of which transaction asks for an operation, whose words these are.
+fn asked_of(alloc: Global, number: u64, txn: Txn, op: &str) -> Result<String, Memory>
+    ensures { IfOk result (λ asked. string_bytes asked ≡ asked_words number txn op.now) }
+{
     format!(in alloc; "Step {number}: transaction {txn}, {op}")
 }
 

@@ -11,10 +11,9 @@ use crate::lanes::write_lanes;
 use kr_locks::Memory;
 use kr_model::Event;
 use kr_protocol::Protocol;
-use kr_serial::{Ran, Verdict, judge, run_any};
+use kr_serial::{judge, run_any};
 use kr_view_scenes::{
-    Drawn, Html, Layout, Mark, Part, Run, STEPS_DRAWN, Scene, scenes_of, write_commits,
-    write_summary,
+    Drawn, Html, Layout, Mark, Part, Run, Scene, scenes_of, write_commits, write_summary,
 };
 use std::alloc::{AllocError, Global};
 
@@ -30,7 +29,7 @@ pub fn body_of<P: Protocol>(
     let layout = Layout::of(&drawn.columns, drawn.scenes.as_slice());
     let mut before = Html::new(alloc);
     write_summary(run, drawn.columns.hidden, &mut before)?;
-    write_heading(drawn.scenes.is_empty(), &mut before)?;
+    write_heading(drawn.scenes.is_empty(), run.has_ghosts, &mut before)?;
     let bands = drawn_bands(alloc, protocol, &*run, &*drawn, &layout, STEP_IDS)?;
     let mut behind = Html::new(alloc);
     write_lanes(alloc, run, layout.left, &mut behind)?;
@@ -42,31 +41,18 @@ pub fn body_of<P: Protocol>(
     })
 }
 
-/// A run of these steps as a page tells it.
-pub fn run_of<'a>(
-    opening: &'a [(u64, u64)],
-    steps: &'a [Event],
-    ran: &'a Ran,
-    verdict: &'a Verdict,
-) -> Run<'a> {
-    Run {
-        opening,
-        steps,
-        replies: ran.replies.as_slice(),
-        programs: ran.programs.as_slice(),
-        unfinished: ran.unfinished.as_slice(),
-        verdict,
-        skipped: steps.len().saturating_sub(STEPS_DRAWN),
-    }
-}
-
 /// What the drawings of steps show by their forms.
 const KEY: &str = "A bar is a lock, with its holder and mode, on its key and the gap below it. \
 A dashed bar (?) was asked for and refused, by the locks with a thick edge (!). \
 A triangle is at the key that the step names. A ring is a key that came, a cross one that went.";
 
+/// The same of ghosts.
+const GHOSTS: &str =
+    " A dashed tick with the word ghost is a deleted key that stays: a lock on it is a bar too, and it ends \
+the gap of the next key. A cross on the tick says that the key became a ghost at this step.";
+
 /// Writes what stands above the bands, or in their place where there are none.
-fn write_heading(is_empty: bool, out: &mut Html) -> Result<(), AllocError> {
+fn write_heading(is_empty: bool, has_ghosts: bool, out: &mut Html) -> Result<(), AllocError> {
     out.put(&[
         Part::Mark(Mark::Heading),
         Part::Text("Steps"),
@@ -79,11 +65,11 @@ fn write_heading(is_empty: bool, out: &mut Html) -> Result<(), AllocError> {
             Part::Mark(Mark::EndParagraph),
         ]);
     }
-    out.put(&[
-        Part::Mark(Mark::Note),
-        Part::Text(KEY),
-        Part::Mark(Mark::EndParagraph),
-    ])
+    out.put(&[Part::Mark(Mark::Note), Part::Text(KEY)])?;
+    if has_ghosts {
+        out.text(GHOSTS)?;
+    }
+    out.mark(Mark::EndParagraph)
 }
 
 /// A band for each step that is drawn, with ids that begin so.
@@ -137,7 +123,7 @@ pub fn bands_of_run<P: Protocol>(
 {
     let ran = run_any(alloc, protocol, opening, steps)?;
     let verdict = judge(alloc, &ran)?;
-    let run = run_of(opening, steps, &ran, &verdict);
+    let run = Run::of_steps(alloc, opening, steps, ran, verdict)?;
     bands_of_judged(alloc, protocol, opening, steps, &run, ids)
 }
 

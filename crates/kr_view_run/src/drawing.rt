@@ -132,7 +132,7 @@ fn write_bar(
     svg::text(out, "bar", place, words.as_str())
 }
 
-/// Writes the line of names, with a tick for each present key, and marks where a key came, went or changed.
+/// Writes the line of names, with a tick for each name, and marks where a key came, went or changed.
 fn write_line(
     alloc: Global,
     columns: &Columns,
@@ -187,7 +187,7 @@ fn write_key(
         svg::text(out, "value", at(x, y), words.as_str())?;
         y = NOTES;
     }
-    let class = if state == KeyState::Absent {
+    let class = if matches!(state, KeyState::Absent | KeyState::Ghost) {
         "value"
     } else {
         "value mark"
@@ -198,26 +198,36 @@ fn write_key(
     }
 }
 
-/// Writes the sign of a key on the line of names: a tick where it is present, a cross where it went, and a circle where it
-/// is absent; a key that came has a ring around its tick.
+/// Writes the sign of a key on the line of names: a tick where it is present, a dashed one where it is a ghost, a cross where
+/// it went, and a circle where it is absent; a key that came has a ring around its tick.
 fn write_sign(x: u64, state: KeyState, out: &mut Html) -> Result<(), AllocError> {
     let place = at(x, AXIS);
     match state {
         KeyState::Kept(_) | KeyState::Changed(_) => write_tick(out, "tick", x),
-        KeyState::Came(_) => {
+        KeyState::Came(_) | KeyState::Revived(_) => {
             write_tick(out, "tick", x)?;
             svg::circle(out, "came", place, 9)
         }
-        KeyState::Gone => out.put(&[
-            Part::Mark(Mark::Gone),
-            Part::Number(x),
-            Part::Text(","),
-            Part::Number(AXIS),
-            Part::Mark(Mark::EndGone),
-        ]),
+        KeyState::Gone | KeyState::Purged => write_cross(x, out),
+        KeyState::Ghost => write_tick(out, "tick end", x),
+        KeyState::BecameGhost => {
+            write_tick(out, "tick end", x)?;
+            write_cross(x, out)
+        }
         KeyState::Absent => svg::circle(out, "none", place, 4),
         KeyState::Untold => Ok(()),
     }
+}
+
+/// Writes the cross where a key went.
+fn write_cross(x: u64, out: &mut Html) -> Result<(), AllocError> {
+    out.put(&[
+        Part::Mark(Mark::Gone),
+        Part::Number(x),
+        Part::Text(","),
+        Part::Number(AXIS),
+        Part::Mark(Mark::EndGone),
+    ])
 }
 
 /// Writes a tick of a class.

@@ -3,8 +3,10 @@
 use crate::svg;
 use crate::svg::{Point, at};
 use kr_locks::Memory;
-use kr_model::{Event, Reply, Txn};
-use kr_view_scenes::{Html, Mark, Part, Run, colour_of, digits, kind_of, letter_of, text_width};
+use kr_model::{Reply, Txn};
+use kr_view_scenes::{
+    Act, Html, Mark, Part, Run, colour_of, digits, kind_of, letter_of, text_width,
+};
 use std::alloc::{AllocError, Global};
 use std::collections::BTreeSet;
 
@@ -43,10 +45,12 @@ impl Lanes {
 }
 
 /// The transactions of some steps, rising.
-fn txns_of(alloc: Global, steps: &[Event]) -> Result<Vec<Txn>, Memory> {
+fn txns_of(alloc: Global, acts: &[Act]) -> Result<Vec<Txn>, Memory> {
     let mut txns = BTreeSet::new(alloc);
-    for step in steps {
-        txns.insert(step.txn)?;
+    for act in acts {
+        if let Some(txn) = act.txn() {
+            txns.insert(txn)?;
+        }
     }
     let mut list = Vec::new(alloc);
     for txn in &txns {
@@ -64,17 +68,28 @@ fn down(lane: usize) -> u64 {
 
 /// Writes the lanes of the steps that are drawn, with so much room at the left for the numbers of transactions.
 pub fn write_lanes(alloc: Global, run: &Run<'_>, left: u64, out: &mut Html) -> Result<(), Memory> {
-    let steps = run.steps.get(run.skipped..).unwrap_or(&[]);
-    if steps.is_empty() {
+    let acts = run.acts.get(run.skipped()..).unwrap_or(&[]);
+    if acts.is_empty() {
         return Ok(());
     }
-    let txns = txns_of(alloc, steps)?;
-    let lanes = Lanes::new(left, run.steps.len() as u64);
-    open(out, lanes, steps.len(), txns.len())?;
+    let txns = txns_of(alloc, acts)?;
+    let lanes = Lanes::new(left, run.acts.len() as u64);
+    let purges = usize::from(has_purges(acts));
+    open(out, lanes, acts.len(), txns.len().saturating_add(purges))?;
     for (lane, txn) in txns.iter().enumerate() {
-        write_lane(alloc, out, lanes, steps, lane, *txn)?;
+        write_lane(alloc, out, lanes, acts, lane, *txn)?;
     }
     write_marks(alloc, run, lanes, txns.as_slice(), out)
+}
+
+/// Whether a purge is among some steps. Then the lane below those of the transactions has the purges.
+fn has_purges(acts: &[Act]) -> bool {
+    for act in acts {
+        if act.txn().is_none() {
+            return true;
+        }
+    }
+    false
 }
 
 /// Writes the heading, and begins a drawing that has room for so many steps and lanes.
@@ -101,22 +116,20 @@ fn write_marks(
     txns: &[Txn],
     out: &mut Html,
 ) -> Result<(), Memory> {
-    let steps = run.steps.get(run.skipped..).unwrap_or(&[]);
-    let replies = run.replies.get(run.skipped..).unwrap_or(&[]);
-    let mut number = run.skipped as u64;
-    for (column, (step, reply)) in steps.iter().zip(replies.iter()).enumerate() {
+    let skipped = run.skipped();
+    let acts = run.acts.get(skipped..).unwrap_or(&[]);
+    let mut number = skipped as u64;
+    for (column, act) in acts.iter().enumerate() {
         number = number.saturating_add(1);
         let x = lanes.across(column);
-        if let Ok(lane) = txns.binary_search(&step.txn) {
-            write_mark(alloc, out, number, at(x, down(lane)), *step, reply)?;
-        }
+        write_mark(alloc, out, number, at(x, down(lane_of(txns, act))), act)?;
     }
     svg::close(out)?;
-    out.put(&[
-        Part::Mark(Mark::Note),
-        Part::Text(KEY),
-        Part::Mark(Mark::EndParagraph),
-    ])
+    out.put(&[Part::Mark(Mark::Note), Part::Text(KEY)])?;
+    if has_purges(acts) {
+        out.text(PURGES)?;
+    }
+    out.mark(Mark::EndParagraph)
 }
 
 /// What the letters and forms say.
@@ -124,19 +137,33 @@ const KEY: &str =
     "F fetch, S scan, G go on, I insert, D delete, U update, B change taken back, C commit, A abort. \
 A box is a step that was done, a dashed box one that was blocked, a dotted one that was refused. A circle ends its transaction.";
 
+/// What is said besides where there are purges.
+const PURGES: &str = " P in the last lane is a purge, in a dotted box where the key was kept.";
+
+/// The lane of a step: that of its transaction, or the last.
+fn lane_of(txns: &[Txn], act: &Act) -> usize {
+    match act.txn() {
+        Some(txn) => match txns.binary_search(&txn) {
+            Ok(lane) => lane,
+            Err(lane) => lane,
+        },
+        None => txns.len(),
+    }
+}
+
 /// Writes the line of a lane, from its first step to its last.
 fn write_lane(
     alloc: Global,
     out: &mut Html,
     lanes: Lanes,
-    steps: &[Event],
+    acts: &[Act],
     lane: usize,
     txn: Txn,
 ) -> Result<(), AllocError> {
     let mut first = None;
     let mut last = 0;
-    for (column, step) in steps.iter().enumerate() {
-        if step.txn == txn {
+    for (column, act) in acts.iter().enumerate() {
+        if act.txn() == Some(txn) {
             if first.is_none() {
                 first = Some(column);
             }
@@ -157,8 +184,7 @@ fn write_mark(
     out: &mut Html,
     number: u64,
     place: Point,
-    step: Event,
-    reply: &Reply,
+    act: &Act,
 ) -> Result<(), AllocError> {
     let Point { x, y } = place;
     out.put(&[
@@ -167,9 +193,18 @@ fn write_mark(
         Part::Mark(Mark::EndTag),
     ])?;
     write_when(alloc, out, number, at(x, 15))?;
-    write_form(alloc, out, place, step.txn, reply)?;
     let middle = at(x, y.saturating_add(5));
-    svg::text(out, "letter", middle, letter_of(step.op))?;
+    match act {
+        Act::Attempt(event, reply) => {
+            write_form(alloc, out, place, event.txn, reply)?;
+            svg::text(out, "letter", middle, letter_of(event.op))?;
+        }
+        Act::Purge(_, is_purged) => {
+            let class = if *is_purged { "none" } else { "refused" };
+            write_box(out, class, place)?;
+            svg::text(out, "letter", middle, "P")?;
+        }
+    }
     out.put(&[Part::Mark(Mark::EndLink), Part::Text("\n")])
 }
 
@@ -192,9 +227,12 @@ fn write_form(
     let class = format!(in alloc; "mark {kind} c{colour}")?;
     match reply {
         Reply::Committed | Reply::Aborted => svg::circle(out, class.as_str(), place, HALF + 1),
-        _ => {
-            let corner = at(place.x.saturating_sub(HALF), place.y.saturating_sub(HALF));
-            svg::rect(out, class.as_str(), corner, 2 * HALF, 2 * HALF)
-        }
+        _ => write_box(out, class.as_str(), place),
     }
+}
+
+/// Writes a box of a class around a place.
+fn write_box(out: &mut Html, class: &str, place: Point) -> Result<(), AllocError> {
+    let corner = at(place.x.saturating_sub(HALF), place.y.saturating_sub(HALF));
+    svg::rect(out, class, corner, 2 * HALF, 2 * HALF)
 }

@@ -13,4 +13,4 @@ pub use bands::bands_of_run;
 pub use frame::{END, LOOK, page_head};
 pub use kr_locks::Memory;
 pub use kr_view_scenes::escape;
-pub use page::picture;
+pub use page::{page_of_run, picture};

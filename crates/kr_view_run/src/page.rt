@@ -1,21 +1,20 @@
 //! The page of a run.
-ghost use Rattle.std.specs.Prelude.{◌↔◌, IfOk, IsTrue, string_bytes};
+ghost use Rattle.std.specs.Prelude.{◌↔◌, IfOk, IsTrue, map, string_bytes};
 ghost use Rattle.kr_model.specs.Covers.{IsCovered};
 ghost use Rattle.kr_model.specs.Safe.{IsSafe};
 ghost use Rattle.kr_model.specs.State.{start};
 ghost use Rattle.kr_model.specs.Run.{run, programs};
 ghost use Rattle.kr_model.specs.Serial.{AreSerial};
-ghost use Rattle.kr_view_scenes.specs.Scenes.{drawn_steps};
-ghost use Rattle.kr_view_run.specs.declared.frame.TheConstants.{STEP_IDS};
-ghost use Rattle.kr_view_run.specs.Page.{AreBands, IsPage};
+ghost use Rattle.kr_view_scenes.specs.Scenes.{drawn_steps, step_of};
+ghost use Rattle.kr_view_run.specs.Page.{IsPage};
 
-use crate::bands::{body_of, run_of};
-use crate::frame::{Body, framed};
+use crate::bands::body_of;
+use crate::frame::framed;
 use kr_locks::Memory;
 use kr_protocol::Protocol;
 use kr_script::Script;
-use kr_serial::{Ran, Verdict, judge, run_any};
-use kr_view_scenes::{escape, scenes_of};
+use kr_serial::{Ran, judge, run_any};
+use kr_view_scenes::{Drawn, Run, escape, scenes_of};
 use std::alloc::Global;
 
 /// The page of a script's run under a protocol, whose table has this name, and whether the run is serializable: the programs of
@@ -40,7 +39,7 @@ pub fn picture<P: Protocol>(
     ensures covered { IsCovered (P.table protocol.now) → IfOk result (λ told. IsTrue told.1) }
 {
     let ran = run_any(alloc, protocol, script.opening(), script.steps())?;
-    judged(alloc, protocol, table, script, &ran)
+    judged(alloc, protocol, table, script, ran)
 }
 
 /// The page of a script's run, which is judged, and whether it is serializable.
@@ -49,15 +48,16 @@ fn judged<P: Protocol>(
     protocol: &P,
     table: &str,
     script: &Script,
-    ran: &Ran,
+    ran: Ran,
 ) -> Result<(String, bool), Memory>
     ensures page { IfOk result (λ told. IsPage table.now
         (drawn_steps (P.table protocol.now) script.now.opening script.now.steps) told.1 (string_bytes told.0)) }
-    ensures serial { IfOk result (λ told. IsTrue told.1 ↔ AreSerial ran.now.opening ran.now.programs) }
+    ensures serial { IfOk result (λ told. IsTrue told.1 ↔ AreSerial ran.opening ran.programs) }
 {
-    let verdict = judge(alloc, ran)?;
+    let verdict = judge(alloc, &ran)?;
     let is_serial = verdict.is_serial();
-    let page = page(alloc, protocol, table, script, ran, &verdict, is_serial)?;
+    let run = Run::of_steps(alloc, script.opening(), script.steps(), ran, verdict)?;
+    let page = page(alloc, protocol, table, script, &run, is_serial)?;
     Ok((page, is_serial))
 }
 
@@ -67,31 +67,29 @@ fn page<P: Protocol>(
     protocol: &P,
     table: &str,
     script: &Script,
-    ran: &Ran,
-    verdict: &Verdict,
+    run: &Run<'_>,
     is_serial: bool,
 ) -> Result<String, Memory>
     ensures { IfOk result (λ page. IsPage table.now
         (drawn_steps (P.table protocol.now) script.now.opening script.now.steps) is_serial (string_bytes page)) }
 {
-    let name = escape(alloc, table)?;
-    let body = shown(alloc, protocol, script, ran, verdict)?;
-    framed(alloc, name.as_str(), is_serial, &body)
+    let drawn = scenes_of(alloc, protocol, script.opening(), script.steps())?;
+    page_of_run(alloc, protocol, table, run, &drawn, is_serial)
 }
 
-/// What the page of a script's run has behind the first words of its verdict.
-fn shown<P: Protocol>(
+/// The page of a run whose verdict is this and whose drawn steps have these scenes, under a table of this name: it has a band
+/// for each of them, in their order. The only error is that a growth was refused.
+pub fn page_of_run<P: Protocol>(
     alloc: Global,
     protocol: &P,
-    script: &Script,
-    ran: &Ran,
-    verdict: &Verdict,
-) -> Result<Body, Memory>
-    ensures { IfOk result (λ body. AreBands STEP_IDS.now
-        (drawn_steps (P.table protocol.now) script.now.opening script.now.steps) (string_bytes body.bands)) }
+    table: &str,
+    run: &Run<'_>,
+    drawn: &Drawn,
+    is_serial: bool,
+) -> Result<String, Memory>
+    ensures { IfOk result (λ page. IsPage table.now (map step_of drawn.now.scenes.items) is_serial (string_bytes page)) }
 {
-    let (opening, steps) = (script.opening(), script.steps());
-    let run = run_of(opening, steps, ran, verdict);
-    let drawn = scenes_of(alloc, protocol, opening, steps)?;
-    body_of(alloc, protocol, &run, &drawn)
+    let name = escape(alloc, table)?;
+    let body = body_of(alloc, protocol, run, drawn)?;
+    framed(alloc, name.as_str(), is_serial, &body)
 }

@@ -9,14 +9,15 @@ use Rattle.kr_model.specs.Map.{Map}
 use Rattle.kr_model.specs.State.{State, start}
 use Rattle.kr_model.specs.Step.{step}
 use Rattle.kr_model.specs.Run.{run}
+use Rattle.kr_view_scenes.specs.declared.act.Act.TheVariants as act
 use Rattle.kr_view_scenes.specs.declared.run.TheConstants.{STEPS_DRAWN}
 use Rattle.kr_view_scenes.specs.declared.scene.Scene.{Scene}
 use Rattle.kr_view_scenes.specs.declared.scenes.Drawn.{Drawn}
-use Rattle.kr_view_scenes.specs.Scenes.{NumberedStep, step_of, drawn_steps}
+use Rattle.kr_view_scenes.specs.Scenes.{NumberedStep, act_of, step_of, drawn_steps}
 
 -- the steps of a run from a state, the first with this number
 abbrev pub numbered : Protocol → State → ℕ → List Event → List NumberedStep
-numbered p s n events = enumerate_from n (run p s events).history
+numbered p s n events = enumerate_from n (map act_of (run p s events).history)
 
 -- The scenes so far, then the steps that are left, are the steps of the whole run from `first`, which has the number `one` at its first step.
 pub record IsRest (p : Protocol) (first : State) (one : ℕ) (all : List Event) (now : State) (next : ℕ) (left : List Event) (scenes : List Scene) : Type 0 where
@@ -24,23 +25,23 @@ pub record IsRest (p : Protocol) (first : State) (one : ℕ) (all : List Event) 
 
 -- one more scene, and one step less
 pub one_more : (p : Protocol) (first : State) (one : ℕ) (all : List Event) (now : State) (next : ℕ) (e : Event) (left : List Event) (scenes : List Scene) (scene : Scene) (after : State)
-    → IsRest p first one all now next (e ∷ left) scenes → step_of scene ≡ (next, (e, (step p now e.txn e.op).0)) → after ≡ (step p now e.txn e.op).1
+    → IsRest p first one all now next (e ∷ left) scenes → step_of scene ≡ (next, act.Attempt e (step p now e.txn e.op).0) → after ≡ (step p now e.txn e.op).1
     → IsRest p first one all after (next + 1) left (scenes ++ scene ∷ [])
 one_more p first one all now next e left scenes scene after rest shows is_after =
-    let here : NumberedStep = (next, (e, (step p now e.txn e.op).0)) in
+    let here : NumberedStep = (next, act.Attempt e (step p now e.txn e.op).0) in
     let tail : List NumberedStep = numbered p (step p now e.txn e.op).1 (next + 1) left in
     let scenes_with : map step_of (scenes ++ scene ∷ []) ≡ map step_of scenes ++ here ∷ [] = map-append step_of scenes (scene ∷ []) ∙ ap (λ (x : NumberedStep). map step_of scenes ++ x ∷ []) shows in
     record { scenes_are = ap (λ (s : State). map step_of (scenes ++ scene ∷ []) ++ numbered p s (next + 1) left) is_after ∙ ap (λ (xs : List NumberedStep). xs ++ tail) scenes_with ∙ append_assoc (map step_of scenes) (here ∷ []) tail ∙ rest.scenes_are }
 
 -- the scene of the step at a place, behind the scenes so far
 pub one_shown : (p q : Protocol) (first : State) (one : ℕ) (all : List Event) (now after : State) (next i : ℕ) (d : Event) (scenes more : List Scene) (scene : Scene) → q ≡ p → i < length all
-    → IsRest p first one all now next (drop i all) scenes → (let e = get_or all i d in step_of scene ≡ (next, (e, (step q now e.txn e.op).0))) → (let e = get_or all i d in after ≡ (step q now e.txn e.op).1)
+    → IsRest p first one all now next (drop i all) scenes → (let e = get_or all i d in step_of scene ≡ (next, act.Attempt e (step q now e.txn e.op).0)) → (let e = get_or all i d in after ≡ (step q now e.txn e.op).1)
     → more ≡ scenes ++ scene ∷ [] → IsRest p first one all after (next + 1) (drop (i + 1) all) more
 one_shown p q first one all now after next i d scenes more scene same within rest shows is_after items =
     let e = get_or all i d in
     let left = drop (i + 1) all in
     let here : IsRest p first one all now next (e ∷ left) scenes = subst (λ (es : List Event). IsRest p first one all now next es scenes) (drop_more all i d within) rest in
-    let shown : step_of scene ≡ (next, (e, (step p now e.txn e.op).0)) = shows ∙ ap (λ (t : Protocol). (next, (e, (step t now e.txn e.op).0))) same in
+    let shown : step_of scene ≡ (next, act.Attempt e (step p now e.txn e.op).0) = shows ∙ ap (λ (t : Protocol). (let x : NumberedStep = (next, act.Attempt e (step t now e.txn e.op).0) in x)) same in
     let left_is : after ≡ (step p now e.txn e.op).1 = is_after ∙ ap (λ (t : Protocol). (step t now e.txn e.op).1) same in
     subst (λ (xs : List Scene). IsRest p first one all after (next + 1) left xs) (sym items) (one_more p first one all now next e left scenes scene after here shown left_is)
 

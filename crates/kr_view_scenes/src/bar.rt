@@ -25,8 +25,8 @@ pub struct BarLine {
 pub struct Bar {
     pub line: BarLine,
     pub column: usize,
-    /// How many columns the bar reaches over: a lock protects its key and the gap from the next present key below. 0 on an
-    /// absent key, where it protects the place of the key alone.
+    /// How many columns the bar reaches over: a lock protects its key and the gap from the next name below. 0 on an absent key,
+    /// where it protects the place of the key alone.
     pub reach: usize,
     /// The name of the mode.
     pub mode: String,
@@ -67,13 +67,13 @@ pub fn colour_of(txn: Txn) -> u32 {
 /// How many columns a lock on the name of a column reaches over.
 fn reach_of(keys: &[KeyState], column: usize) -> usize {
     if let Some(key) = keys.get(column) {
-        if key.value().is_none() {
+        if !key.is_name() {
             return 0;
         }
     }
     let mut reach: usize = 1;
     for key in keys.get(..column).unwrap_or(&[]) {
-        reach = if key.value().is_some() {
+        reach = if key.is_name() {
             1
         } else {
             reach.saturating_add(1)

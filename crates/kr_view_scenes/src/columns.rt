@@ -116,7 +116,7 @@ fn keys_behind(alloc: Global, names: &BTreeSet<u64>, hidden: usize) -> Result<Ve
 impl Columns {
     /// The columns of these pairs, of the names that are locked, of the keys that these steps name, and of those that may
     /// return; of many keys the last ones.
-    pub fn new(
+    pub(crate) fn of_steps(
         alloc: Global,
         pairs: &[(u64, u64)],
         locks: &[((Name, Txn), Mode)],
@@ -125,8 +125,13 @@ impl Columns {
     ) -> Result<Columns, Memory> {
         let mut names = BTreeSet::new(alloc);
         add_keys(&mut names, pairs, locks, steps, back)?;
+        Columns::new(alloc, &names)
+    }
+
+    /// The columns of these keys, of many the last ones. The only error is that a growth was refused.
+    pub fn new(alloc: Global, names: &BTreeSet<u64>) -> Result<Columns, Memory> {
         let hidden = names.len().saturating_sub(NAMES_DRAWN - 1);
-        let keys = keys_behind(alloc, &names, hidden)?;
+        let keys = keys_behind(alloc, names, hidden)?;
         Ok(Columns { keys, hidden })
     }
 

@@ -18,18 +18,19 @@ pub fn write_commits(run: &Run<'_>, out: &mut Html) -> Result<(), AllocError> {
         Part::Text("Commit order"),
         Part::Mark(Mark::EndHeading),
     ])?;
-    if run.programs.is_empty() {
+    let programs = run.programs.as_slice();
+    if programs.is_empty() {
         return out.put(&[
             Part::Mark(Mark::Paragraph),
             Part::Text("No transaction committed."),
             Part::Mark(Mark::EndParagraph),
         ]);
     }
-    let hidden = run.programs.len().saturating_sub(PROGRAMS_SHOWN);
+    let hidden = programs.len().saturating_sub(PROGRAMS_SHOWN);
     write_headings(hidden, out)?;
     let difference = run.difference();
     let mut differed = false;
-    for (at, program) in run.programs.iter().enumerate() {
+    for (at, program) in programs.iter().enumerate() {
         if at >= hidden {
             write_program(program, difference, differed, out)?;
         }

@@ -89,7 +89,9 @@ impl Layout {
             width = width.max(text_width(digits(*key)).saturating_add(FREE));
         }
         for scene in scenes {
-            left = left.max(label_width(scene.event.txn));
+            if let Some(txn) = scene.act.txn() {
+                left = left.max(label_width(txn));
+            }
             for key in &scene.keys {
                 width = width.max(key_width(*key).saturating_add(FREE));
             }

@@ -3,6 +3,7 @@
 //! numbers and texts, which can't be markup.
 #![tactic(auto)]
 
+mod act;
 mod asked;
 mod bar;
 mod columns;
@@ -18,9 +19,10 @@ mod summary;
 mod text;
 mod words;
 
+pub use act::Act;
 pub use asked::{Asked, Scans};
 pub use bar::{Bar, BarKind, BarLine, colour_of};
-pub use columns::Columns;
+pub use columns::{Columns, key_of};
 pub use commits::write_commits;
 pub use html::Html;
 pub use kr_locks::Memory;
@@ -28,7 +30,7 @@ pub use layout::{Layout, bar_width, digits, text_width};
 pub use mark::Mark;
 pub use part::Part;
 pub use run::{Difference, Run, STEPS_DRAWN};
-pub use scene::{KeyState, Scene};
+pub use scene::{KeyState, Keys, Scene, Shown, Standing, shown_of};
 pub use scenes::{Drawn, scenes_of};
 pub use summary::write_summary;
 pub use text::escape;

@@ -1,26 +1,27 @@
 //! A run as a page tells it, and where its steps are found.
 
+use crate::act::{Act, acts_of};
 use crate::{Html, Mark, Part};
-use kr_model::{Event, Op, Program, Reply, Txn};
-use kr_serial::Verdict;
-use std::alloc::AllocError;
+use kr_locks::Memory;
+use kr_model::{Event, Op, Programs, Reply, Txn, Txns};
+use kr_serial::{Ran, Verdict};
+use std::alloc::{AllocError, Global};
 
 /// How many steps are drawn.
 pub const STEPS_DRAWN: usize = 200;
 
 /// A run with what is known of it.
-#[derive(Clone, Copy)]
+#[derive(Drop)]
 pub struct Run<'a> {
     pub opening: &'a [(u64, u64)],
-    pub steps: &'a [Event],
-    /// The reply to each step.
-    pub replies: &'a [Reply],
+    /// Its steps with what came of them, in order.
+    pub acts: Vec<Act>,
     /// What each transaction that committed did, in commit order.
-    pub programs: &'a [Program],
-    pub unfinished: &'a [Txn],
-    pub verdict: &'a Verdict,
-    /// How many steps come before those that are drawn.
-    pub skipped: usize,
+    pub programs: Programs,
+    pub unfinished: Txns,
+    pub verdict: Verdict,
+    /// Whether a deleted key stays as a ghost.
+    pub has_ghosts: bool,
 }
 
 /// The first operation whose answer isn't that of a serial run.
@@ -46,15 +47,46 @@ fn counts(op: Op) -> bool {
     }
 }
 
-/// Whether a step was done.
-fn is_granted(reply: &Reply) -> bool {
-    !matches!(reply, Reply::Blocked(_) | Reply::Refused(_))
+/// The operation of a step, where it is one of this transaction that was done.
+fn granted_to(txn: Txn, act: &Act) -> Option<Op> {
+    match act {
+        Act::Attempt(_, Reply::Blocked(_) | Reply::Refused(_)) => None,
+        Act::Attempt(event, _) if event.txn == txn => Some(event.op),
+        _ => None,
+    }
+}
+
+impl<'a> Run<'a> {
+    /// The run of these steps from an opening map, which left this, with the verdict on it. The only error is that a growth was
+    /// refused.
+    pub fn of_steps(
+        alloc: Global,
+        opening: &'a [(u64, u64)],
+        steps: &[Event],
+        ran: Ran,
+        verdict: Verdict,
+    ) -> Result<Run<'a>, Memory> {
+        let acts = acts_of(alloc, steps, ran.replies.into_vec())?;
+        Ok(Run {
+            opening,
+            acts,
+            programs: ran.programs,
+            unfinished: ran.unfinished,
+            verdict,
+            has_ghosts: false,
+        })
+    }
 }
 
 impl Run<'_> {
+    /// How many steps come before those that are drawn.
+    pub fn skipped(&self) -> usize {
+        self.acts.len().saturating_sub(STEPS_DRAWN)
+    }
+
     /// The first operation whose answer isn't that of a serial run, if there is one.
     pub fn difference(&self) -> Option<Difference<'_>> {
-        match self.verdict {
+        match &self.verdict {
             Verdict::Serial => None,
             Verdict::NotSerial {
                 txn,
@@ -79,19 +111,19 @@ impl Run<'_> {
         let mut found = difference;
         let mut count: u64 = 0;
         let mut number: u64 = 0;
-        for (step, reply) in self.steps.iter().zip(self.replies.iter()) {
+        for act in &self.acts {
             number = number.saturating_add(1);
-            if step.txn == txn && is_granted(reply) {
-                if counts(step.op) {
+            if let Some(op) = granted_to(txn, act) {
+                if counts(op) {
                     count = count.saturating_add(1);
                     if count == operation {
                         found.asked = number;
                     }
                 }
-                if count == operation && (counts(step.op) || step.op == Op::Go) {
+                if count == operation && (counts(op) || op == Op::Go) {
                     found.answered = number;
                 }
-                if step.op == Op::Commit {
+                if op == Op::Commit {
                     found.committed = number;
                 }
             }
@@ -101,7 +133,7 @@ impl Run<'_> {
 
     /// Writes the name of a step, with a link to its band if it is drawn.
     pub fn write_step(&self, out: &mut Html, number: u64) -> Result<(), AllocError> {
-        if number > self.skipped as u64 {
+        if number > self.skipped() as u64 {
             out.put(&[
                 Part::Mark(Mark::Link),
                 Part::Number(number),

@@ -4,12 +4,14 @@ ghost use Rattle.std.specs.List.{enumerate_from};
 ghost use Rattle.kr_model.specs.Map.{IsMap};
 ghost use Rattle.kr_model.specs.Step.{step};
 ghost use Rattle.kr_model.specs.Run.{run};
-ghost use Rattle.kr_view_scenes.specs.Scenes.{step_of, drawn_steps};
+ghost use Rattle.kr_view_scenes.specs.Scenes.{act_of, step_of, drawn_steps};
+ghost use Rattle.kr_view_scenes.specs.declared.act.Act.TheVariants as act_is;
 
+use crate::act::{Act, key_named};
 use crate::asked::Scans;
 use crate::columns::{Columns, keys_that_may_return};
 use crate::run::STEPS_DRAWN;
-use crate::scene::{Scene, Shown, Standing, shown_of};
+use crate::scene::{Keys, Scene, Shown, Standing, shown_of};
 use kr_index::{Ordered, Tree};
 use kr_locks::{Buckets, Holdings, Memory};
 use kr_machine::Machine;
@@ -55,7 +57,7 @@ fn scenes_on<P: Protocol, I: Ordered, L: Holdings>(
     requires at_rest { machine.old.pending ≡ None }
     requires numbers { length earlier.now + length steps.now < 2 ^ 64 }
     ensures { IfOk result (λ drawn. let p = P.table machine.old.protocol.now in map step_of drawn.scenes.items
-        ≡ enumerate_from (length earlier.now + 1) (run p (run p machine.old.state earlier.now).state steps.now).history) }
+        ≡ enumerate_from (length earlier.now + 1) (map act_of (run p (run p machine.old.state earlier.now).state steps.now).history)) }
 {
     let replies = replay(alloc, &mut *machine, earlier)?;
     drawn_behind(alloc, protocol, machine, earlier, replies.as_slice(), steps)
@@ -73,7 +75,7 @@ fn drawn_behind<P: Protocol, I: Ordered, L: Holdings>(
     requires at_rest { machine.old.pending ≡ None }
     requires numbers { length earlier.now + length steps.now < 2 ^ 64 }
     ensures { IfOk result (λ drawn. map step_of drawn.scenes.items
-        ≡ enumerate_from (length earlier.now + 1) (run (P.table machine.old.protocol.now) machine.old.state steps.now).history) }
+        ≡ enumerate_from (length earlier.now + 1) (map act_of (run (P.table machine.old.protocol.now) machine.old.state steps.now).history)) }
 {
     let mut scans = scans_behind(alloc, earlier, replies)?;
     let columns = columns_at(alloc, &*machine, earlier, replies, steps)?;
@@ -111,7 +113,7 @@ fn columns_at<P: Protocol, I: Ordered, L: Holdings>(
     let pairs = machine.index()?;
     let locks = machine.locks()?;
     let back = keys_that_may_return(alloc, earlier, replies)?;
-    Columns::new(
+    Columns::of_steps(
         alloc,
         pairs.as_slice(),
         locks.as_slice(),
@@ -133,7 +135,7 @@ fn scenes_behind<P: Protocol, I: Ordered, L: Holdings>(
     requires at_rest { machine.old.pending ≡ None }
     requires numbers { done + length steps.now < 2 ^ 64 }
     ensures { IfOk result (λ scenes. map step_of scenes.items
-        ≡ enumerate_from (done + 1) (run (P.table machine.old.protocol.now) machine.old.state steps.now).history) }
+        ≡ enumerate_from (done + 1) (map act_of (run (P.table machine.old.protocol.now) machine.old.state steps.now).history)) }
 {
     let mut number = done as u64;
     let mut scenes = Vec::new(alloc);
@@ -160,7 +162,7 @@ fn scene_of<P: Protocol, I: Ordered, L: Holdings>(
     ensures protocol { machine.new.protocol ≡ machine.old.protocol }
     ensures state { OnOk result (machine.new.state ≡ (step (P.table machine.old.protocol.now) machine.old.state event.txn event.op).1) }
     ensures scene { IfOk result (λ scene. step_of scene
-        ≡ (number, (event, (step (P.table machine.old.protocol.now) machine.old.state event.txn event.op).0))) }
+        ≡ (number, act_is.Attempt event (step (P.table machine.old.protocol.now) machine.old.state event.txn event.op).0)) }
 {
     let before = machine.index()?;
     let reply = machine.step(event.txn, event.op);
@@ -176,7 +178,7 @@ fn scene_of<P: Protocol, I: Ordered, L: Holdings>(
         columns,
         scans,
     )?;
-    Ok(Scene::new(number, event, reply, shown))
+    Ok(Scene::new(number, Act::Attempt(event, reply), shown))
 }
 
 /// What is shown of a step that a machine has done, from these pairs on.
@@ -193,18 +195,19 @@ fn shown_left<P: Protocol, I: Ordered, L: Holdings>(
 {
     let after = machine.index()?;
     let locks = machine.locks()?;
+    let (event, reply) = step;
+    let pairs = after.as_slice();
+    let asked = scans.take(alloc, protocol, pairs, locks.as_slice(), event, reply)?;
     let standing = Standing {
-        before,
-        after: after.as_slice(),
+        before: present(before),
+        after: present(pairs),
         locks: locks.as_slice(),
     };
-    let asked = scans.take(
-        alloc,
-        protocol,
-        standing.after,
-        standing.locks,
-        step.0,
-        step.1,
-    )?;
-    shown_of(alloc, protocol, columns, step, standing, asked)
+    let named = (Some(event.txn), key_named(event, reply));
+    shown_of(alloc, protocol, columns, named, standing, asked)
+}
+
+/// The keys of an index that has no ghosts.
+fn present(pairs: &[(u64, u64)]) -> Keys<'_> {
+    Keys { pairs, ghosts: &[] }
 }

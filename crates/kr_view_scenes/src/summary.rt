@@ -1,5 +1,6 @@
 //! The top of a page: what the verdict says behind its first words, the opening map, and what isn't drawn.
 
+use crate::act::Act;
 use crate::columns::NAMES_DRAWN;
 use crate::run::{Difference, Run, STEPS_DRAWN};
 use crate::words::{write_op, write_pairs, write_reply};
@@ -13,7 +14,7 @@ pub fn write_summary(run: &Run<'_>, hidden: usize, out: &mut Html) -> Result<(),
     out.put(&[Part::Mark(Mark::Paragraph), Part::Text("Opening map: ")])?;
     write_pairs(out, run.opening)?;
     write_end(out)?;
-    write_unfinished(run.unfinished, out)?;
+    write_unfinished(run.unfinished.as_slice(), out)?;
     write_limits(run, hidden, out)
 }
 
@@ -30,7 +31,7 @@ fn write_last(out: &mut Html, sentence: &str) -> Result<(), AllocError> {
 
 /// Writes what the verdict says behind its first words.
 fn write_verdict(run: &Run<'_>, out: &mut Html) -> Result<(), AllocError> {
-    match (run.difference(), run.programs.len()) {
+    match (run.difference(), run.programs.as_slice().len()) {
         (Some(difference), _) => write_difference(run, difference, out),
         (None, 0) => write_last(out, "No transaction committed"),
         (None, 1) => write_last(
@@ -49,8 +50,10 @@ fn write_verdict(run: &Run<'_>, out: &mut Html) -> Result<(), AllocError> {
 
 /// The operation of a step.
 fn operation_of(run: &Run<'_>, number: u64) -> Option<Op> {
-    let step = run.steps.get((number as usize).checked_sub(1)?)?;
-    Some(step.op)
+    match run.acts.get((number as usize).checked_sub(1)?)? {
+        Act::Attempt(event, _) => Some(event.op),
+        Act::Purge(_, _) => None,
+    }
 }
 
 /// Writes which operation was answered otherwise than in a serial run.
@@ -124,7 +127,7 @@ fn write_unfinished(unfinished: &[Txn], out: &mut Html) -> Result<(), AllocError
 
 /// Writes what isn't drawn.
 fn write_limits(run: &Run<'_>, hidden: usize, out: &mut Html) -> Result<(), AllocError> {
-    let skipped = run.skipped;
+    let skipped = run.skipped();
     if skipped > 0 {
         write_limit(out, STEPS_DRAWN, " steps are drawn: ", skipped)?;
         write_last(out, " come before them")?;

@@ -41,7 +41,8 @@ pub const UNSAFE: &str = "<p class=\"verdict no\"><b>✗</b> ";
 /// From the verdict to the tables.
 pub const BEHIND_VERDICT: &str = "</p>\n";
 
-/// The page under this name, with this verdict, and with what is told of the table behind it.
+/// The page under this name, with this verdict, both escaped, and with what is told of the table behind it. The only error is that a
+/// growth was refused.
 pub fn framed(
     alloc: Global,
     name: &str,

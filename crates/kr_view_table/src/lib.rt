@@ -12,5 +12,8 @@ mod rules;
 mod schedule;
 mod told;
 
+pub use frame::framed;
 pub use kr_model::Memory;
+pub use matrices::{Matrix, matrix_text};
 pub use page::table_page;
+pub use rules::{request, rules_text};

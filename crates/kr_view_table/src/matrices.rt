@@ -43,7 +43,8 @@ pub const FITS_APART: &str = "<td class=\"fits apart\">(✓)";
 
 pub const CLASH_APART: &str = "<td class=\"clash apart\">(✗)";
 
-/// A matrix, with a row and a column for each mode.
+/// A matrix, with a row and a column for each mode, and the numbers of the causes that blame an entry. The only error is that a growth
+/// was refused.
 pub fn matrix_text<P: Protocol>(
     alloc: Global,
     protocol: &P,

@@ -7,7 +7,7 @@ use crate::causes::{causes, heading};
 use crate::covers::covers;
 use crate::frame::framed;
 use crate::matrices::{Matrix, matrix_text};
-use crate::rules::rules;
+use crate::rules::rules_text;
 use crate::told::causes_of;
 use kr_explain_core::{Explanation, explain, verdict_text};
 use kr_model::Memory;
@@ -59,7 +59,7 @@ fn tables<P: Protocol>(
     let causes = causes_of(explanation);
     let compatible = matrix_text(alloc, protocol, explanation, Matrix::Compatible)?;
     let converted = matrix_text(alloc, protocol, explanation, Matrix::Converted)?;
-    let rules = rules(alloc, protocol, causes)?;
+    let rules = rules_text(alloc, protocol, causes)?;
     let covers = covers(alloc, protocol)?;
     let heading = heading(causes.len());
     format!(in alloc; "{compatible}{converted}{rules}{covers}{heading}")

@@ -21,8 +21,9 @@ pub const RULES: &str = "<h2>Rules</h2>
 <tbody>
 ";
 
-/// The rules, with a row for each operation.
-pub fn rules<P: Protocol>(
+/// The rules, with a row for each operation, and the numbers of the causes that blame an entry. The only error is that a growth was
+/// refused.
+pub fn rules_text<P: Protocol>(
     alloc: Global,
     protocol: &P,
     causes: &[Explained],
@@ -210,8 +211,9 @@ fn clause<P: Protocol>(
     format!(in alloc; "<p>{request}{owns}{badges}</p>")
 }
 
-/// A request.
-fn request<P: Protocol>(
+/// A request, as the rules have it: its mode, and how long the lock is held; or that there is none. The only error is that a growth
+/// was refused.
+pub fn request<P: Protocol>(
     alloc: Global,
     protocol: &P,
     asked: Option<(Mode, Span)>,

@@ -2,7 +2,7 @@ use Rattle.std.specs.Prelude.{◌++◌, string_bytes, codes, flat_map}
 use Rattle.kr_view_table.specs.declared.rules.TheConstants.{RULES}
 use Rattle.kr_view_table.specs.Rules.{offered, rule_row, rules_words}
 use Rattle.kr_view_table.proofs.Put.{same_text, two}
-use Rattle.kr_view_table.proofs.rules.rules.Goals as goal
+use Rattle.kr_view_table.proofs.rules.rules_text.Goals as goal
 
 pub returns : goal.returns
 returns g c =

@@ -1,0 +1,4 @@
+pub mod Ghosts
+pub mod Covers
+pub mod Cases
+pub mod Page
