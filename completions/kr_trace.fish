@@ -14,6 +14,7 @@ end
 
 complete -c kr_trace -f
 complete -c kr_trace -n '__kr_trace_at 1' -a '@kvl @kvl-update @im @range-key' -d 'bundled table'
+complete -c kr_trace -n '__kr_trace_at 1' -a '@record-gap @range-ghost @next-key-ghost' -d 'bundled table with ghosts'
 complete -c kr_trace -n '__kr_trace_at 1' -a '(__fish_complete_suffix .toml | string match -r ".*(?:/|\.toml)\$")'
 complete -c kr_trace -n '__kr_trace_at 1' -l serial -d 'no table, and whether the answers are serializable in commit order'
 complete -c kr_trace -n '__kr_trace_at 1' -l some-order -d 'no table, and whether they are in some order'

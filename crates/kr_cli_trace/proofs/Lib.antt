@@ -15,3 +15,4 @@ mod OrderLaws
 mod RiseLaws
 mod HeldLaws
 mod StopLaws
+pub mod GhostLaws

@@ -12,3 +12,4 @@ pub mod Orders
 pub mod Reading
 pub mod Endings
 pub mod Program
+pub mod Ghosts

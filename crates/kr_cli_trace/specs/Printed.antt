@@ -3,6 +3,10 @@ use Rattle.std.specs.Prelude.{◌≡◌, ◌≢◌, ◌⊎◌, ◌↔◌, ◌<�
 use Rattle.std.specs.Global.{Global}
 use Rattle.std.specs.Io.KnownBytes.{Appends}
 use Rattle.kr_model.specs.Protocol.{Protocol}
+use Rattle.kr_ghost.specs.Protocol.{GhostProtocol}
+use Rattle.kr_ghost_follow.specs.Following.{Stand}
+use Rattle.kr_ghost_follow.specs.Points.{Point}
+use Rattle.kr_ghost_follow.specs.Report.{ghost_part_text}
 use Rattle.kr_trace_lines.specs.declared.deviation.Deviation.{Deviation}
 use Rattle.kr_trace_lines.specs.declared.observed.Observed.{Observed}
 use Rattle.kr_model.specs.declared.Reply.{Reply}
@@ -16,9 +20,10 @@ use Rattle.kr_cli_trace.specs.Parts.{Part}
 use Rattle.kr_cli_trace.specs.Tales.{committed_in}
 use Rattle.kr_cli_trace.specs.OnePart.{shown_text}
 
--- What is asked of each part: whether it is as a table has it, whose modes have these names, and serializable in commit order; whether it is serializable in commit order; or in some order; or, of the part with this number alone, the first of these as a text.
+-- What is asked of each part: whether it is as a table without ghosts or with ghosts has it, whose modes have these names, and serializable in commit order; whether it is serializable in commit order; or in some order; or, of the part with this number alone, the first of these as a text.
 pub data Question : Type 0 where
   against : Protocol → List (List ℕ) → Question
+  against_ghosts : GhostProtocol → List (List ℕ) → Question
   in_commit_order : Question
   in_some_order : Question
   one_part : Protocol → List (List ℕ) → ℕ → Question
@@ -93,6 +98,10 @@ IsPrinted (against p names) n s text well =
     (v : TraceVerdict) × (IsVerdict s.opening (committed_in s.steps) v
     × ((text ≡ part_text names n (deviation_in p s) (queued_in p s) s.tests v ++ 10 ∷ [])
     × (IsTrue well ↔ ((deviation_in p s ≡ None) × IsSerialVerdict v))))
+IsPrinted (against_ghosts p names) n s text well =
+    (points : List Point) × (queued : ℕ) × (found : Option Deviation) × (cut : Option ℕ) × (v : TraceVerdict)
+    × Stand p s.opening s.steps points queued found × IsVerdict s.opening (committed_in s.steps) v
+    × (text ≡ ghost_part_text names n found queued (length points) cut s.tests v ++ 10 ∷ []) × (IsTrue well ↔ ((found ≡ None) × IsSerialVerdict v))
 IsPrinted (one_part p names asked) n s text well =
     ((n ≡ asked) × ((v : TraceVerdict) × (IsVerdict s.opening (committed_in s.steps) v
     × ((text ≡ shown_text names n s (deviation_in p s) v) × (IsTrue well ↔ ((deviation_in p s ≡ None) × IsSerialVerdict v))))))

@@ -5,11 +5,15 @@ use Rattle.kr_cli.specs.declared.endings.Ending.{Ending}
 use Rattle.kr_cli.specs.declared.endings.Ending.TheVariants.{NotUnderstood, Memory, Place, Output, Told}
 use Rattle.kr_cli.specs.declared.tables.AnyTable.{AnyTable}
 use Rattle.kr_cli.specs.Lines.{told_line, unreadable_line}
-use Rattle.kr_cli.specs.Named.{NamesTable, TellsNoTable}
+use Rattle.kr_cli.specs.Named.{NamesTable}
 use Rattle.kr_cli.specs.Tables.{names_of, table_of}
+use Rattle.kr_cli_ghost.specs.Named.{Names, NamesGhosts, TellsNone}
+use Rattle.kr_cli_ghost.specs.declared.named.Named.{Named}
+use Rattle.kr_cli_ghost.specs.declared.tables.AnyGhostTable.{AnyGhostTable}
 use Rattle.kr_cli_trace.specs.Endings.{IsStopped, IsThrough}
 use Rattle.kr_cli_trace.specs.Parts.{Part}
-use Rattle.kr_cli_trace.specs.Printed.{IsPrinted, against, in_commit_order, in_some_order, one_part}
+use Rattle.kr_cli_trace.specs.Ghosts.{IsLawfulNamed, question_of, untold_text}
+use Rattle.kr_cli_trace.specs.Printed.{IsPrinted, in_commit_order, in_some_order, one_part}
 use Rattle.kr_cli_trace.specs.Words.{AskNothing, IsAsked, words_of}
 use Rattle.kr_cli_trace.specs.declared.words.Asked.{Asked}
 use Rattle.kr_cli_trace.specs.declared.words.Asked.TheVariants as asked
@@ -25,7 +29,7 @@ Holds P may_name trace old new parts well = IsThrough P (λ lines. may_name trac
 -- What is asked was written of a trace, and the answer is whether all is well with each of its parts.
 abbrev pub Answers : (List ℕ → Option (List ℕ) → Type 0) → (List ℕ → Option (List (List ℕ)) → Type 0) → Asked → Option (List ℕ) → Option (List ℕ) → Bool → Type 0
 Answers may_give may_name (asked.Both table trace) old new well =
-    (t : AnyTable) × (NamesTable may_give table.now t × (IsLawful (table_of t) × ((parts : ℕ) × Holds (IsPrinted (against (table_of t) (names_of t))) may_name trace.now old new parts well)))
+    (t : Named) × (Names may_give table.now t × (IsLawfulNamed t × ((parts : ℕ) × Holds (IsPrinted (question_of t)) may_name trace.now old new parts well)))
 Answers may_give may_name (asked.OnePart table trace n) old new well =
     (t : AnyTable) × (NamesTable may_give table.now t × (IsLawful (table_of t) × ((parts : ℕ) × ((n ≤ parts) × Holds (IsPrinted (one_part (table_of t) (names_of t) n)) may_name trace.now old new parts well))))
 Answers may_give may_name (asked.Serial trace) old new well = (parts : ℕ) × Holds (IsPrinted in_commit_order) may_name trace.now old new parts well
@@ -53,11 +57,12 @@ TellsOnePart P may_name trace n old new told =
 -- The line says why what is asked wasn't written, or not whole.
 abbrev pub Tells : (List ℕ → Option (List ℕ) → Type 0) → (List ℕ → Option (List (List ℕ)) → Type 0) → Asked → Option (List ℕ) → Option (List ℕ) → List ℕ → Type 0
 Tells may_give may_name (asked.Both table trace) old new told =
-    (TellsNoTable may_give table.now told × (new ≡ old))
-    ⊎ ((t : AnyTable) × (NamesTable may_give table.now t × TellsTrace (IsPrinted (against (table_of t) (names_of t))) may_name trace.now old new told))
+    (TellsNone may_give table.now told × (new ≡ old))
+    ⊎ ((t : Named) × (Names may_give table.now t × TellsTrace (IsPrinted (question_of t)) may_name trace.now old new told))
 Tells may_give may_name (asked.OnePart table trace n) old new told =
-    (TellsNoTable may_give table.now told × (new ≡ old))
-    ⊎ ((t : AnyTable) × (NamesTable may_give table.now t × TellsOnePart (IsPrinted (one_part (table_of t) (names_of t) n)) may_name trace.now n old new told))
+    (TellsNone may_give table.now told × (new ≡ old))
+    ⊎ (((t : AnyTable) × (NamesTable may_give table.now t × TellsOnePart (IsPrinted (one_part (table_of t) (names_of t) n)) may_name trace.now n old new told))
+    ⊎ ((t : AnyGhostTable) × (NamesGhosts may_give table.now t × ((told ≡ told_line table.now untold_text) × (new ≡ old)))))
 Tells may_give may_name (asked.Serial trace) old new told = TellsTrace (IsPrinted in_commit_order) may_name trace.now old new told
 Tells may_give may_name (asked.SomeOrder trace) old new told = TellsTrace (IsPrinted in_some_order) may_name trace.now old new told
 

@@ -5,6 +5,7 @@
 mod asking;
 mod faults;
 mod follow;
+mod ghosts;
 mod lines;
 mod manual;
 mod one_part;

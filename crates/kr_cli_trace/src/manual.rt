@@ -9,7 +9,9 @@ pub const USAGE: &str =
     "usage: kr_trace TABLE TRACE [--tell N] | --serial TRACE | --some-order TRACE";
 
 /// What the words mean, and the statuses.
-pub const WORDS: &str = r#"  TABLE         @kvl, @kvl-update, @im, @range-key, or a file in TOML
+pub const WORDS: &str =
+    r#"  TABLE         @kvl, @kvl-update, @im, @range-key, @record-gap, @range-ghost,
+                @next-key-ghost, or a file in TOML
   TRACE         a file, or /dev/stdin: a JSON value on each line, each step with
                 the engine's reply; a line is printed for each part
   --tell N      no lines: part N, from 1, as a text, with the line that differs

@@ -10,13 +10,18 @@ ghost use Rattle.kr_cli.specs.Questions.{IsQuestion, IsNoQuestion};
 ghost use Rattle.kr_cli.specs.declared.endings.Ending.{Ending};
 ghost use Rattle.kr_cli.specs.declared.endings.Ending.TheVariants as ending;
 ghost use Rattle.kr_cli.specs.declared.questions.Question.{Question};
+ghost use Rattle.kr_cli.specs.Tables.{names_of, table_of};
+ghost use Rattle.kr_model.specs.Protocol.{IsLawful};
 ghost use Rattle.kr_cli_trace.specs.Endings.{StopsSo};
+ghost use Rattle.kr_cli_trace.specs.Ghosts.{question_of};
+ghost use Rattle.kr_cli_trace.specs.Printed.{IsPrinted, one_part};
 ghost use Rattle.kr_cli_trace.specs.declared.words.Asked.TheVariants as asked;
 ghost use Rattle.kr_cli_trace.specs.Program.{Answers, AnswersAsked, Explains, Holds, Tells, TellsOnePart, TellsTrace, no_part_text};
 ghost use Rattle.kr_cli_trace.specs.Words.{AskNothing, AskNoTrace};
 
 use crate::asking::Asks;
 use crate::follow::Against;
+use crate::ghosts::AgainstGhosts;
 use crate::manual::{MANUAL, NAME, USAGE, WORDS};
 use crate::one_part::OnePart;
 use crate::orders::InSomeOrder;
@@ -24,8 +29,9 @@ use crate::serial::InCommitOrder;
 use crate::source::Traces;
 use crate::trace::read_trace;
 use crate::words::{Asked, read_words};
-use kr_cli::{Ending, FileFault, Files, VERSION, lemma_lawful, question_in, unreadable};
-use kr_cli_diagnosis::table_at;
+use kr_cli::{AnyTable, Ending, FileFault, Files, VERSION, lemma_lawful, question_in, unreadable};
+use kr_cli_finding::named_with_help;
+use kr_cli_ghost::Named;
 use kr_protocol::Protocol;
 use kr_sink::Sink;
 use std::alloc::Global;
@@ -115,9 +121,28 @@ fn hold_against<R: std::rt::Files + AllocGlobal, F: Files + Traces<R>, W: Sink>(
     ensures unhelped { OnOk result (help.new ≡ help.old) }
 {
     let (word, trace) = words;
-    let table = table_at(rt, word, files, help)?;
-    lemma_lawful(&table);
-    read_all(rt, files, trace, &Against { protocol: &table }, out)
+    let table = named_with_help(rt, word, files, help)?;
+    hold_named(rt, &table, trace, files, out)
+}
+
+/// Holds the trace that a word names against a table, with ghosts or without.
+fn hold_named<R: std::rt::Files + AllocGlobal, F: Traces<R>, W: Sink>(
+    rt: &R,
+    table: &Named,
+    trace: &str,
+    files: &F,
+    out: &mut W,
+) -> Result<bool, Ending>
+    ensures holds { IfOk result (λ well. (parts : ℕ) × Holds (IsPrinted (question_of table.now)) (F.may_name files.now) trace.now (W.taken out.old) (W.taken out.new) parts well) }
+    ensures err { IfErr result (StopsSo (TellsTrace (IsPrinted (question_of table.now)) (F.may_name files.now) trace.now (W.taken out.old) (W.taken out.new))) }
+    ensures cause { IfErr result (λ e. IsTrue (is_output e) → HasCause (W.failures out.old) (W.failures out.new)) }
+{
+    match table {
+        Named::Table(table) => { read_all(rt, files, trace, &Against { protocol: table }, out) }
+        Named::Ghosts(table) => {
+            read_all(rt, files, trace, &AgainstGhosts { protocol: table }, out)
+        }
+    }
 }
 
 /// Prints the part of this number as a text, of the trace that the second word names, held against the table that the first
@@ -137,10 +162,33 @@ fn print_part<R: std::rt::Files + AllocGlobal, F: Files + Traces<R>, W: Sink>(
     ensures unhelped { OnOk result (help.new ≡ help.old) }
 {
     let (word, trace) = words;
-    let table = table_at(rt, word, files, help)?;
-    lemma_lawful(&table);
+    let table = named_with_help(rt, word, files, help)?;
+    match table {
+        Named::Table(table) => print_part_of(rt, &table, trace, number, files, out),
+        Named::Ghosts(_) => Err(Ending::told(rt.alloc(), word, UNTOLD)),
+    }
+}
+
+/// What is told of a table with ghosts where one part is asked for as a text.
+const UNTOLD: &str = "--tell takes no table with ghosts yet";
+
+/// Prints the part of this number as a text, of the trace that a word names, held against a table without ghosts.
+fn print_part_of<R: std::rt::Files + AllocGlobal, F: Traces<R>, W: Sink>(
+    rt: &R,
+    table: &AnyTable,
+    trace: &str,
+    number: usize,
+    files: &F,
+    out: &mut W,
+) -> Result<bool, Ending>
+    ensures lawful { IsLawful (table_of table.now) }
+    ensures holds { IfOk result (λ well. (parts : ℕ) × ((number ≤ parts) × Holds (IsPrinted (one_part (table_of table.now) (names_of table.now) number)) (F.may_name files.now) trace.now (W.taken out.old) (W.taken out.new) parts well)) }
+    ensures err { IfErr result (StopsSo (TellsOnePart (IsPrinted (one_part (table_of table.now) (names_of table.now) number)) (F.may_name files.now) trace.now number (W.taken out.old) (W.taken out.new))) }
+    ensures cause { IfErr result (λ e. IsTrue (is_output e) → HasCause (W.failures out.old) (W.failures out.new)) }
+{
+    lemma_lawful(table);
     let asks = OnePart {
-        protocol: &table,
+        protocol: table,
         asked: number as u64,
     };
     read_one(rt, files, trace, number, &asks, out)

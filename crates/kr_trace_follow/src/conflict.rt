@@ -12,16 +12,16 @@ use kr_trace_lines::Conflict;
 use std::alloc::Global;
 
 /// A lock that is held or waited for: its name, its transaction, and the mode.
-pub(crate) type Lock = ((Name, Txn), Mode);
+pub type Lock = ((Name, Txn), Mode);
 
 /// A lock that is requested, with the mode that the transaction holds there and the converted mode in which it is tested.
 #[derive(Clone, Copy)]
-pub(crate) struct Tested {
-    pub(crate) txn: Txn,
-    pub(crate) name: Name,
-    pub(crate) own: Mode,
-    pub(crate) asked: Mode,
-    pub(crate) tested: Mode,
+pub struct Tested {
+    pub txn: Txn,
+    pub name: Name,
+    pub own: Mode,
+    pub asked: Mode,
+    pub tested: Mode,
 }
 
 /// Whether a lock is another transaction's on the name, and conflicts with the mode in which the request is tested.
@@ -71,7 +71,7 @@ fn push_conflicts<P: Protocol>(
 }
 
 /// The held locks that conflict with any of the requests, those with the first request first.
-pub(crate) fn conflicts_with_all<P: Protocol>(
+pub fn conflicts_with_all<P: Protocol>(
     alloc: Global,
     protocol: &P,
     notes: &Notes,
@@ -110,7 +110,7 @@ fn push_ahead<P: Protocol>(
 }
 
 /// Who waits ahead of any of the requests, those ahead of the first request first.
-pub(crate) fn ahead_of_all<P: Protocol>(
+pub fn ahead_of_all<P: Protocol>(
     alloc: Global,
     protocol: &P,
     waiting: &[Lock],

@@ -8,6 +8,7 @@ ghost use Rattle.kr_trace_follow.specs.Scans.{AreNoted};
 ghost use Rattle.kr_trace_follow.specs.Since.{IsSince, last_noted};
 
 use crate::conflict::Lock;
+use crate::kinds::{copy_of, counted};
 use crate::lines::deviation_of;
 use crate::scans::Progress;
 use crate::since::Notes;
@@ -166,24 +167,4 @@ fn follow<P: Protocol, Q: Protocol, I: Ordered, L: Holdings>(
     *found = deviation;
     *count = counted(*count, queued);
     Ok(())
-}
-
-/// A copy of what was found.
-fn copy_of(alloc: Global, found: &Option<Deviation>) -> Result<Option<Deviation>, Memory>
-    ensures { IfOk result (λ copy. copy ≡ found.now) }
-{
-    match found {
-        Some(deviation) => Ok(Some(deviation.try_copy(alloc)?)),
-        None => Ok(None),
-    }
-}
-
-/// The count with one line more that is queued, or none.
-fn counted(count: u64, is_queued: bool) -> u64
-    ensures { result ≡ counted count is_queued }
-{
-    if is_queued {
-        return count.saturating_add(1);
-    }
-    count
 }

@@ -1,6 +1,7 @@
 //! Of which kind a line is that differs from what the table answers.
 ghost use Rattle.std.specs.Prelude.{◌≡◌, IfOk, option_map};
 ghost use Rattle.kr_model.specs.Run.{is_granted};
+ghost use Rattle.kr_trace_follow.specs.Following.{counted};
 ghost use Rattle.kr_trace_follow.specs.Deviates.{misnamed, kind_where_misnamed, kind_where_queued, kind_where_granted, is_queued};
 
 use kr_index::Memory;
@@ -28,7 +29,7 @@ fn misnamed(
 }
 
 /// How the blockers that an engine names differ from the table's and from those who wait ahead, if they do.
-pub(crate) fn kind_of_blockers(
+pub fn kind_of_blockers(
     alloc: Global,
     named: &Txns,
     blockers: Txns,
@@ -63,7 +64,7 @@ fn kind_where_queued(
 }
 
 /// How what was observed differs from the reply of a step that the table grants, if it does.
-pub(crate) fn kind_where_granted(
+pub fn kind_where_granted(
     alloc: Global,
     reply: Reply,
     ahead: &[Txn],
@@ -83,7 +84,7 @@ pub(crate) fn kind_where_granted(
 }
 
 /// Whether a step waits behind others alone: the table grants it.
-pub(crate) fn is_queued(ahead: &[Txn], reply: &Reply) -> bool
+pub fn is_queued(ahead: &[Txn], reply: &Reply) -> bool
     ensures { result ≡ is_queued ahead.now reply.now }
 {
     !ahead.is_empty() && is_granted(reply)
@@ -100,11 +101,31 @@ fn is_granted(reply: &Reply) -> bool
 }
 
 /// The deviation of a line with this number, if it differs.
-pub(crate) fn deviation_at(line: u64, kind: Option<DeviationKind>) -> Option<Deviation>
+pub fn deviation_at(line: u64, kind: Option<DeviationKind>) -> Option<Deviation>
     ensures { result ≡ option_map (λ k. record { line = line; kind = k }) kind }
 {
     match kind {
         Some(kind) => Some(Deviation { line, kind }),
         None => None,
     }
+}
+
+/// A copy of what was found.
+pub fn copy_of(alloc: Global, found: &Option<Deviation>) -> Result<Option<Deviation>, Memory>
+    ensures { IfOk result (λ copy. copy ≡ found.now) }
+{
+    match found {
+        Some(deviation) => Ok(Some(deviation.try_copy(alloc)?)),
+        None => Ok(None),
+    }
+}
+
+/// The count with one line more that is queued, or none.
+pub fn counted(count: u64, is_queued: bool) -> u64
+    ensures { result ≡ counted count is_queued }
+{
+    if is_queued {
+        return count.saturating_add(1);
+    }
+    count
 }

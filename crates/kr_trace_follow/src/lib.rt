@@ -3,17 +3,17 @@
 #![tactic(auto)]
 
 mod attempts;
-mod conflict;
+pub mod conflict;
 mod follower;
 mod judge;
-mod kinds;
+pub mod kinds;
 mod laws;
 mod lines;
 mod present;
-mod scans;
-mod since;
-mod steps;
-mod waits;
+pub mod scans;
+pub mod since;
+pub mod steps;
+pub mod waits;
 
 pub use follower::Follower;
 pub use judge::{Difference, Judge};

@@ -7,18 +7,18 @@ use kr_model::{Op, Reply, Txn};
 
 /// How far the scan of a transaction is.
 #[derive(Clone, Copy, PartialEq, Eq)]
-pub(crate) struct Progress {
-    pub(crate) txn: Txn,
+pub struct Progress {
+    pub txn: Txn,
     /// The lower end of its range.
-    pub(crate) lo: u64,
+    pub lo: u64,
     /// The upper end of its range.
-    pub(crate) hi: u64,
+    pub hi: u64,
     /// The key that it read last.
-    pub(crate) read: u64,
+    pub read: u64,
 }
 
 /// What is noted of a transaction, if anything is.
-pub(crate) fn noted_of(scans: &[Progress], txn: Txn) -> Option<Progress>
+pub fn noted_of(scans: &[Progress], txn: Txn) -> Option<Progress>
     ensures { result ≡ noted_of scans.now txn }
 {
     for i in 0..scans.len() {
@@ -30,7 +30,7 @@ pub(crate) fn noted_of(scans: &[Progress], txn: Txn) -> Option<Progress>
 }
 
 /// The range of a step of a scan: its own where it begins the scan, and the noted one where it goes on.
-fn range_of(scans: &[Progress], txn: Txn, op: Op) -> Option<(u64, u64)>
+pub fn range_of(scans: &[Progress], txn: Txn, op: Op) -> Option<(u64, u64)>
     ensures { result ≡ range_of scans.now txn op }
 {
     match op {
@@ -67,7 +67,7 @@ fn note_read(
 }
 
 /// Notes a step with its reply.
-pub(crate) fn note(scans: &mut Vec<Progress>, txn: Txn, op: Op, reply: &Reply) -> Result<(), Memory>
+pub fn note(scans: &mut Vec<Progress>, txn: Txn, op: Op, reply: &Reply) -> Result<(), Memory>
     ensures { OnOk result (scans.new.items ≡ noted_after scans.old.items txn op reply.now) }
 {
     match reply {

@@ -15,7 +15,7 @@ use std::collections::BTreeMap;
 
 /// Notes of each transaction that holds locks: the name of a lock with the number of the line at which it came to hold it
 /// in another mode, in the order of lines.
-pub(crate) type Notes = BTreeMap<Txn, Vec<(Name, u64)>>;
+pub type Notes = BTreeMap<Txn, Vec<(Name, u64)>>;
 
 /// The line of a note for this name, and else the one that is given.
 fn later(line: u64, note: (Name, u64), name: Name) -> u64
@@ -40,7 +40,7 @@ fn last_for(notes: &[(Name, u64)], name: Name) -> u64
 
 /// The line since which a transaction holds a lock on a name in its mode, or 0 where none is noted. It looks at each note
 /// of the transaction.
-pub(crate) fn since(notes: &Notes, txn: Txn, name: Name) -> u64
+pub fn since(notes: &Notes, txn: Txn, name: Name) -> u64
     ensures { result ≡ last_noted notes.now txn name }
 {
     match notes.get(&txn) {
@@ -50,7 +50,7 @@ pub(crate) fn since(notes: &Notes, txn: Txn, name: Name) -> u64
 }
 
 /// Takes away the notes of a transaction.
-pub(crate) fn forget(notes: &mut Notes, txn: Txn)
+pub fn forget(notes: &mut Notes, txn: Txn)
     ensures { last_noted notes.new ≡ without_notes (last_noted notes.old) txn }
 {
     notes.remove(&txn);
@@ -70,7 +70,7 @@ fn add_again(notes: &mut Notes, txn: Txn, name: Name, line: u64) -> Result<bool,
 }
 
 /// Adds a note of a transaction.
-fn add(alloc: Global, notes: &mut Notes, txn: Txn, name: Name, line: u64) -> Result<(), Memory>
+pub fn add(alloc: Global, notes: &mut Notes, txn: Txn, name: Name, line: u64) -> Result<(), Memory>
     ensures { OnOk result (last_noted notes.new ≡ with_note (last_noted notes.old) txn name line) }
 {
     if add_again(notes, txn, name, line)? {

@@ -23,7 +23,7 @@ use kr_trace_lines::Observed;
 use std::alloc::AllocError;
 
 /// What the engine did: an abort, where it aborted the transaction in place of the operation.
-fn taken(op: Op, observed: &Observed) -> Op
+pub fn taken(op: Op, observed: &Observed) -> Op
     ensures { result ≡ taken op observed.now }
 {
     match observed {
@@ -55,7 +55,7 @@ pub(crate) fn first_op(scans: &[Progress], event: Event, observed: &Observed) ->
 }
 
 /// How many steps a line may take after its first.
-pub(crate) fn more_steps(op: Op, observed: &Observed) -> u64
+pub fn more_steps(op: Op, observed: &Observed) -> u64
     ensures { result ≡ more_steps op observed.now }
 {
     match (op, observed) {
@@ -75,7 +75,7 @@ fn lacks_memory(reply: &Reply) -> bool
 }
 
 /// Whether a scan goes on after this reply.
-fn is_going(reply: &Reply) -> bool
+pub fn is_going(reply: &Reply) -> bool
     ensures { result ≡ is_going reply.now }
 {
     match reply {
@@ -85,7 +85,7 @@ fn is_going(reply: &Reply) -> bool
 }
 
 /// Whether a reply ends its transaction.
-fn has_ended(reply: &Reply) -> bool
+pub fn has_ended(reply: &Reply) -> bool
     ensures { result ≡ has_ended reply.now }
 {
     match reply {

@@ -16,7 +16,7 @@ use kr_protocol::Protocol;
 use kr_trace_lines::Observed;
 
 /// The locks that a step may have to wait behind: none, where the engine doesn't block it.
-pub(crate) fn queue_for<'a>(observed: &Observed, waiting: &'a [Lock]) -> &'a [Lock]
+pub fn queue_for<'a>(observed: &Observed, waiting: &'a [Lock]) -> &'a [Lock]
     ensures { result.now ≡ queue_for observed.now waiting.now }
 {
     match observed {
@@ -26,14 +26,14 @@ pub(crate) fn queue_for<'a>(observed: &Observed, waiting: &'a [Lock]) -> &'a [Lo
 }
 
 /// Takes away what a transaction waits for.
-fn forget(waiting: &mut Vec<Lock>, txn: Txn)
+pub fn forget(waiting: &mut Vec<Lock>, txn: Txn)
     ensures { waiting.new.items ≡ release waiting.old.items txn }
 {
     waiting.retain(|lock| lock.0.1 != txn);
 }
 
 /// Adds what is waited for by these requests.
-fn push_wanted(waiting: &mut Vec<Lock>, requests: &[Tested]) -> Result<(), Memory>
+pub fn push_wanted(waiting: &mut Vec<Lock>, requests: &[Tested]) -> Result<(), Memory>
     ensures { OnOk result (waiting.new.items ≡ waiting.old.items ++ map wanted requests.now) }
 {
     for i in 0..requests.len() {

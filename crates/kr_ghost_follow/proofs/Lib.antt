@@ -1,0 +1,5 @@
+pub mod Waits
+pub mod GoneOn
+pub mod Standing
+pub mod RunLaws
+pub mod Braces

@@ -1,0 +1,91 @@
+-- The moves that lead along lines are a run.
+use Rattle.std.specs.Prelude.{◌≡◌, ℕ, zero, suc, Bool, true, false, List, [], ◌∷◌, ◌++◌, refl, if◌then◌else◌}
+use Rattle.std.proofs.Common.{ap, sym, ◌∙◌}
+use Rattle.kr_model.specs.declared.Op.{Op}
+use Rattle.kr_model.specs.declared.Op.TheVariants as op
+use Rattle.kr_model.specs.Locks.{Locks}
+use Rattle.kr_model.specs.Map.{Map, IsMap}
+use Rattle.kr_model.specs.Run.{programs}
+use Rattle.kr_model.specs.Serial.{AreSerial, IsSerialRun}
+use Rattle.kr_ghost.specs.Covers.{IsCoveredGhost}
+use Rattle.kr_ghost.specs.declared.moves.Move.{Move}
+use Rattle.kr_ghost.specs.declared.moves.Move.TheVariants.{Attempt, Purge}
+use Rattle.kr_ghost.specs.Protocol.{GhostProtocol, IsLawfulGhost}
+use Rattle.kr_ghost.specs.Run.{run}
+use Rattle.kr_ghost.specs.Safe.{IsSafeGhost}
+use Rattle.kr_ghost.specs.State.{GhostState, opened}
+use Rattle.kr_ghost.specs.Step.{step, purged}
+use Rattle.kr_ghost.proofs.AllCases.{covered_is_safe}
+use Rattle.kr_ghost.proofs.Runs.{safe_runs_are_serial}
+use Rattle.kr_trace_lines.specs.Fits.{fits}
+use Rattle.kr_trace_follow.specs.Deviates.{is_queued}
+use Rattle.kr_trace_follow.specs.Lines.{Line}
+use Rattle.kr_trace_follow.specs.Steps.{queue_for}
+use Rattle.kr_trace_follow.proofs.ConformLaws.{kind_fits}
+use Rattle.kr_ghost_follow.specs.Conforms.{IsSerialRunOf}
+use Rattle.kr_ghost_follow.specs.Points.{Moment, Point, Tried, ahead_of, conflicts_of, first_op, gone_on, is_passed, last_tried, left_after, more_steps, tried}
+use Rattle.kr_ghost_follow.specs.Reached.{Agrees, IsReached, Leads, start, purge, line, all_done, done_by, moves_of}
+
+-- The state that moves lead to.
+abbrev after : GhostProtocol → GhostState → List Move → GhostState
+after p s moves = let r = run p s moves in r.last
+
+-- Moves one after another.
+ran_on : (p : GhostProtocol) (s : GhostState) (xs ys : List Move) → after p s (xs ++ ys) ≡ after p (after p s xs) ys
+ran_on p s [] ys = refl
+ran_on p s (Attempt e ∷ xs) ys = ran_on p (step p s e.txn e.op).1 xs ys
+ran_on p s (Purge k ∷ xs) ys = ran_on p (purged p s k) xs ys
+
+-- A step.
+done_ran : (p : GhostProtocol) (t : ℕ) (m : Moment) (o : Op) (us : List ℕ) → after p m.state (done_by t o us) ≡ (left_after p t m o us).state
+done_ran p t m o [] = refl
+done_ran p t m o (u ∷ us) = refl
+
+-- The steps of a line.
+all_ran : (p : GhostProtocol) (l : Line) (queue : Locks) (n : ℕ) (m : Moment) (o : Op)
+    → after p m.state (all_done p l queue n (tried p queue l.event.txn m o)) ≡ (gone_on p l queue n (tried p queue l.event.txn m o)).left.state
+all_ran p l queue zero m o = done_ran p l.event.txn m o (ahead_of p queue l.event.txn m.state o)
+all_ran p l queue (suc n) m o =
+    ran_on p m.state (done_by l.event.txn o (ahead_of p queue l.event.txn m.state o)) (rest (is_passed l y.left.state y.ahead y.reply))
+    ∙ ap (λ s. after p s (rest (is_passed l y.left.state y.ahead y.reply))) (done_ran p l.event.txn m o (ahead_of p queue l.event.txn m.state o)) ∙ on (all_ran p l queue n y.left op.Go) (is_passed l y.left.state y.ahead y.reply)
+  where
+    y : Tried
+    y = tried p queue l.event.txn m o
+
+    rest : Bool → List Move
+    rest b = if b then all_done p l queue n (tried p queue l.event.txn y.left op.Go) else []
+
+    on : after p y.left.state (all_done p l queue n (tried p queue l.event.txn y.left op.Go)) ≡ (gone_on p l queue n (tried p queue l.event.txn y.left op.Go)).left.state → (b : Bool)
+        → after p y.left.state (rest b) ≡ (if b then gone_on p l queue n (tried p queue l.event.txn y.left op.Go) else y).left.state
+    on later true = later
+    on later false = refl
+
+pub leads_run : (p : GhostProtocol) (opening : Map) (lines : List Line) (moves : List Move) (at : Point) → Leads p opening lines moves at → after p (opened opening) moves ≡ at.state
+leads_run p opening _ _ _ start = refl
+leads_run p opening _ _ _ (purge k lines moves at h) = ran_on p (opened opening) moves (Purge k ∷ []) ∙ ap (λ s. purged p s k) (leads_run p opening lines moves at h)
+leads_run p opening _ _ _ (line l lines moves at h agrees) =
+    ran_on p (opened opening) moves (moves_of p at l) ∙ ap (λ s. after p s (moves_of p at l)) (leads_run p opening lines moves at h)
+    ∙ all_ran p l (queue_for l.observed at.waiting) (more_steps at.scans l) (record { state = at.state; scans = at.scans }) (first_op at.scans l)
+
+pub agrees_fit : (p : GhostProtocol) (at : Point) (l : Line) → Agrees p at l → is_queued (last_tried p at l).ahead (last_tried p at l).reply ≡ false → fits (last_tried p at l).reply l.observed ≡ true
+agrees_fit p at l h unqueued =
+    let y : Tried = last_tried p at l in kind_fits (conflicts_of p h.0 l.event.txn y.left.state y.op) y.ahead y.reply l.observed h.1 unqueued
+
+-- What commits in a run under a safe protocol is serializable.
+safe_programs : (p : GhostProtocol) → IsLawfulGhost p → IsSafeGhost p → (opening : Map) (moves : List Move) → IsMap opening → AreSerial opening (let r = run p (opened opening) moves in programs r.history)
+safe_programs p laws safe opening moves sorted =
+    let r = run p (opened opening) moves in
+    let last = r.last in
+    let serial : IsSerialRun opening (record { history = r.history; state = last.state }) = safe_runs_are_serial p laws safe opening moves sorted in
+    serial.0
+
+pub serial_run : (p : GhostProtocol) → IsLawfulGhost p → IsSafeGhost p → (opening : Map) → IsMap opening → (lines : List Line) (at : Point) → IsReached p opening lines at → IsSerialRunOf p opening lines at
+serial_run p laws safe opening sorted lines at h = record {
+  moves = h.0;
+  leads = h.1;
+  state = leads_run p opening lines h.0 at h.1;
+  serial = safe_programs p laws safe opening h.0 sorted;
+}
+
+pub covered_run : (p : GhostProtocol) → IsLawfulGhost p → IsCoveredGhost p → (opening : Map) → IsMap opening → (lines : List Line) (at : Point) → IsReached p opening lines at → IsSerialRunOf p opening lines at
+covered_run p laws covered = serial_run p laws (covered_is_safe p laws covered)

@@ -1,0 +1,7 @@
+pub mod Points
+pub mod Reached
+pub mod Following
+pub mod Tries
+pub mod Stands
+pub mod Conforms
+pub mod Report
