@@ -11,7 +11,7 @@ use Rattle.kr_cli.specs.Endings.{MemoryOrTold, Unreported, line_of}
 use Rattle.kr_cli.specs.Files.{MayBeScript}
 use Rattle.kr_cli.specs.Lines.{HasNoLineFeed, told_line, unreadable_line, script_fault_text}
 use Rattle.kr_cli.specs.Named.{NamesTable, TellsUnreadable, TellsNoScript}
-use Rattle.kr_cli.proofs.OneLine.{none_above, none_in_no_script, told_has_no_line_feed}
+use Rattle.kr_cli.proofs.OneLine.{none_above, none_in_no_script}
 use Rattle.kr_cli_ghost.specs.declared.tables.AnyGhostTable.{AnyGhostTable}
 use Rattle.kr_cli_ghost.specs.Named.{NamesGhosts, TellsNone}
 use Rattle.kr_cli_ghost.proofs.OneLine.{none_in_none, none_in_no_ghost_script, none_in_first_ghost}
@@ -123,14 +123,14 @@ task_ends may_give words (Ok well) table task t ask names ends = tt
 task_ends may_give words (Err e) table task t ask names ends = ends_at may_give words table task t e ask names ends
 
 -- nor is it under the table with ghosts that it names
-ghost_ends_at : (may_give : List ℕ → Option (List ℕ) → Type 0) (words : List (List ℕ)) (table : List ℕ) (task : Task) (t : AnyGhostTable) (e : Ending) → AreWords words table task → NamesGhosts may_give table t → Unreported (TellsGhostTask may_give table task) e → Ends may_give words e
+ghost_ends_at : (may_give : List ℕ → Option (List ℕ) → Type 0) (words : List (List ℕ)) (table : List ℕ) (task : Task) (t : AnyGhostTable) (e : Ending) → AreWords words table task → NamesGhosts may_give table t → Unreported (TellsGhostTask may_give task) e → Ends may_give words e
 ghost_ends_at may_give words table task t NotUnderstood ask names ends = tt
 ghost_ends_at may_give words table task t Memory ask names ends = tt
 ghost_ends_at may_give words table task t Place ask names ends = tt
 ghost_ends_at may_give words table task t Output ask names ends = tt
 ghost_ends_at may_give words table task t (Told line) ask names ends = (table, (task, (ask, inr (inl (t, (names, ends))))))
 
-pub ghost_task_ends : (may_give : List ℕ → Option (List ℕ) → Type 0) (words : List (List ℕ)) (r : Result Bool Ending) (table : List ℕ) (task : Task) (t : AnyGhostTable) → AreWords words table task → NamesGhosts may_give table t → IfErr r (Unreported (TellsGhostTask may_give table task)) → IfErr r (Ends may_give words)
+pub ghost_task_ends : (may_give : List ℕ → Option (List ℕ) → Type 0) (words : List (List ℕ)) (r : Result Bool Ending) (table : List ℕ) (task : Task) (t : AnyGhostTable) → AreWords words table task → NamesGhosts may_give table t → IfErr r (Unreported (TellsGhostTask may_give task)) → IfErr r (Ends may_give words)
 ghost_task_ends may_give words (Ok well) table task t ask names ends = tt
 ghost_task_ends may_give words (Err e) table task t ask names ends = ghost_ends_at may_give words table task t e ask names ends
 
@@ -142,11 +142,11 @@ none_in_task may_give (Run word) line tells = none_in_no_script may_give word.no
 none_in_task may_give (Judge words) line (place, (before, word, rest, ss, split, long, are, tells)) = none_in_no_script may_give word line tells
 none_in_task may_give (Threads word workers) line tells = none_in_no_script may_give word.now line tells
 
-none_in_ghost_task : (may_give : List ℕ → Option (List ℕ) → Type 0) (table : List ℕ) (task : Task) (line : List ℕ) → TellsGhostTask may_give table task line → HasNoLineFeed line
-none_in_ghost_task may_give table Check line tells = absurd tells
-none_in_ghost_task may_give table (Run word) line tells = none_in_no_ghost_script may_give word.now line tells
-none_in_ghost_task may_give table (Judge words) line tells = none_in_first_ghost may_give (map (λ w. w.now) words.items) line tells
-none_in_ghost_task may_give table (Threads word workers) line tells = subst HasNoLineFeed (sym tells) (told_has_no_line_feed table _)
+none_in_ghost_task : (may_give : List ℕ → Option (List ℕ) → Type 0) (task : Task) (line : List ℕ) → TellsGhostTask may_give task line → HasNoLineFeed line
+none_in_ghost_task may_give Check line tells = absurd tells
+none_in_ghost_task may_give (Run word) line tells = none_in_no_ghost_script may_give word.now line tells
+none_in_ghost_task may_give (Judge words) line tells = none_in_first_ghost may_give (map (λ w. w.now) words.items) line tells
+none_in_ghost_task may_give (Threads word workers) line tells = none_in_no_ghost_script may_give word.now line tells
 
 pub none_in_line : (may_give : List ℕ → Option (List ℕ) → Type 0) (words : List (List ℕ)) (e : Ending) → Ends may_give words e → HasNoLineFeed (line_of e)
 none_in_line may_give words NotUnderstood ends = none_above (codes "words not understood") refl
@@ -154,5 +154,5 @@ none_in_line may_give words Memory ends = none_above (codes "out of memory") ref
 none_in_line may_give words Place ends = none_above (codes "place refused") refl
 none_in_line may_give words Output ends = none_above (codes "output: cannot be written") refl
 none_in_line may_give words (Told line) (table, (task, (ask, inl tells))) = none_in_none may_give table (string_bytes line) tells
-none_in_line may_give words (Told line) (table, (task, (ask, inr (inl (t, (names, tells)))))) = none_in_ghost_task may_give table task (string_bytes line) tells
+none_in_line may_give words (Told line) (table, (task, (ask, inr (inl (t, (names, tells)))))) = none_in_ghost_task may_give task (string_bytes line) tells
 none_in_line may_give words (Told line) (table, (task, (ask, inr (inr (t, (names, tells)))))) = none_in_task may_give task (string_bytes line) tells

@@ -4,6 +4,7 @@
 mod checks;
 mod faults;
 mod forms;
+mod ghost_threads;
 mod ghosts;
 mod judges;
 mod program;

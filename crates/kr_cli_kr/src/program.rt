@@ -236,8 +236,7 @@ where
 }
 
 /// Does what the words ask under the table that the word of it names, and answers whether the table is accepted, or each run
-/// is serializable. A table with ghosts is checked, and scripts, which may have purges, are run and judged under it; `threads`
-/// takes none. Scripts are read only where that word names a table.
+/// is serializable. Under a table with ghosts scripts may have purges. Scripts are read only where that word names a table.
 fn ask<R: std::rt::Files + AllocGlobal + Threads + Wait + Sync, F: Files + Sync, W: Sink>(
     rt: &R,
     words: &[String],
@@ -255,16 +254,15 @@ where
     let asked = read_words(rt.alloc(), words)?;
     match named_at(rt, asked.table, files)? {
         Named::Table(table) => under(rt, table, &asked.task, files, out),
-        Named::Ghosts(table) => under_ghosts(rt, &table, &asked, files, out),
+        Named::Ghosts(table) => under_ghosts(rt, &table, &asked.task, files, out),
     }
 }
 
 /// Runs the program on words without its own name, and answers its status: 0 where it accepted a table or each run was
 /// serializable, 1 where it rejected a table or a run wasn't, and 2 where it told a fault on `err`. At 0 and 1 the whole report
 /// of the task that the words ask for is written on `out`, under the table and of the scripts that they name, and nothing on
-/// `err`; at a fault of words, files, tables, scripts or memory nothing is written on `out`. A table with ghosts is
-/// checked, and scripts, which may have purges, are run and judged under it; `threads` takes none. The line on `err` tells of a
-/// word of such a task why it names no table or no script, or that `threads` takes no table with ghosts, or that words aren't
+/// `err`; at a fault of words, files, tables, scripts or memory nothing is written on `out`. Under a table with ghosts scripts
+/// may have purges. The line on `err` tells of a word of such a task why it names no table or no script, or that words aren't
 /// understood, or that memory, a place or output was refused. It has no line feed but its last byte.
 pub fn execute<
     R: std::rt::Files + AllocGlobal + Threads + Wait + Sync,

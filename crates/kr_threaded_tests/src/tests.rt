@@ -1,4 +1,5 @@
 mod cycles;
 mod engine;
+mod ghosts;
 mod places;
 mod threads;

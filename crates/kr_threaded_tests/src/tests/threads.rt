@@ -1,7 +1,7 @@
 //! Runs of scripts by several threads, each compared with a replay of its history.
 
 mod deadlock;
-mod gates;
+pub mod gates;
 mod many;
 mod reports;
 mod soak;

@@ -1,5 +1,4 @@
 use Rattle.kr_ghost.proofs.AllCases.{covered_is_safe}
-use Rattle.kr_cli_kr.proofs.Ended.{told_ends}
 use Rattle.kr_cli_kr.proofs.ghosts.under_ghosts.Goals as goal
 
 -- The task is to run this script.
@@ -10,7 +9,7 @@ returns-in-Run-clause-reports g c = rw c.in-Run.is c.run_ghosts.ensures.reports
 pub returns-in-Run-clause-covered : goal.returns-in-Run-clause-covered
 returns-in-Run-clause-covered g c covered =
     let p = g.P.GhostProtocol.ghosts c.args.protocol.now in
-    c.run_ghosts.ensures.safe (covered_is_safe p (g.met.P.GhostProtocol.lawful_ghosts c.args.protocol.now) covered)
+    c.run_ghosts.ensures.safe (covered_is_safe p ((g.met.P.GhostProtocol g.world.𝓛 g.world.𝓜 g.world.𝓡 ((λ s x. x), (λ x. x), (λ x. x), λ x. x)).lawful_ghosts c.args.protocol.now) covered)
 
 -- The task is to judge these words.
 pub returns-in-Judge-clause-reports : goal.returns-in-Judge-clause-reports
@@ -19,8 +18,4 @@ returns-in-Judge-clause-reports g c = rw c.in-Judge.is (rw c.as_slice.ensures.va
 pub returns-in-Judge-clause-covered : goal.returns-in-Judge-clause-covered
 returns-in-Judge-clause-covered g c covered =
     let p = g.P.GhostProtocol.ghosts c.args.protocol.now in
-    c.judge_ghosts.ensures.safe (covered_is_safe p (g.met.P.GhostProtocol.lawful_ghosts c.args.protocol.now) covered)
-
--- No threads run.
-pub returns-in-Threads-clause-err : goal.returns-in-Threads-clause-err
-returns-in-Threads-clause-err g c = rw c.in-Threads.is (told_ends _ c.told.result c.told.ensures.line)
+    c.judge_ghosts.ensures.safe (covered_is_safe p ((g.met.P.GhostProtocol g.world.𝓛 g.world.𝓜 g.world.𝓡 ((λ s x. x), (λ x. x), (λ x. x), λ x. x)).lawful_ghosts c.args.protocol.now) covered)

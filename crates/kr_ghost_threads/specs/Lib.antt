@@ -1,0 +1,4 @@
+pub mod Histories
+pub mod Told
+pub mod Threaded
+pub mod Report
