@@ -23,16 +23,16 @@ _kr() {
   cur=${words[-1]}
   case ${words[0]##*/}.${#words[@]}.${words[1]} in
   kr.2.*) _kr_words check run judge threads ;;
-  kr.3.check | kr.3.run | kr.3.judge) _kr_table @record-gap @range-ghost @next-key-ghost ;;
-  kr.3.threads) _kr_table ;;
+  kr.3.check | kr.3.run | kr.3.judge | kr.3.threads) _kr_table @record-gap @range-ghost @next-key-ghost ;;
   kr.4.run | kr.4.threads | kr.*.judge) _kr_files .json ;;
   kr.5.threads) _kr_words --workers ;;
-  kr_explain.2.* | kr_view.2.* | kr_suite.2.* | kr_relax.2.*) _kr_table --help -h --version ;;
+  kr_explain.2.* | kr_view.2.*) _kr_table @record-gap @range-ghost @next-key-ghost --help -h --version ;;
+  kr_suite.2.* | kr_relax.2.*) _kr_table --help -h --version ;;
   kr_explain.3.-*) ;;
   kr_explain.3.*) _kr_words --script ;;
   kr_view.3.-*) ;;
   kr_view.3.*) _kr_files .json ;;
-  kr_trace.2.*) _kr_table --serial --some-order --help -h --version ;;
+  kr_trace.2.*) _kr_table @record-gap @range-ghost @next-key-ghost --serial --some-order --help -h --version ;;
   kr_trace.3.-h | kr_trace.3.--help | kr_trace.3.--version) ;;
   kr_trace.3.*) _kr_files .trace ;;
   kr_trace.4.-*) ;;

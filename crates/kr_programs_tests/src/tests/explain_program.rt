@@ -68,6 +68,11 @@ const ANSWERS: &[(&[&str], u8, &str)] = &[
         0,
         "accepted: all 61 cases hold. Every run under this table is serializable in commit order.\n",
     ),
+    (
+        &["@next-key-ghost"],
+        0,
+        "accepted: all 135 cases hold. Every run under this table is serializable in commit order.\n",
+    ),
     (&["table", "--script", "1"], 1, SHORT_SCAN_SCRIPT),
     (&["--version"], 0, "kr_explain 0.9.0\n"),
 ];
@@ -98,7 +103,7 @@ const FAULTS: &[(&[&str], &str, &str)] = &[
     ),
     (
         &["table", "--script", "1"],
-        "format = 3",
+        "format = 4",
         "table: fault 3 Format",
     ),
 ];

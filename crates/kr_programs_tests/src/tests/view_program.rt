@@ -18,7 +18,7 @@ const PHANTOM: &str =
 const SHELF: Shelf = Shelf(&[
     ("table", ASKS_NOTHING),
     ("s", PHANTOM),
-    ("bad", "format = 3"),
+    ("bad", "format = 4"),
 ]);
 
 /// What the program leaves, called with these words.
