@@ -16,64 +16,7 @@ use Rattle.kr_index.specs.Slots.{Entries, pairs_of, with_value, least}
 use Rattle.kr_index.specs.declared.stretches.Stretch.{Stretch}
 use Rattle.kr_index.specs.Stretches.{IsIn, IsRising, IsBare}
 use Rattle.kr_index.proofs.SlotLaws.{first, second}
-
-three : (a b : ℕ) → (a < b) ⊎ ((a ≡ b) ⊎ (b < a))
-three a b = grind arith
-
-two : (a b : ℕ) → (a < b) ⊎ (b ≤ a)
-two a b = grind arith
-
-past : (p : ℕ × ℕ) (m : Map) (c : ℕ) → p.0 < c → at (p ∷ m) c ≡ at m c
-past p m c lt = grind (arith, nat_tests)
-
-here : (p : ℕ × ℕ) (m : Map) (c : ℕ) → c ≤ p.0 → at (p ∷ m) c ≡ Key p.0
-here p m c le = grind (arith, nat_tests)
-
-other : (p : ℕ × ℕ) (m : Map) (q : ℕ) → (q ≡ p.0 → ⊥) → get (p ∷ m) q ≡ get m q
-other p m q differs = ap (λ b. cond b (Some p.1) (get m q)) (keys_apart q p.0 differs)
-
-own : (p : ℕ × ℕ) (m : Map) → get (p ∷ m) p.0 ≡ Some p.1
-own p m = ap (λ b. cond b (Some p.1) (get m p.0)) (key_tie p.0)
-
--- keys without values are stepped over
-pub skip : (m : Map) (c e : ℕ) → c ≤ e → ((q : ℕ) → c ≤ q → q < e → get m q ≡ None) → at m c ≡ at m e
-skip [] c e le absent = refl
-skip (p ∷ m) c e le absent = elim (two p.0 c) [
-  | inl lt ↦ past p m c lt ∙ skip m c e le (λ q a b. sym (other p m q (λ is. absurd (omega arith))) ∙ absent q a b) ∙ sym (past p m e (omega arith))
-  | inr from ↦ elim (two p.0 e) [
-    | inl lt ↦ absurd (cc (own p m, absent p.0 from lt))
-    | inr far ↦ here p m c from ∙ sym (here p m e far)
-  ]
-]
-
--- where there is no name from c on, no key from there on has a value
-pub none_from : (m : Map) (c : ℕ) → at m c ≡ End → (q : ℕ) → c ≤ q → get m q ≡ None
-none_from [] c is q le = refl
-none_from (p ∷ m) c is q le = elim (two p.0 c) [
-  | inl lt ↦ other p m q (λ e. absurd (omega arith)) ∙ none_from m c (sym (past p m c lt) ∙ is) q le
-  | inr from ↦ absurd (cc (here p m c from, is))
-]
-
--- where no key from c on has a value, there is no name
-pub end_from : (m : Map) (c : ℕ) → ((q : ℕ) → c ≤ q → get m q ≡ None) → at m c ≡ End
-end_from [] c absent = refl
-end_from (p ∷ m) c absent = elim (two p.0 c) [
-  | inl lt ↦ past p m c lt ∙ end_from m c (λ q le. sym (other p m q (λ e. absurd (omega arith))) ∙ absent q le)
-  | inr from ↦ absurd (cc (own p m, absent p.0 from))
-]
-
--- no key below the next name has a value
-pub none_below : (m : Map) (c k : ℕ) → T (is_sorted nat_cmp m) → at m c ≡ Key k → (q : ℕ) → c ≤ q → q < k → get m q ≡ None
-none_below [] c k sorted is q le lt = absurd (cc is)
-none_below (p ∷ m) c k sorted is q le lt = elim (two p.0 c) [
-  | inl before ↦ other p m q (λ e. absurd (omega arith)) ∙ none_below m c k (second _ _ sorted) (sym (past p m c before) ∙ is) q le lt
-  | inr from ↦
-      let same : p.0 ≡ k = cc (here p m c from, is) in
-      other p m q (λ e. absurd (omega arith)) ∙ not_found q p.0 m (less q p.0 (omega arith)) (first _ _ sorted)
-]
-  where
-    less : (a b : ℕ) → a < b → nat_cmp a b ≡ Less
-    less a b h = grind (arith, nat_tests)
+use Rattle.kr_ordered.proofs.NextNames.{two, past, here, skip, none_from, none_below}
 
 -- A walk through the entries from c up to e --
 

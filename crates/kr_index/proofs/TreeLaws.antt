@@ -167,14 +167,3 @@ present_at (e ∷ m) k h = by (nat_cmp k e.0) refl (nat_le k e.0) refl (present_
 -- the same of the pairs of entries in order, by the name that was found
 pub present_in : (es : Entries) (k : ℕ) (n : Name) → IsInOrder es → n ≡ at (pairs_of es) k → is_key k n ≡ is_some (get (pairs_of es) k)
 present_in es k n h e = ap (is_key k) e ∙ present_at (pairs_of es) k (t_of _ (pairs_are_map es h))
-
--- the least key from c on is present
-pub least_present : (m : Map) (c k : ℕ) → at m c ≡ Key k → is_some (get m k) ≡ true
-least_present [] c k is = absurd (cc)
-least_present (e ∷ m) c k is = by (nat_le c e.0) refl is (eq_by_cmp nat_cmp k e.0) refl (least_present m c k)
-  where
-    by : (b : Bool) → nat_le c e.0 ≡ b → cond b (Key e.0) (at m c) ≡ Key k → (t : Bool) → eq_by_cmp nat_cmp k e.0 ≡ t → (at m c ≡ Key k → is_some (get m k) ≡ true) → is_some (cond t (Some e.1) (get m k)) ≡ true
-    by true l is true q more = refl
-    by true l is false q more = let same : e.0 ≡ k = cc in absurd (cc (key_tie k, q, ap (λ x. eq_by_cmp nat_cmp k x) same))
-    by false l is true q more = refl
-    by false l is false q more = more is

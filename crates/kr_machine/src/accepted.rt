@@ -3,7 +3,7 @@ ghost use Rattle.kr_machine.specs.declared.accepted.NotDone.TheVariants as not_d
 ghost use Rattle.kr_model.specs.declared.Reply.TheVariants as reply_is;
 ghost use Rattle.kr_model.specs.declared.Refusal.TheVariants as refusal_is;
 
-use kr_locks::Memory;
+use kr_holdings::Memory;
 use kr_model::{Refusal, Reply};
 
 /// Why a step wasn't done.

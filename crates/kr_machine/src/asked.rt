@@ -11,9 +11,9 @@ use crate::parts::Part;
 use crate::sights::sight_of;
 use crate::stepper::Stepper;
 use crate::{refusals, room};
-use kr_index::Ordered;
-use kr_locks::{Holdings, Memory};
+use kr_holdings::{Holdings, Memory};
 use kr_model::{Mode, Name, Op, Plan, Txn};
+use kr_ordered::Ordered;
 use kr_protocol::Protocol;
 
 impl<P: Protocol, I: Ordered, L: Holdings> Stepper<P, I, L> {

@@ -22,9 +22,9 @@ use crate::accepted::NotDone;
 use crate::parts::Touch;
 use crate::sights::{Sight, sight_of};
 use crate::{change, effects, holds, refusals, replies, scans};
-use kr_index::Ordered;
-use kr_locks::Holdings;
+use kr_holdings::Holdings;
 use kr_model::{Plan, Refusal, Reply, Txn, Txns};
+use kr_ordered::Ordered;
 use kr_protocol::Protocol;
 use kr_txn::{Ended, Standing};
 use std::alloc::Global;
@@ -112,7 +112,7 @@ fn attempt_at<P: Protocol, I: Ordered, L: Holdings, T, E, F: FnOnce(&Reply) -> R
 }
 
 /// What an attempt answers that is blocked.
-fn blocked<P: Protocol, L: Holdings>(
+pub(crate) fn blocked<P: Protocol, L: Holdings>(
     alloc: Global,
     protocol: &P,
     locks: &L,
@@ -164,23 +164,19 @@ fn do_at<P: Protocol, I: Ordered, L: Holdings, T, E, F: FnOnce(&Reply) -> Result
     let first_rows = scans::first_rows(*active.allocator(), touch)?;
     effects::make_room_at(active, place, touch)?;
     let op = touch.op();
-    change::pin_change(index, op, sight.row)?;
-    match holds::hold_both(protocol, locks, txn, plan) {
-        Ok((current_was, next_was)) => match accept(reply) {
-            Ok(accepted) => {
-                effects::perform_at(index, active, place, txn, touch, sight, first_rows);
-                Ok(accepted)
-            }
-            Err(declined) => {
-                change::unpin_change(index, op, sight.row);
-                holds::give_back(locks, txn, plan.next, next_was);
-                holds::give_back(locks, txn, plan.current, current_was);
-                Err(NotDone::Declined(declined))
-            }
-        },
-        Err(refused) => {
+    let (current_was, next_was) = holds::pin_and_hold(
+        protocol, index, locks, txn, op, sight.row, plan,
+    )?;
+    match accept(reply) {
+        Ok(accepted) => {
+            effects::perform_at(index, active, place, txn, touch, sight, first_rows);
+            Ok(accepted)
+        }
+        Err(declined) => {
             change::unpin_change(index, op, sight.row);
-            Err(NotDone::from(refused))
+            holds::give_back(locks, txn, plan.next, next_was);
+            holds::give_back(locks, txn, plan.current, current_was);
+            Err(NotDone::Declined(declined))
         }
     }
 }

@@ -9,8 +9,8 @@ ghost use Rattle.kr_machine.specs.Pins.{changed_key, changes_of, taken_pins};
 use crate::parts::{Ending, KeyTouch, Touch};
 use crate::pending::GrantedTouch;
 use crate::scans;
-use kr_index::{Memory, Ordered};
 use kr_model::{Op, Row};
+use kr_ordered::{Memory, Ordered};
 use kr_txn::{Scan, Standing};
 
 /// The key that an operation changes, by the row of its attempt: that of an insert where it is absent, and that of a

@@ -17,8 +17,8 @@ ghost use Rattle.kr_machine.specs.Sights.{IsSight, value_of_name};
 use crate::parts::{KeyTouch, Touch};
 use crate::room::make_room_in;
 use crate::sights::Sight;
-use kr_index::{Memory, Name, Ordered};
 use kr_model::{Row, Step, Txn};
+use kr_ordered::{Memory, Name, Ordered};
 use kr_txn::{Scan, Standing};
 
 /// Takes room for what is added to the transaction at this place.

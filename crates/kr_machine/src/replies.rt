@@ -8,8 +8,8 @@ ghost use Rattle.kr_txn.specs.Standings.{scan_of};
 ghost use Rattle.kr_machine.specs.Pending.{reply_of, rows_of};
 ghost use Rattle.kr_machine.specs.Sights.{value_at, value_of_name};
 
-use kr_index::{Memory, Name};
 use kr_model::{Pairs, Reply, Step};
+use kr_ordered::{Memory, Name};
 use kr_txn::Scan;
 use std::alloc::Global;
 

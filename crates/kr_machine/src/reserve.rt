@@ -17,9 +17,9 @@ ghost use Rattle.kr_machine.specs.Pins.{taken_pins};
 use crate::parts::{Ending, Touch};
 use crate::pending::{GrantedTouch, Pending, PendingPart};
 use crate::{change, holds, room, scans};
-use kr_index::Ordered;
-use kr_locks::{Holdings, Memory};
+use kr_holdings::{Holdings, Memory};
 use kr_model::{Event, Op, Plan, Txn};
+use kr_ordered::Ordered;
 use kr_protocol::Protocol;
 use kr_txn::{Ended, Standing, take_out};
 
@@ -54,11 +54,7 @@ pub(crate) fn reserve<P: Protocol, I: Ordered, L: Holdings>(
     let op = touch.op();
     let first_rows = scans::first_rows(*active.allocator(), touch)?;
     let (standing, was_active) = room::stand(active, txn, touch)?;
-    if let Err(refused) = change::pin_change(index, op, plan.row) {
-        room::put_down(active, txn, standing, was_active);
-        return Err(refused);
-    }
-    match holds::hold_both(protocol, locks, txn, plan) {
+    match holds::pin_and_hold(protocol, index, locks, txn, op, plan.row, plan) {
         Ok((current_was, next_was)) => Ok(Pending {
             event: Event { txn, op },
             standing,
@@ -72,7 +68,6 @@ pub(crate) fn reserve<P: Protocol, I: Ordered, L: Holdings>(
             }),
         }),
         Err(refused) => {
-            change::unpin_change(index, op, plan.row);
             room::put_down(active, txn, standing, was_active);
             Err(refused)
         }

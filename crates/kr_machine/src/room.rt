@@ -10,7 +10,7 @@ ghost use Rattle.kr_machine.specs.Pending.{HasRoomIn};
 ghost use Rattle.kr_machine.specs.Pins.{changes_of, all_changes_of};
 
 use crate::parts::{KeyTouch, Touch};
-use kr_locks::Holdings;
+use kr_holdings::Holdings;
 use kr_model::Txn;
 use kr_txn::{Ended, Memory, Scan, Standing, position, put_in, take_out};
 

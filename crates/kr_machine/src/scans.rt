@@ -7,7 +7,7 @@ ghost use Rattle.kr_machine.specs.Parts.{op_of_touch};
 ghost use Rattle.kr_machine.specs.Pending.{HasFirstRoom, look_effect};
 
 use crate::parts::Touch;
-use kr_index::{Memory, Name, Ordered};
+use kr_ordered::{Memory, Name, Ordered};
 use kr_txn::{Scan, Standing};
 use std::alloc::Global;
 

@@ -16,9 +16,9 @@ ghost use Rattle.kr_machine.specs.Pending.{attempt_of};
 ghost use Rattle.kr_machine.specs.Sights.{IsPairAt, IsSight};
 
 use crate::parts::{KeyTouch, Touch};
-use kr_index::{Name, Ordered};
-use kr_locks::Holdings;
+use kr_holdings::Holdings;
 use kr_model::{Plan, Row, Step, Txn};
+use kr_ordered::{Name, Ordered};
 use kr_protocol::Protocol;
 use kr_txn::Scan;
 

@@ -6,13 +6,14 @@ ghost use Rattle.kr_model.specs.Run.{is_granted};
 ghost use Rattle.kr_model.specs.declared.Op.TheVariants as op_is;
 ghost use Rattle.kr_machine.specs.Parts.{ended_by, op_of_touch};
 
+use crate::at_place::blocked;
 use crate::parts::{Ending, Part, Touch};
 use crate::pending::{Pending, PendingPart, Ready};
 use crate::sights::sight_of;
 use crate::{change, refusals, replies, reserve, room};
-use kr_index::Ordered;
-use kr_locks::{Holdings, Memory};
+use kr_holdings::{Holdings, Memory};
 use kr_model::{Mode, Name, Op, Pairs, Refusal, Reply, Txn, Txns};
+use kr_ordered::Ordered;
 use kr_protocol::Protocol;
 use kr_txn::{Ended, Standing, put_in};
 use std::alloc::Global;
@@ -223,10 +224,7 @@ impl<P: Protocol, I: Ordered, L: Holdings> Stepper<P, I, L> {
         let plan = sight.plan(&self.protocol, &self.locks, txn);
         let alloc = *self.active.allocator();
         if !kr_plan::granted(&self.protocol, &self.locks, txn, &plan) {
-            match kr_plan::blockers(alloc, &self.protocol, &self.locks, txn, &plan) {
-                Ok(list) => return Err(Reply::Blocked(Txns::from_vec(list))),
-                Err(_) => return Err(Reply::Refused(Refusal::Memory)),
-            }
+            return Err(blocked(alloc, &self.protocol, &self.locks, txn, &plan));
         }
         let reply = match replies::reply_at(alloc, scan, sight.attempt, sight.value) {
             Ok(reply) => reply,

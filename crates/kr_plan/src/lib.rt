@@ -9,10 +9,10 @@ ghost use Rattle.kr_model.specs.Plan.{plan_of, plan_by, access, access_of, side_
 ghost use Rattle.kr_model.proofs.Numbers.{merged};
 ghost use Rattle.kr_plan.specs.Modes.{SideIsMode, ArePlanModes};
 
-use kr_index::Ordered;
-use kr_locks::{Holdings, Memory};
+use kr_holdings::{Holdings, Memory};
 pub use kr_model::{Mode, Name, Txn};
 use kr_model::{Plan, Row, Side, Span, Step};
+use kr_ordered::Ordered;
 use kr_protocol::Protocol;
 use kr_txn::put_once;
 use std::alloc::Global;
