@@ -2,8 +2,8 @@
 use Rattle.std.proofs.Common.{◌≡◌, ℕ, List, [], ◌∷◌, ◌++◌, map, length, suc, refl, sym, ap, subst, ◌∙◌, ◌⊎◌, inl, inr, Option, Result, Ok, Err}
 use Rattle.std.specs.List.{AllZip}
 use Rattle.kr_model.specs.Protocol.{Protocol}
-use Rattle.kr_serial.specs.declared.verdict.Verdict.{Verdict}
-use Rattle.kr_serial.specs.Verdicts.{verdict_of_run}
+use Rattle.kr_judge.specs.declared.verdict.Verdict.{Verdict}
+use Rattle.kr_judge.specs.Verdicts.{verdict_of_run}
 use Rattle.kr_script.specs.Script.{Script}
 use Rattle.kr_script.specs.declared.faults.ScriptFault.TheVariants as told_as
 use Rattle.kr_script.specs.Faults.{too_long, not_json, format, opening, step}

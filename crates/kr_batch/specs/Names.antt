@@ -2,8 +2,8 @@
 use Rattle.std.specs.Prelude.{◌≡◌, ℕ, List, ◌++◌, ◌∷◌, length, Option, IfSome, Some, None, Result, Ok, Err}
 use Rattle.std.specs.List.{AllZip}
 use Rattle.kr_model.specs.Protocol.{Protocol}
-use Rattle.kr_serial.specs.declared.verdict.Verdict.{Verdict}
-use Rattle.kr_serial.specs.Verdicts.{verdict_of_run}
+use Rattle.kr_judge.specs.declared.verdict.Verdict.{Verdict}
+use Rattle.kr_judge.specs.Verdicts.{verdict_of_run}
 use Rattle.kr_script.specs.Script.{Script, IsScript}
 use Rattle.kr_script.specs.declared.faults.ScriptFault.TheVariants as told_as
 use Rattle.kr_script.specs.Faults.{Fault, fault_of}

@@ -1,6 +1,6 @@
 //! Verdicts on the runs of scripts.
 ghost use Rattle.std.specs.Prelude.{◌≡◌, IfOk, map};
-ghost use Rattle.kr_serial.specs.Verdicts.{verdict_of_run};
+ghost use Rattle.kr_judge.specs.Verdicts.{verdict_of_run};
 
 use kr_protocol::Protocol;
 use kr_script::Script;

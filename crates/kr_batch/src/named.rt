@@ -1,8 +1,8 @@
 //! Verdicts on scripts whose texts are found by their names, one by one.
 ghost use Rattle.std.specs.Prelude.{◌≡◌, ◌++◌, ◌∷◌, ◌⊎◌, ℕ, List, Option, Some, None, Ok, Err, IfOk, IfErr, IsTrue, Result, length, map};
 ghost use Rattle.kr_model.specs.Covers.{IsCovered};
-ghost use Rattle.kr_serial.specs.declared.verdict.Verdict.{Verdict};
-ghost use Rattle.kr_serial.specs.Verdicts.{verdict_of_run};
+ghost use Rattle.kr_judge.specs.declared.verdict.Verdict.{Verdict};
+ghost use Rattle.kr_judge.specs.Verdicts.{verdict_of_run};
 ghost use Rattle.kr_script.specs.Script.{Script};
 ghost use Rattle.kr_script.specs.declared.faults.ScriptFault.TheVariants as script_fault;
 ghost use Rattle.kr_batch.specs.Names.{AreNamed, ExplainsNames, Judges, judge_fault_at, unjudged_for};

@@ -3,10 +3,10 @@ use Rattle.std.specs.Prelude.{◌≡◌, ◌↔◌, Bool, List, IsTrue}
 use Rattle.std.proofs.Common.{ap, ◌∙◌}
 use Rattle.kr_model.specs.Difference.{first_difference}
 use Rattle.kr_model.specs.Run.{Program, programs}
-use Rattle.kr_serial.specs.declared.verdict.Verdict.{Verdict}
-use Rattle.kr_serial.specs.declared.verdict.Verdict.TheVariants.{Serial}
-use Rattle.kr_serial.specs.Verdicts.{verdict_of}
-use Rattle.kr_serial.proofs.Wholes.{serial_exactly}
+use Rattle.kr_judge.specs.declared.verdict.Verdict.{Verdict}
+use Rattle.kr_judge.specs.declared.verdict.Verdict.TheVariants.{Serial}
+use Rattle.kr_judge.specs.Verdicts.{verdict_of}
+use Rattle.kr_judge.proofs.Wholes.{serial_exactly}
 use Rattle.kr_ghost.specs.Protocol.{GhostProtocol}
 use Rattle.kr_ghost_script.specs.Script.{GhostScript}
 use Rattle.kr_cli_ghost.specs.Runs.{ghost_run_of, IsSerialGhosts}

@@ -14,8 +14,8 @@ use kr_cli::{Ending, Files};
 use kr_ghost_protocol::GhostProtocol;
 use kr_ghost_report::report_ghost_run;
 use kr_ghost_run::{judge_moves, run_moves};
+use kr_judge::judge_programs;
 use kr_report::report_verdict;
-use kr_serial::judge_programs;
 use kr_sink::{Sink, print, put_all};
 use std::alloc::{AllocError, Global};
 

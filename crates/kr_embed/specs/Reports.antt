@@ -6,7 +6,7 @@ use Rattle.kr_model.specs.Safe.{IsSafe}
 use Rattle.kr_model.specs.State.{start}
 use Rattle.kr_model.specs.Run.{Trace, run, replies_of, programs}
 use Rattle.kr_model.specs.Serial.{AreSerial}
-use Rattle.kr_serial.specs.Verdicts.{verdict_of_run}
+use Rattle.kr_judge.specs.Verdicts.{verdict_of_run}
 use Rattle.kr_script.specs.Script.{Script}
 use Rattle.kr_script.specs.Reading.{reading}
 use Rattle.kr_report.specs.CheckReport.{check_text}

@@ -8,8 +8,8 @@ use Rattle.kr_model.specs.Map.{Map}
 use Rattle.kr_model.specs.State.{State, start}
 use Rattle.kr_model.specs.Step.{IsStep}
 use Rattle.kr_model.specs.Log.{Log, no_log, logged}
-use Rattle.kr_serial.specs.Verdicts.{verdict_of}
-use Rattle.kr_serial.specs.declared.verdict.Verdict.{Verdict}
+use Rattle.kr_judge.specs.Verdicts.{verdict_of}
+use Rattle.kr_judge.specs.declared.verdict.Verdict.{Verdict}
 use Rattle.kr_script.specs.Script.{Script}
 use Rattle.kr_script.specs.Reading.{reading}
 use Rattle.kr_cli.specs.declared.tables.AnyTable.{AnyTable}

@@ -2,7 +2,7 @@
 ghost use Rattle.std.specs.Prelude.{◌≡◌, ◌↔◌, IfOk, IfErr, IsTrue, string_bytes};
 ghost use Rattle.kr_model.specs.Difference.{first_difference};
 ghost use Rattle.kr_model.specs.Serial.{AreSerial};
-ghost use Rattle.kr_serial.specs.Verdicts.{verdict_of};
+ghost use Rattle.kr_judge.specs.Verdicts.{verdict_of};
 ghost use Rattle.kr_report.specs.Report.{run_text};
 ghost use Rattle.kr_cli.specs.Tables.{names_of};
 ghost use Rattle.kr_embed.specs.Inputs.{Explains};

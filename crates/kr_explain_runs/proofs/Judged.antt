@@ -6,8 +6,8 @@ use Rattle.kr_model.specs.Protocol.{Protocol}
 use Rattle.kr_model.specs.Map.{Map, IsMap}
 use Rattle.kr_model.specs.Run.{is_granted}
 use Rattle.kr_model.specs.Serial.{AreSerial}
-use Rattle.kr_serial.specs.Ran.{IsRanUnder}
-use Rattle.kr_serial.specs.declared.ran.Ran.{Ran}
+use Rattle.kr_judge.specs.Ran.{IsRanUnder}
+use Rattle.kr_judge.specs.declared.ran.Ran.{Ran}
 use Rattle.kr_theorem.specs.Wrong.{GoesWrong}
 
 -- the run is that of the script

@@ -11,8 +11,8 @@ use Rattle.kr_model.specs.Locks.{own}
 use Rattle.kr_model.specs.Map.{Map}
 use Rattle.kr_model.specs.Plan.{access}
 use Rattle.kr_model.specs.Protocol.{Protocol}
-use Rattle.kr_serial.specs.Ran.{IsRanUnder}
-use Rattle.kr_serial.specs.declared.ran.Ran.{Ran}
+use Rattle.kr_judge.specs.Ran.{IsRanUnder}
+use Rattle.kr_judge.specs.declared.ran.Ran.{Ran}
 use Rattle.kr_explain_runs.specs.declared.counterexample.Counterexample.{Counterexample}
 use Rattle.kr_explain_runs.specs.declared.fit.Fit.{Fit}
 use Rattle.kr_explain_runs.specs.declared.fit.Fit.TheVariants as fit

@@ -8,8 +8,8 @@ use Rattle.kr_model.specs.Protocol.{Protocol}
 use Rattle.kr_model.specs.Map.{Map, IsMap}
 use Rattle.kr_model.specs.Locks.{own}
 use Rattle.kr_model.specs.Run.{is_granted}
-use Rattle.kr_serial.specs.Ran.{IsRanUnder}
-use Rattle.kr_serial.specs.declared.ran.Ran.{Ran}
+use Rattle.kr_judge.specs.Ran.{IsRanUnder}
+use Rattle.kr_judge.specs.declared.ran.Ran.{Ran}
 use Rattle.kr_explain_runs.specs.declared.keys.TheConstants.{A, Y}
 use Rattle.kr_explain_runs.specs.declared.reached.Reached.{Reached}
 use Rattle.kr_explain_runs.specs.declared.state.State.{State}

@@ -5,10 +5,10 @@ use Rattle.kr_model.specs.Map.{Map, IsMap}
 use Rattle.kr_model.specs.Difference.{first_difference}
 use Rattle.kr_model.specs.Run.{Program}
 use Rattle.kr_model.specs.Serial.{AreSerial}
-use Rattle.kr_serial.specs.declared.verdict.Verdict.{Verdict}
-use Rattle.kr_serial.specs.declared.verdict.Verdict.TheVariants.{Serial}
-use Rattle.kr_serial.specs.Verdicts.{verdict_of}
-use Rattle.kr_serial.proofs.Wholes.{serial_exactly}
+use Rattle.kr_judge.specs.declared.verdict.Verdict.{Verdict}
+use Rattle.kr_judge.specs.declared.verdict.Verdict.TheVariants.{Serial}
+use Rattle.kr_judge.specs.Verdicts.{verdict_of}
+use Rattle.kr_judge.proofs.Wholes.{serial_exactly}
 use Rattle.kr_ghost.specs.declared.moves.Move.{Move}
 use Rattle.kr_ghost.specs.Protocol.{GhostProtocol}
 use Rattle.kr_ghost_run.specs.Ran.{IsGhostRan}

@@ -8,8 +8,8 @@ ghost use Rattle.kr_ghost_explain.specs.Wrong.{GoesWrongBy, is_done};
 use kr_ghost::Move;
 use kr_ghost_protocol::GhostProtocol;
 use kr_ghost_run::{Answer, GhostRan, run_moves};
+use kr_judge::{is_map, judge_programs};
 use kr_model::{Memory, Reply};
-use kr_serial::{is_map, judge_programs};
 use std::alloc::Global;
 
 /// Whether these moves go wrong under a protocol, from an opening map: the keys of the map rise strictly, no step is blocked or

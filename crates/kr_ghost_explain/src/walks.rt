@@ -8,9 +8,9 @@ use kr_ghost::Move;
 use kr_ghost_index::GhostIndex;
 use kr_ghost_machine::GhostStepper;
 use kr_ghost_protocol::GhostProtocol;
+use kr_judge::is_map;
 use kr_locks::{Buckets, Holdings};
 use kr_model::Memory;
-use kr_serial::is_map;
 use std::alloc::Global;
 
 /// A walk.

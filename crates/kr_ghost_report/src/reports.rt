@@ -4,10 +4,10 @@ ghost use Rattle.kr_ghost_report.specs.RunReport.{ghost_run_text};
 
 use crate::answers::{write_answers, write_ghosts};
 use kr_ghost_run::GhostRan;
+use kr_judge::Verdict;
 use kr_protocol::Protocol;
 use kr_report::{write_locks, write_verdict};
 use kr_script::{write_numbers, write_pairs};
-use kr_serial::Verdict;
 use std::alloc::{AllocError, Global};
 
 /// The report of a run with the verdict on it: compact JSON on one line, with no line feed. Its members are the ghosts, the index

@@ -3,8 +3,8 @@ use Rattle.std.specs.Prelude.{◌≡◌, ◌≤◌, List, [], ◌∷◌, All, ma
 use Rattle.kr_model.specs.Map.{Map}
 use Rattle.kr_model.specs.Run.{programs}
 use Rattle.kr_model.specs.Difference.{first_difference}
-use Rattle.kr_serial.specs.declared.verdict.Verdict.{Verdict}
-use Rattle.kr_serial.specs.Verdicts.{verdict_of}
+use Rattle.kr_judge.specs.declared.verdict.Verdict.{Verdict}
+use Rattle.kr_judge.specs.Verdicts.{verdict_of}
 use Rattle.kr_ghost.specs.declared.moves.Move.{Move}
 use Rattle.kr_ghost.specs.declared.moves.Move.TheVariants as move
 use Rattle.kr_ghost.specs.Protocol.{GhostProtocol}

@@ -5,6 +5,6 @@ mod noted;
 mod ran;
 mod runs;
 
-pub use kr_serial::{Triples, Verdict};
+pub use kr_judge::{Triples, Verdict};
 pub use ran::{Answer, GhostRan};
 pub use runs::{judge_moves, run_moves};

@@ -8,9 +8,9 @@ use crate::Answer;
 use kr_ghost::Move;
 use kr_ghost_machine::GhostStepper;
 use kr_ghost_protocol::GhostProtocol;
+use kr_judge::note;
 use kr_locks::Holdings;
 use kr_model::{Items, Memory, Programs};
-use kr_serial::note;
 use kr_txn::Log;
 use std::alloc::Global;
 

@@ -1,7 +1,7 @@
 //! What a run leaves.
 
+use kr_judge::Triples;
 use kr_model::{Items, Pairs, Programs, Reply, Txns};
-use kr_serial::Triples;
 
 /// The answer to a move.
 #[derive(Debug, Drop)]

@@ -4,7 +4,7 @@ ghost use Rattle.kr_model.specs.Map.{IsMap};
 ghost use Rattle.kr_model.specs.Log.{log_after, no_log};
 ghost use Rattle.kr_model.specs.Run.{programs};
 ghost use Rattle.kr_model.specs.Serial.{AreSerial};
-ghost use Rattle.kr_serial.specs.declared.verdict.Verdict.TheVariants as verdict;
+ghost use Rattle.kr_judge.specs.declared.verdict.Verdict.TheVariants as verdict;
 ghost use Rattle.kr_ghost.specs.Run.{run};
 ghost use Rattle.kr_ghost.specs.Safe.{IsSafeGhost};
 ghost use Rattle.kr_ghost.specs.State.{opened};
@@ -16,9 +16,9 @@ use kr_ghost::Move;
 use kr_ghost_index::GhostIndex;
 use kr_ghost_machine::GhostStepper;
 use kr_ghost_protocol::GhostProtocol;
+use kr_judge::judge_programs;
 use kr_locks::{Buckets, Holdings};
 use kr_model::Memory;
-use kr_serial::judge_programs;
 use std::alloc::Global;
 
 /// Does the moves one after another under a protocol, from an opening map whose keys rise strictly, with no ghosts. The only

@@ -7,8 +7,8 @@ use Rattle.kr_model.specs.declared.Reply.{Reply}
 use Rattle.kr_model.specs.Map.{Map}
 use Rattle.kr_model.specs.Locks.{Lock, Locks, name_locked, holder_of, mode_held}
 use Rattle.kr_model.specs.ModeNames.{name_of}
-use Rattle.kr_serial.specs.declared.verdict.Verdict.{Verdict}
-use Rattle.kr_serial.specs.declared.verdict.Verdict.TheVariants as verdict
+use Rattle.kr_judge.specs.declared.verdict.Verdict.{Verdict}
+use Rattle.kr_judge.specs.declared.verdict.Verdict.TheVariants as verdict
 use Rattle.kr_script.specs.Json.{whole}
 use Rattle.kr_script.specs.Pairs.{pairs_data}
 pub use Rattle.kr_script.specs.Replies.{after_word, numbers_data, refusal_name, reply_data, name_data}

@@ -17,7 +17,7 @@ fn own_next(requester: Requester) -> Mode
 {
     match requester.access {
         Access::Insert => requester.own,
-        _ => 0,
+        Access::Fetch | Access::Scan | Access::Delete | Access::Update | Access::Revive => 0,
     }
 }
 

@@ -4,9 +4,9 @@ ghost use Rattle.serde_json.specs.Written.{compact_text};
 ghost use Rattle.kr_report.specs.Report.{reply_data, replies_data, verdict_data};
 
 use crate::writing::write_place;
+use kr_judge::Verdict;
 use kr_model::Reply;
 use kr_script::{separator, write_reply};
-use kr_serial::Verdict;
 use std::alloc::AllocError;
 
 /// Writes an array of replies.

@@ -4,10 +4,10 @@ ghost use Rattle.kr_report.specs.Report.{run_text, verdict_text};
 
 use crate::replies::{write_replies, write_verdict};
 use crate::writing::write_locks;
+use kr_judge::{Played, Ran, Verdict};
 use kr_model::{Mode, Name, Reply, Txn};
 use kr_protocol::Protocol;
 use kr_script::{quoted, write_numbers, write_pairs};
-use kr_serial::{Played, Ran, Verdict};
 use std::alloc::{AllocError, Global};
 
 /// The report of a run with the verdict on it: compact JSON on one line, with no line feed. Its members are the index and

@@ -1,11 +1,11 @@
 //! What a run of a script in several threads did.
 
 use crate::StepFault;
+use kr_judge::Ran;
 use kr_model::{Event, Pairs, Reply, Txns};
-use kr_serial::Ran;
 
 /// A step that was done, and its reply.
-#[derive(Debug, Drop)]
+#[derive(Drop)]
 pub struct Answered {
     /// The step.
     pub event: Event,
@@ -14,7 +14,7 @@ pub struct Answered {
 }
 
 /// A run of a script in several threads. Nothing here says that its parts belong to one run: it is a plain record.
-#[derive(Debug, Drop)]
+#[derive(Drop)]
 pub struct Threaded {
     /// The steps that were done, with their replies, in the order of their places in the run's history.
     pub history: Vec<Answered>,
@@ -25,7 +25,7 @@ pub struct Threaded {
 }
 
 /// What the report of a run of a script in several threads shows of it. It is a plain record too.
-#[derive(Debug, Drop)]
+#[derive(Drop)]
 pub struct ThreadsShown {
     /// The steps that were done, with their replies, in the order of their places in the run's history.
     pub history: Vec<Answered>,

@@ -7,11 +7,11 @@ use crate::replies::write_verdict;
 use crate::threaded::{Answered, Threaded, ThreadsShown};
 use crate::writing::write_place;
 use crate::{StepFault, WhyNotDone};
+use kr_judge::Verdict;
 use kr_model::Txn;
 use kr_script::{
     separator, write_numbers, write_pairs, write_reply, write_step, write_with_numbers,
 };
-use kr_serial::Verdict;
 use std::alloc::{AllocError, Global};
 
 /// Writes a step that was done, with its reply.

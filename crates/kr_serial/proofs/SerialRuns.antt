@@ -1,17 +1,13 @@
 -- What a run leaves, and what one that is serializable in commit order shows.
 use Rattle.std.proofs.Common.{◌≡◌, ◌≤◌, List, All, map, sym, subst, Result, Ok, Err, IfOk, OnOk}
 use Rattle.kr_model.specs.declared.Event.{Event}
-use Rattle.kr_model.specs.Map.{Map, IsMap}
-use Rattle.kr_model.specs.Protocol.{Protocol, IsLawful}
-use Rattle.kr_model.specs.Covers.{IsCovered}
-use Rattle.kr_model.specs.Safe.{IsSafe}
+use Rattle.kr_model.specs.Map.{Map}
+use Rattle.kr_model.specs.Protocol.{Protocol}
 use Rattle.kr_model.specs.State.{start}
 use Rattle.kr_model.specs.Run.{Program, run, replies_of, programs}
-use Rattle.kr_model.specs.Serial.{AreSerial, IsSerialRun}
-use Rattle.kr_theorem.proofs.safe.AllCases.{covered_is_safe}
-use Rattle.kr_theorem.proofs.run.Runs.{safe_runs_are_serial}
-use Rattle.kr_serial.specs.declared.ran.Ran.{Ran}
-use Rattle.kr_serial.specs.Ran.{IsRanUnder}
+use Rattle.kr_model.specs.Serial.{AreSerial}
+use Rattle.kr_judge.specs.declared.ran.Ran.{Ran}
+use Rattle.kr_judge.specs.Ran.{IsRanUnder}
 
 -- What a run leaves, put together.
 pub ran_under : {E : Type 0} (p : Protocol) (opening : Map) (events : List Event) (r : Result Ran E)
@@ -44,15 +40,3 @@ pub shows_serial : {E : Type 0} (r : Result Ran E) (opening : Map) (ps : List Pr
     → IfOk r (λ ran. ran.opening ≡ opening) → IfOk r (λ ran. ran.programs ≡ ps) → IfOk r (λ ran. AreSerial ran.opening ran.programs)
 shows_serial (Ok ran) opening ps h o p = subst (λ m. AreSerial m ran.programs) (sym o) (subst (λ qs. AreSerial opening qs) (sym p) h)
 shows_serial (Err e) opening ps h o p = tt
-
--- What commits in a run under a safe protocol is serializable.
-pub safe_programs : (p : Protocol) → IsLawful p → IsSafe p → (opening : Map) (events : List Event) → IsMap opening
-    → AreSerial opening (programs (run p (start opening) events).history)
-safe_programs p laws safe opening events sorted =
-    let serial : IsSerialRun opening (run p (start opening) events) = safe_runs_are_serial p laws safe opening events sorted in
-    serial.0
-
--- So is what commits in a run under a covered protocol.
-pub covered_programs : (p : Protocol) → IsLawful p → IsCovered p → (opening : Map) (events : List Event) → IsMap opening
-    → AreSerial opening (programs (run p (start opening) events).history)
-covered_programs p laws covered = safe_programs p laws (covered_is_safe p laws covered)

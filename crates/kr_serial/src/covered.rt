@@ -4,7 +4,7 @@ ghost use Rattle.kr_model.specs.Map.{IsMap};
 ghost use Rattle.kr_model.specs.State.{start};
 ghost use Rattle.kr_model.specs.Run as model;
 ghost use Rattle.kr_model.specs.Serial.{AreSerial, IsSerialRun};
-ghost use Rattle.kr_serial.specs.Ran.{IsRanUnder};
+ghost use Rattle.kr_judge.specs.Ran.{IsRanUnder};
 
 use crate::{Ran, run_any};
 use kr_index::Memory;

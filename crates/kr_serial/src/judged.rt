@@ -2,11 +2,10 @@
 ghost use Rattle.std.specs.Prelude.{◌≡◌, None, IfOk};
 ghost use Rattle.kr_model.specs.Map.{IsMap};
 ghost use Rattle.kr_model.specs.State.{start};
-ghost use Rattle.kr_serial.specs.Verdicts.{verdict_of_run};
+ghost use Rattle.kr_judge.specs.Verdicts.{verdict_of_run};
 
-use crate::Verdict;
-use crate::judging::judge_programs;
 use crate::logged::log_all;
+use crate::{Verdict, judge_programs};
 use kr_index::{Memory, Ordered, Tree};
 use kr_locks::{Buckets, Holdings};
 use kr_machine::Stepper;

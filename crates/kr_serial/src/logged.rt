@@ -1,11 +1,12 @@
 //! Steps with a log of what the transactions did.
 ghost use Rattle.std.specs.Prelude.{◌≡◌, [], None, IfOk, OnOk};
 ghost use Rattle.kr_model.specs.Run.{run, replies_of};
-ghost use Rattle.kr_model.specs.Log.{logged, log_after, no_log};
+ghost use Rattle.kr_model.specs.Log.{log_after, no_log};
 
 use crate::Replies;
 use crate::steps::lacks_memory;
 use kr_index::{Memory, Ordered};
+use kr_judge::note;
 use kr_locks::Holdings;
 use kr_machine::Stepper;
 use kr_model::{Event, Programs, Reply};
@@ -68,23 +69,4 @@ fn log_each<P: Protocol, I: Ordered, L: Holdings>(
         replies.push(reply)?;
     }
     Ok(())
-}
-
-/// Notes a step with its reply in a log, and nothing where it was blocked or refused, or undid a change. The only fault is that a
-/// growth is refused.
-pub fn note(alloc: Global, log: &mut Log, event: Event, reply: &Reply) -> Result<(), Memory>
-    ensures { OnOk result (log.new.log ≡ logged log.old.log (event, reply.now)) }
-{
-    match reply {
-        Reply::Blocked(_) | Reply::Refused(_) | Reply::Undone(_) => Ok(()),
-        Reply::Aborted => {
-            log.note(event, Reply::Aborted);
-            Ok(())
-        }
-        _ => {
-            log.make_room(event.txn)?;
-            log.note(event, reply.try_copy(alloc)?);
-            Ok(())
-        }
-    }
 }

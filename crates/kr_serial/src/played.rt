@@ -5,26 +5,13 @@ ghost use Rattle.kr_model.specs.State.{start};
 ghost use Rattle.kr_model.specs.Run.{run, replies_of};
 
 use crate::steps::lacks_memory;
-use crate::{Replies, Triples};
+use crate::{Played, Replies, Triples};
 use kr_index::{Memory, Ordered, Tree};
 use kr_locks::{Buckets, Holdings};
 use kr_machine::Stepper;
-use kr_model::{Event, Pairs, Txns};
+use kr_model::Event;
 use kr_protocol::Protocol;
 use std::alloc::{AllocError, Global};
-
-/// A run at its end, without what its transactions did.
-#[derive(Debug, Drop)]
-pub struct Played {
-    /// The reply to each step, in the order of the steps.
-    pub replies: Replies,
-    /// The index after the last step, keys rising.
-    pub index: Pairs,
-    /// The locks that are held after the last step: holders rise by name, then by transaction.
-    pub locks: Triples,
-    /// The transactions that are active after the last step, rising.
-    pub unfinished: Txns,
-}
 
 /// Runs the events as `run_any` does, and keeps no log of what the transactions did: for a run whose verdict is known
 /// beforehand. The only fault is `Memory`: a step that was refused memory ends the run, and nothing of it is shown.

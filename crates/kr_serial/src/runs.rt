@@ -7,7 +7,7 @@ ghost use Rattle.kr_model.specs.Serial.{AreSerial, IsSerialRun};
 ghost use Rattle.kr_model.specs.State.{start};
 ghost use Rattle.kr_model.specs.Run.{run, replies_of, programs};
 ghost use Rattle.kr_model.specs.Log.{log_after, no_log};
-ghost use Rattle.kr_serial.specs.Ran.{IsRanUnder};
+ghost use Rattle.kr_judge.specs.Ran.{IsRanUnder};
 
 use crate::logged::{Logged, log_all};
 use crate::played::show;

@@ -5,7 +5,7 @@ use Rattle.kr_model.specs.Covers.{IsCovered}
 use Rattle.kr_model.specs.Safe.{IsSafe}
 use Rattle.kr_model.specs.Map.{Map, IsMap}
 use Rattle.kr_theorem.proofs.safe.AllCases.{covered_is_safe}
-use Rattle.kr_serial.proofs.SerialRuns.{safe_programs}
+use Rattle.kr_judge.proofs.SafeRuns.{safe_programs}
 use Rattle.kr_trace_follow.specs.Conforms.{IsSerialTrace}
 use Rattle.kr_trace_follow.specs.Following.{at_start, deviation, steps_in}
 use Rattle.kr_trace_follow.specs.Lines.{Line}

@@ -4,8 +4,8 @@ ghost use Rattle.kr_model.specs.Map.{IsMap};
 ghost use Rattle.kr_trace_follow.specs.Given.{difference_at, difference_in, map_after, or_later};
 
 use kr_index::Memory;
+use kr_judge::{answer, follow, map_of};
 use kr_model::{Op, Reply};
-use kr_serial::{answer, follow, map_of};
 use kr_trace_lines::{Observed, fits};
 use std::alloc::{AllocError, Global};
 use std::collections::BTreeMap;

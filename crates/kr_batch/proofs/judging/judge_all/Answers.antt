@@ -1,8 +1,8 @@
 use Rattle.std.proofs.Common.{ap, ◌∙◌, ◌≡◌, IfOk}
 use Rattle.rayon.proofs.ToStd.{slice-AllZip}
 use Rattle.kr_script.specs.Script.{Script}
-use Rattle.kr_serial.specs.declared.verdict.Verdict.{Verdict}
-use Rattle.kr_serial.specs.Verdicts.{verdict_of_run}
+use Rattle.kr_judge.specs.declared.verdict.Verdict.{Verdict}
+use Rattle.kr_judge.specs.Verdicts.{verdict_of_run}
 use Rattle.kr_batch.proofs.Collected.{collected}
 use Rattle.kr_batch.proofs.judging.judge_all.Goals as goal
 

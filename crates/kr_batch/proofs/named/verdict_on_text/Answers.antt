@@ -1,11 +1,11 @@
 use Rattle.std.proofs.Common.{◌≡◌, Ok, sym, refl, subst}
 use Rattle.kr_model.specs.State.{start}
 use Rattle.kr_model.specs.Run.{run, programs}
-use Rattle.kr_serial.specs.Verdicts.{verdict_of_run}
-use Rattle.kr_serial.specs.declared.verdict.Verdict.{Verdict}
-use Rattle.kr_serial.specs.declared.verdict.Verdict.TheVariants.{Serial}
-use Rattle.kr_serial.proofs.Wholes.{serial_exactly}
-use Rattle.kr_serial.proofs.SerialRuns.{covered_programs}
+use Rattle.kr_judge.specs.Verdicts.{verdict_of_run}
+use Rattle.kr_judge.specs.declared.verdict.Verdict.{Verdict}
+use Rattle.kr_judge.specs.declared.verdict.Verdict.TheVariants.{Serial}
+use Rattle.kr_judge.proofs.Wholes.{serial_exactly}
+use Rattle.kr_judge.proofs.SafeRuns.{covered_programs}
 use Rattle.kr_script.specs.Script.{IsScript}
 use Rattle.kr_script.specs.Reading.{reading}
 use Rattle.kr_batch.proofs.named.verdict_on_text.Goals as goal

@@ -1,7 +1,7 @@
 use Rattle.std.proofs.Common.{refl, ◌≡◌, ◌∙◌, ap}
 use Rattle.std.proofs.lemmas.Result.{IfOk-weaker}
 use Rattle.kr_model.specs.Run.{programs}
-use Rattle.kr_serial.proofs.Wholes.{serial_exactly}
+use Rattle.kr_judge.proofs.Wholes.{serial_exactly}
 use Rattle.kr_ghost.specs.Protocol.{GhostProtocol}
 use Rattle.kr_ghost.specs.Run.{run}
 use Rattle.kr_ghost.specs.State.{opened}

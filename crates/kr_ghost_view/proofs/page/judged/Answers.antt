@@ -1,4 +1,4 @@
-use Rattle.kr_serial.proofs.Wholes.{serial_exactly}
+use Rattle.kr_judge.proofs.Wholes.{serial_exactly}
 use Rattle.kr_ghost_view.proofs.page.judged.Goals as goal
 
 pub returns-clause-serial : goal.returns-clause-serial

@@ -2,7 +2,8 @@ use Rattle.kr_model.specs.State.{start}
 use Rattle.kr_model.specs.Run as model
 use Rattle.kr_theorem.proofs.run.Runs.{safe_runs_are_serial}
 use Rattle.kr_theorem.proofs.safe.AllCases.{covered_is_safe}
-use Rattle.kr_serial.proofs.SerialRuns.{ran_under, on_ok, shows_serial, safe_programs}
+use Rattle.kr_judge.proofs.SafeRuns.{safe_programs}
+use Rattle.kr_serial.proofs.SerialRuns.{ran_under, on_ok, shows_serial}
 use Rattle.kr_serial.proofs.runs.run_any.Goals as goal
 
 pub returns-clause-ran : goal.returns-clause-ran

@@ -1,0 +1,4 @@
+pub mod Changes
+pub mod Wholes
+pub mod Rising
+pub mod SafeRuns

@@ -1,5 +1,0 @@
-use Rattle.std.proofs.Common.{rules}
-use Rattle.kr_serial.proofs.verdict.Verdict.is_serial.Goals as goal
-
-pub returns-in-Serial : goal.returns-in-Serial
-returns-in-Serial c = search rules

@@ -1,5 +1,0 @@
-use Rattle.std.proofs.Common.{rules}
-use Rattle.kr_serial.proofs.whole.answer.Goals as goal
-
-pub returns-in-Delete : goal.returns-in-Delete
-returns-in-Delete c = search rules
