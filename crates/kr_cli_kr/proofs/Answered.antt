@@ -1,7 +1,6 @@
 -- What is known of a report that was written.
-use Rattle.std.specs.Prelude.{◌≡◌, ◌↔◌, ℕ, List, Bool, Option, Some, Result, Ok, Err, IfOk, IsTrue}
-use Rattle.std.proofs.Common.{inl, inr, subst, sym}
-use Rattle.std.proofs.lemmas.Result.{IfOk-at_ok}
+use Rattle.std.specs.Prelude.{◌≡◌, ℕ, List, Bool, Option, Some, Result, Ok, Err, IfOk, IsTrue}
+use Rattle.std.proofs.Common.{inl, inr}
 use Rattle.std.specs.Io.KnownBytes.{Appends}
 use Rattle.kr_model.specs.Protocol.{Protocol}
 use Rattle.kr_script.specs.Script.{Script}
@@ -14,28 +13,17 @@ use Rattle.kr_cli.specs.Files.{MayBeScript}
 use Rattle.kr_cli.specs.Lawful.{lawful_of}
 use Rattle.kr_cli.specs.Named.{NamesTable, NamesScript}
 use Rattle.kr_cli.specs.Tables.{table_of, names_of}
-use Rattle.kr_cli_kr.specs.Runs.{report_line, IsSerialScript}
 use Rattle.kr_cli_kr.specs.Threads.{threads_line}
 use Rattle.kr_cli_ghost.specs.declared.tables.AnyGhostTable.{AnyGhostTable}
 use Rattle.kr_cli_ghost.specs.Lawful.{lawful_ghosts_of}
 use Rattle.kr_cli_ghost.specs.Named.{NamesGhosts}
 use Rattle.kr_cli_ghost.specs.Tables as ghost
 use Rattle.kr_cli_kr.specs.Program.{Reports, ReportsGhosts, WritesReport}
-use Rattle.kr_cli_kr.specs.Words.{AreWords}
-use Rattle.kr_cli_kr.specs.declared.tasks.Task.{Task}
+use Rattle.kr_cli_tasks.specs.Words.{AreWords}
+use Rattle.kr_cli_tasks.specs.declared.tasks.Task.{Task}
+use Rattle.kr_cli_tasks.proofs.Answered.{names_script}
 
--- a word names the script that bytes which may be had for it read as
-names_script : (may_give : List ℕ → Option (List ℕ) → Type 0) (word bytes read : List ℕ) (s : Script) → read ≡ bytes → MayBeScript may_give word (Some bytes) → reading read ≡ Ok s → NamesScript may_give word s
-names_script may_give word bytes read s same had reads =
-    let P : List ℕ → Type 0 = λ bs. MayBeScript may_give word (Some bs) in
-    (read, (subst P (sym same) had, reads))
-
--- it is of a run of the script that a word names
-pub run_reported : (may_give : List ℕ → Option (List ℕ) → Type 0) (p : Protocol) (names : List (List ℕ)) (word bytes read : List ℕ) (old new : Option (List ℕ)) (serial : Bool) → read ≡ bytes → MayBeScript may_give word (Some bytes) → (s : Script) × ((reading read ≡ Ok s) × Appends old new (report_line p names s)) → IfOk (reading read) (λ s. IsTrue serial ↔ IsSerialScript p s) → (s : Script) × (NamesScript may_give word s × (Appends old new (report_line p names s) × (IsTrue serial ↔ IsSerialScript p s)))
-run_reported may_give p names word bytes read old new serial same had (s, (reads, written)) told =
-    (s, (names_script may_give word bytes read s same had reads, (written, IfOk-at_ok (λ x. IsTrue serial ↔ IsSerialScript p x) reads told)))
-
--- or of a run of it by several threads
+-- it is of a run by several threads of the script that a word names
 pub threads_reported : (may_give : List ℕ → Option (List ℕ) → Type 0) (p : Protocol) (word bytes read : List ℕ) (old new : Option (List ℕ)) (serial : Bool) → read ≡ bytes → MayBeScript may_give word (Some bytes) → (s : Script) × ((d : Threaded) × ((reading read ≡ Ok s) × (IsThreaded p s.opening s.steps d × Appends old new (threads_line d)))) → IsTrue serial → IsTrue serial × ((s : Script) × (NamesScript may_give word s × ((d : Threaded) × (IsThreaded p s.opening s.steps d × Appends old new (threads_line d)))))
 threads_reported may_give p word bytes read old new serial same had (s, (d, (reads, (threaded, written)))) is_serial =
     (is_serial, (s, (names_script may_give word bytes read s same had reads, (d, (threaded, written)))))

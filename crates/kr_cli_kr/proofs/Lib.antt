@@ -1,6 +1,2 @@
 pub mod Answered
-pub mod Covered
 pub mod Ended
-pub mod Reported
-pub mod Serials
-pub mod Unprinted

@@ -16,19 +16,19 @@ use Rattle.kr_ghost.specs.Covers.{IsCoveredGhost}
 use Rattle.kr_cli_ghost.specs.declared.tables.AnyGhostTable.{AnyGhostTable}
 use Rattle.kr_cli_ghost.specs.Named.{NamesGhosts, TellsNone}
 use Rattle.kr_cli_ghost.specs.Tables as ghost
-use Rattle.kr_batch.specs.Names.{AreNamed, IsFirst}
-use Rattle.kr_cli_kr.specs.Runs.{report_line, IsSerialScript}
-use Rattle.kr_cli_kr.specs.Checks.{check_line, ghost_check_line}
-use Rattle.kr_cli_kr.specs.Judges.{judge_lines}
+use Rattle.kr_batch.specs.Names.{AreNamed}
+use Rattle.kr_cli_tasks.specs.Runs.{report_line, IsSerialScript}
+use Rattle.kr_cli_tasks.specs.Checks.{check_line, ghost_check_line}
+use Rattle.kr_cli_tasks.specs.Judges.{judge_lines, TellsFirst}
 use Rattle.kr_cli_ghost.specs.Runs.{ghost_report_line, ghost_judge_lines, IsSerialGhosts, NamesGhostScript, NameGhostScripts, TellsNoGhostScript, TellsFirstGhost}
 use Rattle.kr_cli_kr.specs.Threads.{threads_line, ghost_threads_line}
-use Rattle.kr_cli_kr.specs.Words.{AreWords}
+use Rattle.kr_cli_tasks.specs.Words.{AreWords}
 use Rattle.kr_report.specs.declared.threaded.Threaded.{Threaded}
 use Rattle.kr_threads.specs.Threaded.{IsThreaded}
 use Rattle.kr_ghost_threads.specs.declared.made.GhostThreaded.{GhostThreaded}
 use Rattle.kr_ghost_threads.specs.Threaded.{IsGhostThreaded}
-use Rattle.kr_cli_kr.specs.declared.tasks.Task.{Task}
-use Rattle.kr_cli_kr.specs.declared.tasks.Task.TheVariants.{Check, Run, Judge, Threads}
+use Rattle.kr_cli_tasks.specs.declared.tasks.Task.{Task}
+use Rattle.kr_cli_tasks.specs.declared.tasks.Task.TheVariants.{Check, Run, Judge, Threads}
 
 -- Under a covered table the whole report was written of a run by several threads of the script that a word names, and the answer is that it is serializable; under another the report of the check, and the answer is that it is rejected.
 abbrev pub ThreadsReported : (List ℕ → Option (List ℕ) → Type 0) → Protocol → List (List ℕ) → List ℕ → Option (List ℕ) → Option (List ℕ) → Bool → Type 0
@@ -83,10 +83,6 @@ pub record AnswersGhosts (may_give : List ℕ → Option (List ℕ) → Type 0) 
 -- The whole report that these words ask for was written, of a table without ghosts or with them.
 abbrev pub WritesReport : (List ℕ → Option (List ℕ) → Type 0) → List (List ℕ) → Option (List ℕ) → Option (List ℕ) → Bool → Type 0
 WritesReport may_give words old new well = Answers may_give words old new well ⊎ AnswersGhosts may_give words old new well
-
--- The line tells why the first of the words that names no script names none.
-abbrev pub TellsFirst : (List ℕ → Option (List ℕ) → Type 0) → List (List ℕ) → List ℕ → Type 0
-TellsFirst may_give words line = (place : ℕ) × IsFirst (MayBeScript may_give) words place (λ word. TellsNoScript may_give word line)
 
 -- The line tells why a word of a task names no script; of several, it is the first.
 abbrev pub TellsTask : (List ℕ → Option (List ℕ) → Type 0) → Task → List ℕ → Type 0

@@ -2,7 +2,7 @@
 use Rattle.std.specs.Prelude.{◌≡◌, ℕ, List, ◌++◌, [], ◌∷◌, Option, Some, Ok, Err}
 use Rattle.kr_model.specs.Protocol.{Protocol}
 use Rattle.kr_model.specs.Difference.{first_difference}
-use Rattle.kr_serial.specs.Verdicts.{verdict_of}
+use Rattle.kr_judge.specs.Verdicts.{verdict_of}
 use Rattle.kr_script.specs.Script.{Script}
 use Rattle.kr_script.specs.Faults.{Fault, fault_of}
 use Rattle.kr_script.specs.Reading.{reading}
@@ -16,8 +16,8 @@ use Rattle.kr_ghost_threads.specs.declared.made.GhostThreaded.{GhostThreaded}
 use Rattle.kr_ghost_threads.specs.Histories.{moves_of}
 use Rattle.kr_ghost_threads.specs.Report.{ghost_threads_text}
 use Rattle.kr_model.specs.Map.{Map}
-use Rattle.kr_cli_kr.specs.declared.faults.OverFault.{OverFault}
-use Rattle.kr_cli_kr.specs.declared.faults.OverFault.TheVariants as fault
+use Rattle.kr_cli_tasks.specs.declared.faults.OverFault.{OverFault}
+use Rattle.kr_cli_tasks.specs.declared.faults.OverFault.TheVariants as fault
 
 -- The report of what several threads did, with the verdict on its run and a line feed.
 abbrev pub threads_line : Threaded → List ℕ

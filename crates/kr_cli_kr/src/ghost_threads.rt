@@ -11,14 +11,13 @@ ghost use Rattle.kr_cli_ghost.specs.Runs.{NamesGhostScript, TellsNoGhostScript};
 ghost use Rattle.kr_cli_kr.specs.Program.{GhostThreadsReported};
 ghost use Rattle.kr_cli_kr.specs.Threads.{ghost_threads_line};
 
-use crate::checks::check_ghosts;
-use crate::tasks::Workers;
 use kr_cli::{Ending, Files};
 use kr_cli_ghost::ghost_script_at;
+use kr_cli_tasks::{Workers, check_ghosts};
 use kr_ghost_check::failed_cases;
 use kr_ghost_protocol::GhostProtocol;
 use kr_ghost_threads::{GhostRunFault, report_ghost_threads, run_ghost_threads};
-use kr_serial::Verdict;
+use kr_judge::Verdict;
 use kr_sink::{Sink, print};
 use kr_workers::Passage;
 use std::alloc::Global;

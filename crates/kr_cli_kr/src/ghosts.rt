@@ -5,11 +5,10 @@ ghost use Rattle.kr_ghost.specs.Covers.{IsCoveredGhost};
 ghost use Rattle.kr_cli.specs.Endings.{Unreported, is_output};
 ghost use Rattle.kr_cli_kr.specs.Program.{ReportsGhosts, TellsGhostTask};
 
-use crate::checks::check_ghosts;
 use crate::ghost_threads::check_and_thread_ghosts;
-use crate::tasks::Task;
 use kr_cli::{Ending, Files};
 use kr_cli_ghost::{judge_ghosts, run_ghosts};
+use kr_cli_tasks::{Task, check_ghosts};
 use kr_ghost_protocol::GhostProtocol;
 use kr_sink::Sink;
 use std::sync::Wait;

@@ -1,146 +1,32 @@
 //! The program over its words, files and streams.
-ghost use Rattle.std.specs.Prelude.{◌≡◌, ◌⊎◌, ◌↔◌, ◌≤◌, List, All, true, false, IfOk, IfErr, IsTrue, map, string_bytes};
+ghost use Rattle.std.specs.Prelude.{◌≡◌, ◌⊎◌, ◌≤◌, true, false, IfOk, IfErr, IsTrue, map, string_bytes};
 ghost use Rattle.std.specs.Io.KnownBytes.{Appends};
 ghost use Rattle.kr_model.specs.Covers.{IsCovered};
 ghost use Rattle.kr_sink.specs.Puts.{AppendsFront, HasCause};
 ghost use Rattle.kr_script.specs.Script.{Script};
 ghost use Rattle.kr_cli.specs.Endings.{TellsOneLine, Unreported, is_output, ending_line};
-ghost use Rattle.kr_cli.specs.Files.{MayBeScript};
 ghost use Rattle.kr_cli.specs.Named.{NamesScript, TellsNoScript};
 ghost use Rattle.kr_cli.specs.declared.endings.Ending.{Ending};
-ghost use Rattle.kr_cli.specs.declared.endings.Ending.TheVariants as ending;
-ghost use Rattle.kr_batch.specs.Names.{AreNamed, ExplainsNames};
-ghost use Rattle.kr_cli_kr.specs.Runs.{report_line, IsSerialScript};
-ghost use Rattle.kr_cli_kr.specs.Judges.{judge_lines};
-ghost use Rattle.kr_cli_kr.specs.Program.{WritesReport, Ends, Reports, TellsFirst, TellsTask, ThreadsReported};
+ghost use Rattle.kr_cli_kr.specs.Program.{WritesReport, Ends, Reports, TellsTask, ThreadsReported};
 ghost use Rattle.kr_cli_kr.specs.Threads.{threads_line};
 ghost use Rattle.kr_report.specs.declared.threaded.Threaded.{Threaded};
 ghost use Rattle.kr_threads.specs.Threaded.{IsThreaded};
-ghost use Rattle.kr_cli_kr.specs.declared.faults.OverFault.TheVariants as fault;
 
-use crate::checks::{check_over, write_check};
-use crate::faults::OverFault;
 use crate::ghosts::under_ghosts;
-use crate::judges::{LinesFault, judge_over};
-use crate::runs::run_over;
-use crate::tasks::{Task, Workers};
 use crate::threads::threads_over;
-use crate::words::read_words;
-use kr_batch::{JudgeFault, TextFault, Texts};
 use kr_cases::{Rejected, WhyRejected, check};
-use kr_cli::{
-    Ending, FileFault, Files, SCRIPT_BYTES, at_fault, finish, read_file, unreadable, whole,
-};
+use kr_cli::{Ending, Files, SCRIPT_BYTES, at_fault, finish, whole};
 use kr_cli_ghost::{Named, named_at};
+use kr_cli_tasks::{
+    OverFault, Task, Workers, check_over, judge_scripts, read_words, run_script, write_check,
+};
 use kr_protocol::{Covered, Protocol};
 use kr_sink::Sink;
-use std::alloc::Global;
 use std::sync::Wait;
 use std::thread::Threads;
 
 /// The program's name.
 pub const NAME: &str = "kr";
-
-/// Output and a place that was refused are told as that, and all else as want of memory. A script's fault is told with the
-/// word that names the script, so none comes here.
-impl From<OverFault> for Ending {
-    ghost from_gives = { λ f e. ((e ≡ ending.Output) ↔ (f ≡ fault.Print)) × (((e ≡ ending.Place) ↔ (f ≡ fault.Place)) × Unreported (λ _. ⊥) e) };
-
-    fn from(fault: OverFault) -> Ending {
-        match fault {
-            OverFault::Print => Ending::Output,
-            OverFault::Place => Ending::Place,
-            OverFault::Script(_) | OverFault::Memory => Ending::Memory,
-        }
-    }
-}
-
-/// Runs the script in the file that a word names, writes its report, and answers whether the run is serializable.
-fn run_script<R: std::rt::Files + AllocGlobal, P: Protocol, F: Files, W: Sink>(
-    rt: &R,
-    protocol: &P,
-    script: &str,
-    files: &F,
-    out: &mut W,
-) -> Result<bool, Ending>
-    ensures reports { IfOk result (λ serial. (s : Script) × (NamesScript (F.may_give files.now) script.now s
-        × (Appends (W.taken out.old) (W.taken out.new) (report_line (P.table protocol.now) (P.names protocol.now) s)
-        × (IsTrue serial ↔ IsSerialScript (P.table protocol.now) s)))) }
-    ensures covered { IsCovered (P.table protocol.now) → IfOk result (λ serial. IsTrue serial) }
-    ensures err { IfErr result (Unreported (TellsNoScript (F.may_give files.now) script.now)) }
-    ensures nothing { IfErr result (λ e. IsTrue (is_output e) ⊎ (out.new ≡ out.old)) }
-    ensures cause { IfErr result (λ e. IsTrue (is_output e) → HasCause (W.failures out.old) (W.failures out.new)) }
-{
-    let alloc = rt.alloc();
-    let bytes = whole(rt, script, files, SCRIPT_BYTES)?;
-    match run_over(alloc, protocol, bytes.as_slice(), out) {
-        Ok(is_serial) => Ok(is_serial),
-        Err(OverFault::Script(fault)) => Err(at_fault(alloc, script, fault)),
-        Err(fault) => Err(Ending::from(fault)),
-    }
-}
-
-/// The files that words name, as the texts of scripts.
-#[derive(Drop)]
-struct Scripts<'a, R, F> {
-    rt: &'a R,
-    files: &'a F,
-}
-
-impl<R: std::rt::Files + AllocGlobal, F: Files> Texts for Scripts<'_, R, F> {
-    ghost may_be = { λ s. MayBeScript (F.may_give s.files.now) };
-
-    fn text(&self, _alloc: Global, name: &str) -> Result<Vec<u8>, TextFault> {
-        match read_file(self.rt, name, self.files, SCRIPT_BYTES) {
-            Ok(bytes) => Ok(bytes),
-            Err(FileFault::Memory) => Err(TextFault::Memory),
-            Err(_) => Err(TextFault::Unreadable),
-        }
-    }
-}
-
-impl<R: std::rt::Files + AllocGlobal, F: Files> Scripts<'_, R, F> {
-    /// How the program ends at this fault of the first of the words that names no script.
-    fn ending_for(&self, words: &[&str], judge_fault: JudgeFault) -> Ending
-        requires { ExplainsNames (MayBeScript (F.may_give self.now.files.now)) (map (λ w. w.now) words.now) judge_fault }
-        ensures ends { Unreported (TellsFirst (F.may_give self.now.files.now) (map (λ w. w.now) words.now)) result }
-        ensures other { is_output result ≡ false }
-    {
-        let alloc = self.rt.alloc();
-        match judge_fault {
-            JudgeFault::Unreadable(at) => unreadable(alloc, words[at]),
-            JudgeFault::Script(at, fault) => at_fault(alloc, words[at], fault),
-            JudgeFault::Memory => Ending::Memory,
-        }
-    }
-}
-
-/// Judges the scripts in the files that words name, writes the lines of their verdicts, and answers whether all are
-/// serializable. Each thread reads the files of its scripts; of several faults the first in the order of the words is told.
-fn judge_scripts<
-    R: std::rt::Files + AllocGlobal + Threads + Sync,
-    P: Protocol + Sync,
-    F: Files + Sync,
-    W: Sink,
->(rt: &R, protocol: &P, words: &[&str], files: &F, out: &mut W) -> Result<bool, Ending>
-where
-    R::File: Send + Sync,
-    R::Dir: Send + Sync,
-    ensures reports { IfOk result (λ serial. (ss : List Script) × (AreNamed (MayBeScript (F.may_give files.now)) (map (λ w. w.now) words.now) ss
-        × (Appends (W.taken out.old) (W.taken out.new) (judge_lines (P.table protocol.now) (map (λ w. w.now) words.now) ss)
-        × (IsTrue serial ↔ All (IsSerialScript (P.table protocol.now)) ss)))) }
-    ensures covered { IsCovered (P.table protocol.now) → IfOk result (λ serial. IsTrue serial) }
-    ensures err { IfErr result (Unreported (TellsFirst (F.may_give files.now) (map (λ w. w.now) words.now))) }
-    ensures nothing { IfErr result (λ e. IsTrue (is_output e) ⊎ (out.new ≡ out.old)) }
-    ensures cause { IfErr result (λ e. IsTrue (is_output e) → HasCause (W.failures out.old) (W.failures out.new)) }
-{
-    let scripts = Scripts { rt, files };
-    match judge_over(rt, rt.alloc(), protocol, &scripts, words, out) {
-        Ok(serial) => Ok(serial),
-        Err(LinesFault::Print) => Err(Ending::Output),
-        Err(LinesFault::Judge(fault)) => Err(scripts.ending_for(words, fault)),
-    }
-}
 
 /// Runs the script in the file that a word names by several threads, writes the report of what they did, and answers whether
 /// the run of its history is serializable, which it is.

@@ -9,13 +9,13 @@ ghost use Rattle.kr_script.specs.Script.{Script};
 ghost use Rattle.kr_report.specs.declared.threaded.Threaded.{Threaded as Outcome};
 ghost use Rattle.kr_threads.specs.Threaded.{IsThreaded, ShowsThreads};
 ghost use Rattle.kr_cli_kr.specs.Threads.{threads_line, ExplainsThreads};
-ghost use Rattle.kr_cli_kr.specs.declared.faults.OverFault.TheVariants as fault;
+ghost use Rattle.kr_cli_tasks.specs.declared.faults.OverFault.TheVariants as fault;
 
-use crate::faults::OverFault;
+use kr_cli_tasks::OverFault;
+use kr_judge::Verdict;
 use kr_protocol::Covered;
 use kr_report::{ThreadsShown, report_threads_shown};
 use kr_script::read_script;
-use kr_serial::Verdict;
 use kr_sink::{Sink, print};
 use kr_threads::{Passage, RunFault, show_threads};
 use std::alloc::{AllocError, Global};

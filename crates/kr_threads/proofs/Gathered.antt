@@ -8,7 +8,7 @@ use Rattle.kr_history.specs.declared.name.Entry.{Entry}
 use Rattle.kr_engine.specs.declared.kernel.SeatNote.{SeatNote}
 use Rattle.kr_engine.specs.Histories.{events_with_replies}
 use Rattle.kr_engine.specs.Closed.{Lent, StandsIn}
-use Rattle.kr_threads.specs.declared.left_out.LeftOut.{LeftOut}
+use Rattle.kr_workers.specs.declared.left_out.LeftOut.{LeftOut}
 use Rattle.kr_threads.specs.Told.{IsLeftOut, AreTold, IsToldToOne}
 use Rattle.kr_threads.proofs.Told.{told_more}
 

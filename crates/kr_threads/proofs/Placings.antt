@@ -1,10 +1,6 @@
 -- Steps that were left out, told where their transactions came to them.
-use Rattle.std.proofs.Common.{◌≡◌, ℕ, ◌+◌, ◌-◌, ◌<◌, ◌≤◌, ◌==◌, List, [], ◌∷◌, ◌++◌, Option, Some, None, All, length, take, map, refl, sym, ap, ◌∙◌, subst, arith}
-use Rattle.std.proofs.lemmas.List.{map-append, length-map, take-append-le, take-take, take_all}
+use Rattle.std.proofs.Common.{◌≡◌, ℕ, ◌+◌, List, [], ◌∷◌, All, map, refl, sym, ap, ◌∙◌, subst}
 use Rattle.std.proofs.lemmas.List.Elements.{All-map}
-use Rattle.std.proofs.lemmas.List.Sums.{sum_by-take-le}
-use Rattle.std.proofs.Common.{cond}
-use mathlib.Core.List.{IsPrefix}
 use Rattle.kr_model.specs.declared.Event.{Event}
 use Rattle.kr_model.specs.Protocol.{Protocol}
 use Rattle.kr_model.specs.Map.{Map}
@@ -12,73 +8,16 @@ use Rattle.kr_model.specs.Run as model
 use Rattle.kr_history.specs.declared.name.Entry.{Entry}
 use Rattle.kr_engine.specs.Histories.{events_with_replies}
 use Rattle.kr_workers.specs.declared.faults.StepFault.{StepFault}
-use Rattle.kr_threads.specs.declared.left_out.LeftOut.{LeftOut}
-use Rattle.kr_workers.specs.Counts.{done_by, missed_before}
-use Rattle.kr_threads.specs.Placed.{IsPast, IsUpTo, AreDoneUpTo, AreDoneBefore, IsBetween}
+use Rattle.kr_workers.specs.declared.left_out.LeftOut.{LeftOut}
+use Rattle.kr_workers.specs.Counts.{missed_before}
+use Rattle.kr_workers.specs.Placed.{IsBetween}
+use Rattle.kr_workers.proofs.Placings.{done_between}
 use Rattle.kr_threads.specs.Told.{IsTold, IsLeftOut, AreTold}
-
--- No more are done up to a place than in all.
-done_less : (t k : ℕ) (es : List Event) → done_by t (take k es) ≤ done_by t es
-done_less t k es = sum_by-take-le (λ e. cond (e.txn == t) 1 0) es k
-
--- A prefix is what is taken of it.
-taken : (es before rest : List Event) → before ++ rest ≡ es → take (length before) es ≡ before
-taken es before rest whole = ap (take (length before)) (sym whole) ∙ take-append-le (length before) before rest (omega arith) ∙ take_all (length before) before (omega arith)
-
--- A prefix that reaches past a place has what is done up to it.
-at_least : (es before rest : List Event) (t k : ℕ) → before ++ rest ≡ es → k < length before → done_by t (take (k + 1) es) ≤ done_by t before
-at_least es before rest t k whole past =
-    let same : take (k + 1) es ≡ take (k + 1) before = ap (take (k + 1)) (sym whole) ∙ take-append-le (k + 1) before rest (omega arith) in
-    subst (λ (l : List Event). done_by t l ≤ done_by t before) (sym same) (done_less t (k + 1) before)
-
--- One that ends there at the latest has no more than what is done before it.
-at_most : (es before rest : List Event) (t k : ℕ) → before ++ rest ≡ es → length before ≤ k → done_by t before ≤ done_by t (take k es)
-at_most es before rest t k whole up_to =
-    let same : take (length before) (take k es) ≡ before = take-take (length before) k es up_to ∙ taken es before rest whole in
-    subst (λ (l : List Event). done_by t l ≤ done_by t (take k es)) same (done_less t (length before) (take k es))
-
--- Nor any that there are in all.
-at_most_all : (es before rest : List Event) (t : ℕ) → before ++ rest ≡ es → done_by t before ≤ done_by t es
-at_most_all es before rest t whole = subst (λ (l : List Event). done_by t l ≤ done_by t es) (taken es before rest whole) (done_less t (length before) es)
 
 -- The events of entries.
 pub events_are : (es : List Entry) → model.events_of (events_with_replies es) ≡ map (λ e. e.event) es
 events_are [] = refl
 events_are (e ∷ es) = ap (λ (l : List Event). e.event ∷ l) (events_are es)
-
-module _ (es : List Event) (history before : List model.Entry) (events : model.events_of history ≡ es) (begins : IsPrefix before history) where
-  abbrev ev : List Event
-  ev = model.events_of before
-
-  abbrev rest : List Event
-  rest = model.events_of begins.0
-
-  long : length ev ≡ length before
-  long = length-map before _
-
-  whole : ev ++ rest ≡ es
-  whole = sym (map-append _ before begins.0) ∙ ap model.events_of begins.1 ∙ events
-
-  low : (last : Option ℕ) (t number : ℕ) → IsPast before last → AreDoneUpTo es last t number → number ≤ done_by t ev
-  low None t number past up_to = omega (arith, up_to)
-  low (Some k) t number past up_to =
-      let in' : k < length ev = omega (arith, long, past) in
-      let done = at_least es ev rest t k whole in' in
-      omega (arith, up_to, done)
-
-  high : (next : Option ℕ) (t number : ℕ) → IsUpTo before next → AreDoneBefore es next t number → done_by t ev ≤ number
-  high None t number up_to done = let most = at_most_all es ev rest t whole in omega (arith, most, done)
-  high (Some k) t number up_to done =
-      let in' : length ev ≤ k = omega (arith, long, up_to) in
-      let most = at_most es ev rest t k whole in' in
-      omega (arith, most, done)
-
-  -- Between its places a transaction has done just so many steps.
-  pub done_between : (last next : Option ℕ) (t number : ℕ) → IsPast before last → IsUpTo before next → AreDoneUpTo es last t number → AreDoneBefore es next t number → done_by t (model.events_of before) ≡ number
-  done_between last next t number past up_to from to =
-      let least = low last t number past from in
-      let most = high next t number up_to to in
-      omega (arith, least, most)
 
 -- A step that was left out between its places, where its transaction came to it.
 placed_told : (p : Protocol) (opening : Map) (faults : List StepFault) (es : List Entry) (l : LeftOut) → IsLeftOut p opening (events_with_replies es) l

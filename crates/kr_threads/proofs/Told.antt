@@ -20,8 +20,8 @@ use Rattle.kr_engine.specs.declared.faults.EngineFault.{EngineFault}
 use Rattle.kr_engine.specs.declared.faults.EngineFault.TheVariants as fault
 use Rattle.kr_workers.specs.declared.faults.WhyNotDone.TheVariants.{Deadlock, Refused}
 use Rattle.kr_workers.specs.declared.faults.StepFault.{StepFault}
-use Rattle.kr_threads.specs.declared.left_out.LeftOut.{LeftOut}
-use Rattle.kr_threads.specs.Placed.{IsPast, IsUpTo}
+use Rattle.kr_workers.specs.declared.left_out.LeftOut.{LeftOut}
+use Rattle.kr_workers.specs.Placed.{IsPast, IsUpTo}
 use Rattle.kr_workers.specs.Waits.{is_blocked_reply}
 use Rattle.kr_threads.specs.Told.{IsCaused, IsToldAt, IsLeftOut, AreTold, IsNext, Working, IsWorker}
 

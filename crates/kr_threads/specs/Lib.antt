@@ -1,4 +1,3 @@
-pub mod Placed
 pub mod Told
 pub mod Threaded
 pub mod Faults

@@ -10,7 +10,7 @@ use Rattle.kr_history.specs.declared.name.Entry.{Entry}
 use Rattle.kr_engine.specs.declared.closing.History.{History}
 use Rattle.kr_engine.specs.Closed.{IsClosed, Lent}
 use Rattle.kr_engine.specs.Histories.{events_with_replies}
-use Rattle.kr_serial.specs.declared.ran.Ran.{Ran}
+use Rattle.kr_judge.specs.declared.ran.Ran.{Ran}
 use Rattle.kr_workers.specs.Follows.{Follows}
 use Rattle.kr_report.specs.declared.threaded.Answered.{Answered}
 use Rattle.kr_workers.specs.declared.faults.StepFault.{StepFault}

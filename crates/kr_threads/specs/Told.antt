@@ -19,9 +19,9 @@ use Rattle.kr_workers.specs.declared.faults.WhyNotDone.{WhyNotDone}
 use Rattle.kr_workers.specs.declared.faults.WhyNotDone.TheVariants.{Deadlock, Refused}
 use Rattle.kr_workers.specs.declared.faults.StepFault.{StepFault}
 use Rattle.kr_workers.specs.Waits.{is_blocked_reply}
-use Rattle.kr_threads.specs.declared.left_out.LeftOut.{LeftOut}
+use Rattle.kr_workers.specs.declared.left_out.LeftOut.{LeftOut}
 use Rattle.kr_workers.specs.Counts.{done_by, missed_before}
-use Rattle.kr_threads.specs.Placed.{IsPast, IsUpTo}
+use Rattle.kr_workers.specs.Placed.{IsPast, IsUpTo}
 
 -- A refusal's reply is the definition's to t's operation in this state, and is neither granted nor blocked: a step that is blocked waits. A deadlock's transactions are a cycle from t: each has an operation that the next blocks in this state, the last's blocked by t, whose own is this one.
 abbrev pub IsCause : Protocol → State → ℕ → Op → WhyNotDone → Type 0

@@ -5,10 +5,10 @@ ghost use Rattle.kr_engine.specs.Faults.{is_blocked as blocked};
 ghost use Rattle.kr_engine.specs.Seats.{ToldFault};
 ghost use Rattle.kr_threads.specs.Told.{IsNext};
 
-use crate::turn::Turn;
 use kr_engine::{EngineFault, EngineName, Receipt, Seat};
 use kr_model::{Op, Reply};
 use kr_protocol::Covered;
+use kr_workers::Turn;
 use std::sync::Wait;
 
 /// A call of a seat. In the worker's turn it is attempted, and where the step is blocked the turn is given up for the wait.

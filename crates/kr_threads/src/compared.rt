@@ -8,12 +8,10 @@ ghost use Rattle.kr_threads.specs.Told.{IsWorked};
 ghost use Rattle.kr_threads.specs.Threaded.{IsCompared, IsThreaded, ShowsThreads};
 
 use crate::history::{answers, ran_of, steps_of};
-use crate::left_out::{LeftOut, faults_of};
-use crate::placing::are_placed;
 use crate::run::RunFault;
 use kr_engine::History;
 use kr_report::{Threaded, ThreadsShown};
-use kr_workers::{Dealt, StepFault, follows};
+use kr_workers::{Dealt, LeftOut, StepFault, are_placed, faults_of, follows};
 use std::alloc::{AllocError, Global};
 
 /// What the workers did: the closed history, in which no transaction is active at the end, and the steps that were left out.

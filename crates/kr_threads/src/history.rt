@@ -8,9 +8,9 @@ ghost use Rattle.kr_engine.specs.Histories.{IsHistory, events_with_replies};
 ghost use Rattle.kr_threads.specs.Threaded.{answered};
 
 use kr_engine::{Entry, History};
+use kr_judge::{Index, Ran, Replies, Triples};
 use kr_model::Event;
 use kr_report::Answered;
-use kr_serial::{Index, Ran, Replies, Triples};
 use std::alloc::{AllocError, Global};
 
 /// The steps of entries.

@@ -5,10 +5,8 @@ mod calls;
 mod compared;
 mod history;
 mod left_out;
-mod placing;
 mod report;
 mod run;
-mod turn;
 mod work;
 
 pub use kr_workers::{Gate, Passage};

@@ -1,8 +1,8 @@
 //! What a worker hands back.
 
-use crate::left_out::LeftOut;
 use crate::run::RunFault;
 use kr_engine::{EngineName, Share};
+use kr_workers::LeftOut;
 use std::marker::Model;
 
 /// What a worker hands back: its seat's share, the steps that it left out, each told at the end of a prefix of what

@@ -9,14 +9,13 @@ ghost use Rattle.kr_threads.specs.Told.{IsToldToOne, IsWorked};
 ghost use Rattle.kr_threads.specs.Threaded.{IsCompared, IsThreaded, ShowsThreads};
 
 use crate::compared::{Worked, compared, shown_of, threaded_of};
-use crate::left_out::LeftOut;
 use crate::report::Report;
 use crate::work::{Worker, work};
 use kr_engine::{CloseFault, Engine, EngineName, History, NewFault, PlaceRow, Share};
 use kr_protocol::Covered;
 use kr_report::{Threaded, ThreadsShown};
 use kr_script::Script;
-use kr_workers::{Dealt, Gate, StepFault};
+use kr_workers::{Dealt, Gate, LeftOut, StepFault};
 use std::alloc::{AllocError, Global};
 use std::marker::Brand;
 use std::sync::{Mutex, Wait};

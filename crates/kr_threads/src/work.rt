@@ -7,14 +7,13 @@ ghost use Rattle.kr_engine.specs.Seats.{ToldFault};
 ghost use Rattle.kr_threads.specs.Told.{IsCaused};
 
 use crate::calls::call_in_turn;
-use crate::left_out::{LeftOut, settle};
+use crate::left_out::settle;
 use crate::report::Report;
 use crate::run::RunFault;
-use crate::turn::{MOST_CALLS, Turn};
 use kr_engine::{EngineFault, EngineName, Receipt, Seat};
 use kr_model::{Op, Txn};
 use kr_protocol::Covered;
-use kr_workers::{Dealt, Gate, StepFault, WhyNotDone};
+use kr_workers::{Dealt, Gate, LeftOut, MOST_CALLS, StepFault, Turn, WhyNotDone};
 use std::alloc::AllocError;
 use std::marker::Model;
 use std::sync::{Mutex, Wait};

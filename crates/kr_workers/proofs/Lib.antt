@@ -5,3 +5,5 @@ pub mod Operations
 pub mod Wants
 pub mod Undone
 pub mod Whole
+pub mod Counts
+pub mod Placings

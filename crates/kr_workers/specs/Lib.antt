@@ -3,3 +3,4 @@ pub mod Dealt
 pub mod Fates
 pub mod Waits
 pub mod Counts
+pub mod Placed

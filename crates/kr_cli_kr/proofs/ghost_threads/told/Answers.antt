@@ -1,9 +1,9 @@
 use Rattle.std.proofs.Common.{◌≡◌, ◌++◌, ◌∷◌, [], List, ℕ, ap, sym, refl, ◌∙◌}
 use Rattle.kr_model.specs.Difference.{first_difference}
-use Rattle.kr_serial.specs.declared.verdict.Verdict.{Verdict}
-use Rattle.kr_serial.specs.declared.verdict.Verdict.TheVariants.{Serial}
-use Rattle.kr_serial.specs.Verdicts.{verdict_of}
-use Rattle.kr_serial.proofs.Wholes.{serial_exactly}
+use Rattle.kr_judge.specs.declared.verdict.Verdict.{Verdict}
+use Rattle.kr_judge.specs.declared.verdict.Verdict.TheVariants.{Serial}
+use Rattle.kr_judge.specs.Verdicts.{verdict_of}
+use Rattle.kr_judge.proofs.Wholes.{serial_exactly}
 use Rattle.kr_ghost.proofs.AllCases.{covered_is_safe}
 use Rattle.kr_ghost_threads.specs.Histories.{programs_of}
 use Rattle.kr_ghost_threads.specs.Report.{ghost_threads_text}

@@ -1,7 +1,7 @@
 use Rattle.std.proofs.Common.{rules}
 use Rattle.kr_cli.specs.Named.{TellsNoScript}
 use Rattle.kr_cli_kr.proofs.Answered.{threads_reported}
-use Rattle.kr_cli_kr.proofs.Ended.{untold_ends, unreadable_ends, script_ends}
+use Rattle.kr_cli_tasks.proofs.Ended.{untold_ends, unreadable_ends, script_ends}
 use Rattle.kr_cli_kr.proofs.program.thread_script.Goals as goal
 
 -- The report is that of a run of the script that the bytes give.

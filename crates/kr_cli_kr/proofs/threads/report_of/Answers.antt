@@ -1,10 +1,10 @@
 use Rattle.std.proofs.Common.{◌≡◌, ◌++◌, ◌∷◌, [], List, ℕ, ap, sym, refl, ◌∙◌}
 use Rattle.std.proofs.lemmas.Result.{IfOk-weaker}
 use Rattle.kr_model.specs.Difference.{first_difference}
-use Rattle.kr_serial.specs.declared.verdict.Verdict.{Verdict}
-use Rattle.kr_serial.specs.declared.verdict.Verdict.TheVariants.{Serial}
-use Rattle.kr_serial.specs.Verdicts.{verdict_of}
-use Rattle.kr_serial.proofs.Wholes.{serial_exactly}
+use Rattle.kr_judge.specs.declared.verdict.Verdict.{Verdict}
+use Rattle.kr_judge.specs.declared.verdict.Verdict.TheVariants.{Serial}
+use Rattle.kr_judge.specs.Verdicts.{verdict_of}
+use Rattle.kr_judge.proofs.Wholes.{serial_exactly}
 use Rattle.kr_report.specs.ThreadsReport.{threads_text}
 use Rattle.kr_cli_kr.proofs.threads.report_of.Goals as goal
 

@@ -3,9 +3,9 @@ use Rattle.std.specs.Prelude.{All}
 use Rattle.kr_model.specs.declared.Event.{Event}
 use Rattle.kr_workers.specs.Follows.{Follows, AreRising}
 use Rattle.kr_workers.specs.declared.faults.StepFault.{StepFault}
-use Rattle.kr_threads.specs.declared.left_out.LeftOut.{LeftOut}
+use Rattle.kr_workers.specs.declared.left_out.LeftOut.{LeftOut}
 use Rattle.kr_workers.specs.Counts.{missed_before}
-use Rattle.kr_threads.specs.Placed.{IsBetween}
+use Rattle.kr_workers.specs.Placed.{IsBetween}
 use Rattle.kr_threads.proofs.Placings.{all_placed}
 use Rattle.kr_threads.proofs.compared.compared.Goals as goal
 

@@ -1,9 +1,0 @@
-use Rattle.std.proofs.Common.{arith}
-use Rattle.std.proofs.lemmas.Grind.{common_steps}
-use Rattle.kr_cli_kr.proofs.runs.reported.Goals as goal
-
-pub report_covered-requires : goal.report_covered-requires
-report_covered-requires g c = grind (arith, common_steps)
-
-pub returns-clause-covered : goal.returns-clause-covered
-returns-clause-covered g c = grind (arith, common_steps)

@@ -1,0 +1,6 @@
+pub mod Answered
+pub mod Covered
+pub mod Ended
+pub mod Reported
+pub mod Serials
+pub mod Unprinted

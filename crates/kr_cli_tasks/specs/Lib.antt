@@ -1,0 +1,4 @@
+pub mod Runs
+pub mod Checks
+pub mod Judges
+pub mod Words
