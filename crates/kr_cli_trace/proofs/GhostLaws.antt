@@ -17,9 +17,9 @@ use Rattle.kr_trace_lines.specs.declared.deviation.Deviation.{Deviation}
 use Rattle.kr_trace_lines.specs.declared.observed.Observed.{Observed}
 use Rattle.kr_trace_lines.specs.declared.verdict.TraceVerdict.{TraceVerdict}
 use Rattle.kr_cli_trace.specs.Ghosts.{AreFollowed, IsLawfulNamed}
-use Rattle.kr_cli_trace.specs.Judged.{AreJudged}
-use Rattle.kr_cli_trace.specs.Parts.{Part, with_step}
-use Rattle.kr_cli_trace.specs.declared.tales.Tale.{Tale}
+use Rattle.kr_trace_parts.specs.Judged.{AreJudged}
+use Rattle.kr_trace_parts.specs.Parts.{Part, with_step}
+use Rattle.kr_trace_parts.specs.declared.tales.Tale.{Tale}
 
 -- One more step is followed.
 pub step_followed : {P : Type 0} (ghosts : P → GhostProtocol) (q : P) (s : Part) (n : ℕ) (e : Event) (o : Observed) (at new : Follows P) (d later : Option Deviation) (tests : List (List ℕ))

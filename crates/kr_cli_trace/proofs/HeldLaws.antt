@@ -1,4 +1,4 @@
--- What is known of a trace that was held, and of an ending before.
+-- What is known of a trace that was held.
 use Rattle.std.specs.Prelude.{◌≡◌, ℕ, List, Bool, Option, Some, Result, Ok, Err, IfOk, IfErr, ◌⊎◌, string_bytes}
 use Rattle.std.proofs.Common.{subst, sym, inl, inr}
 use Rattle.kr_cli.specs.declared.endings.Ending.{Ending}
@@ -9,32 +9,12 @@ use Rattle.kr_cli.specs.Tables.{table_of}
 use Rattle.kr_cli.specs.declared.tables.AnyTable.{AnyTable}
 use Rattle.kr_model.specs.Protocol.{IsLawful}
 use Rattle.kr_cli.specs.Questions.{IsNoQuestion}
-use Rattle.kr_cli_trace.specs.Endings.{IsStopped, IsThrough, StopsSo, TellsFault}
-use Rattle.kr_cli_trace.specs.Parts.{Part}
+use Rattle.kr_trace_parts.specs.Endings.{IsStopped, IsThrough, StopsSo, TellsFault}
+use Rattle.kr_trace_parts.specs.Parts.{Part}
+use Rattle.kr_trace_parts.proofs.Stopping.{stops_more, word_stops, stops_silent}
 use Rattle.kr_cli_trace.specs.Program.{Answers, AnswersAsked, Explains, Holds, Tells, TellsTrace}
 use Rattle.kr_cli_trace.specs.Words.{AskNoTrace, IsAsked, words_of}
 use Rattle.kr_cli_trace.specs.declared.words.Asked.{Asked}
-
--- An ending that tells more of what it tells.
-pub stops_more : (Tells More : List ℕ → Type 0) (e : Ending) → ((line : List ℕ) → Tells line → More line) → StopsSo Tells e → StopsSo More e
-stops_more Tells More NotUnderstood by h = absurd h
-stops_more Tells More Memory by h = tt
-stops_more Tells More Place by h = absurd h
-stops_more Tells More Output by h = tt
-stops_more Tells More (Told line) by h = by (string_bytes line) h
-
--- An ending of a word that isn't read.
-pub word_stops : (Tells More : List ℕ → Type 0) (e : Ending) → ((line : List ℕ) → Tells line → More line) → MemoryOrTold e Tells → StopsSo More e
-word_stops Tells More NotUnderstood by h = absurd h
-word_stops Tells More Memory by h = tt
-word_stops Tells More Place by h = absurd h
-word_stops Tells More Output by h = absurd h
-word_stops Tells More (Told line) by h = by (string_bytes line) h
-
--- Memory and printing tell nothing.
-pub stops_silent : (Tells : List ℕ → Type 0) (e : Ending) → (e ≡ Memory) ⊎ (e ≡ Output) → StopsSo Tells e
-stops_silent Tells e (inl memory) = let P : Ending → Type 0 = λ x. StopsSo Tells x in subst P (sym memory) tt
-stops_silent Tells e (inr output) = let P : Ending → Type 0 = λ x. StopsSo Tells x in subst P (sym output) tt
 
 -- A trace that is read to its end is named.
 pub trace_held : (P : ℕ → Part → List ℕ → Bool → Type 0) (may_name : List ℕ → Option (List (List ℕ)) → Type 0) (may_give : List (List ℕ) → Type 0) (trace : List ℕ) (old new : Option (List ℕ)) (r : Result (ℕ × Bool) Ending)

@@ -14,8 +14,8 @@ use Rattle.kr_trace_text.specs.declared.steps.LoggedStep.{LoggedStep}
 use Rattle.kr_trace_text.specs.Verdicts.{verdict_words}
 use Rattle.kr_trace_text.specs.Whole.{part_words}
 use Rattle.kr_cli_trace.specs.OnePart.{IsWatched, line_of, logged, shown_text}
-use Rattle.kr_cli_trace.specs.Parts.{Part, with_step}
-use Rattle.kr_cli_trace.proofs.FollowLaws.{lines_more}
+use Rattle.kr_trace_parts.specs.Parts.{Part, with_step}
+use Rattle.kr_trace_parts.proofs.FollowLaws.{lines_more}
 
 pub nothing_left : {X : Type 0} (l : List X) → length l ≡ 0 → l ≡ []
 nothing_left [] h = refl

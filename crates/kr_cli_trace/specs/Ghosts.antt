@@ -11,10 +11,10 @@ use Rattle.kr_ghost.specs.Protocol.{GhostProtocol, IsLawfulGhost}
 use Rattle.kr_ghost_follow.specs.Stands.{Follows, HasFollowed}
 use Rattle.kr_trace_lines.specs.declared.deviation.Deviation.{Deviation}
 use Rattle.kr_trace_lines.specs.declared.verdict.TraceVerdict.{TraceVerdict}
-use Rattle.kr_cli_trace.specs.Judged.{AreJudged}
-use Rattle.kr_cli_trace.specs.Parts.{Part}
+use Rattle.kr_trace_parts.specs.Judged.{AreJudged}
+use Rattle.kr_trace_parts.specs.Parts.{Part}
 use Rattle.kr_cli_trace.specs.Printed.{Question, against, against_ghosts}
-use Rattle.kr_cli_trace.specs.declared.tales.Tale.{Tale}
+use Rattle.kr_trace_parts.specs.declared.tales.Tale.{Tale}
 
 -- What is asked of each part under a table.
 abbrev pub question_of : Named → Question

@@ -1,15 +1,5 @@
 pub mod Words
-pub mod Lines
-pub mod Parts
-pub mod Committed
-pub mod Tales
 pub mod OnePart
-pub mod Judged
-pub mod Kept
-pub mod Followed
 pub mod Printed
-pub mod Orders
-pub mod Reading
-pub mod Endings
 pub mod Program
 pub mod Ghosts

@@ -9,7 +9,7 @@ use Rattle.kr_trace_lines.specs.declared.verdict.TraceVerdict.{TraceVerdict}
 use Rattle.kr_trace_text.specs.declared.steps.LoggedStep.{LoggedStep}
 use Rattle.kr_trace_text.specs.Verdicts.{verdict_words}
 use Rattle.kr_trace_text.specs.Whole.{part_words}
-use Rattle.kr_cli_trace.specs.Parts.{Part}
+use Rattle.kr_trace_parts.specs.Parts.{Part}
 
 -- A step of a part as it is written, and the other way round.
 abbrev pub logged : Line → LoggedStep

@@ -10,8 +10,8 @@ use Rattle.kr_cli.specs.Tables.{names_of, table_of}
 use Rattle.kr_cli_ghost.specs.Named.{Names, NamesGhosts, TellsNone}
 use Rattle.kr_cli_ghost.specs.declared.named.Named.{Named}
 use Rattle.kr_cli_ghost.specs.declared.tables.AnyGhostTable.{AnyGhostTable}
-use Rattle.kr_cli_trace.specs.Endings.{IsStopped, IsThrough}
-use Rattle.kr_cli_trace.specs.Parts.{Part}
+use Rattle.kr_trace_parts.specs.Endings.{IsStopped, IsThrough}
+use Rattle.kr_trace_parts.specs.Parts.{Part}
 use Rattle.kr_cli_trace.specs.Ghosts.{IsLawfulNamed, question_of, untold_text}
 use Rattle.kr_cli_trace.specs.Printed.{IsPrinted, in_commit_order, in_some_order, one_part}
 use Rattle.kr_cli_trace.specs.Words.{AskNothing, IsAsked, words_of}

@@ -2,15 +2,14 @@
 ghost use Rattle.std.specs.Prelude.{◌≡◌, ◌↔◌, ◌++◌, ◌∷◌, [], IfOk, IsTrue, None, map, string_bytes};
 ghost use Rattle.kr_ghost_follow.specs.Report.{ghost_part_text};
 ghost use Rattle.kr_cli_trace.specs.Ghosts.{AreFollowed};
-ghost use Rattle.kr_cli_trace.specs.Printed.{IsPrinted, IsSerialVerdict, against_ghosts, printed};
+ghost use Rattle.kr_trace_parts.specs.Printed.{IsSerialVerdict, printed};
+ghost use Rattle.kr_cli_trace.specs.Printed.{IsPrinted, against_ghosts};
 
-use crate::asking::{Asks, Part};
-use crate::follow::is_well;
-use crate::serial::{Judging, verdict_of};
 use kr_ghost_follow::{Follower, write_ghost_part};
 use kr_ghost_protocol::GhostProtocol;
 use kr_model::{Event, Memory, Pairs, Txns};
 use kr_trace_lines::{Deviation, Observed, TraceVerdict};
+use kr_trace_parts::{Asks, Judging, Part, is_well, verdict_of};
 use std::alloc::Global;
 
 /// Asks whether a state of the table stands beside each reply, and whether what committed is serializable in commit order.

@@ -2,24 +2,13 @@
 //! part, and its status.
 #![tactic(auto)]
 
-mod asking;
-mod faults;
-mod follow;
 mod ghosts;
-mod lines;
 mod manual;
 mod one_part;
-mod orders;
 mod program;
-mod programs;
-mod serial;
-mod source;
-mod tales;
-mod trace;
 mod words;
 
-pub use lines::ReadLines;
+pub use kr_trace_parts::{LINE_BYTES, Lines, LinesFault, ReadLines, Traces};
 pub use manual::{MANUAL, NAME, USAGE, WORDS};
 pub use program::execute;
-pub use source::{LINE_BYTES, Lines, LinesFault, Traces};
 pub use words::{Asked, read_words};

@@ -2,21 +2,20 @@
 ghost use Rattle.std.specs.Prelude.{◌≡◌, ℕ, List, [], Some, IfOk, IfSome, OnOk, map};
 ghost use Rattle.kr_model.specs.Map.{Map, IsMap};
 ghost use Rattle.kr_model.specs.Protocol.{Protocol as TableOf};
-ghost use Rattle.kr_cli_trace.specs.Committed.{IsVerdict};
-ghost use Rattle.kr_cli_trace.specs.Judged.{AreJudged};
+ghost use Rattle.kr_trace_parts.specs.Committed.{IsVerdict};
+ghost use Rattle.kr_trace_parts.specs.Judged.{AreJudged};
 ghost use Rattle.kr_cli_trace.specs.OnePart.{IsKeptIfAsked, IsWatched, line_of, logged};
-ghost use Rattle.kr_cli_trace.specs.Parts as spec;
-ghost use Rattle.kr_cli_trace.specs.Parts.{begun, with_step};
-ghost use Rattle.kr_cli_trace.specs.Printed.{IsPrinted, deviation_in, one_part, printed};
-ghost use Rattle.kr_cli_trace.specs.Tales.{committed_in};
+ghost use Rattle.kr_trace_parts.specs.Parts as spec;
+ghost use Rattle.kr_trace_parts.specs.Parts.{begun, with_step};
+ghost use Rattle.kr_trace_parts.specs.Printed.{deviation_in, printed};
+ghost use Rattle.kr_cli_trace.specs.Printed.{IsPrinted, one_part};
+ghost use Rattle.kr_trace_parts.specs.Tales.{committed_in};
 
-use crate::asking::{Asks, Part};
-use crate::follow::is_well;
-use crate::serial::{Judging, verdict_of};
 use kr_model::{Event, Memory, Pairs, Txns};
 use kr_protocol::Protocol;
 use kr_trace_follow::{Follower, lines_are_followed};
 use kr_trace_lines::{Deviation, Observed, TraceVerdict};
+use kr_trace_parts::{Asks, Judging, Part, is_well, verdict_of};
 use kr_trace_text::{LoggedStep, part_text, verdict_text};
 use std::alloc::Global;
 

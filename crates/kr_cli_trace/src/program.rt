@@ -12,28 +12,23 @@ ghost use Rattle.kr_cli.specs.declared.endings.Ending.TheVariants as ending;
 ghost use Rattle.kr_cli.specs.declared.questions.Question.{Question};
 ghost use Rattle.kr_cli.specs.Tables.{names_of, table_of};
 ghost use Rattle.kr_model.specs.Protocol.{IsLawful};
-ghost use Rattle.kr_cli_trace.specs.Endings.{StopsSo};
+ghost use Rattle.kr_trace_parts.specs.Endings.{StopsSo};
 ghost use Rattle.kr_cli_trace.specs.Ghosts.{question_of};
 ghost use Rattle.kr_cli_trace.specs.Printed.{IsPrinted, one_part};
 ghost use Rattle.kr_cli_trace.specs.declared.words.Asked.TheVariants as asked;
 ghost use Rattle.kr_cli_trace.specs.Program.{Answers, AnswersAsked, Explains, Holds, Tells, TellsOnePart, TellsTrace, no_part_text};
 ghost use Rattle.kr_cli_trace.specs.Words.{AskNothing, AskNoTrace};
 
-use crate::asking::Asks;
-use crate::follow::Against;
 use crate::ghosts::AgainstGhosts;
 use crate::manual::{MANUAL, NAME, USAGE, WORDS};
 use crate::one_part::OnePart;
-use crate::orders::InSomeOrder;
-use crate::serial::InCommitOrder;
-use crate::source::Traces;
-use crate::trace::read_trace;
 use crate::words::{Asked, read_words};
 use kr_cli::{AnyTable, Ending, FileFault, Files, VERSION, lemma_lawful, question_in, unreadable};
 use kr_cli_finding::named_with_help;
 use kr_cli_ghost::Named;
 use kr_protocol::Protocol;
 use kr_sink::Sink;
+use kr_trace_parts::{Against, Asks, InCommitOrder, InSomeOrder, Traces, read_trace};
 use std::alloc::Global;
 
 /// Reads the trace that a word names, prints of each part what is asked, and answers how many parts there are, and whether all

@@ -1,6 +1,6 @@
 use Rattle.std.proofs.Common.{map}
 use Rattle.kr_cli_trace.specs.OnePart.{line_of}
-use Rattle.kr_cli_trace.specs.Tales.{committed_in}
+use Rattle.kr_trace_parts.specs.Tales.{committed_in}
 use Rattle.kr_cli_trace.proofs.one_part.judged.Goals as goal
 
 pub returns : goal.returns

@@ -3,7 +3,7 @@ use Rattle.std.proofs.lemmas.List.{map-append}
 use Rattle.std.specs.Vec.Iter.{into_iter_items}
 use Rattle.kr_trace_follow.specs.Lines.{Line}
 use Rattle.kr_trace_text.specs.declared.steps.LoggedStep.{LoggedStep}
-use Rattle.kr_cli_trace.specs.Judged.{AreJudged}
+use Rattle.kr_trace_parts.specs.Judged.{AreJudged}
 use Rattle.kr_cli_trace.specs.OnePart.{line_of}
 use Rattle.kr_cli_trace.proofs.OnePartLaws.{nothing_left}
 use Rattle.kr_cli_trace.proofs.one_part.take_all.Goals as goal

@@ -2,7 +2,7 @@
 use Rattle.std.proofs.Common.{◌≡◌, ◌++◌, [], length, map}
 use Rattle.std.specs.Vec.Iter.{into_iter_items, into_iter_len}
 use Rattle.kr_model.specs.Map.{Map}
-use Rattle.kr_cli_trace.specs.Judged.{AreJudged}
+use Rattle.kr_trace_parts.specs.Judged.{AreJudged}
 use Rattle.kr_cli_trace.specs.OnePart.{line_of}
 use Rattle.kr_cli_trace.proofs.one_part.take_all.Given as goal
 

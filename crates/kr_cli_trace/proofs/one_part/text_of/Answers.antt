@@ -5,10 +5,10 @@ use Rattle.kr_trace_lines.specs.declared.deviation.Deviation.{Deviation}
 use Rattle.kr_trace_follow.specs.Lines.{Line}
 use Rattle.kr_trace_text.specs.declared.steps.LoggedStep.{LoggedStep}
 use Rattle.kr_trace_text.specs.Whole.{part_words}
-use Rattle.kr_cli_trace.specs.Committed.{IsVerdict}
+use Rattle.kr_trace_parts.specs.Committed.{IsVerdict}
 use Rattle.kr_cli_trace.specs.OnePart.{line_of, logged}
-use Rattle.kr_cli_trace.specs.Printed.{IsSerialVerdict, deviation_in}
-use Rattle.kr_cli_trace.specs.Tales.{committed_in}
+use Rattle.kr_trace_parts.specs.Printed.{IsSerialVerdict, deviation_in}
+use Rattle.kr_trace_parts.specs.Tales.{committed_in}
 use Rattle.kr_cli_trace.proofs.OnePartLaws.{lines_of_logged, same_part, text_shown}
 use Rattle.kr_cli_trace.proofs.one_part.text_of.Goals as goal
 

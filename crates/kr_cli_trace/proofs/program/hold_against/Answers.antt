@@ -7,7 +7,8 @@ use Rattle.kr_cli_trace.specs.Printed.{IsPrinted}
 use Rattle.kr_cli_trace.specs.Program.{Holds, Tells, TellsTrace}
 use Rattle.kr_cli_trace.specs.declared.words.Asked.TheVariants.{Both}
 use Rattle.kr_cli_trace.proofs.GhostLaws.{named_held}
-use Rattle.kr_cli_trace.proofs.HeldLaws.{if_err_more, word_stops}
+use Rattle.kr_trace_parts.proofs.Stopping.{word_stops}
+use Rattle.kr_cli_trace.proofs.HeldLaws.{if_err_more}
 use Rattle.kr_cli_trace.proofs.program.hold_against.Goals as goal
 
 pub returns-in_err-table-clause-err : goal.returns-in_err-table-clause-err

@@ -9,7 +9,8 @@ use Rattle.kr_cli_trace.specs.Ghosts.{untold_text}
 use Rattle.kr_cli_trace.specs.Printed.{IsPrinted, one_part}
 use Rattle.kr_cli_trace.specs.Program.{Holds, Tells, TellsOnePart}
 use Rattle.kr_cli_trace.specs.declared.words.Asked.TheVariants.{OnePart}
-use Rattle.kr_cli_trace.proofs.HeldLaws.{if_err_more, table_held, word_stops}
+use Rattle.kr_trace_parts.proofs.Stopping.{word_stops}
+use Rattle.kr_cli_trace.proofs.HeldLaws.{if_err_more, table_held}
 use Rattle.kr_cli_trace.proofs.program.print_part.Goals as goal
 
 pub returns-in_err-table-clause-err : goal.returns-in_err-table-clause-err

@@ -1,7 +1,7 @@
 use Rattle.std.proofs.Common.{◌≡◌, inl, inr, rules}
 use Rattle.kr_cli.specs.Lines.{told_line}
 use Rattle.kr_cli_trace.specs.Program.{TellsOnePart, TellsTrace, no_part_text}
-use Rattle.kr_cli_trace.proofs.HeldLaws.{stops_more, word_stops}
+use Rattle.kr_trace_parts.proofs.Stopping.{stops_more, word_stops}
 use Rattle.kr_cli_trace.proofs.program.read_one.Goals as goal
 
 pub returns-in_err-parts-clause-err : goal.returns-in_err-parts-clause-err

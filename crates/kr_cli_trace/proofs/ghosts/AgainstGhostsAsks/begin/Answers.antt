@@ -1,6 +1,6 @@
 use Rattle.std.proofs.Common.{[], subst, sym, refl}
 use Rattle.kr_ghost_follow.specs.Stands.{HasFollowed}
-use Rattle.kr_cli_trace.specs.Judged.{AreJudged}
+use Rattle.kr_trace_parts.specs.Judged.{AreJudged}
 use Rattle.kr_cli_trace.proofs.ghosts.AgainstGhostsAsks.begin.Goals as goal
 
 pub returns-clause-begun : goal.returns-clause-begun

@@ -6,7 +6,7 @@ use Rattle.kr_ghost_follow.specs.Report.{ghost_part_text}
 use Rattle.kr_ghost_follow.specs.Stands.{points_of}
 use Rattle.kr_ghost_follow.proofs.Standing.{followed_points}
 use Rattle.kr_trace_lines.specs.declared.deviation.Deviation.{Deviation}
-use Rattle.kr_cli_trace.specs.Tales.{committed_in}
+use Rattle.kr_trace_parts.specs.Tales.{committed_in}
 use Rattle.kr_cli_trace.proofs.ghosts.FollowedGhostsPart.end.Goals as goal
 
 pub returns : goal.returns

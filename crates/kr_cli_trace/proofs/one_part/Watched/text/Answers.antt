@@ -1,6 +1,6 @@
 use Rattle.std.specs.Prelude.{◌≡◌}
 use Rattle.std.proofs.Common.{◌∙◌, ap}
-use Rattle.kr_cli_trace.specs.Printed.{deviation_in}
+use Rattle.kr_trace_parts.specs.Printed.{deviation_in}
 use Rattle.kr_cli_trace.proofs.one_part.Watched.text.Goals as goal
 
 pub returns : goal.returns

@@ -1,0 +1,11 @@
+pub mod Lines
+pub mod Parts
+pub mod Committed
+pub mod Tales
+pub mod Judged
+pub mod Kept
+pub mod Followed
+pub mod Printed
+pub mod Orders
+pub mod Reading
+pub mod Endings
