@@ -1,6 +1,6 @@
 -- A line that goes on with its scan.
-use Rattle.std.specs.Prelude.{◌≡◌, ℕ, zero, suc, ◌+◌, ◌-◌, ◌<◌, ◌≤◌, Bool, true, false, refl, if◌then◌else◌}
-use Rattle.std.proofs.Common.{ap, sym, ◌∙◌, arith}
+use Rattle.std.specs.Prelude.{◌≡◌, ℕ, zero, suc, ◌+◌, ◌-◌, ◌<◌, ◌≤◌, true, false, refl, if◌then◌else◌}
+use Rattle.std.proofs.Common.{ap, ◌∙◌, arith}
 use Rattle.kr_model.specs.declared.Op.TheVariants as op
 use Rattle.kr_model.specs.Locks.{Locks}
 use Rattle.kr_ghost.specs.Protocol.{GhostProtocol}

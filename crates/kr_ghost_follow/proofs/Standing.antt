@@ -13,9 +13,9 @@ use Rattle.kr_model.specs.declared.Op.{Op}
 use Rattle.kr_model.specs.Locks.{Locks}
 use Rattle.kr_trace_follow.specs.Steps.{queue_for}
 use Rattle.kr_ghost_follow.specs.Points.{Point, Tried, after_purge, at_start, conflicts_of, first_op, gone_on, kind_at, last_tried, more_steps, point_after, tried}
-use Rattle.kr_ghost_follow.specs.Reached.{Agrees, IsReached, Leads, start, purge, line}
+use Rattle.kr_ghost_follow.specs.Reached.{IsReached, start, purge, line}
 use Rattle.kr_ghost_follow.specs.Following.{IsDeviation, Stand}
-use Rattle.kr_ghost_follow.specs.Stands.{AreFollowed, IsStanding, Sits, Took, deviation_of, points_of}
+use Rattle.kr_ghost_follow.specs.Stands.{AreFollowed, IsStanding, Sits, Took, points_of}
 use Rattle.kr_trace_follow.specs.Deviates.{kind_of}
 
 -- How a line differs, by what came of its last step.

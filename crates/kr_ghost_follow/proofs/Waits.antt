@@ -1,5 +1,5 @@
 -- Laws of the locks that are waited for.
-use Rattle.std.specs.Prelude.{◌≡◌, ℕ, List, [], ◌++◌, refl}
+use Rattle.std.specs.Prelude.{◌≡◌, ℕ, List, ◌++◌, refl}
 use Rattle.std.proofs.Common.{append-nil}
 use Rattle.kr_model.specs.declared.Op.{Op}
 use Rattle.kr_model.specs.Locks.{Locks, release}

@@ -155,11 +155,12 @@ fn cut_at(cut: Option<u64>, is_cut: bool, number: u64) -> Option<u64>
 
 /// Whether a key may be a ghost behind a line: it deletes one, or undoes a change.
 fn makes_ghosts(line: Logged) -> bool {
-    match (line.event.op, line.observed) {
-        (Op::Abort, _) => true,
-        (_, Observed::Deleted(_) | Observed::Undone(_) | Observed::Aborted) => true,
-        (_, _) => false,
-    }
+    let undoes = matches!(line.event.op, Op::Abort);
+    undoes
+        || matches!(
+            line.observed,
+            Observed::Deleted(_) | Observed::Undone(_) | Observed::Aborted
+        )
 }
 
 /// Adds a state to a list, if it stands beside one more line.
@@ -181,21 +182,20 @@ fn push_standing<'a, P: GhostProtocol>(
     Ok(())
 }
 
-/// Those of the states that stand beside one more line.
+/// Leaves those of the states that stand beside one more line.
 fn standing<'a, P: GhostProtocol>(
     alloc: Global,
-    stands: Vec<Stand<'a, P>>,
+    others: &mut Vec<Stand<'a, P>>,
     line: Logged,
-) -> Result<Vec<Stand<'a, P>>, Memory>
-    ensures { (q : P) (opening : Map) (lines : List Line) → All (IsStanding P.ghosts q opening lines) stands.entry.items → IfOk result (λ list. All (IsStanding P.ghosts q opening (lines ++ line_of line.entry ∷ [])) list.items) }
+) -> Result<(), Memory>
+    ensures { (q : P) (opening : Map) (lines : List Line) → All (IsStanding P.ghosts q opening lines) others.old.items → OnOk result (All (IsStanding P.ghosts q opening (lines ++ line_of line.entry ∷ [])) others.new.items) }
 {
-    let mut stands = stands;
-    let mut list = Vec::new(alloc);
+    let mut stands = replace(others, Vec::new(alloc));
     while !stands.is_empty() {
         let stand = stands.remove(0);
-        push_standing(alloc, &mut list, stand, line)?;
+        push_standing(alloc, others, stand, line)?;
     }
-    Ok(list)
+    Ok(())
 }
 
 /// Where the first state differs at a line, the next takes its place, or the line deviates where there is none.
@@ -243,10 +243,9 @@ fn follow<'a, P: GhostProtocol>(
     }
     let is_cut = spread_if(alloc, may_purge, first, others, line)?;
     *cut = cut_at(*cut, is_cut, line.number);
-    let mut left = standing(alloc, replace(others, Vec::new(alloc)), line)?;
+    standing(alloc, others, line)?;
     let kind = first.follow(alloc, line)?;
-    *found = stand_on(first, &mut left, line, kind);
+    *found = stand_on(first, others, line, kind);
     *queued = first.queued();
-    *others = left;
     Ok(())
 }

@@ -65,6 +65,24 @@ fn is_between(key: u64, below: Option<u64>, above: Option<u64>) -> bool {
     is_above && is_below
 }
 
+/// Those of the ghosts from which to a range there is no present key.
+fn beside(
+    alloc: Global,
+    ghosts: &[u64],
+    pairs: &[(u64, u64)],
+    (lo, hi): (u64, u64),
+) -> Result<Vec<u64>, Memory> {
+    let below = last_below(pairs, lo);
+    let above = first_from(pairs, hi);
+    let mut keys = Vec::new(alloc);
+    for at in ghosts {
+        if is_between(*at, below, above) {
+            keys.push(*at)?;
+        }
+    }
+    Ok(keys)
+}
+
 /// The ghosts whose purge may matter to a line, rising: those from which to its range there is no present key. It looks at all
 /// names.
 pub(crate) fn near<P: GhostProtocol>(
@@ -72,20 +90,12 @@ pub(crate) fn near<P: GhostProtocol>(
     stand: &Stand<P>,
     line: Logged,
 ) -> Result<Vec<u64>, Memory> {
-    let mut keys = Vec::new(alloc);
     let ghosts = stand.stepper.ghosts()?;
-    if ghosts.as_slice().is_empty() {
-        return Ok(keys);
-    }
-    if let Some((lo, hi)) = range(&stand.scans, line) {
-        let pairs = stand.stepper.index()?;
-        let below = last_below(pairs.as_slice(), lo);
-        let above = first_from(pairs.as_slice(), hi);
-        for at in ghosts.as_slice() {
-            if is_between(*at, below, above) {
-                keys.push(*at)?;
-            }
+    match range(&stand.scans, line) {
+        Some(ends) if !ghosts.as_slice().is_empty() => {
+            let pairs = stand.stepper.index()?;
+            beside(alloc, ghosts.as_slice(), pairs.as_slice(), ends)
         }
+        _ => Ok(Vec::new(alloc)),
     }
-    Ok(keys)
 }

@@ -45,6 +45,23 @@ fn purged_once<'a, P: GhostProtocol>(
     Ok(list)
 }
 
+/// Notes a state that isn't known, if there is room. It answers whether it was noted, and whether it was left out.
+fn note_new<P: GhostProtocol>(
+    alloc: Global,
+    known: &mut Vec<Known>,
+    stand: &Stand<P>,
+    has_room: bool,
+) -> Result<(bool, bool), Memory> {
+    let new = Known::of(alloc, stand)?;
+    if new.is_in(known.as_slice()) {
+        return Ok((false, false));
+    }
+    if has_room {
+        known.push(new)?;
+    }
+    Ok((has_room, !has_room))
+}
+
 /// Adds a state that isn't known, as long as there are few. It answers whether it was left out.
 fn add<'a, P: GhostProtocol>(
     alloc: Global,
@@ -54,14 +71,11 @@ fn add<'a, P: GhostProtocol>(
 ) -> Result<bool, Memory>
     ensures { (q : P) (opening : Map) (lines : List Line) → All (IsStanding P.ghosts q opening lines) stands.old.items → IsStanding P.ghosts q opening lines stand.entry → OnOk result (All (IsStanding P.ghosts q opening lines) stands.new.items) }
 {
-    let new = Known::of(alloc, &stand)?;
-    if new.is_in(known.as_slice()) {
-        return Ok(false);
+    let has_room = stands.len() < MOST - 1;
+    let (is_new, is_left_out) = note_new(alloc, known, &stand, has_room)?;
+    if !is_new {
+        return Ok(is_left_out);
     }
-    if stands.len() >= MOST - 1 {
-        return Ok(true);
-    }
-    known.push(new)?;
     stands.push(stand)?;
     Ok(false)
 }

@@ -78,10 +78,10 @@ impl<'a, P: GhostProtocol> Stand<'a, P> {
     fn try_copy(&self, alloc: Global) -> Result<Stand<'a, P>, Memory>
         ensures { IfOk result (λ x. x ≡ self.now) }
     {
-        let stepper = self.stepper.try_copy()?;
         let scans = Vec::from_slice(alloc, &self.scans)?;
-        let notes = self.notes.clone()?;
         let waiting = Vec::from_slice(alloc, &self.waiting)?;
+        let notes = self.notes.clone()?;
+        let stepper = self.stepper.try_copy()?;
         Ok(Stand {
             stepper,
             scans,

@@ -34,9 +34,12 @@ pub(crate) struct Outcome {
 fn is_same_scan(progress: Option<Progress>, op: Op) -> bool
     ensures { result ≡ is_same_range (range_noted progress) op }
 {
-    match (progress, op) {
-        (Some(progress), Op::Scan(lo, hi)) => progress.lo == lo && progress.hi == hi,
-        (_, _) => false,
+    let Some(progress) = progress else {
+        return false;
+    };
+    match op {
+        Op::Scan(lo, hi) => progress.lo == lo && progress.hi == hi,
+        _ => false,
     }
 }
 

@@ -4,7 +4,7 @@ use Rattle.serde_json.specs.Data.{Data, array, object, item, no_items, member, n
 use Rattle.serde_json.specs.View.{items_of}
 use Rattle.serde_json.specs.Written.{compact_text}
 use Rattle.kr_model.specs.Map.{Map}
-use Rattle.kr_serial.specs.declared.verdict.Verdict.{Verdict}
+use Rattle.kr_judge.specs.declared.verdict.Verdict.{Verdict}
 use Rattle.kr_script.specs.Json.{whole}
 use Rattle.kr_script.specs.Pairs.{pairs_data}
 use Rattle.kr_script.specs.Replies.{after_word, numbers_data}

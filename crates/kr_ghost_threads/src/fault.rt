@@ -5,7 +5,7 @@ ghost use Rattle.kr_ghost_threads.specs.declared.fault.GhostRunFault.TheVariants
 use std::alloc::AllocError;
 
 /// Why a run shows nothing.
-#[derive(Debug, Drop)]
+#[derive(Drop)]
 pub enum GhostRunFault {
     /// A growth was refused.
     Memory,

@@ -107,11 +107,7 @@ impl<P: GhostProtocol, K: GhostRunName> Kernel<P, K> {
                     answer: Answer::Step(reply),
                 };
                 self.waiting.clear();
-                let Some(_) = count(&mut self.come, txn) else {
-                    self.failed = true;
-                    return Outcome::Failed;
-                };
-                self.failed = !add(&mut self.history, made);
+                self.failed = !add_done(&mut self.come, &mut self.history, txn, made);
                 self.unless_failed(Outcome::Done)
             }
         }
@@ -158,17 +154,7 @@ impl<P: GhostProtocol, K: GhostRunName> Kernel<P, K> {
     fn leave_out(&mut self, txn: Txn, op: Op, cause: WhyNotDone, outcome: Outcome) -> Outcome
         requires { IsCause (P.ghosts self.old.steps.protocol) self.old.steps.state txn op cause }
     {
-        let Some(step) = count(&mut self.come, txn) else {
-            self.failed = true;
-            return Outcome::Failed;
-        };
-        let fault = StepFault {
-            txn,
-            step,
-            op,
-            cause,
-        };
-        if !add(&mut self.faults, fault) {
+        if !add_fault(&mut self.come, &mut self.faults, txn, op, cause) {
             self.failed = true;
         }
         self.unless_failed(outcome)
@@ -211,6 +197,40 @@ fn add_first<T: Drop>(list: &mut Vec<T>, item: T) -> bool
     ensures { result ≡ true → list.new.items ≡ item ∷ list.old.items }
 {
     list.insert(0, item).is_ok()
+}
+
+/// Adds a step that was done at the end of a history, counts it, and answers whether there was memory for it.
+fn add_done(come: &mut HashMap<Txn, u64>, history: &mut Vec<Made>, txn: Txn, made: Made) -> bool
+    ensures history { result ≡ true → history.new.items ≡ history.old.items ++ made ∷ [] }
+    ensures counts { result ≡ true → CountsOne txn (count_in come.old) (count_in come.new) }
+{
+    if count(come, txn).is_none() {
+        return false;
+    }
+    add(history, made)
+}
+
+/// Adds a step that is left out to the faults, counts it, and answers whether there was memory for it.
+fn add_fault(
+    come: &mut HashMap<Txn, u64>,
+    faults: &mut Vec<StepFault>,
+    txn: Txn,
+    op: Op,
+    cause: WhyNotDone,
+) -> bool
+    ensures fault { result ≡ true → faults.new.items ≡ faults.old.items ++ record { txn = txn; step = count_in come.old txn + 1; op = op; cause = cause } ∷ [] }
+    ensures counts { result ≡ true → CountsOne txn (count_in come.old) (count_in come.new) }
+{
+    let Some(step) = count(come, txn) else {
+        return false;
+    };
+    let fault = StepFault {
+        txn,
+        step,
+        op,
+        cause,
+    };
+    add(faults, fault)
 }
 
 /// Counts a step to which its transaction has come, and answers its number among the transaction's own, from 1; or nothing where

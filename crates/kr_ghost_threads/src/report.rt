@@ -6,9 +6,9 @@ ghost use Rattle.kr_ghost_threads.specs.Report.{move_data, made_data, history_da
 use crate::{GhostThreaded, Made};
 use kr_ghost::Move;
 use kr_ghost_report::{write_answer, write_ghosts};
+use kr_judge::Verdict;
 use kr_report::{write_faults, write_verdict};
 use kr_script::{separator, write_number, write_pairs, write_step};
-use kr_serial::Verdict;
 use std::alloc::{AllocError, Global};
 
 /// Writes a move.
@@ -52,6 +52,29 @@ fn write_history(out: &mut String, history: &[Made]) -> Result<(), AllocError>
     out.push_str("]")
 }
 
+/// Writes the report of a run with ghosts in several threads, with the verdict on it.
+fn write_ghost_threads(
+    out: &mut String,
+    threaded: &GhostThreaded,
+    verdict: &Verdict,
+) -> Result<(), AllocError>
+    ensures { OnOk result (string_bytes out.new ≡ string_bytes out.old ++ ghost_threads_text threaded.now.faults.items threaded.now.ghosts
+        threaded.now.history.items threaded.now.index [] verdict.now) }
+{
+    out.push_str(r#"{"faults":"#)?;
+    write_faults(out, &threaded.faults)?;
+    out.push_str(r#","ghosts":"#)?;
+    write_ghosts(out, threaded.ghosts.as_slice())?;
+    out.push_str(r#","history":"#)?;
+    write_history(out, &threaded.history)?;
+    out.push_str(r#","index":"#)?;
+    write_pairs(out, threaded.index.as_slice())?;
+    out.push_str(r#","unfinished":[],"verdict":"#)?;
+    write_verdict(out, verdict)?;
+    out.push_str("}")?;
+    Ok(())
+}
+
 /// The report of a run with ghosts in several threads, with the verdict on it: compact JSON on one line, with no line feed. Its
 /// members are the steps that weren't done, the ghosts at the end of the run, the moves that were made with the answers to them,
 /// the index at the end, the transactions that are unfinished there, which are none, and the verdict as it is given. The error is
@@ -65,16 +88,6 @@ pub fn report_ghost_threads(
         threaded.now.history.items threaded.now.index [] verdict.now) }
 {
     let mut out = String::new(alloc);
-    out.push_str(r#"{"faults":"#)?;
-    write_faults(&mut out, &threaded.faults)?;
-    out.push_str(r#","ghosts":"#)?;
-    write_ghosts(&mut out, threaded.ghosts.as_slice())?;
-    out.push_str(r#","history":"#)?;
-    write_history(&mut out, &threaded.history)?;
-    out.push_str(r#","index":"#)?;
-    write_pairs(&mut out, threaded.index.as_slice())?;
-    out.push_str(r#","unfinished":[],"verdict":"#)?;
-    write_verdict(&mut out, verdict)?;
-    out.push_str("}")?;
+    write_ghost_threads(&mut out, threaded, verdict)?;
     Ok(out)
 }

@@ -1,12 +1,13 @@
 //! A run of a script with purges in several threads.
-ghost use Rattle.std.specs.Prelude.{◌≡◌, ◌<◌, ◌≤◌, IfOk, List, [], true};
+ghost use Rattle.std.specs.Prelude.{◌≡◌, ◌<◌, ◌≤◌, IfOk, OnOk, List, [], false, true};
+ghost use Rattle.std.specs.List.Sorted.{IsPermutation};
 ghost use Rattle.kr_model.specs.declared.Event.{Event};
 ghost use Rattle.kr_model.specs.Map.{IsMap};
 ghost use Rattle.kr_model.specs.Serial.{AreSerial};
 ghost use Rattle.kr_ghost.specs.Safe.{IsSafeGhost};
 ghost use Rattle.kr_workers.specs.Dealt.{AreDealt};
 ghost use Rattle.kr_workers.specs.Follows.{Follows};
-ghost use Rattle.kr_ghost_threads.specs.Histories.{programs_of, steps_of as done_in};
+ghost use Rattle.kr_ghost_threads.specs.Histories.{programs_of, steps_in, steps_of as done_in};
 ghost use Rattle.kr_ghost_threads.specs.Threaded.{IsGhostThreaded, IsOver};
 
 use crate::hands::{Hand, deal};
@@ -15,12 +16,10 @@ use crate::name::GhostRunName;
 use crate::steps::{steps_in, steps_of};
 use crate::work::{Shared, work};
 use crate::{GhostRunFault, GhostThreaded};
-use kr_ghost_machine::GhostStepper;
 use kr_ghost_protocol::GhostProtocol;
 use kr_ghost_script::GhostScript;
-use kr_locks::Buckets;
 use kr_model::{Items, Pairs};
-use kr_workers::{Dealt, Gate, follows};
+use kr_workers::{Dealt, Gate, StepFault, follows};
 use std::alloc::{AllocError, Global};
 use std::marker::Brand;
 use std::sync::{Condvar, Mutex, Wait};
@@ -56,19 +55,33 @@ pub fn run_ghost_threads<P: GhostProtocol + Sync, G: Gate + Sync, R: Threads + W
     ensures safe { IsSafeGhost (P.ghosts protocol.now) → IfOk result (λ d. AreSerial script.now.opening (programs_of (P.ghosts protocol.now) script.now.opening d.history.items)) }
 {
     let opening = script.opening();
-    let steps = steps_in(alloc, script.moves())?;
     let hands = deal(alloc, script.moves())?;
-    let dealt = Dealt::new(alloc, &steps)?;
     let threaded = run_named::<&P, Brand, G, R>(
         rt, alloc, protocol, opening, &hands, workers, gate,
     )?;
-    if !follows_script(alloc, dealt, &threaded)? {
-        return Err(GhostRunFault::Place);
-    }
+    follow_script(alloc, script, &threaded)?;
     Ok(threaded)
 }
 
-/// Whether the history follows the steps of a script, but for the faults.
+/// Nothing where the history follows the steps of a script, but for the faults; else `Place`.
+fn follow_script(
+    alloc: Global,
+    script: &GhostScript,
+    threaded: &GhostThreaded,
+) -> Result<(), GhostRunFault>
+    ensures { OnOk result (Follows (steps_in script.now.moves) threaded.now.faults.items (done_in threaded.now.history.items)) }
+{
+    let steps = steps_in(alloc, script.moves())?;
+    let dealt = Dealt::new(alloc, &steps)?;
+    let follows = follows_script(alloc, dealt, threaded)?;
+    if follows {
+        Ok(())
+    } else {
+        Err(GhostRunFault::Place)
+    }
+}
+
+/// Whether the history follows the steps of a script that were dealt, but for the faults.
 fn follows_script(alloc: Global, dealt: Dealt, threaded: &GhostThreaded) -> Result<bool, AllocError>
     ensures { IfOk result (λ yes. (steps : List Event) → AreDealt steps dealt → yes ≡ true → Follows steps threaded.now.faults.items (done_in threaded.now.history.items)) }
 {
@@ -120,12 +133,10 @@ fn over<P: GhostProtocol, K: GhostRunName>(
 ) -> Result<GhostThreaded, GhostRunFault>
     ensures { IfOk result (IsOver K.table K.opening) }
 {
-    if kernel.failed {
-        return Err(GhostRunFault::Memory);
-    }
+    let (index, ghosts) = left_by(&kernel)?;
     let Kernel {
         alloc: _,
-        stepper,
+        stepper: _,
         history,
         faults,
         come: _,
@@ -133,9 +144,7 @@ fn over<P: GhostProtocol, K: GhostRunName>(
         failed: _,
         of: _,
     } = kernel;
-    let (index, ghosts) = left_by(&stepper)?;
-    let mut faults = faults;
-    faults.sort_unstable_by_key(|fault| (fault.txn, fault.step));
+    let faults = in_order(faults);
     Ok(GhostThreaded {
         history,
         faults,
@@ -144,16 +153,29 @@ fn over<P: GhostProtocol, K: GhostRunName>(
     })
 }
 
-/// The index and the ghosts of a machine; or `Place` where a transaction is active.
-fn left_by<P: GhostProtocol>(
-    stepper: &GhostStepper<P, Buckets>,
+/// The index and the ghosts that a run leaves; `Memory` where a growth was refused, and `Place` where a transaction is active.
+fn left_by<P: GhostProtocol, K: GhostRunName>(
+    kernel: &Kernel<P, K>,
 ) -> Result<(Pairs, Items<u64>), GhostRunFault>
-    ensures index { IfOk result (λ r. r.0 ≡ stepper.now.state.state.map) }
-    ensures ghosts { IfOk result (λ r. r.1 ≡ stepper.now.state.ghosts) }
-    ensures ended { IfOk result (λ r. stepper.now.state.state.active ≡ []) }
+    ensures running { OnOk result (kernel.now.failed ≡ false) }
+    ensures index { IfOk result (λ r. r.0 ≡ kernel.now.steps.state.state.map) }
+    ensures ghosts { IfOk result (λ r. r.1 ≡ kernel.now.steps.state.ghosts) }
+    ensures ended { OnOk result (kernel.now.steps.state.state.active ≡ []) }
 {
-    if !stepper.unfinished()?.as_slice().is_empty() {
+    if kernel.failed {
+        return Err(GhostRunFault::Memory);
+    }
+    if !kernel.stepper.unfinished()?.as_slice().is_empty() {
         return Err(GhostRunFault::Place);
     }
-    Ok((stepper.index()?, stepper.ghosts()?))
+    Ok((kernel.stepper.index()?, kernel.stepper.ghosts()?))
+}
+
+/// Faults by transaction, and then by number.
+fn in_order(faults: Vec<StepFault>) -> Vec<StepFault>
+    ensures { IsPermutation faults.items result.items }
+{
+    let mut faults = faults;
+    faults.sort_unstable_by_key(|fault| (fault.txn, fault.step));
+    faults
 }

@@ -1,4 +1,4 @@
-use Rattle.std.proofs.Common.{[], ◌∷◌, ◌++◌, All, ℕ, ◌<◌, length, subst, sym, rules}
+use Rattle.std.proofs.Common.{All, ◌<◌, length, subst, sym, ap, rules}
 use Rattle.kr_ghost_follow.specs.Stands.{IsStanding}
 use Rattle.kr_ghost_follow.proofs.Standing.{removed_first, removed_rest}
 use Rattle.kr_ghost_follow.proofs.follower.standing.Goals as goal
@@ -13,4 +13,6 @@ loop-alloc-preserved g c q opening lines h =
     )
 
 pub returns : goal.returns
-returns g c q opening lines h = (c.loop-alloc.invariant q opening lines h).0
+returns g c q opening lines h =
+    let Stands = IsStanding g.P.GhostProtocol.ghosts q opening lines in
+    (c.loop-alloc.invariant q opening lines (subst (λ xs. All Stands xs) (sym (ap (λ v. v.items) c.replace-stands.ensures.value)) h)).0

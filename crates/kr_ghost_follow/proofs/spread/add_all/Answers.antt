@@ -1,4 +1,4 @@
-use Rattle.std.proofs.Common.{All, ℕ, ◌<◌, length, subst, sym, rules}
+use Rattle.std.proofs.Common.{All, ◌<◌, length, subst, sym, rules}
 use Rattle.kr_ghost_follow.specs.Stands.{IsStanding}
 use Rattle.kr_ghost_follow.proofs.Standing.{removed_first, removed_rest}
 use Rattle.kr_ghost_follow.proofs.spread.add_all.Goals as goal

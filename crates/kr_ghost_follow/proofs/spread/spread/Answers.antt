@@ -1,4 +1,4 @@
-use Rattle.std.proofs.Common.{ℕ, ◌<◌, length, subst, sym, rules}
+use Rattle.std.proofs.Common.{◌<◌, length, subst, sym, rules}
 use Rattle.kr_ghost_follow.specs.Stands.{IsStanding}
 use Rattle.kr_ghost_follow.proofs.spread.spread.Goals as goal
 

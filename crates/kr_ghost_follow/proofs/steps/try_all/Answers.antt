@@ -1,4 +1,4 @@
-use Rattle.std.proofs.Common.{◌≡◌, ◌+◌, ◌-◌, sym, ◌∙◌, ap}
+use Rattle.std.proofs.Common.{◌+◌, ◌-◌, sym, ◌∙◌, ap}
 use Rattle.kr_model.specs.declared.Op.TheVariants as op
 use Rattle.kr_ghost_follow.specs.Points.{Tried, gone_on, tried}
 use Rattle.kr_ghost_follow.specs.Tries.{line_of, moment, tried_so}

@@ -7,13 +7,13 @@ returns g c =
     let p = g.K.GhostRunName.table in
     let opening = g.K.GhostRunName.opening in
     let i = c.kernel.inside in
-    let k = c.kernel.invariant c.if-kernel.false in
+    let k = c.kernel.invariant (rw (← c.kernel.view_is) at c.in_ok-index.ensures.running) in
     record {
       state = i.stepper.state;
       run = k.history;
       done = k.done;
-      ended = c.in_ok-index.ensures.ended;
-      told = told_in_order p opening i.faults.items c.sort_unstable_by_key.new.self.items i.history.items c.sort_unstable_by_key.ensures.permutation k.told;
-      index = c.in_ok-index.ensures.index;
-      ghosts = c.in_ok-index.ensures.ghosts;
+      ended = rw (← c.kernel.view_is) at c.in_ok-index.ensures.ended;
+      told = told_in_order p opening i.faults.items c.in_order-faults.result.items i.history.items c.in_order-faults.ensures k.told;
+      index = rw (← c.kernel.view_is) at c.in_ok-index.ensures.index;
+      ghosts = rw (← c.kernel.view_is) at c.in_ok-index.ensures.ghosts;
     }

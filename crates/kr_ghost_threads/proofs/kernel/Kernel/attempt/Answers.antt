@@ -60,7 +60,7 @@ invariant_of-self-in_default-reply g c added =
     let granted : is_granted c.in-Ok.reply ≡ true = is_granted_else c.in-Ok.reply c.in_default-reply.not-Blocked c.in_default-reply.not-Refused in
     let k = c.self.invariant c.if-self.false in
     let done = c.in-Ok.ensures.step in
-    more_made g.K.GhostRunName.table g.K.GhostRunName.opening (gh i.stepper.protocol) (gh n.protocol) n.state i.history.items c.add.new.list.items i.faults.items (count_in c.count.new.come) c.clear.new.self.items m
-    (ap gh c.step.ensures.protocol) (c.add.ensures (was_added c.add.result added)) c.clear.ensures.items
-    (one_more g.K.GhostRunName.table g.K.GhostRunName.opening (gh i.stepper.protocol) i.stepper.state n.state i.history.items i.faults.items (count_in i.come) (count_in c.count.new.come) i.waiting.items m
-    k (sym (ap (λ (x : Outcome). answer.Step x.0) done)) (sym (ap (λ (x : Outcome). x.1) done)) granted (counts_step i.history.items i.faults.items e (answer.Step c.in-Ok.reply) (count_in i.come) (count_in c.count.new.come) k.counted c.in-Some.ensures.counts))
+    more_made g.K.GhostRunName.table g.K.GhostRunName.opening (gh i.stepper.protocol) (gh n.protocol) n.state i.history.items c.add_done.new.history.items i.faults.items (count_in c.add_done.new.come) c.clear.new.self.items m
+    (ap gh c.step.ensures.protocol) (c.add_done.ensures.history (was_added c.add_done.result added)) c.clear.ensures.items
+    (one_more g.K.GhostRunName.table g.K.GhostRunName.opening (gh i.stepper.protocol) i.stepper.state n.state i.history.items i.faults.items (count_in i.come) (count_in c.add_done.new.come) i.waiting.items m
+    k (sym (ap (λ (x : Outcome). answer.Step x.0) done)) (sym (ap (λ (x : Outcome). x.1) done)) granted (counts_step i.history.items i.faults.items e (answer.Step c.in-Ok.reply) (count_in i.come) (count_in c.add_done.new.come) k.counted (c.add_done.ensures.counts (was_added c.add_done.result added))))
