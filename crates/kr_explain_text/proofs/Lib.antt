@@ -1,6 +1,6 @@
 pub mod Lined
 pub mod Grouped
 pub mod Listed
-pub mod Joined
+pub mod FourTexts
 pub mod Rowed
 pub mod Schedule

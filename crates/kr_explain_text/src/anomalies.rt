@@ -9,28 +9,27 @@ use kr_explain_runs::Ending;
 /// and a phantom is a key that is found where none was.
 pub fn anomaly(ending: Ending) -> &'static str {
     match ending {
-        Ending::ReadKeyGone => "Non-repeatable read",
-        Ending::ReadKeyUpdated => "Non-repeatable read",
-        Ending::ReadGapFilled => "Phantom",
-        Ending::ReadGapGrown => "Phantom",
-        Ending::InsertFetched => "Dirty read",
-        Ending::InsertMissedBelow => "Phantom",
-        Ending::InsertScanned => "Dirty read",
-        Ending::InsertStoppedBelow => "Phantom",
-        Ending::InsertDeleted => "Dirty write",
-        Ending::InsertDeletedBelow => "Dirty read",
-        Ending::InsertDeletedPoint => "Dirty read",
-        Ending::InsertUpdated => "Dirty write",
-        Ending::DeleteMissed => "Dirty read",
-        Ending::DeleteScanned => "Dirty read",
-        Ending::DeleteStopped => "Dirty read",
-        Ending::DeleteFilled => "Dirty write",
-        Ending::DeleteSplit => "Dirty read",
-        Ending::DeleteGrown => "Dirty read",
-        Ending::DeleteDeletedBelow => "Dirty read",
-        Ending::UpdateFetched => "Dirty read",
-        Ending::UpdateScanned => "Dirty read",
-        Ending::UpdateDeleted => "Dirty write",
-        Ending::UpdateUpdated => "Dirty write",
+        Ending::ReadKeyGone | Ending::ReadKeyUpdated => "Non-repeatable read",
+        Ending::ReadGapFilled
+        | Ending::ReadGapGrown
+        | Ending::InsertMissedBelow
+        | Ending::InsertStoppedBelow => "Phantom",
+        Ending::InsertDeleted
+        | Ending::InsertUpdated
+        | Ending::DeleteFilled
+        | Ending::UpdateDeleted
+        | Ending::UpdateUpdated => "Dirty write",
+        Ending::InsertFetched
+        | Ending::InsertScanned
+        | Ending::InsertDeletedBelow
+        | Ending::InsertDeletedPoint
+        | Ending::DeleteMissed
+        | Ending::DeleteScanned
+        | Ending::DeleteStopped
+        | Ending::DeleteSplit
+        | Ending::DeleteGrown
+        | Ending::DeleteDeletedBelow
+        | Ending::UpdateFetched
+        | Ending::UpdateScanned => "Dirty read",
     }
 }

@@ -1,8 +1,8 @@
 //! Changes as edits of a table's file.
-ghost use Rattle.std.specs.Prelude.{◌≡◌, IfOk, string_bytes};
+ghost use Rattle.std.specs.Prelude.{◌≡◌, ◌++◌, IfOk, codes, string_bytes};
 ghost use Rattle.kr_explain_text.specs.Edits.{IsEdit, convert_words, modes_of, nothing_words, request_words};
 
-use crate::lists::{modes_chosen, modes_listed};
+use crate::lists::{joined, modes_chosen, modes_listed};
 use kr_cases::Memory;
 use kr_change::{Change, edit_text};
 use kr_model::{Mode, Row, Side, Span, row_word, side_word, span_word};
@@ -67,11 +67,40 @@ fn request_words<P: Protocol>(
 ) -> Result<String, Memory>
     ensures { IfOk result (λ text. string_bytes text ≡ request_words (P.names protocol.now) row side modes.now span) }
 {
-    let row = row_word(row);
-    let side = side_word(side);
     let modes = modes_listed(alloc, protocol, modes)?;
-    let span = span_word(span);
-    format!(in alloc; "in [rules.{row}], {side}: request {modes} for {span} duration")
+    request_edit(
+        alloc,
+        row_word(row),
+        side_word(side),
+        modes.as_str(),
+        span_word(span),
+    )
+}
+
+/// The same, of these modes.
+fn request_edit(
+    alloc: Global,
+    row: &str,
+    side: &str,
+    modes: &str,
+    span: &str,
+) -> Result<String, Memory>
+    ensures { IfOk result (λ text. string_bytes text ≡ codes "in [rules." ++ (row.now ++ (codes "], " ++ (side.now ++ (codes ": request " ++ (modes.now ++ (codes " for " ++ (span.now ++ codes " duration")))))))) }
+{
+    joined(
+        alloc,
+        &[
+            "in [rules.",
+            row,
+            "], ",
+            side,
+            ": request ",
+            modes,
+            " for ",
+            span,
+            " duration",
+        ],
+    )
 }
 
 /// An edit of a conversion.
@@ -85,10 +114,20 @@ fn convert_words<P: Protocol>(
 ) -> Result<String, Memory>
     ensures { IfOk result (λ text. string_bytes text ≡ convert_words (P.names protocol.now) held requested modes.now) }
 {
+    let made = modes_chosen(alloc, protocol, modes, true)?;
     let held = name_or_empty(protocol, held);
     let requested = name_or_empty(protocol, requested);
-    let made = modes_chosen(alloc, protocol, modes, true)?;
-    format!(in alloc; "in [convert], {held}: {requested} = {made}")
+    convert_edit(alloc, held, requested, made.as_str())
+}
+
+/// The same, of these modes.
+fn convert_edit(alloc: Global, held: &str, requested: &str, made: &str) -> Result<String, Memory>
+    ensures { IfOk result (λ text. string_bytes text ≡ codes "in [convert], " ++ (held.now ++ (codes ": " ++ (requested.now ++ (codes " = " ++ made.now))))) }
+{
+    joined(
+        alloc,
+        &["in [convert], ", held, ": ", requested, " = ", made],
+    )
 }
 
 /// An edit by which a row requests nothing.
@@ -96,9 +135,16 @@ fn convert_words<P: Protocol>(
 fn nothing_words(alloc: Global, row: Row, side: Side) -> Result<String, Memory>
     ensures { IfOk result (λ text. string_bytes text ≡ nothing_words row side) }
 {
-    let row = row_word(row);
-    let side = side_word(side);
-    format!(in alloc; "in [rules.{row}], {side}: request nothing")
+    joined(
+        alloc,
+        &[
+            "in [rules.",
+            row_word(row),
+            "], ",
+            side_word(side),
+            ": request nothing",
+        ],
+    )
 }
 
 /// For which own modes on the next key a request changes; nothing where it is for all, or makes no difference for the others.
@@ -114,20 +160,62 @@ fn owns_words<P: Protocol>(
     let Some(changed) = own_next else {
         return Ok(String::new(alloc));
     };
-    let mut owns = Vec::new(alloc);
-    let mut is_for_all = true;
-    for own in 0..=protocol.count() {
-        if changed >> own & 1 == 1 {
-            owns.push(own)?;
-        } else if !modes.iter().all(|mode| is_same_request(protocol, row, side, own, *mode, span)) {
-            is_for_all = false;
-        }
-    }
-    if is_for_all {
+    let owns = owns_in(alloc, protocol, changed)?;
+    if is_for_all(protocol, row, side, changed, modes, span) {
         return Ok(String::new(alloc));
     }
-    let owns = modes_listed(alloc, protocol, &owns)?;
+    owns_listed(alloc, protocol, &owns)
+}
+
+/// For which own modes on the next key a request changes.
+fn owns_listed<P: Protocol>(alloc: Global, protocol: &P, owns: &[Mode]) -> Result<String, Memory> {
+    let owns = modes_listed(alloc, protocol, owns)?;
     format!(in alloc; " where the own mode on the next key is {owns}")
+}
+
+/// The own modes of a set, rising.
+fn owns_in<P: Protocol>(alloc: Global, protocol: &P, set: u16) -> Result<Vec<Mode>, Memory> {
+    let mut owns = Vec::new(alloc);
+    for own in 0..=protocol.count() {
+        if set >> own & 1 == 1 {
+            owns.push(own)?;
+        }
+    }
+    Ok(owns)
+}
+
+/// Whether a request of these modes makes no difference for the own modes that are not in a set.
+fn is_for_all<P: Protocol>(
+    protocol: &P,
+    row: Row,
+    side: Side,
+    set: u16,
+    modes: &[Mode],
+    span: Span,
+) -> bool {
+    for own in 0..=protocol.count() {
+        if set >> own & 1 == 0 && !are_same_requests(protocol, row, side, own, modes, span) {
+            return false;
+        }
+    }
+    true
+}
+
+/// Whether a request of each of these modes is tested and held as what the row requests with this own mode.
+fn are_same_requests<P: Protocol>(
+    protocol: &P,
+    row: Row,
+    side: Side,
+    own: Mode,
+    modes: &[Mode],
+    span: Span,
+) -> bool {
+    for mode in modes {
+        if !is_same_request(protocol, row, side, own, *mode, span) {
+            return false;
+        }
+    }
+    true
 }
 
 /// Whether a request of this mode and duration, in place of what a row requests with this own mode on the next key, is tested

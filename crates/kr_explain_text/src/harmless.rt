@@ -1,8 +1,8 @@
 //! Why a cause is harmless.
 
 use crate::body::protected;
-use crate::lists::{held_listed, listed};
-use crate::wrap::{INDENT, write_paragraph};
+use crate::lists::{held_listed, joined, write_between};
+use crate::wrap::write_joined;
 use kr_cases::Memory;
 use kr_model::{FailedCase, Mode};
 use kr_protocol::{Protocol, name_or_empty};
@@ -24,8 +24,15 @@ pub fn write_never_held<P: Protocol>(
     out: &mut String,
     cases: &[FailedCase],
 ) -> Result<(), Memory> {
-    let why = never_held(alloc, protocol, cases)?;
-    write_harmless(alloc, out, why.as_str())
+    let groups = groups(alloc, protocol, cases)?;
+    let held = groups_listed(alloc, protocol, &groups)?;
+    write_harmless(
+        alloc,
+        out,
+        "in no schedule does a transaction hold ",
+        held.as_str(),
+        ".",
+    )
 }
 
 /// Writes that a cause of these cases is harmless, since no transaction can come to request what the mode of one of them,
@@ -38,13 +45,16 @@ pub fn write_never_let_in<P: Protocol>(
     held: &FailedCase,
 ) -> Result<(), Memory> {
     let why = never_let_in(alloc, protocol, held)?;
-    let others = if cases.iter().all(|case| is_alike(case, held)) {
+    write_harmless(alloc, out, why.as_str(), "", others_words(cases, held))
+}
+
+/// That the same is true of the other cases, where some aren't of the mode and cover of one; else nothing.
+fn others_words(cases: &[FailedCase], held: &FailedCase) -> &'static str {
+    if cases.iter().all(|case| is_alike(case, held)) {
         ""
     } else {
         " The same is true of the other cases, or no schedule reaches their locks."
-    };
-    let text = format!(in alloc; "{why}{others}")?;
-    write_harmless(alloc, out, text.as_str())
+    }
 }
 
 /// Whether two cases are of the same mode and cover.
@@ -52,11 +62,27 @@ fn is_alike(case: &FailedCase, other: &FailedCase) -> bool {
     case.mode == other.mode && case.cover == other.cover
 }
 
-/// Writes why a cause is harmless.
-fn write_harmless(alloc: Global, out: &mut String, why: &str) -> Result<(), Memory> {
-    let text = format!(in alloc; "Harmless: {why}")?;
+/// Writes why a cause is harmless: three texts, one behind another.
+fn write_harmless(
+    alloc: Global,
+    out: &mut String,
+    first: &str,
+    second: &str,
+    third: &str,
+) -> Result<(), Memory> {
     out.push_str("\n")?;
-    write_paragraph(out, text.as_str(), INDENT, INDENT)
+    write_harmless_of(alloc, out, first, second, third)
+}
+
+/// The same, without the empty line before it.
+fn write_harmless_of(
+    alloc: Global,
+    out: &mut String,
+    first: &str,
+    second: &str,
+    third: &str,
+) -> Result<(), Memory> {
+    write_joined(alloc, out, &["Harmless: ", first, second, third])
 }
 
 /// That nobody comes to request what the mode of this case has to block and doesn't.
@@ -67,34 +93,64 @@ fn never_let_in<P: Protocol>(
 ) -> Result<String, Memory> {
     let covers = protected(alloc, &[*case], "or")?;
     if case.mode == 0 {
-        return format!(in alloc;
-            "a transaction can hold no lock where it must protect {covers}, but no schedule leads another transaction to a request there that has to be blocked."
-        );
+        return nothing_let_in(alloc, covers.as_str());
     }
-    let mode = name_or_empty(protocol, case.mode);
-    format!(in alloc;
-        "a transaction can hold {mode} where it must protect {covers}, but no schedule leads another transaction to a request there that {mode} has to block and does not."
+    mode_let_in(alloc, name_or_empty(protocol, case.mode), covers.as_str())
+}
+
+/// The same, where no lock protects these covers.
+fn nothing_let_in(alloc: Global, covers: &str) -> Result<String, Memory> {
+    joined(
+        alloc,
+        &[
+            "a transaction can hold no lock where it must protect ",
+            covers,
+            ", but no schedule leads another transaction to a request there that has to be blocked.",
+        ],
     )
 }
 
-/// That nobody comes to hold the modes of these cases with what they have to protect.
-fn never_held<P: Protocol>(
+/// The same, where a mode protects these covers.
+fn mode_let_in(alloc: Global, mode: &str, covers: &str) -> Result<String, Memory> {
+    joined(
+        alloc,
+        &[
+            "a transaction can hold ",
+            mode,
+            " where it must protect ",
+            covers,
+            ", but no schedule leads another transaction to a request there that ",
+            mode,
+            " has to block and does not.",
+        ],
+    )
+}
+
+/// The modes of the groups, each with what they have to protect, of which none is held.
+fn groups_listed<P: Protocol>(
     alloc: Global,
     protocol: &P,
-    cases: &[FailedCase],
+    groups: &[Group],
 ) -> Result<String, Memory> {
-    let mut phrases = Vec::new(alloc);
-    for group in groups(alloc, protocol, cases)?.iter() {
-        let modes = held_listed(alloc, protocol, &group.modes)?;
-        let covers = group.covers.as_str();
-        phrases.push(format!(in alloc; "{modes} where it must protect {covers}")?)?;
+    let mut out = String::new(alloc);
+    for at in 0..groups.len() {
+        write_between(&mut out, at, groups.len(), "nor")?;
+        write_group(alloc, protocol, &mut out, &groups[at])?;
     }
-    let mut words = Vec::new(alloc);
-    for phrase in phrases.iter() {
-        words.push(phrase.as_str())?;
-    }
-    let held = listed(alloc, &words, "nor")?;
-    format!(in alloc; "in no schedule does a transaction hold {held}.")
+    Ok(out)
+}
+
+/// Writes the modes of a group, with what they have to protect.
+fn write_group<P: Protocol>(
+    alloc: Global,
+    protocol: &P,
+    out: &mut String,
+    group: &Group,
+) -> Result<(), Memory> {
+    let modes = held_listed(alloc, protocol, &group.modes)?;
+    out.push_str(modes.as_str())?;
+    out.push_str(" where it must protect ")?;
+    out.push_str(group.covers.as_str())
 }
 
 /// The modes of the cases, put together by what they have to protect.
@@ -105,17 +161,35 @@ fn groups<P: Protocol>(
 ) -> Result<Vec<Group>, Memory> {
     let mut groups = Vec::new(alloc);
     for mode in 0..=protocol.count() {
-        let mut same = Vec::new(alloc);
-        for case in cases {
-            if case.mode == mode {
-                same.push(*case)?;
-            }
-        }
-        if !same.is_empty() {
-            put_mode(alloc, &mut groups, protected(alloc, &same, "or")?, mode)?;
-        }
+        put_cases(alloc, &mut groups, cases, mode)?;
     }
     Ok(groups)
+}
+
+/// Puts a mode into the group that has the same to protect in the cases of that mode, where there are such.
+fn put_cases(
+    alloc: Global,
+    groups: &mut Vec<Group>,
+    cases: &[FailedCase],
+    mode: Mode,
+) -> Result<(), Memory> {
+    let same = of_mode(alloc, cases, mode)?;
+    if same.is_empty() {
+        return Ok(());
+    }
+    let covers = protected(alloc, &same, "or")?;
+    put_mode(alloc, groups, covers, mode)
+}
+
+/// The cases of a mode.
+fn of_mode(alloc: Global, cases: &[FailedCase], mode: Mode) -> Result<Vec<FailedCase>, Memory> {
+    let mut same = Vec::new(alloc);
+    for case in cases {
+        if case.mode == mode {
+            same.push(*case)?;
+        }
+    }
+    Ok(same)
 }
 
 /// Puts a mode into the group that has the same to protect, which is new where there is none.
@@ -131,8 +205,7 @@ fn put_mode(
             return Ok(());
         }
     }
-    let mut modes = Vec::new(alloc);
-    modes.push(mode)?;
+    let modes = vec![in alloc; mode]?;
     groups.push(Group { covers, modes })?;
     Ok(())
 }

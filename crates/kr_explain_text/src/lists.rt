@@ -1,5 +1,5 @@
 //! Lists of words, with commas and a last word between.
-ghost use Rattle.std.specs.Prelude.{◌≡◌, ◌++◌, IfOk, OnOk, false, string_bytes};
+ghost use Rattle.std.specs.Prelude.{◌≡◌, ◌++◌, IfOk, OnOk, false, flat_map, string_bytes};
 ghost use Rattle.kr_explain_text.specs.Lists.{item_words, mode_word, modes_listed};
 
 use kr_cases::Memory;
@@ -7,22 +7,35 @@ use kr_model::Mode;
 use kr_protocol::{Protocol, name_or_empty};
 use std::alloc::Global;
 
+/// Texts, one behind another.
+pub fn joined(alloc: Global, texts: &[&str]) -> Result<String, Memory>
+    ensures { IfOk result (λ text. string_bytes text ≡ flat_map (λ t. t.now) texts.now) }
+{
+    texts.concat(alloc)
+}
+
 /// The items with commas between, and before the last one `last` in place of the comma.
 pub fn listed(alloc: Global, items: &[&str], last: &str) -> Result<String, Memory> {
     let mut out = String::new(alloc);
-    let mut left = items.len();
-    for item in items {
-        if left < items.len() {
-            if left == 1 {
-                write!(out, " {last} ")?;
-            } else {
-                out.push_str(", ")?;
-            }
-        }
-        out.push_str(item)?;
-        left = left.saturating_sub(1);
+    for at in 0..items.len() {
+        write_between(&mut out, at, items.len(), last)?;
+        out.push_str(items[at])?;
     }
     Ok(out)
+}
+
+/// Writes what comes before the item at a place, from 0, of so many: nothing before the first, `last` before the last, and else
+/// a comma.
+pub fn write_between(out: &mut String, at: usize, count: usize, last: &str) -> Result<(), Memory> {
+    if at == 0 {
+        return Ok(());
+    }
+    if at.saturating_add(1) < count {
+        return out.push_str(", ");
+    }
+    out.push_str(" ")?;
+    out.push_str(last)?;
+    out.push_str(" ")
 }
 
 /// Writes an item of a choice, which may be the first and the last.
@@ -92,15 +105,21 @@ pub fn held_listed<P: Protocol>(
     protocol: &P,
     modes: &[Mode],
 ) -> Result<String, Memory> {
-    let mut names = Vec::new(alloc);
-    for mode in modes {
-        names.push(if *mode == 0 {
-            "no lock"
-        } else {
-            name_or_empty(protocol, *mode)
-        })?;
+    let mut out = String::new(alloc);
+    for at in 0..modes.len() {
+        write_between(&mut out, at, modes.len(), "or")?;
+        out.push_str(held_word(protocol, modes[at]))?;
     }
-    listed(alloc, &names, "or")
+    Ok(out)
+}
+
+/// The name of a mode that is held, or that no lock is.
+fn held_word<P: Protocol>(protocol: &P, mode: Mode) -> &str {
+    if mode == 0 {
+        "no lock"
+    } else {
+        name_or_empty(protocol, mode)
+    }
 }
 
 /// Puts a word behind the others, unless it is there.

@@ -26,21 +26,47 @@ pub fn orders(alloc: Global, ran: &Ran) -> Result<OtherOrders, Memory> {
     if programs.len() > MOST_PROGRAMS {
         return Ok(OtherOrders::TooMany);
     }
-    let mut count: usize = 1;
-    for factor in 1..=programs.len() {
-        count = count.saturating_mul(factor);
-    }
+    let count = count_of_orders(programs.len());
     for number in 0..count {
-        let order = order(alloc, programs, number, count)?;
-        if gives(alloc, ran, &order)? {
-            let mut txns = Vec::new(alloc);
-            for program in order.iter() {
-                txns.push(program.txn)?;
-            }
+        if let Some(txns) = order_that_gives(alloc, ran, number, count)? {
             return Ok(OtherOrders::Gives(txns));
         }
     }
     Ok(OtherOrders::NoneGives)
+}
+
+/// How many orders so many programs have.
+fn count_of_orders(programs: usize) -> usize {
+    let mut count: usize = 1;
+    for factor in 1..=programs {
+        count = count.saturating_mul(factor);
+    }
+    count
+}
+
+/// The transactions of the committed programs in the order of this number, of `count` orders, if they give the answers of the
+/// run in that order.
+fn order_that_gives(
+    alloc: Global,
+    ran: &Ran,
+    number: usize,
+    count: usize,
+) -> Result<Option<Vec<Txn>>, Memory> {
+    let order = order(alloc, ran.programs.as_slice(), number, count)?;
+    if !gives(alloc, ran, &order)? {
+        return Ok(None);
+    }
+    let txns = txns_of(alloc, &order)?;
+    Ok(Some(txns))
+}
+
+/// The transactions of programs, in their order.
+fn txns_of(alloc: Global, order: &[&Program]) -> Result<Vec<Txn>, Memory> {
+    let mut txns = Vec::new(alloc);
+    for program in order {
+        txns.push(program.txn)?;
+    }
+    Ok(txns)
 }
 
 /// The programs in the order of this number, of `count` orders: orders rise as words do.

@@ -4,11 +4,12 @@ ghost use Rattle.kr_explain_text.specs.Lines.{Adds};
 ghost use Rattle.kr_explain_text.specs.Steps.{IsSchedule};
 
 use crate::anomalies::anomaly;
+use crate::lists::joined;
 use crate::seen::seen;
 use crate::spoken::{origin_text, pairs_text};
 use crate::steps::write_steps;
 use crate::verdict::write_verdict;
-use crate::wrap::{INDENT, write_paragraph};
+use crate::wrap::{INDENT, write_joined, write_paragraph};
 use kr_cases::Memory;
 use kr_explain_runs::Counterexample;
 use kr_model::{FailedCase, cover_code, rule_code};
@@ -16,7 +17,7 @@ use kr_protocol::Protocol;
 use std::alloc::Global;
 
 /// How many of a cause's cases were tried.
-#[derive(Clone, Copy, PartialEq, Eq)]
+#[derive(Clone, Copy)]
 pub struct Tries {
     /// How many cases the cause has.
     pub cases: usize,
@@ -32,10 +33,18 @@ fn case_text<P: Protocol>(
     protocol: &P,
     case: &FailedCase,
 ) -> Result<String, Memory> {
-    let rule = rule_code(case.case);
-    let cover = cover_code(case.cover);
     let from = origin_text(alloc, protocol, case)?;
-    format!(in alloc; "{rule} for {cover}, {from}.")
+    case_words(
+        alloc,
+        rule_code(case.case),
+        cover_code(case.cover),
+        from.as_str(),
+    )
+}
+
+/// The same, where these are the modes that it is taken at.
+fn case_words(alloc: Global, rule: &str, cover: &str, from: &str) -> Result<String, Memory> {
+    joined(alloc, &[rule, " for ", cover, ", ", from, "."])
 }
 
 /// Writes the schedule of a cause: its anomaly, its steps, what is wrong with it, and the verdict. The only fault is that a
@@ -58,9 +67,16 @@ pub fn write_run<P: Protocol>(
 
 /// What is above a schedule: its anomaly and the initial index.
 pub fn run_head(alloc: Global, script: &Counterexample) -> Result<String, Memory> {
-    let anomaly = anomaly(script.ending);
     let opening = pairs_text(alloc, script.opening.as_slice())?;
-    format!(in alloc; "\n\n   {anomaly}. Initial index: {opening}.\n")
+    head_words(alloc, anomaly(script.ending), opening.as_str())
+}
+
+/// The same, of this anomaly and these pairs.
+fn head_words(alloc: Global, anomaly: &str, opening: &str) -> Result<String, Memory> {
+    joined(
+        alloc,
+        &["\n\n   ", anomaly, ". Initial index: ", opening, ".\n"],
+    )
 }
 
 /// What is below a schedule: what is wrong with it, and the verdict.
@@ -70,9 +86,20 @@ pub fn run_end<P: Protocol>(
     script: &Counterexample,
 ) -> Result<String, Memory> {
     let mut out = String::from_str(alloc, "\n")?;
-    write_paragraph(&mut out, seen(alloc, script)?.as_str(), INDENT, INDENT)?;
-    write_verdict(alloc, protocol, &mut out, script)?;
+    write_end(alloc, protocol, &mut out, script)?;
     Ok(out)
+}
+
+/// Writes what is wrong with a schedule, and the verdict.
+fn write_end<P: Protocol>(
+    alloc: Global,
+    protocol: &P,
+    out: &mut String,
+    script: &Counterexample,
+) -> Result<(), Memory> {
+    let seen = seen(alloc, script)?;
+    write_paragraph(out, seen.as_str(), INDENT, INDENT)?;
+    write_verdict(alloc, protocol, out, script)
 }
 
 /// Writes the case that a schedule was made from, whether the holder comes to its mode in another way than the case says, and
@@ -86,30 +113,65 @@ pub fn write_case<P: Protocol>(
     tries: Tries,
 ) -> Result<(), Memory> {
     let case = case_text(alloc, protocol, case)?;
-    let way = if is_as_case {
+    let share = share_text(alloc, tries)?;
+    write_case_of(
+        alloc,
+        out,
+        case.as_str(),
+        way_words(is_as_case),
+        share.as_str(),
+    )
+}
+
+/// The same, of these texts.
+fn write_case_of(
+    alloc: Global,
+    out: &mut String,
+    case: &str,
+    way: &str,
+    share: &str,
+) -> Result<(), Memory> {
+    write_joined(alloc, out, &["Case: ", case, way, share])
+}
+
+/// That the holder comes to its mode in another way than the case says, unless it does as the case says.
+fn way_words(is_as_case: bool) -> &'static str {
+    if is_as_case {
         ""
     } else {
         " Its mode is reached in another way here."
-    };
-    let share = share_text(alloc, tries)?;
-    let text = format!(in alloc; "Case: {case}{way}{share}")?;
-    write_paragraph(out, text.as_str(), INDENT, INDENT)
+    }
 }
 
 /// How many of the cause's cases gave a schedule, behind a space; nothing where all did.
 fn share_text(alloc: Global, tries: Tries) -> Result<String, Memory> {
     let Tries { cases, tried, runs } = tries;
-    let give = if runs == 1 { "gives" } else { "give" };
     if tried < cases {
-        let rest = cases - tried;
-        format!(in alloc;
-            " {runs} of the {tried} cases that were tried {give} a schedule; not tried: {rest}."
-        )
+        share_of_tried(alloc, runs, tried, cases - tried)
     } else if runs < cases {
-        format!(in alloc; " {runs} of the {cases} cases {give} a schedule.")
+        share_of_all(alloc, runs, cases)
     } else {
         Ok(String::new(alloc))
     }
+}
+
+/// How many of the cases that were tried gave a schedule, and how many were not tried.
+fn share_of_tried(alloc: Global, runs: usize, tried: usize, rest: usize) -> Result<String, Memory> {
+    let give = give_word(runs);
+    format!(in alloc;
+        " {runs} of the {tried} cases that were tried {give} a schedule; not tried: {rest}."
+    )
+}
+
+/// How many of all the cases gave a schedule.
+fn share_of_all(alloc: Global, runs: usize, cases: usize) -> Result<String, Memory> {
+    let give = give_word(runs);
+    format!(in alloc; " {runs} of the {cases} cases {give} a schedule.")
+}
+
+/// The verb for so many cases.
+fn give_word(runs: usize) -> &'static str {
+    if runs == 1 { "gives" } else { "give" }
 }
 
 /// Writes that no schedule is known, where `case` is the first of the cause, and `is_reached` says whether one transaction
@@ -122,37 +184,60 @@ pub fn write_no_run<P: Protocol>(
     is_reached: bool,
     tries: Tries,
 ) -> Result<(), Memory> {
-    let text = no_run_text(alloc, protocol, case, is_reached, tries)?;
+    let left_out = left_out_text(alloc, tries)?;
+    let case = case_text(alloc, protocol, case)?;
     out.push_str("\n")?;
-    write_paragraph(out, text.as_str(), INDENT, INDENT)
+    write_no_run_of(
+        alloc,
+        out,
+        why_words(is_reached),
+        left_out.as_str(),
+        case.as_str(),
+    )
 }
 
-/// That no schedule is known.
-fn no_run_text<P: Protocol>(
+/// The same, without the empty line before it, of these texts.
+fn write_no_run_of(
     alloc: Global,
-    protocol: &P,
-    case: &FailedCase,
-    is_reached: bool,
-    tries: Tries,
-) -> Result<String, Memory> {
-    let why = if is_reached {
+    out: &mut String,
+    why: &str,
+    left_out: &str,
+    case: &str,
+) -> Result<(), Memory> {
+    write_joined(
+        alloc,
+        out,
+        &[
+            "No schedule that goes wrong is known for this cause: ",
+            why,
+            ". That does not prove that no schedule does.",
+            left_out,
+            " First case: ",
+            case,
+        ],
+    )
+}
+
+/// Why no schedule is known.
+fn why_words(is_reached: bool) -> &'static str {
+    if is_reached {
         "none of those tried gets past its locks and goes wrong"
     } else {
         "none of those tried reaches the modes of its cases"
-    };
-    let left_out = left_out_text(alloc, tries)?;
-    let case = case_text(alloc, protocol, case)?;
-    format!(in alloc;
-        "No schedule that goes wrong is known for this cause: {why}. That does not prove that no schedule does.{left_out} First case: {case}"
-    )
+    }
 }
 
 /// How many cases were tried, behind a space; nothing where all were.
 fn left_out_text(alloc: Global, tries: Tries) -> Result<String, Memory> {
     let Tries { cases, tried, .. } = tries;
     if tried < cases {
-        format!(in alloc; " Tried: {tried} of its {cases} cases.")
+        tried_words(alloc, tried, cases)
     } else {
         Ok(String::new(alloc))
     }
+}
+
+/// How many of the cases were tried, behind a space.
+fn tried_words(alloc: Global, tried: usize, cases: usize) -> Result<String, Memory> {
+    format!(in alloc; " Tried: {tried} of its {cases} cases.")
 }

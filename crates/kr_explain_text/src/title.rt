@@ -1,9 +1,11 @@
 //! The title of a cause: what is to blame, and the groups of its cases.
-ghost use Rattle.std.specs.Prelude.{◌≡◌, ◌++◌, ◌==◌, ◌&&◌, IfOk, OnOk, count_by, string_bytes};
+ghost use Rattle.std.specs.Prelude.{◌≡◌, ◌++◌, ◌==◌, ◌&&◌, [], None, Some, IfOk, OnOk, codes, count_by, string_bytes};
 ghost use Rattle.kr_explain_text.specs.Lines.{Adds};
 ghost use Rattle.kr_explain_text.specs.Titles.{IsTitle, blame_words, cases_word, count_of, counts_of, group_behind, groups_of, place_words, request_words, title_words};
+ghost use Rattle.kr_model.specs.declared.Span.TheVariants as span;
 ghost use Rattle.kr_explain_causes.specs.declared.blame.Blame.TheVariants as blame;
 
+use crate::lists::joined;
 use crate::words::side_words;
 use crate::wrap::{INDENT, write_paragraph};
 use kr_cases::Memory;
@@ -129,19 +131,58 @@ fn blame_sentence<P: Protocol>(alloc: Global, protocol: &P, blame: Blame) -> Res
             request_sentence(alloc, protocol, row, side, asked)
         }
         Blame::Conversion { held, requested } => {
-            let made = name_or_empty(protocol, converted(protocol, held, requested));
-            let held = name_or_empty(protocol, held);
-            let requested = name_or_empty(protocol, requested);
-            format!(in alloc;
-                "{held} held and {requested} requested convert to {made}, a weaker mode."
-            )
+            conversion_sentence(alloc, protocol, held, requested)
         }
-        Blame::Pair { requested, held } => {
-            let held = name_or_empty(protocol, held);
-            let requested = name_or_empty(protocol, requested);
-            format!(in alloc; "Requested {requested} is compatible with held {held}.")
-        }
+        Blame::Pair { requested, held } => pair_sentence(alloc, protocol, requested, held),
     }
+}
+
+/// A conversion to a weaker mode.
+fn conversion_sentence<P: Protocol>(
+    alloc: Global,
+    protocol: &P,
+    held: Mode,
+    requested: Mode,
+) -> Result<String, Memory>
+    ensures { IfOk result (λ text. string_bytes text ≡ blame_words (P.table protocol.now) (P.names protocol.now) (blame.Conversion held requested)) }
+{
+    let made = name_or_empty(protocol, converted(protocol, held, requested));
+    let held = name_or_empty(protocol, held);
+    let requested = name_or_empty(protocol, requested);
+    joined(
+        alloc,
+        &[
+            held,
+            " held and ",
+            requested,
+            " requested convert to ",
+            made,
+            ", a weaker mode.",
+        ],
+    )
+}
+
+/// A requested and a held mode that are compatible.
+fn pair_sentence<P: Protocol>(
+    alloc: Global,
+    protocol: &P,
+    requested: Mode,
+    held: Mode,
+) -> Result<String, Memory>
+    ensures { IfOk result (λ text. string_bytes text ≡ blame_words (P.table protocol.now) (P.names protocol.now) (blame.Pair requested held)) }
+{
+    let held = name_or_empty(protocol, held);
+    let requested = name_or_empty(protocol, requested);
+    joined(
+        alloc,
+        &[
+            "Requested ",
+            requested,
+            " is compatible with held ",
+            held,
+            ".",
+        ],
+    )
 }
 
 /// A request that conflicts with no lock.
@@ -153,16 +194,47 @@ fn place_sentence<P: Protocol>(
 ) -> Result<String, Memory>
     ensures { IfOk result (λ text. string_bytes text ≡ blame_words (P.table protocol.now) (P.names protocol.now) (blame.Place row side)) }
 {
-    let mode = asked(protocol, row, side, 0);
-    let row = row_word(row);
-    let side = side_words(side);
-    match mode {
-        None => format!(in alloc; "`{row}` requests no lock on {side}."),
+    match asked(protocol, row, side, 0) {
+        None => nothing_sentence(alloc, row, side),
         Some((mode, _)) => {
             let mode = name_or_empty(protocol, mode);
-            format!(in alloc; "`{row}` requests {mode} on {side}, which conflicts with no mode.")
+            void_sentence(alloc, row_word(row), side_words(side), mode)
         }
     }
+}
+
+/// That a row requests no lock.
+fn nothing_sentence(alloc: Global, row: Row, side: Side) -> Result<String, Memory>
+    ensures { IfOk result (λ text. string_bytes text ≡ request_words [] row side None) }
+{
+    joined(
+        alloc,
+        &[
+            "`",
+            row_word(row),
+            "` requests no lock on ",
+            side_words(side),
+            ".",
+        ],
+    )
+}
+
+/// That a row requests a mode that conflicts with none.
+fn void_sentence(alloc: Global, row: &str, side: &str, mode: &str) -> Result<String, Memory>
+    ensures { IfOk result (λ text. string_bytes text ≡ codes "`" ++ (row.now ++ (codes "` requests " ++ (mode.now ++ (codes " on " ++ (side.now ++ codes ", which conflicts with no mode.")))))) }
+{
+    joined(
+        alloc,
+        &[
+            "`",
+            row,
+            "` requests ",
+            mode,
+            " on ",
+            side,
+            ", which conflicts with no mode.",
+        ],
+    )
 }
 
 /// A request that is too weak, or whose lock is released too early.
@@ -175,16 +247,46 @@ fn request_sentence<P: Protocol>(
 ) -> Result<String, Memory>
     ensures { IfOk result (λ text. string_bytes text ≡ request_words (P.names protocol.now) row side asked) }
 {
-    let row = row_word(row);
-    let side = side_words(side);
     match asked {
-        None => format!(in alloc; "`{row}` requests no lock on {side}."),
-        Some((_, Span::Instant)) => {
-            format!(in alloc; "`{row}` releases its lock on {side} too early.")
-        }
+        None => nothing_sentence(alloc, row, side),
+        Some((_, Span::Instant)) => early_sentence(alloc, row, side),
         Some((mode, Span::Commit)) => {
             let mode = name_or_empty(protocol, mode);
-            format!(in alloc; "`{row}` requests too weak a lock on {side}: {mode}.")
+            weak_sentence(alloc, row_word(row), side_words(side), mode)
         }
     }
+}
+
+/// That the lock of a row is released too early.
+fn early_sentence(alloc: Global, row: Row, side: Side) -> Result<String, Memory>
+    ensures { IfOk result (λ text. string_bytes text ≡ request_words [] row side (Some (0, span.Instant))) }
+{
+    joined(
+        alloc,
+        &[
+            "`",
+            row_word(row),
+            "` releases its lock on ",
+            side_words(side),
+            " too early.",
+        ],
+    )
+}
+
+/// That a row requests too weak a lock.
+fn weak_sentence(alloc: Global, row: &str, side: &str, mode: &str) -> Result<String, Memory>
+    ensures { IfOk result (λ text. string_bytes text ≡ codes "`" ++ (row.now ++ (codes "` requests too weak a lock on " ++ (side.now ++ (codes ": " ++ (mode.now ++ codes ".")))))) }
+{
+    joined(
+        alloc,
+        &[
+            "`",
+            row,
+            "` requests too weak a lock on ",
+            side,
+            ": ",
+            mode,
+            ".",
+        ],
+    )
 }

@@ -1,5 +1,6 @@
 //! What the parts of a protocol table mean, in words.
 ghost use Rattle.std.specs.Prelude.{◌≡◌};
+ghost use Rattle.kr_model.specs.declared.Row.TheVariants as rows;
 ghost use Rattle.kr_explain_text.specs.Words.{cover_words, deed_words, side_words};
 
 use kr_model::{Cover, Row, Rule, Side};
@@ -45,15 +46,33 @@ pub fn cover_words(cover: Cover) -> &'static str
 pub fn deed_words(row: Row, side: Side) -> &'static str
     ensures { result.now ≡ deed_words row side }
 {
-    match (row, side) {
-        (Row::FetchHit, _) => "fetch that key",
-        (Row::FetchMiss, _) => "fetch in the gap below that key and find nothing",
-        (Row::ScanKey, _) => "scan that key",
-        (Row::ScanStop, _) => "end a scan in the gap below that key",
-        (Row::Insert, Side::Current) => "insert that key",
-        (Row::Insert, Side::Next) => "insert a key into the gap below that key",
-        (Row::Delete, Side::Current) => "delete that key",
-        (Row::Delete, Side::Next) => "delete the key before that key",
-        (Row::Update, _) => "update that key",
+    match row {
+        Row::FetchHit => "fetch that key",
+        Row::FetchMiss => "fetch in the gap below that key and find nothing",
+        Row::ScanKey => "scan that key",
+        Row::ScanStop => "end a scan in the gap below that key",
+        Row::Insert => insert_words(side),
+        Row::Delete => delete_words(side),
+        Row::Update => "update that key",
+    }
+}
+
+/// What a transaction does whose request for an insert at a side is granted on a key.
+fn insert_words(side: Side) -> &'static str
+    ensures { result.now ≡ deed_words rows.Insert side }
+{
+    match side {
+        Side::Current => "insert that key",
+        Side::Next => "insert a key into the gap below that key",
+    }
+}
+
+/// What a transaction does whose request for a delete at a side is granted on a key.
+fn delete_words(side: Side) -> &'static str
+    ensures { result.now ≡ deed_words rows.Delete side }
+{
+    match side {
+        Side::Current => "delete that key",
+        Side::Next => "delete the key before that key",
     }
 }

@@ -2,6 +2,7 @@
 ghost use Rattle.std.specs.Prelude.{◌≡◌, ◌++◌, IfOk, OnOk, string_bytes};
 ghost use Rattle.kr_explain_text.specs.Lines.{Adds, AreLines, IsGap, IsParagraph, blanks};
 
+use crate::lists::joined;
 use kr_cases::Memory;
 use std::alloc::Global;
 
@@ -82,4 +83,10 @@ pub fn paragraph(alloc: Global, text: &str, indent: usize, hang: usize) -> Resul
     let mut out = String::new(alloc);
     write_paragraph(&mut out, text, indent, hang)?;
     Ok(out)
+}
+
+/// Writes texts, one behind another, as a paragraph of what is said of a cause.
+pub fn write_joined(alloc: Global, out: &mut String, texts: &[&str]) -> Result<(), Memory> {
+    let text = joined(alloc, texts)?;
+    write_paragraph(out, text.as_str(), INDENT, INDENT)
 }

@@ -14,15 +14,34 @@ pub(crate) fn held_text<P: Protocol>(
     let mut out = String::new(alloc);
     let mut before = None;
     for ((name, txn), mode) in locks {
-        let words = lock_name(alloc, *name)?;
-        match before {
-            None => write!(&mut out, "{words}: ")?,
-            Some(other) if other == *name => out.push_str(", ")?,
-            Some(_) => write!(&mut out, "; {words}: ")?,
-        }
-        let mode = name_or_empty(protocol, *mode);
-        write!(&mut out, "T{txn} {mode}")?;
+        write_lead(alloc, &mut out, before, *name)?;
+        write_holder(&mut out, *txn, name_or_empty(protocol, *mode))?;
         before = Some(*name);
     }
     Ok(out)
+}
+
+/// Writes what comes before a holder of a lock, behind a lock on the name `before`.
+fn write_lead(
+    alloc: Global,
+    out: &mut String,
+    before: Option<Name>,
+    name: Name,
+) -> Result<(), Memory> {
+    match before {
+        None => write_name(alloc, out, "", name),
+        Some(other) if other == name => out.push_str(", "),
+        Some(_) => write_name(alloc, out, "; ", name),
+    }
+}
+
+/// Writes a lock name behind a text.
+fn write_name(alloc: Global, out: &mut String, before: &str, name: Name) -> Result<(), Memory> {
+    let words = lock_name(alloc, name)?;
+    write!(out, "{before}{words}: ")
+}
+
+/// Writes who holds a mode.
+fn write_holder(out: &mut String, txn: Txn, mode: &str) -> Result<(), Memory> {
+    write!(out, "T{txn} {mode}")
 }

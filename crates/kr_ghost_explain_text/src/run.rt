@@ -1,12 +1,12 @@
 //! A schedule that goes wrong, as it is shown: its opening index, its moves, and the first answer that differs.
 
 use crate::rows::rows_of;
-use kr_explain_text::{answer_text, op_text, pairs_text, txns_text, write_rows};
+use kr_explain_text::{answer_text, joined, op_text, pairs_text, txns_text, write_rows};
 use kr_ghost_protocol::GhostProtocol;
 use kr_ghost_run::run_moves;
 use kr_ghost_script::GhostScript;
-use kr_model::{Memory, Op, Program, Txn};
-use kr_serial::{Verdict, judge_programs};
+use kr_judge::{Verdict, judge_programs};
+use kr_model::{Memory, Op, Program, Reply, Txn};
 use std::alloc::Global;
 
 /// A schedule, behind an empty line.
@@ -40,7 +40,13 @@ fn differs_text<P: GhostProtocol>(
 ) -> Result<String, Memory> {
     let ran = run_moves(alloc, protocol, script.opening(), script.moves())?;
     let programs = ran.programs.as_slice();
-    match &judge_programs(alloc, script.opening(), programs)? {
+    let verdict = judge_programs(alloc, script.opening(), programs)?;
+    differs_by(alloc, programs, &verdict)
+}
+
+/// The same, by this verdict.
+fn differs_by(alloc: Global, programs: &[Program], verdict: &Verdict) -> Result<String, Memory> {
+    match verdict {
         Verdict::Serial => Ok(String::new(alloc)),
         Verdict::NotSerial {
             txn,
@@ -48,15 +54,59 @@ fn differs_text<P: GhostProtocol>(
             given,
             serial,
         } => {
-            let op = op_text(alloc, operation_of(programs, *txn, *operation))?;
+            let operation = operation_text(alloc, programs, *txn, *operation)?;
             let given = answer_text(alloc, given)?;
             let serial = answer_text(alloc, serial)?;
             let order = order_text(alloc, programs)?;
-            format!(in alloc;
-                "\n\n   Not serializable: operation {operation} of T{txn}, {op}, returned {given};\n   run serially in commit order ({order}) it returns {serial}."
+            differs_words(
+                alloc,
+                operation.as_str(),
+                given.as_str(),
+                order.as_str(),
+                serial.as_str(),
             )
         }
     }
+}
+
+/// An operation of a transaction.
+fn operation_text(
+    alloc: Global,
+    programs: &[Program],
+    txn: Txn,
+    operation: u64,
+) -> Result<String, Memory> {
+    let op = op_text(alloc, operation_of(programs, txn, operation))?;
+    operation_words(alloc, txn, operation, op.as_str())
+}
+
+/// The operation of this number of a transaction.
+fn operation_words(alloc: Global, txn: Txn, operation: u64, op: &str) -> Result<String, Memory> {
+    format!(in alloc; "operation {operation} of T{txn}, {op}")
+}
+
+/// That an operation returned something, and in a serial run in this order returns something else.
+fn differs_words(
+    alloc: Global,
+    operation: &str,
+    given: &str,
+    order: &str,
+    serial: &str,
+) -> Result<String, Memory> {
+    joined(
+        alloc,
+        &[
+            "\n\n   Not serializable: ",
+            operation,
+            ", returned ",
+            given,
+            "; run serially in commit order (",
+            order,
+            ") it\n   returns ",
+            serial,
+            ".",
+        ],
+    )
 }
 
 /// The transactions that committed, in commit order.
@@ -72,14 +122,20 @@ fn order_text(alloc: Global, programs: &[Program]) -> Result<String, Memory> {
 fn operation_of(programs: &[Program], txn: Txn, operation: u64) -> Op {
     for program in programs {
         if program.txn == txn {
-            let mut number: u64 = 1;
-            for (op, _) in program.operations.as_slice() {
-                if number == operation {
-                    return *op;
-                }
-                number = number.saturating_add(1);
-            }
+            return operation_at(program.operations.as_slice(), operation);
         }
+    }
+    Op::Commit
+}
+
+/// The operation of this number, from 1, of a program.
+fn operation_at(operations: &[(Op, Reply)], operation: u64) -> Op {
+    let mut number: u64 = 1;
+    for (op, _) in operations {
+        if number == operation {
+            return *op;
+        }
+        number = number.saturating_add(1);
     }
     Op::Commit
 }

@@ -6,6 +6,7 @@ use crate::body::body;
 use crate::run::run_text;
 use crate::titles::title;
 use crate::verdict::verdict_text;
+use kr_explain_text::joined;
 use kr_ghost_explain::{GhostCause, GhostExplanation, GhostFailures, GhostSchedule};
 use kr_ghost_protocol::GhostProtocol;
 use kr_model::Memory;
@@ -106,13 +107,26 @@ fn end_text<P: GhostProtocol>(
     match schedule {
         Some(schedule) => {
             let run = run_text(alloc, protocol, &schedule.script)?;
-            format!(in alloc;
-                "{run}\n\nTo replay the schedule:\n    kr_explain {word} --script 1 >schedule.json\n    kr run {word} schedule.json"
-            )
+            with_commands(alloc, run.as_str(), word)
         }
         None => String::from_str(
             alloc,
             "\n\nNo schedule that goes wrong was found. That does not prove that no schedule does.",
         ),
     }
+}
+
+/// A schedule, and behind it the commands that replay it, where `word` names the table.
+fn with_commands(alloc: Global, run: &str, word: &str) -> Result<String, Memory> {
+    joined(
+        alloc,
+        &[
+            run,
+            "\n\nTo replay the schedule:\n    kr_explain ",
+            word,
+            " --script 1 >schedule.json\n    kr run ",
+            word,
+            " schedule.json",
+        ],
+    )
 }

@@ -1,9 +1,10 @@
 //! The title of a cause: what is to blame, and the groups of its cases.
-ghost use Rattle.std.specs.Prelude.{◌≡◌, ◌++◌, ◌==◌, ◌&&◌, true, IfOk, OnOk, string_bytes};
+ghost use Rattle.std.specs.Prelude.{◌≡◌, ◌++◌, ◌==◌, ◌&&◌, true, IfOk, OnOk, codes, string_bytes};
 ghost use Rattle.kr_ghost_explain.specs.declared.blame.GhostBlame.TheVariants as blame;
 ghost use Rattle.kr_ghost_explain_text.specs.Titles.{all_groups, blame_words, cases_word, count_of, counts_from, group_words, groups_of, request_words, title_words};
 
 use crate::words::{access_side, row_words, rule_number, side_words};
+use kr_explain_text::joined;
 use kr_ghost::{FailedCase, Rule, access_words, rule_code};
 use kr_ghost_explain::{GhostBlame, GhostCause};
 use kr_model::{Memory, Mode, Span};
@@ -134,34 +135,59 @@ fn blame_sentence<P: Protocol>(
     match blame {
         GhostBlame::Void(access) => {
             let (row, _) = access_words(access);
-            let side = access_side(access);
-            format!(in alloc; "`{row}` requests no lock on {side}.")
+            nothing_sentence(alloc, row, access_side(access))
         }
         GhostBlame::Request { rule, asked } => request_sentence(alloc, protocol, rule, asked),
         GhostBlame::NewKey(0) => String::from_str(alloc, "`insert` keeps no lock on its new key."),
         GhostBlame::NewKey(mode) => {
-            let mode = name_or_empty(protocol, mode);
-            format!(in alloc; "`insert` requests too weak a lock on its new key: {mode}.")
+            let lead = "`insert` requests too weak a lock on its new key: ";
+            mode_sentence(alloc, lead, name_or_empty(protocol, mode))
         }
         GhostBlame::Heir(0) => String::from_str(
             alloc,
             "A purge leaves no lock on the next name for one on its ghost.",
         ),
         GhostBlame::Heir(mode) => {
-            let mode = name_or_empty(protocol, mode);
-            format!(in alloc; "A purge leaves too weak a lock on the next name: {mode}.")
+            let lead = "A purge leaves too weak a lock on the next name: ";
+            mode_sentence(alloc, lead, name_or_empty(protocol, mode))
         }
         GhostBlame::Conversion {
             held,
             requested,
             made,
         } => conversion_sentence(alloc, protocol, held, requested, made),
-        GhostBlame::Pair { requested, held } => {
-            let held = name_or_empty(protocol, held);
-            let requested = name_or_empty(protocol, requested);
-            format!(in alloc; "Requested {requested} is compatible with held {held}.")
-        }
+        GhostBlame::Pair { requested, held } => pair_sentence(alloc, protocol, requested, held),
     }
+}
+
+/// A sentence that ends in a mode.
+fn mode_sentence(alloc: Global, lead: &str, mode: &str) -> Result<String, Memory>
+    ensures { IfOk result (λ text. string_bytes text ≡ lead.now ++ (mode.now ++ codes ".")) }
+{
+    joined(alloc, &[lead, mode, "."])
+}
+
+/// A requested and a held mode that are compatible.
+fn pair_sentence<P: Protocol>(
+    alloc: Global,
+    protocol: &P,
+    requested: Mode,
+    held: Mode,
+) -> Result<String, Memory>
+    ensures { IfOk result (λ text. string_bytes text ≡ blame_words (P.names protocol.now) (blame.Pair requested held)) }
+{
+    let held = name_or_empty(protocol, held);
+    let requested = name_or_empty(protocol, requested);
+    joined(
+        alloc,
+        &[
+            "Requested ",
+            requested,
+            " is compatible with held ",
+            held,
+            ".",
+        ],
+    )
 }
 
 /// A conversion to a weaker mode.
@@ -177,7 +203,17 @@ fn conversion_sentence<P: Protocol>(
     let held = name_or_empty(protocol, held);
     let requested = name_or_empty(protocol, requested);
     let made = name_or_empty(protocol, made);
-    format!(in alloc; "{held} held and {requested} requested convert to {made}, a weaker mode.")
+    joined(
+        alloc,
+        &[
+            held,
+            " held and ",
+            requested,
+            " requested convert to ",
+            made,
+            ", a weaker mode.",
+        ],
+    )
 }
 
 /// A request that is too weak, or whose lock is released too early, or none.
@@ -192,13 +228,45 @@ fn request_sentence<P: Protocol>(
     let row = row_words(rule);
     let side = side_words(rule);
     match asked {
-        None => format!(in alloc; "`{row}` requests no lock on {side}."),
-        Some((_, Span::Instant)) => {
-            format!(in alloc; "`{row}` releases its lock on {side} too early.")
-        }
+        None => nothing_sentence(alloc, row, side),
+        Some((_, Span::Instant)) => early_sentence(alloc, row, side),
         Some((mode, Span::Commit)) => {
-            let mode = name_or_empty(protocol, mode);
-            format!(in alloc; "`{row}` requests too weak a lock on {side}: {mode}.")
+            weak_sentence(alloc, row, side, name_or_empty(protocol, mode))
         }
     }
+}
+
+/// That a row requests no lock.
+fn nothing_sentence(alloc: Global, row: &str, side: &str) -> Result<String, Memory>
+    ensures { IfOk result (λ text. string_bytes text ≡ codes "`" ++ (row.now ++ (codes "` requests no lock on " ++ (side.now ++ codes ".")))) }
+{
+    joined(alloc, &["`", row, "` requests no lock on ", side, "."])
+}
+
+/// That the lock of a row is released too early.
+fn early_sentence(alloc: Global, row: &str, side: &str) -> Result<String, Memory>
+    ensures { IfOk result (λ text. string_bytes text ≡ codes "`" ++ (row.now ++ (codes "` releases its lock on " ++ (side.now ++ codes " too early.")))) }
+{
+    joined(
+        alloc,
+        &["`", row, "` releases its lock on ", side, " too early."],
+    )
+}
+
+/// That a row requests too weak a lock.
+fn weak_sentence(alloc: Global, row: &str, side: &str, mode: &str) -> Result<String, Memory>
+    ensures { IfOk result (λ text. string_bytes text ≡ codes "`" ++ (row.now ++ (codes "` requests too weak a lock on " ++ (side.now ++ (codes ": " ++ (mode.now ++ codes ".")))))) }
+{
+    joined(
+        alloc,
+        &[
+            "`",
+            row,
+            "` requests too weak a lock on ",
+            side,
+            ": ",
+            mode,
+            ".",
+        ],
+    )
 }

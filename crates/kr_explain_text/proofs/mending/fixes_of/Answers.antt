@@ -1,6 +1,6 @@
 use Rattle.std.proofs.Common.{ℕ, List, ◌&&◌, ap, subst, ◌∙◌, codes, string_bytes}
 use Rattle.kr_explain_text.specs.Edits.{IsFix, head_of, is_without}
-use Rattle.kr_explain_text.proofs.Joined.{four}
+use Rattle.kr_explain_text.proofs.FourTexts.{four}
 use Rattle.kr_explain_text.proofs.mending.fixes_of.Goals as goal
 
 pub returns : goal.returns

@@ -2,5 +2,5 @@ use Rattle.std.proofs.Common.{arith}
 use Rattle.std.proofs.lemmas.Grind.{common_steps}
 use Rattle.kr_explain_text.proofs.words.deed_words.Goals as goal
 
-pub returns-in-Update-default : goal.returns-in-Update-default
-returns-in-Update-default c = grind (arith, common_steps)
+pub returns-in-Update : goal.returns-in-Update
+returns-in-Update c = grind (arith, common_steps)
