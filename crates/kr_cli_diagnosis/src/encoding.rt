@@ -1,4 +1,4 @@
-//! Bytes that are no text.
+//! Bytes that are no text, and the mark that may begin one.
 
 use crate::help::Help;
 use std::alloc::{AllocError, Global};
@@ -13,4 +13,9 @@ pub fn not_text(alloc: Global, bytes: &[u8]) -> Result<Option<Help>, AllocError>
             "this byte is no part of a text in UTF-8",
         )?)),
     }
+}
+
+/// Whether a text begins with a byte order mark.
+pub fn begins_with_mark(text: &[u8]) -> bool {
+    matches!(text, [0xEF, 0xBB, 0xBF, ..])
 }

@@ -97,16 +97,21 @@ pub fn print_said(
 /// A text, of which a part is shown where it is very long.
 fn cut_short(alloc: Global, text: &str) -> Result<String, AllocError> {
     let mut short = String::new(alloc);
+    push_short(&mut short, text)?;
+    Ok(short)
+}
+
+/// Writes a text, or its front where it is very long.
+fn push_short(short: &mut String, text: &str) -> Result<(), AllocError> {
     let mut left = MOST;
     for c in text.chars() {
         if left == 0 {
-            short.push_str(" ..")?;
-            break;
+            return short.push_str(" ..");
         }
         left -= 1;
         short.push(c)?;
     }
-    Ok(short)
+    Ok(())
 }
 
 /// Writes what is said of an offset of a text, or of the file where none is known.
@@ -158,13 +163,19 @@ fn one_of(alloc: Global, names: &[&str]) -> Result<String, AllocError> {
         "expected "
     };
     let mut text = String::from_str(alloc, start)?;
+    push_names(&mut text, names)?;
+    Ok(text)
+}
+
+/// Writes names with a comma between two.
+fn push_names(text: &mut String, names: &[&str]) -> Result<(), AllocError> {
     let mut separator = "";
     for name in names {
         text.push_str(separator)?;
         text.push_str(name)?;
         separator = ", ";
     }
-    Ok(text)
+    Ok(())
 }
 
 /// Writes a place with what is wrong there.

@@ -1,7 +1,7 @@
 //! What is said of a text that is no JSON.
 ghost use Rattle.std.specs.Prelude.{◌≤◌, length};
 
-use crate::encoding::not_text;
+use crate::encoding::{begins_with_mark, not_text};
 use crate::help::Help;
 use crate::json_places::{Walk, is_space};
 use crate::place::{Place, place_at};
@@ -185,7 +185,7 @@ pub fn not_json(alloc: Global, text: &[u8]) -> Result<Option<Help>, AllocError> 
     if let Some(help) = not_text(alloc, text)? {
         return Ok(Some(help));
     }
-    if text.starts_with(b"\xEF\xBB\xBF") {
+    if begins_with_mark(text) {
         let what = "the file begins with a byte order mark (BOM), which a script may not have";
         return Ok(Some(Help::of(alloc, Some(0), what)?));
     }

@@ -20,6 +20,11 @@ impl Walk {
         }
     }
 
+    /// Whether what stands here is between the members or elements of the whole.
+    fn is_between(self) -> bool {
+        self.depth == 1 && !self.in_text
+    }
+
     /// The walk behind a byte.
     pub fn next(self, byte: u8) -> Walk {
         if self.in_text {
@@ -89,14 +94,10 @@ pub fn members_of(alloc: Global, text: &[u8], name: &str) -> Result<Option<Membe
     let mut key = 0;
     for (i, byte) in text.iter().enumerate() {
         let next = walk.next(*byte);
-        if walk.depth == 1 && !walk.in_text && next.in_text {
+        if walk.is_between() && next.in_text {
             key = i;
         }
-        if walk.depth == 1
-            && !walk.in_text
-            && *byte == b':'
-            && writes(alloc, part(text, key, i), name)?
-        {
+        if walk.is_between() && *byte == b':' && writes(alloc, part(text, key, i), name)? {
             count = count.saturating_add(1);
             last = Some(Members {
                 count,
@@ -129,7 +130,7 @@ pub fn element(text: &[u8], array: Option<usize>, index: usize) -> Option<usize>
         if walk.depth == 0 && *byte == b'[' {
             awaits = true;
         }
-        if walk.depth == 1 && !walk.in_text && *byte == b',' {
+        if walk.is_between() && *byte == b',' {
             awaits = true;
             at = at.saturating_add(1);
         }

@@ -6,13 +6,20 @@ ghost use Rattle.kr_cli_diagnosis.specs.Lines.{shown};
 
 use std::alloc::{AllocError, Global};
 
+/// Whether a character is one from the first to the last.
+fn is_from(first: char, last: char, c: char) -> bool
+    ensures { result ≡ spec.is_from first last c }
+{
+    first <= c && c <= last
+}
+
 /// Whether a character hides, or turns what stands behind it.
 fn is_hidden(c: char) -> bool
     ensures { result ≡ spec.is_hidden c }
 {
-    ('\u{200b}' <= c && c <= '\u{200f}')
-        || ('\u{2028}' <= c && c <= '\u{202e}')
-        || ('\u{2060}' <= c && c <= '\u{2069}')
+    is_from('\u{200b}', '\u{200f}', c)
+        || is_from('\u{2028}', '\u{202e}', c)
+        || is_from('\u{2060}', '\u{2069}', c)
         || c == '\u{feff}'
 }
 

@@ -61,8 +61,14 @@ pub fn count_fault(alloc: Global, document: &Document) -> Result<Help, AllocErro
     Ok(Help::new(alloc, place, what))
 }
 
+/// Whether a name has printable characters of ASCII alone.
 fn is_printable(name: &str) -> bool {
-    name.as_bytes().iter().all(|byte| (32..127).contains(byte))
+    for byte in name.as_bytes() {
+        if *byte < 32 || *byte > 126 {
+            return false;
+        }
+    }
+    true
 }
 
 /// Why an element of `modes` is no name of a mode.

@@ -3,17 +3,22 @@
 use std::alloc::{AllocError, Global};
 use toml::{Table, Value};
 
+/// What stands behind a name with which the path begins as a step.
+fn behind<'a>(name: &str, path: &'a str) -> Option<&'a str> {
+    let rest = path.strip_prefix(name)?;
+    if rest.is_empty() {
+        Some(rest)
+    } else {
+        rest.strip_prefix('.')
+    }
+}
+
 /// The members of which the path begins with one, and the path behind it.
 fn split_member<'a>(table: &'a Table, path: &'a str) -> (&'a str, &'a str) {
     for (name, _) in table.iter() {
         let name = name.as_str();
-        if let Some(rest) = path.strip_prefix(name) {
-            if rest.is_empty() {
-                return (name, "");
-            }
-            if let Some(rest) = rest.strip_prefix('.') {
-                return (name, rest);
-            }
+        if let Some(rest) = behind(name, path) {
+            return (name, rest);
         }
     }
     (path, "")

@@ -62,7 +62,7 @@ fn names(alloc: Global, text: &[u8], token: Token, name: &str) -> Result<bool, A
         return Ok(false);
     }
     let bytes = &text[token.start..token.end];
-    if token.kind == TokenKind::Bare {
+    if matches!(token.kind, TokenKind::Bare) {
         return Ok(bytes == name.as_bytes());
     }
     let Ok(quoted) = std::str::from_utf8(bytes) else {
@@ -126,7 +126,10 @@ impl<'a> Walk<'a> {
 
     /// The innermost that is open.
     fn top(&self) -> Option<Frame> {
-        self.frames.last().copied()
+        match self.frames.last() {
+            Some(frame) => Some(*frame),
+            None => None,
+        }
     }
 
     /// A value begins. How many steps of the path lead to it, if it lies on the path.

@@ -1,11 +1,12 @@
 //! The tokens of a TOML document that reads.
 ghost use Rattle.std.specs.Prelude.{◌+◌, ◌<◌, ◌≤◌, IfSome, IsTrue, length};
 
+use crate::encoding::begins_with_mark;
 use crate::place::line_end;
 use std::alloc::{AllocError, Global};
 
 /// What a token is.
-#[derive(Clone, Copy, PartialEq, Eq)]
+#[derive(Clone, Copy)]
 pub enum TokenKind {
     /// A bare key, or a part of a value.
     Bare,
@@ -128,11 +129,7 @@ fn gap_end(text: &[u8], start: usize) -> usize
 
 /// How many bytes a byte order mark takes, which may begin a document.
 fn mark_length(text: &[u8]) -> usize {
-    if text.starts_with(b"\xEF\xBB\xBF") {
-        3
-    } else {
-        0
-    }
+    if begins_with_mark(text) { 3 } else { 0 }
 }
 
 /// The tokens of a document, in order.

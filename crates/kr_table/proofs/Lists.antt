@@ -5,13 +5,13 @@ use Rattle.std.specs.Str.{is_utf8}
 use Rattle.std.proofs.lemmas.Str.{IsUtf8-from_is_utf8}
 use Rattle.toml.specs.View.{view, items_view}
 use Rattle.toml.specs.declared.value.Value.{Value}
-use Rattle.toml.specs.Data.{Data, Members, member, as_table}
+use Rattle.toml.specs.Data.{Data, Members, member, as_array, as_table}
 use Rattle.toml.specs.Parse.{parse_document}
 use Rattle.kr_model.specs.Firsts.{first}
 use Rattle.kr_table.specs.declared.rows.Rows.{Rows}
-use Rattle.kr_table.specs.DocumentFaults.{is_row, row_faults, side_faults}
+use Rattle.kr_table.specs.DocumentFaults.{clauses_faults, is_row, is_side, row_faults, side_faults}
 use Rattle.kr_table.specs.Faults.{Fault, Tells, fault_of, not_toml, rule}
-use Rattle.kr_table.specs.Members.{items_len, members_of}
+use Rattle.kr_table.specs.Members.{items_len, items_within, members_of}
 use Rattle.kr_table.specs.Reading.{reading_of, document}
 use Rattle.kr_table.specs.declared.faults.TableFault.{TableFault}
 
@@ -42,6 +42,12 @@ and_false false = refl
 pub row_told : (r : Rows) (modes : List (List ℕ)) (row : List ℕ) (d : Data) (ms : Members) (e : TableFault) → as_table d ≡ None → Tells e (rule (codes "rules." ++ row) ∷ [])
     → Tells e (row_faults r modes (member row d ms))
 row_told r modes row d ms e none h = rw (none, and_false (is_row r row)) (tells_more e (rule (codes "rules." ++ row) ∷ []) (side_faults r modes row (members_of d) ++ row_faults r modes ms) h)
+
+-- a side that is no array is told before the sides after it
+pub side_told : (r : Rows) (modes : List (List ℕ)) (row side : List ℕ) (d : Data) (ms : Members) (e : TableFault) → as_array d ≡ None → Tells e (rule (codes "rules." ++ row ++ codes "." ++ side) ∷ [])
+    → Tells e (side_faults r modes row (member side d ms))
+side_told r modes row side d ms e none h =
+    rw (none, and_false (is_side r row side)) (tells_more e (rule (codes "rules." ++ row ++ codes "." ++ side) ∷ []) (clauses_faults r modes row side 0 (items_within d) ++ side_faults r modes row ms) h)
 
 pub no_document : (bytes : List ℕ) → (IsUtf8 bytes → parse_document bytes ≡ None) → reading_of (document bytes) ≡ Err not_toml
 no_document bytes h =

@@ -3,10 +3,11 @@ use Rattle.std.proofs.Common.{◌≡◌, ℕ, ◌≤◌, Option, List, [], ◌�
 use Rattle.std.specs.Ordering.{match_ordering}
 use Rattle.std.specs.Cmp.Lexicographic.{slice_cmp}
 use Rattle.std.proofs.lemmas.Bool.{and_parts}
-use Rattle.toml.specs.Data.{Data, string, array, table, Members, no_members, member, depth, members_depth, items_depth, has_valid_dates, members_have_valid_dates, items_have_valid_dates}
+use Rattle.std.specs.Prelude.{pos}
+use Rattle.toml.specs.Data.{Data, string, integer, array, table, Items, Members, no_members, member, depth, members_depth, items_depth, has_valid_dates, members_have_valid_dates, items_have_valid_dates}
 use Rattle.kr_table.specs.Tables.{Request, TableData}
-use Rattle.kr_table.specs.Writing.{put, strings, chosen, with_compatible, with_pairs, with_conversion, plain_clauses, own_clauses, written}
-use Rattle.kr_table.proofs.Written.{written_with}
+use Rattle.kr_table.specs.Writing.{put, strings, chosen, with_compatible, with_pairs, with_conversion, plain_clauses, own_clauses, one_side, both_sides, changing_row, all_rows, format_of, written}
+use Rattle.kr_table.proofs.Written.{rules_with, written_with}
 
 -- how deep it is --
 
@@ -55,36 +56,67 @@ depth_own names (o ∷ os) [] = omega arith
 depth_own names (o ∷ os) (None ∷ rs) = depth_own names os rs
 depth_own names (o ∷ os) (Some (q, s) ∷ rs) = let more = depth_own names os rs in grind arith
 
+depth_one : (side : List ℕ) (ds : Items) → items_depth ds ≤ 2 → depth (table (one_side side ds)) ≤ 79
+depth_one side ds h = grind arith
+
+depth_both : (current next : Items) → items_depth current ≤ 2 → items_depth next ≤ 2 → depth (table (both_sides current next)) ≤ 79
+depth_both current next h k = grind arith
+
+depth_asking : (side : List ℕ) (names : List (List ℕ)) (r : Request) → depth (table (one_side side (plain_clauses names r))) ≤ 79
+depth_asking side names r = depth_one side (plain_clauses names r) (depth_plain names r)
+
+depth_changing : (names : List (List ℕ)) (current next : List Request) → depth (table (changing_row names current next)) ≤ 79
+depth_changing names current next =
+    depth_both (own_clauses names (codes "none" ∷ names) current) (own_clauses names (codes "none" ∷ names) next)
+    (depth_own names (codes "none" ∷ names) current) (depth_own names (codes "none" ∷ names) next)
+
+depth_rows : (x : TableData) → members_depth (all_rows x) ≤ 79
+depth_rows x =
+    let names = x.modes.names in
+    let hit = table (one_side (codes "current") (plain_clauses names x.fetch_hit)) in
+    let a = put (codes "fetch-hit") hit no_members in
+    let miss = table (one_side (codes "next") (plain_clauses names x.fetch_miss)) in
+    let b = put (codes "fetch-miss") miss a in
+    let key = table (one_side (codes "current") (plain_clauses names x.scan_key)) in
+    let c = put (codes "scan-key") key b in
+    let stop = table (one_side (codes "next") (plain_clauses names x.scan_stop)) in
+    let d = put (codes "scan-stop") stop c in
+    let insert = table (changing_row names x.insert_current x.insert_next) in
+    let e = put (codes "insert") insert d in
+    let delete = table (changing_row names x.delete_current x.delete_next) in
+    depth_put 79 (codes "delete") delete e (depth_changing names x.delete_current x.delete_next)
+    (depth_put 79 (codes "insert") insert d (depth_changing names x.insert_current x.insert_next)
+    (depth_put 79 (codes "scan-stop") stop c (depth_asking (codes "next") names x.scan_stop)
+    (depth_put 79 (codes "scan-key") key b (depth_asking (codes "current") names x.scan_key)
+    (depth_put 79 (codes "fetch-miss") miss a (depth_asking (codes "next") names x.fetch_miss)
+    (depth_put 79 (codes "fetch-hit") hit no_members (depth_asking (codes "current") names x.fetch_hit) (omega arith))))))
+
+depth_rules : (x : TableData) (u : Option Request) → members_depth (rules_with x u) ≤ 79
+depth_rules x None = depth_rows x
+depth_rules x (Some r) =
+    depth_put 79 (codes "update") (table (one_side (codes "current") (plain_clauses x.modes.names r))) (all_rows x) (depth_asking (codes "current") x.modes.names r) (depth_rows x)
+
+depth_within : (ms : Members) → members_depth ms ≤ 79 → depth (table ms) ≤ 80
+depth_within ms h = omega arith
+
 depth_with : (x : TableData) (u : Option Request) → members_depth (written_with x u) ≤ 80
-depth_with x None =
-    let owns = codes "none" ∷ x.modes.names in
-    let a = depth_strings x.modes.names in
-    let b = depth_compatible x.modes.names x.modes.names x.modes.compatible no_members (omega arith) in
-    let c = depth_conversion x.modes.names x.modes.names x.modes.conversion no_members (omega arith) in
-    let d1 = depth_plain x.modes.names x.fetch_hit in
-    let d2 = depth_plain x.modes.names x.fetch_miss in
-    let d3 = depth_plain x.modes.names x.scan_key in
-    let d4 = depth_plain x.modes.names x.scan_stop in
-    let e1 = depth_own x.modes.names owns x.insert_current in
-    let e2 = depth_own x.modes.names owns x.insert_next in
-    let e3 = depth_own x.modes.names owns x.delete_current in
-    let e4 = depth_own x.modes.names owns x.delete_next in
-    grind arith
-depth_with x (Some r) =
-    let more = depth_plain x.modes.names r in
-    let owns = codes "none" ∷ x.modes.names in
-    let a = depth_strings x.modes.names in
-    let b = depth_compatible x.modes.names x.modes.names x.modes.compatible no_members (omega arith) in
-    let c = depth_conversion x.modes.names x.modes.names x.modes.conversion no_members (omega arith) in
-    let d1 = depth_plain x.modes.names x.fetch_hit in
-    let d2 = depth_plain x.modes.names x.fetch_miss in
-    let d3 = depth_plain x.modes.names x.scan_key in
-    let d4 = depth_plain x.modes.names x.scan_stop in
-    let e1 = depth_own x.modes.names owns x.insert_current in
-    let e2 = depth_own x.modes.names owns x.insert_next in
-    let e3 = depth_own x.modes.names owns x.delete_current in
-    let e4 = depth_own x.modes.names owns x.delete_next in
-    grind arith
+depth_with x u =
+    let names = x.modes.names in
+    let strings_low : depth (array (strings names)) ≤ 80 = let low = depth_strings names in omega arith in
+    let compatible = with_compatible names names x.modes.compatible no_members in
+    let compatible_low : members_depth compatible ≤ 79 = let low = depth_compatible names names x.modes.compatible no_members (omega arith) in omega (arith, low) in
+    let conversion = with_conversion names names x.modes.conversion no_members in
+    let conversion_low : members_depth conversion ≤ 79 = let low = depth_conversion names names x.modes.conversion no_members (omega arith) in omega (arith, low) in
+    let format = integer (pos (format_of u)) in
+    let a = put (codes "format") format no_members in
+    let b = put (codes "modes") (array (strings names)) a in
+    let c = put (codes "compatible") (table compatible) b in
+    let d = put (codes "convert") (table conversion) c in
+    depth_put 80 (codes "rules") (table (rules_with x u)) d (depth_within (rules_with x u) (depth_rules x u))
+    (depth_put 80 (codes "convert") (table conversion) c (depth_within conversion conversion_low)
+    (depth_put 80 (codes "compatible") (table compatible) b (depth_within compatible compatible_low)
+    (depth_put 80 (codes "modes") (array (strings names)) a strings_low
+    (depth_put 80 (codes "format") format no_members (omega arith) (omega arith)))))
 
 pub written_depth : (x : TableData) → members_depth (written x) ≤ 80
 written_depth x = depth_with x x.update

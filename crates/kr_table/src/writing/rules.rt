@@ -164,27 +164,19 @@ pub fn put_both_sides(
     put_in(alloc, rules, row, both_sides(alloc, current, next)?)
 }
 
-/// The rows that every table has.
-fn all_rows(alloc: Global, p: &Parts) -> Result<Document, Memory>
+/// Puts the rows that every table has into a member with none.
+fn put_rows(alloc: Global, rules: &mut Document, p: &Parts) -> Result<(), Memory>
     requires { IsTable (data_of p.now) }
-    ensures { IfOk result (λ t. members_view t.entries ≡ spec.all_rows (data_of p.now)) }
+    ensures { OnOk result (members_view rules.old.entries ≡ no_members → members_view rules.new.entries ≡ spec.all_rows (data_of p.now)) }
 {
     let names = p.modes.names();
-    let mut rules = Document::new(alloc);
-    put_one_side(
-        alloc,
-        &mut rules,
-        "fetch-hit",
-        "current",
-        names,
-        p.fetch_hit,
-    )?;
-    put_one_side(alloc, &mut rules, "fetch-miss", "next", names, p.fetch_miss)?;
-    put_one_side(alloc, &mut rules, "scan-key", "current", names, p.scan_key)?;
-    put_one_side(alloc, &mut rules, "scan-stop", "next", names, p.scan_stop)?;
+    put_one_side(alloc, rules, "fetch-hit", "current", names, p.fetch_hit)?;
+    put_one_side(alloc, rules, "fetch-miss", "next", names, p.fetch_miss)?;
+    put_one_side(alloc, rules, "scan-key", "current", names, p.scan_key)?;
+    put_one_side(alloc, rules, "scan-stop", "next", names, p.scan_stop)?;
     put_both_sides(
         alloc,
-        &mut rules,
+        rules,
         "insert",
         names,
         p.insert_current.as_slice(),
@@ -192,13 +184,12 @@ fn all_rows(alloc: Global, p: &Parts) -> Result<Document, Memory>
     )?;
     put_both_sides(
         alloc,
-        &mut rules,
+        rules,
         "delete",
         names,
         p.delete_current.as_slice(),
         p.delete_next.as_slice(),
-    )?;
-    Ok(rules)
+    )
 }
 
 /// The member `rules`: the row of updates is there where they are offered.
@@ -206,7 +197,8 @@ pub fn rules_of(alloc: Global, p: &Parts) -> Result<Document, Memory>
     requires { IsTable (data_of p.now) }
     ensures { IfOk result (λ t. members_view t.entries ≡ spec.written_rules (data_of p.now)) }
 {
-    let mut rules = all_rows(alloc, p)?;
+    let mut rules = Document::new(alloc);
+    put_rows(alloc, &mut rules, p)?;
     if let Some(request) = p.update {
         put_one_side(
             alloc,

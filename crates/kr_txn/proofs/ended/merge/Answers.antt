@@ -1,4 +1,5 @@
 use Rattle.std.proofs.Common.{◌≡◌, ◌+◌, ◌-◌, ◌<◌, ◌≤◌, length, get_or, set, take, sym, ◌∙◌, ap, subst, refl, arith}
+use Rattle.std.proofs.lemmas.Grind.{common_steps}
 use Rattle.std.proofs.lemmas.List.{get_or-set_same, get_or-set_other, length-set, length-take-le}
 use Rattle.kr_txn.proofs.Unions.{placed-taken, all_below}
 use Rattle.kr_txn.proofs.ended.merge.Goals.{else-left-gt0-via-then-left-gt0+else-recent-more, else-left-gt0-via-else-left-gt0}
@@ -33,3 +34,12 @@ loop-more-preserved c =
           let put : get_or (set zs at r) (left + (more - 1)) 0 ≡ r = ap (λ k. get_or (set zs at r) k 0) here ∙ get_or-set_same zs at r 0 (omega arith) in
           subst (λ x. get_or xs (more - 1 - 1) 0 < x) (ap (λ k. get_or xs k 0) up ∙ sym put) rise;
     }
+
+pub loop-more-init : goal.loop-more-init
+loop-more-init c = grind (arith, common_steps)
+
+pub loop-more-preserved-then-recent-more : goal.loop-more-preserved-then-recent-more
+loop-more-preserved-then-recent-more c = grind (arith, common_steps)
+
+pub returns : goal.returns
+returns c = grind (arith, common_steps)

@@ -1,4 +1,5 @@
 use Rattle.std.proofs.Common.{◌≡◌, ◌++◌, length, take, drop, ◌∙◌, ap, arith}
+use Rattle.std.proofs.lemmas.Grind.{common_steps}
 use Rattle.std.proofs.lemmas.List.{take_at}
 use Rattle.kr_txn.specs.EndedNumbers.{union}
 use Rattle.kr_txn.proofs.Lists.{if_ok}
@@ -20,3 +21,15 @@ returns-clause-ended c =
     let same : length zs ≡ length both = c.merge.auto.places ∙ ap length c.as_mut_slice.ensures.value in
     let over : take many (zs ++ drop (length zs) both) ≡ zs = written_over zs both many same (omega arith) in
     ended-merged (take many (zs ++ drop (length zs) both)) ys xs c.clear.new.self.items c.requires.ended (over ∙ merged) c.clear.ensures.items
+
+pub returns-clause-numbers : goal.returns-clause-numbers
+returns-clause-numbers c = grind (arith, common_steps)
+
+pub returns-clause-len : goal.returns-clause-len
+returns-clause-len c = grind (arith, common_steps)
+
+pub returns-clause-place : goal.returns-clause-place
+returns-clause-place c = grind (arith, common_steps)
+
+pub returns-clause-capacity : goal.returns-clause-capacity
+returns-clause-capacity c = grind (arith, common_steps)

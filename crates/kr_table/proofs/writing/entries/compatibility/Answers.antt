@@ -10,3 +10,12 @@ loop-requested-init c = grind (arith, common_steps)
 
 pub returns : goal.returns
 returns c = grind (arith, common_steps)
+
+pub slice_bounds-line-end : goal.slice_bounds-line-end
+slice_bounds-line-end c = grind (arith, common_steps)
+
+pub chosen-requires : goal.chosen-requires
+chosen-requires c = grind (arith, common_steps)
+
+pub slice_bounds-rest-start : goal.slice_bounds-rest-start
+slice_bounds-rest-start c = grind (arith, common_steps)

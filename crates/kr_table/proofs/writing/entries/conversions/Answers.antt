@@ -10,3 +10,12 @@ loop-held-init c = grind (arith, common_steps)
 
 pub returns : goal.returns
 returns c = grind (arith, common_steps)
+
+pub slice_bounds-line-end : goal.slice_bounds-line-end
+slice_bounds-line-end c = grind (arith, common_steps)
+
+pub pairs-requires : goal.pairs-requires
+pairs-requires c = grind (arith, common_steps)
+
+pub slice_bounds-rest-start : goal.slice_bounds-rest-start
+slice_bounds-rest-start c = grind (arith, common_steps)

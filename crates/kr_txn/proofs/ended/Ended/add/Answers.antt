@@ -1,6 +1,7 @@
 use Rattle.std.specs.List.{list_any}
 use Rattle.std.specs.Prelude.{◌==◌, ℕ, Bool, true, false, [], length, vec_len}
 use Rattle.std.proofs.Common.{◌≡◌, sym, ◌∙◌, ap, subst, arith}
+use Rattle.std.proofs.lemmas.Grind.{common_steps}
 use Rattle.std.proofs.lemmas.Bool.Decides.{nat_tests}
 use Rattle.std.proofs.lemmas.List.{nil_from_length}
 use Rattle.kr_model.specs.Locks.{add_once}
@@ -47,3 +48,15 @@ returns-else-not-has-clause-numbers c =
     let there : list_any among (union xs ys) ≡ true = ap (list_any among) numbers ∙ sym c.has.ensures ∙ c.if-not-has.false in
     let kept = add_once-there c.args.txn (union xs ys) (rises-union xs ys c.self.invariant.0.settled_rise) there in
     sym numbers ∙ kept ∙ ap (add_once c.args.txn) numbers
+
+pub invariant_of-self : goal.invariant_of-self
+invariant_of-self c = grind (arith, common_steps)
+
+pub returns-then-is_past-clause-room : goal.returns-then-is_past-clause-room
+returns-then-is_past-clause-room c = grind (arith, common_steps)
+
+pub returns-then-not-has-clause-room : goal.returns-then-not-has-clause-room
+returns-then-not-has-clause-room c = grind (arith, common_steps)
+
+pub returns-else-not-has-clause-room : goal.returns-else-not-has-clause-room
+returns-else-not-has-clause-room c = grind (arith, common_steps)

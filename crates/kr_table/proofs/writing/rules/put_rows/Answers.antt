@@ -1,6 +1,6 @@
 use Rattle.std.proofs.Common.{arith}
 use Rattle.std.proofs.lemmas.Grind.{common_steps}
-use Rattle.kr_table.proofs.writing.rules.all_rows.Goals as goal
+use Rattle.kr_table.proofs.writing.rules.put_rows.Goals as goal
 
 pub returns : goal.returns
 returns c = grind (arith, common_steps)
