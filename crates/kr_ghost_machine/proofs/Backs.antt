@@ -12,7 +12,7 @@ use Rattle.kr_model.specs.State.{Active, idle}
 use Rattle.kr_model.proofs.Actives.{tied}
 use Rattle.kr_ghost.specs.State.{GhostState, ghosts_with}
 use Rattle.kr_ghost.specs.Step.{one_taken_back}
-use Rattle.kr_machine.specs.Pins.{changes_of}
+use Rattle.kr_touch.specs.Pins.{changes_of}
 use Rattle.kr_ghost_index.specs.Index.{GhostIndex, with_change}
 use Rattle.kr_ghost_machine.specs.Machine.{shown}
 

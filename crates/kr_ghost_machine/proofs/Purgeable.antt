@@ -18,7 +18,7 @@ use Rattle.kr_model.proofs.Tested.{and_first, and_second}
 use Rattle.kr_ghost.specs.Protocol.{GhostProtocol, Inherit, Purges, Unlocked, inherits}
 use Rattle.kr_ghost.specs.State.{GhostState, among, is_ghost, named, stand_by}
 use Rattle.kr_ghost.specs.Step.{has_change, is_locked, lets_purge, locks_purged, may_purge, purged, without_ghost}
-use Rattle.kr_machine.specs.Pins.{changes_of, all_changes_of}
+use Rattle.kr_touch.specs.Pins.{changes_of, all_changes_of}
 use Rattle.kr_ghost_index.specs.Index.{GhostIndex, changes}
 use Rattle.kr_ghost_machine.specs.Machine.{shown}
 use Rattle.kr_ghost_machine.specs.Memory.{purge_may_lack_memory}

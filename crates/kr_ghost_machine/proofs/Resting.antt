@@ -19,7 +19,7 @@ use Rattle.kr_txn.specs.EndedNumbers.{EndedNumbers}
 use Rattle.kr_txn.specs.Numbered.{without_txn}
 use Rattle.kr_txn.specs.Standings.{entries}
 use Rattle.kr_txn.proofs.Lists.{in_order-without, in_order-put}
-use Rattle.kr_machine.specs.Pins.{all_changes_of}
+use Rattle.kr_touch.specs.Pins.{all_changes_of}
 use Rattle.kr_ghost_index.specs.Index.{GhostIndex, changes}
 use Rattle.kr_ghost_machine.specs.Machine.{AreHeld, IsAtRest}
 

@@ -8,8 +8,8 @@ use Rattle.kr_model.specs.State.{Active, Scan}
 use Rattle.kr_model.specs.Step.{Effect, effect, changed, scan_ended}
 use Rattle.kr_ghost.specs.State.{ghosts_with}
 use Rattle.kr_ghost.specs.Step.{looked}
-use Rattle.kr_machine.specs.Pending.{begun}
-use Rattle.kr_machine.specs.Sights.{value_of_name}
+use Rattle.kr_touch.specs.Attempts.{begun}
+use Rattle.kr_touch.specs.Sights.{value_of_name}
 use Rattle.kr_ghost_machine.specs.declared.deeds.Change.{Change}
 use Rattle.kr_ghost_machine.specs.declared.deeds.Glance.{Glance}
 use Rattle.kr_ghost_machine.specs.declared.deeds.Deed.{Deed}

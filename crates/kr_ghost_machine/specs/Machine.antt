@@ -14,7 +14,7 @@ use Rattle.kr_ghost_index.specs.Index.{GhostIndex, changes}
 use Rattle.kr_txn.specs.declared.Standing.{Standing}
 use Rattle.kr_txn.specs.EndedNumbers.{EndedNumbers}
 use Rattle.kr_txn.specs.Standings.{entries, IsInOrder}
-use Rattle.kr_machine.specs.Pins.{all_changes_of}
+use Rattle.kr_touch.specs.Pins.{all_changes_of}
 
 -- Its protocol, and its state between two moves.
 pub record GhostSteps (P : Type 0) : Type 0 where

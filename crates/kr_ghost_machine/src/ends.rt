@@ -12,7 +12,7 @@ ghost use Rattle.kr_ghost.specs.Step.{performed};
 ghost use Rattle.kr_model.proofs.Requests.{AreLocks};
 ghost use Rattle.kr_txn.specs.Numbered.{without_txn};
 ghost use Rattle.kr_txn.specs.Standings.{IsInOrder, active_of, entries};
-ghost use Rattle.kr_machine.specs.Pins.{all_changes_of, changes_of};
+ghost use Rattle.kr_touch.specs.Pins.{all_changes_of, changes_of};
 ghost use Rattle.kr_ghost_index.specs.Index.{changes};
 ghost use Rattle.kr_ghost_machine.specs.Machine.{IsAtRest, shown};
 

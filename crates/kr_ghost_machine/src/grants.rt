@@ -5,7 +5,7 @@ ghost use Rattle.kr_model.specs.Plan.{requests};
 ghost use Rattle.kr_model.proofs.Requests.{AreLocks};
 ghost use Rattle.kr_plan.specs.Modes.{ArePlanModes};
 ghost use Rattle.kr_txn.specs.Standings.{active_of};
-ghost use Rattle.kr_machine.specs.Pins.{changes_of};
+ghost use Rattle.kr_touch.specs.Pins.{changes_of};
 ghost use Rattle.kr_ghost_index.specs.Index.{changes};
 ghost use Rattle.kr_ghost_machine.specs.Deeds.{IsDeed, change_effect, effect_of, ghosts_after};
 ghost use Rattle.kr_ghost.specs.State.{ghosts_with};
@@ -14,8 +14,8 @@ use crate::deeds::{Change, Deed};
 use crate::scans;
 use kr_ghost_index::GhostIndex;
 use kr_locks::{Holdings, Memory};
-use kr_machine::holds::{give_back, hold_both};
 use kr_model::{Plan, Reply};
+use kr_plan::holds::{give_back, hold_both};
 use kr_protocol::Protocol;
 use kr_txn::Standing;
 

@@ -4,7 +4,7 @@ ghost use Rattle.kr_model.specs.declared.Name.TheVariants.{Key};
 ghost use Rattle.kr_model.proofs.Requests.{AreLocks};
 ghost use Rattle.kr_txn.specs.Standings.{IsInOrder, entries};
 ghost use Rattle.kr_ghost.specs.Step.{is_locked, may_purge, purged};
-ghost use Rattle.kr_machine.specs.Pins.{all_changes_of};
+ghost use Rattle.kr_touch.specs.Pins.{all_changes_of};
 ghost use Rattle.kr_ghost_index.specs.Index.{changes};
 ghost use Rattle.kr_ghost_machine.specs.Machine.{AreHeld, shown};
 ghost use Rattle.kr_ghost_machine.specs.Memory.{purge_may_lack_memory};

@@ -9,13 +9,13 @@ ghost use Rattle.kr_ghost.specs.Step.{looked};
 ghost use Rattle.kr_model.proofs.Requests.{AreLocks};
 ghost use Rattle.kr_plan.specs.Modes.{ArePlanModes};
 ghost use Rattle.kr_txn.specs.Standings.{active_of, scan_of};
-ghost use Rattle.kr_machine.specs.Sights.{value_of_name};
+ghost use Rattle.kr_touch.specs.Sights.{value_of_name};
 ghost use Rattle.kr_ghost_machine.specs.Deeds.{after_look, glance_effect};
 
 use crate::deeds::Glance;
 use kr_locks::{Holdings, Memory, Name};
-use kr_machine::holds::hold_both;
 use kr_model::{Pairs, Plan, Reply};
+use kr_plan::holds::hold_both;
 use kr_protocol::Protocol;
 use kr_txn::{Scan, Standing};
 

@@ -5,7 +5,7 @@ ghost use Rattle.std.specs.FinMap.{find, put};
 ghost use Rattle.kr_model.specs.State.{idle};
 ghost use Rattle.kr_txn.specs.Numbered.{without_txn};
 ghost use Rattle.kr_txn.specs.Standings.{IsInOrder, active_of, entries};
-ghost use Rattle.kr_machine.specs.Pins.{all_changes_of, changes_of};
+ghost use Rattle.kr_touch.specs.Pins.{all_changes_of, changes_of};
 
 use kr_model::Txn;
 use kr_txn::{Standing, put_in, take_out};

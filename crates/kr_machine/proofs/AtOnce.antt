@@ -19,11 +19,12 @@ use Rattle.kr_model.specs.declared.Step.{Step}
 use Rattle.kr_machine.specs.Accepted.{LacksMemoryOr, TellsWhy}
 use Rattle.kr_machine.specs.declared.accepted.NotDone.{NotDone}
 use Rattle.kr_machine.specs.declared.accepted.NotDone.TheVariants.{NotGranted, Declined}
-use Rattle.kr_machine.specs.declared.parts.KeyTouch.TheVariants as key
-use Rattle.kr_machine.specs.declared.parts.Touch.{Touch}
-use Rattle.kr_machine.specs.declared.parts.Touch.TheVariants as touch
-use Rattle.kr_machine.specs.Parts.{op_of_touch}
-use Rattle.kr_machine.specs.Pending.{attempt_of, effect_of, reply_of, rows_of}
+use Rattle.kr_touch.specs.declared.parts.KeyTouch.TheVariants as key
+use Rattle.kr_touch.specs.declared.parts.Touch.{Touch}
+use Rattle.kr_touch.specs.declared.parts.Touch.TheVariants as touch
+use Rattle.kr_touch.specs.Parts.{op_of_touch}
+use Rattle.kr_touch.specs.Attempts.{attempt_of}
+use Rattle.kr_touch.specs.Effects.{effect_of, reply_of, rows_of}
 use Rattle.kr_machine.proofs.Steps.{granted_step, reply_is, blocked_step, nothing_attempted}
 
 -- Who is blocked or has no memory isn't granted.

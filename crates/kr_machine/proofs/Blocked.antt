@@ -16,7 +16,7 @@ use Rattle.kr_model.specs.Locks.{Request, blockers}
 use Rattle.kr_model.specs.State.{State, Active, Scan, standing}
 use Rattle.kr_model.specs.Plan.{requests, plan_of}
 use Rattle.kr_model.specs.Step.{Effect, fetched, inserted, deleted, updated, row_read, looked, name_to_look, granted_or_blocked, one_taken_back, performed, unless_refused, refusal_of, step, blockers_in}
-use Rattle.kr_machine.specs.Pending.{attempt_of, begun, look_of}
+use Rattle.kr_touch.specs.Attempts.{attempt_of, begun, look_of}
 use Rattle.kr_machine.proofs.Steps.{some_step}
 
 -- What is granted names nobody --

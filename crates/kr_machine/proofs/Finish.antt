@@ -1,21 +1,20 @@
 -- What a pending step says, and what the machine is once it is done or given up.
-use Rattle.std.proofs.Common.{All, IfOk, Result, Ok, Err, ◌≡◌, ℕ, ◌+◌, ◌≤◌, arith, Bool, true, false, Option, Some, None, IfSome, List, sym, ap, ◌∙◌, ◌⊎◌, inl, inr, Vec, subst, cond}
+use Rattle.std.proofs.Common.{◌≡◌, ℕ, ◌+◌, ◌≤◌, arith, Bool, true, false, Option, Some, None, IfSome, List, sym, ap, ◌∙◌, ◌⊎◌, inl, inr, Vec, subst, cond}
 use Rattle.std.specs.Prelude.{IsTrue}
 use Rattle.std.specs.Option.{option_map}
 use Rattle.std.specs.Vec.{vec_len}
 use Rattle.std.specs.Ordering.{nat_cmp}
 use Rattle.std.specs.FinMap.{find, put, is_sorted}
 use Rattle.kr_model.specs.declared.Event.{Event}
-use Rattle.kr_model.specs.declared.Name.{Name}
 use Rattle.kr_model.specs.State.{Active}
 use Rattle.kr_txn.proofs.Lists.{in_order-put}
 use Rattle.kr_machine.specs.declared.pending.Pending.{Pending}
-use Rattle.kr_machine.specs.declared.parts.Ending.{Ending}
+use Rattle.kr_touch.specs.declared.parts.Ending.{Ending}
 use Rattle.kr_machine.specs.declared.pending.PendingPart.{PendingPart}
 use Rattle.kr_machine.specs.declared.pending.PendingPart.TheVariants as part
 use Rattle.kr_machine.specs.Pending.{IsReserved, IsMachine, HasPins, locks_before, pending_pins, shown_active, shown_locks}
-use Rattle.kr_machine.specs.Pins.{changes_of, all_changes_of}
-use Rattle.kr_machine.proofs.Pins.{noted-put}
+use Rattle.kr_touch.specs.Pins.{changes_of, all_changes_of}
+use Rattle.kr_touch.proofs.Pins.{noted-put}
 use Rattle.kr_model.proofs.Keep.{HasNoNone-release, AreWithin-release, IsLocks-release}
 use Rattle.kr_txn.specs.Standings.{active_of, entries}
 use Rattle.std.specs.declared.alloc.Global.{Global}
@@ -47,11 +46,6 @@ event_of_pending o d e h is = some (ap (option_map (λ (p : Pending). p.event)) 
 pub put_down_order : (b : Bool) (t : ℕ) (a : Active) (xs : List (ℕ × Active)) → IsTrue (is_sorted nat_cmp xs) → IsTrue (is_sorted nat_cmp (cond b (put nat_cmp t a xs) xs))
 put_down_order true t a xs h = in_order-put t xs h a
 put_down_order false t a xs h = h
-
--- what holds of each lock holds of each of a copy
-pub all_of_items : {A E : Type 0} (items : A → Locks) (P : (Name × ℕ) × ℕ → Type 0) (r : Result A E) (h : Locks) → All P h → IfOk r (λ a. items a ≡ h) → IfOk r (λ a. All P (items a))
-all_of_items items P (Ok a) h all is = subst (All P) (sym is) all
-all_of_items items P (Err e) h all is = tt
 
 -- The pins while a step is pending.
 pub pins_now : (pins : ℕ → ℕ) (es : List (ℕ × Active)) (o : Option Pending) (d : Pending) → o ≡ Some d → HasPins o pins es → (q : ℕ) → pins q ≡ all_changes_of es q + changes_of (active_of d.standing).changes q + pending_pins d.part q

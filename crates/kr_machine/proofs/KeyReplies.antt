@@ -14,9 +14,9 @@ use Rattle.kr_model.specs.State.{State, Active, standing}
 use Rattle.kr_model.specs.Step.{Outcome, Effect, IsStep, refusal_of, fetched, inserted, deleted, updated, granted_or_blocked, performed, unless_refused}
 use Rattle.kr_model.specs.Run.{is_granted}
 use Rattle.kr_txn.specs.Logs.{LogWithRoom, MayNote}
-use Rattle.kr_machine.specs.declared.parts.KeyTouch.{KeyTouch}
-use Rattle.kr_machine.specs.declared.parts.KeyTouch.TheVariants as key
-use Rattle.kr_machine.specs.Parts.{op_of_key}
+use Rattle.kr_touch.specs.declared.parts.KeyTouch.{KeyTouch}
+use Rattle.kr_touch.specs.declared.parts.KeyTouch.TheVariants as key
+use Rattle.kr_touch.specs.Parts.{op_of_key}
 use Rattle.kr_machine.specs.Logged.{has_list}
 
 -- A log that has had room made for a transaction may note any reply to it.

@@ -1,22 +1,18 @@
 -- What the definitions say of a step, by the parts that the machine finds.
 use Rattle.std.proofs.Common.{◌≡◌, ℕ, Bool, true, false, cond, Option, Some, None, List, [], ◌∷◌, ap, sym, ◌∙◌, refl, length, is_some, suc, ◌-◌, ◌<◌, reverse, arith}
-use Rattle.std.specs.Prelude.{Vec, nat_le, not, ◌&&◌, ◌==◌, unwrap_or}
-use Rattle.std.specs.Vec.{vec_len}
-use Rattle.std.specs.declared.alloc.Global.{Global}
-use Rattle.std.proofs.lemmas.Bool.Decides.{nat_tests}
+use Rattle.std.specs.Prelude.{nat_le, not, ◌==◌, unwrap_or}
 use Rattle.std.specs.List.{list_any, filter}
 use Rattle.std.proofs.lemmas.List.{length-reverse}
 use Rattle.std.specs.Ordering.{nat_cmp}
 use Rattle.std.specs.FinMap.{find, put}
 use Rattle.kr_model.specs.declared.Op.{Op}
 use Rattle.kr_model.specs.declared.Op.TheVariants as op
-use Rattle.kr_model.specs.declared.Refusal.{Refusal}
 use Rattle.kr_model.specs.declared.Refusal.TheVariants.{Ended, Full, NoScan}
 use Rattle.kr_model.specs.declared.Reply.{Reply}
 use Rattle.kr_model.specs.declared.Reply.TheVariants as reply
 use Rattle.kr_model.specs.Protocol.{Protocol}
 use Rattle.kr_model.specs.declared.Plan.{Plan}
-use Rattle.kr_model.specs.Map.{Map, Changes, get, after}
+use Rattle.kr_model.specs.Map.{Map, Changes, get}
 use Rattle.kr_model.specs.Locks.{Locks, Request, blockers}
 use Rattle.kr_model.specs.State.{State, Active, Scan, idle, standing, is_rolling, has_nothing_left}
 use Rattle.kr_model.specs.Covers.{is_empty}
@@ -27,32 +23,16 @@ use Rattle.kr_model.specs.declared.Step.{Step}
 use Rattle.kr_model.specs.declared.Step.TheVariants as attempt
 use Rattle.kr_model.specs.Step.{Outcome, Effect, fetched, inserted, deleted, updated, row_read, looked, name_to_look, is_full, refusal_of, step, granted_or_blocked, attempted, attempted_scan, unless_refused, after_effect, performed, one_taken_back}
 use Rattle.std.specs.Option.{option_map}
-use Rattle.kr_txn.specs.declared.Scan as txn
-use Rattle.kr_txn.specs.Standings.{scan_of}
-use Rattle.kr_machine.specs.declared.parts.Ending.{Ending}
-use Rattle.kr_machine.specs.declared.parts.Ending.TheVariants as ending
-use Rattle.kr_machine.specs.declared.parts.KeyTouch.TheVariants as key
-use Rattle.kr_machine.specs.declared.parts.Touch.{Touch}
-use Rattle.kr_machine.specs.declared.parts.Touch.TheVariants as touch
-use Rattle.kr_machine.specs.Parts.{ended_by, op_of_touch}
-use Rattle.kr_machine.specs.Pending.{end_reply, begun, refusal_in, look_of, attempt_of, rows_of, reply_of, look_effect, effect_of, map_back, changes_back, standing_back, after_op}
-
--- The refusal of an operation whose transaction has not ended, by whether updates are offered and how it stands.
-abbrev pub refused_by : Bool → Option Active → Bool → Op → Option Refusal
-refused_by v None full o = cond full (Some Full) (refusal_in v false false true o)
-refused_by v (Some a) full o = refusal_in v a.rolling (is_some a.scan) (is_empty a.changes) o
-
-chain : (v x : Bool) (f : Option Active) (l : Bool) (o : Op) → cond x (Some Ended) (cond (not (is_some f) && l) (Some Full) (let a = unwrap_or f idle in refusal_in v a.rolling (is_some a.scan) (is_empty a.changes) o)) ≡ cond x (Some Ended) (refused_by v f l o)
-chain v true f l o = refl
-chain v false None l o = refl
-chain v false (Some a) l o = refl
-
--- The refusal of an operation, by what is known of its transaction.
-pub refusal_is : (p : Protocol) (m : Map) (h : Locks) (ended : List ℕ) (es : List (ℕ × Active)) (t : ℕ) (o : Op) → (x : Bool) → list_any (λ u. u == t) ended ≡ x → (f : Option Active) → find nat_cmp t es ≡ f → (l : Bool) → nat_le 64 (length es) ≡ l
-    → refusal_of p (record { map = m; locks = h; ended = ended; active = es }) t o ≡ cond x (Some Ended) (refused_by p.updates f l o)
-refusal_is p m h ended es t o x hx f hf l hl =
-    chain p.updates (list_any (λ u. u == t) ended) (find nat_cmp t es) (nat_le 64 (length es)) o ∙ ap (λ y. cond y (Some Ended) (refused_by p.updates (find nat_cmp t es) (nat_le 64 (length es)) o)) hx
-    ∙ ap (λ g. cond x (Some Ended) (refused_by p.updates g (nat_le 64 (length es)) o)) hf ∙ ap (λ k. cond x (Some Ended) (refused_by p.updates f k o)) hl
+use Rattle.kr_touch.specs.declared.parts.Ending.{Ending}
+use Rattle.kr_touch.specs.declared.parts.Ending.TheVariants as ending
+use Rattle.kr_touch.specs.declared.parts.KeyTouch.TheVariants as key
+use Rattle.kr_touch.specs.declared.parts.Touch.{Touch}
+use Rattle.kr_touch.specs.declared.parts.Touch.TheVariants as touch
+use Rattle.kr_touch.specs.Parts.{ended_by, op_of_touch, end_reply}
+use Rattle.kr_touch.specs.Attempts.{begun, look_of, attempt_of}
+use Rattle.kr_plan.specs.Refusals.{refusal_in}
+use Rattle.kr_touch.specs.Effects.{rows_of, reply_of, look_effect, effect_of, map_back, changes_back, standing_back}
+use Rattle.kr_machine.specs.Pending.{after_op}
 
 -- Where a scan that begins isn't refused, no scan is in progress.
 begins_alone : (v x y z w : Bool) (c : Option Scan) (lo hi : ℕ) → cond x (Some Ended) (cond y (Some Full) (refusal_in v z (is_some c) w (op.Scan lo hi))) ≡ None → rows_of c ≡ []
@@ -181,26 +161,6 @@ blocked_step p s t x a plan us allowed is is_plan is_us some =
     let here = ap (λ pl. blockers p s.locks t (requests pl)) is_plan in
     ap (λ l. (reply.Blocked l, s)) (is_us ∙ here)
     ∙ sym (attempts p s t x a allowed is ∙ blocked_by p s t (asked p s t a) (effect_of s.map (standing s t) (op_of_touch x)) (blockers p s.locks t (asked p s t a)) (λ none. some (here ∙ none)))
-
--- A scan in progress is one for the definitions too.
-pub scanning : (c : Option txn.Scan) → is_some (option_map scan_of c) ≡ is_some c
-scanning None = refl
-scanning (Some c) = refl
-
-empty_by_length : (cs : Changes) → (length cs == 0) ≡ is_empty cs
-empty_by_length [] = refl
-empty_by_length (c ∷ cs) = some (length cs)
-  where
-    some : (n : ℕ) → (suc n == 0) ≡ false
-    some n = grind (arith, nat_tests)
-
--- How many changes a transaction has.
-pub change_length : (v : Vec (ℕ × Option ℕ) Global) → vec_len v ≡ length v.items
-change_length v = omega arith
-
--- A transaction without changes is one for the definitions too.
-pub unchanged : (v : Vec (ℕ × Option ℕ) Global) → (vec_len v == 0) ≡ is_empty (reverse v.items)
-unchanged v = ap (λ n. n == 0) (change_length v ∙ sym (length-reverse v.items)) ∙ empty_by_length (reverse v.items)
 
 -- A choice is empty where what is made of it is.
 pub nothing_open : {A B : Type 0} (f : A → B) (o : Option A) → option_map f o ≡ None → o ≡ None

@@ -5,16 +5,17 @@ ghost use Rattle.kr_model.specs.Plan.{plan_of, requests};
 ghost use Rattle.kr_model.specs.State.{standing};
 ghost use Rattle.kr_model.specs.Step.{blockers_in, step};
 ghost use Rattle.kr_plan.specs.Modes.{ArePlanModes};
-ghost use Rattle.kr_machine.specs.Pending.{attempt_of};
+ghost use Rattle.kr_touch.specs.Attempts.{attempt_of};
 
-use crate::parts::Part;
-use crate::sights::sight_of;
+use crate::plans;
 use crate::stepper::Stepper;
-use crate::{refusals, room};
 use kr_holdings::{Holdings, Memory};
 use kr_model::{Mode, Name, Op, Plan, Txn};
 use kr_ordered::Ordered;
+use kr_plan::{refusals, room};
 use kr_protocol::Protocol;
+use kr_touch::parts::Part;
+use kr_touch::sights::sight_of;
 
 impl<P: Protocol, I: Ordered, L: Holdings> Stepper<P, I, L> {
     /// What an operation requests now, refused or not; `None` where it ends its transaction or undoes a change, or goes on with
@@ -37,7 +38,7 @@ impl<P: Protocol, I: Ordered, L: Holdings> Stepper<P, I, L> {
         };
         let scan = room::scan_of(&self.active, txn);
         match sight_of(&self.index, scan, touch) {
-            Some(sight) => Some(sight.plan(&self.protocol, &self.locks, txn)),
+            Some(sight) => Some(plans::plan(&self.protocol, &self.locks, txn, &sight)),
             None => None,
         }
     }

@@ -7,12 +7,12 @@ ghost use Rattle.kr_machine.specs.Accepted.{TellsWhy};
 
 use crate::accepted::NotDone;
 use crate::at_place::touch_at;
-use crate::parts::Part;
 use crate::stepper::Stepper;
 use kr_holdings::Holdings;
 use kr_model::{Op, Reply, Txn};
 use kr_ordered::Ordered;
 use kr_protocol::Protocol;
+use kr_touch::parts::Part;
 use kr_txn::position;
 use std::convert::Infallible;
 

@@ -14,18 +14,22 @@ ghost use Rattle.kr_plan.specs.Modes.{ArePlanModes};
 ghost use Rattle.kr_txn.specs.Numbered.{IsPosition};
 ghost use Rattle.kr_txn.specs.Standings.{entries, number_of};
 ghost use Rattle.kr_machine.specs.Accepted.{LacksMemoryOr, TellsWhy};
-ghost use Rattle.kr_machine.specs.Parts.{op_of_touch};
-ghost use Rattle.kr_machine.specs.Pending.{IsMachine, attempt_of, effect_of, shown};
-ghost use Rattle.kr_machine.specs.Sights.{IsSight};
+ghost use Rattle.kr_touch.specs.Parts.{op_of_touch};
+ghost use Rattle.kr_machine.specs.Pending.{IsMachine, shown};
+ghost use Rattle.kr_touch.specs.Attempts.{attempt_of};
+ghost use Rattle.kr_touch.specs.Effects.{effect_of};
+ghost use Rattle.kr_touch.specs.Sights.{IsSight};
 
 use crate::accepted::NotDone;
-use crate::parts::Touch;
-use crate::sights::{Sight, sight_of};
-use crate::{change, effects, holds, refusals, replies, scans};
+use crate::{grants, plans};
 use kr_holdings::Holdings;
 use kr_model::{Plan, Refusal, Reply, Txn, Txns};
 use kr_ordered::Ordered;
+use kr_plan::{holds, refusals};
 use kr_protocol::Protocol;
+use kr_touch::parts::Touch;
+use kr_touch::sights::{Sight, sight_of};
+use kr_touch::{change, effects, replies, scans};
 use kr_txn::{Ended, Standing};
 use std::alloc::Global;
 
@@ -98,7 +102,7 @@ fn attempt_at<P: Protocol, I: Ordered, L: Holdings, T, E, F: FnOnce(&Reply) -> R
     let Some(sight) = sight_of(index, scan, touch) else {
         return Err(NotDone::NotGranted(Reply::Refused(Refusal::NoScan)));
     };
-    let plan = sight.plan(protocol, locks, txn);
+    let plan = plans::plan(protocol, locks, txn, &sight);
     if !kr_plan::granted(protocol, locks, txn, &plan) {
         return Err(NotDone::NotGranted(blocked(alloc, protocol, locks, txn, &plan)));
     }
@@ -164,7 +168,7 @@ fn do_at<P: Protocol, I: Ordered, L: Holdings, T, E, F: FnOnce(&Reply) -> Result
     let first_rows = scans::first_rows(*active.allocator(), touch)?;
     effects::make_room_at(active, place, touch)?;
     let op = touch.op();
-    let (current_was, next_was) = holds::pin_and_hold(
+    let (current_was, next_was) = grants::pin_and_hold(
         protocol, index, locks, txn, op, sight.row, plan,
     )?;
     match accept(reply) {

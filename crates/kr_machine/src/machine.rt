@@ -10,13 +10,13 @@ ghost use Rattle.kr_model.specs.Log.{no_log, logged};
 ghost use Rattle.kr_model.specs.Run.{is_granted};
 
 use crate::noting::{keep, step_key};
-use crate::parts::{Part, Touch};
 use crate::pending::{DueReply, Ready};
 use crate::stepper::Stepper;
 use kr_holdings::{Holdings, Memory};
 use kr_model::{Mode, Name, Op, Pairs, Programs, Refusal, Reply, Txn, Txns};
 use kr_ordered::Ordered;
 use kr_protocol::Protocol;
+use kr_touch::parts::{Part, Touch};
 use kr_txn::Log;
 use std::alloc::Global;
 use std::marker::Model;
@@ -28,12 +28,12 @@ use std::marker::Model;
 /// without it.
 #[derive(Drop)]
 pub struct Machine<P: Protocol, I: Ordered, L: Holdings> {
-    /// What does the steps.
-    stepper: Stepper<P, I, L>,
     /// The programs so far, and the committed ones.
     log: Log,
     /// The reply of a step that is ready.
     due: Option<DueReply>,
+    /// What does the steps.
+    stepper: Stepper<P, I, L>,
 }
 
 impl<P: Protocol, I: Ordered, L: Holdings> Model for Machine<P, I, L> {
@@ -54,9 +54,9 @@ impl<P: Protocol, I: Ordered, L: Holdings> Machine<P, I, L> {
         ensures { result ≡ record { protocol = protocol; state = start (I.map index); log = no_log; pending = None } }
     {
         Machine {
-            stepper: Stepper::new(alloc, protocol, index, locks),
             log: Log::new(alloc),
             due: None,
+            stepper: Stepper::new(alloc, protocol, index, locks),
         }
     }
 

@@ -5,16 +5,16 @@ ghost use Rattle.kr_model.specs.Step.{takes_no_memory, IsStep};
 ghost use Rattle.kr_model.specs.Log.{logged};
 ghost use Rattle.kr_model.specs.Run.{is_granted};
 ghost use Rattle.kr_txn.specs.Logs.{MayNote};
-ghost use Rattle.kr_machine.specs.Parts.{op_of_key};
+ghost use Rattle.kr_touch.specs.Parts.{op_of_key};
 ghost use Rattle.kr_machine.specs.Logged.{MayKeep, twice, has_list};
 
-use crate::parts::{KeyTouch, Part};
 use crate::pending::DueReply;
 use crate::stepper::Stepper;
 use kr_holdings::{Holdings, Memory};
 use kr_model::{Event, Op, Reply, Txn};
 use kr_ordered::Ordered;
 use kr_protocol::Protocol;
+use kr_touch::parts::{KeyTouch, Part};
 use kr_txn::Log;
 use std::alloc::Global;
 

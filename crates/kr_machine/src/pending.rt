@@ -1,8 +1,9 @@
 //! A step that has its memory and is not done yet.
 ghost use Rattle.std.specs.Prelude.{◌≡◌};
 
-use crate::parts::{Ending, Touch};
-use kr_model::{Event, Mode, Plan, Reply};
+use kr_model::{Event, Reply};
+use kr_touch::granted::GrantedTouch;
+use kr_touch::parts::Ending;
 use kr_txn::Standing;
 use std::marker::Model;
 
@@ -28,21 +29,6 @@ pub(crate) enum PendingPart {
     Back,
     /// It requested locks, and was granted them.
     Touch(GrantedTouch),
-}
-
-/// What requested locks, and what it was granted.
-#[derive(Drop)]
-pub(crate) struct GrantedTouch {
-    /// What requested locks.
-    pub(crate) touch: Touch,
-    /// The locks that it requested, of which those to commit are held by now.
-    pub(crate) plan: Plan,
-    /// The mode that the transaction had on the current name, where the step keeps a lock there.
-    pub(crate) current_was: Mode,
-    /// The mode that the transaction had on the next name, where the step keeps a lock there.
-    pub(crate) next_was: Mode,
-    /// No rows yet, with room for the first, where the step begins a scan.
-    pub(crate) first_rows: Vec<(u64, u64)>,
 }
 
 /// A step that is ready, with its reply. The machine that gave it must do it or give it up: it can't be dropped.

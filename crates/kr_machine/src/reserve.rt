@@ -10,17 +10,22 @@ ghost use Rattle.kr_model.specs.declared.Op.TheVariants as op_is;
 ghost use Rattle.kr_model.specs.declared.Reply.TheVariants as reply_is;
 ghost use Rattle.kr_plan.specs.Modes.{ArePlanModes};
 ghost use Rattle.kr_txn.specs.Standings.{entries};
-ghost use Rattle.kr_machine.specs.Parts.{ended_by, op_of_touch};
-ghost use Rattle.kr_machine.specs.Pending.{HoldsSide, IsMachine, attempt_of, put_back, put_back_both, shown, shown_locks, shown_active};
-ghost use Rattle.kr_machine.specs.Pins.{taken_pins};
+ghost use Rattle.kr_touch.specs.Parts.{ended_by, op_of_touch};
+ghost use Rattle.kr_plan.specs.Holds.{HoldsSide, put_back};
+ghost use Rattle.kr_machine.specs.Pending.{IsMachine, put_back_both, shown, shown_locks, shown_active};
+ghost use Rattle.kr_touch.specs.Attempts.{attempt_of};
+ghost use Rattle.kr_touch.specs.Pins.{taken_pins};
 
-use crate::parts::{Ending, Touch};
-use crate::pending::{GrantedTouch, Pending, PendingPart};
-use crate::{change, holds, room, scans};
+use crate::grants::pin_and_hold;
+use crate::pending::{Pending, PendingPart};
 use kr_holdings::{Holdings, Memory};
 use kr_model::{Event, Op, Plan, Txn};
 use kr_ordered::Ordered;
+use kr_plan::{holds, room};
 use kr_protocol::Protocol;
+use kr_touch::granted::GrantedTouch;
+use kr_touch::parts::{Ending, Touch};
+use kr_touch::{change, scans, standings};
 use kr_txn::{Ended, Standing, take_out};
 
 /// Takes the memory of a granted attempt, keeps its locks, and takes its transaction out of the list. Where a growth is
@@ -53,8 +58,8 @@ pub(crate) fn reserve<P: Protocol, I: Ordered, L: Holdings>(
     room::make_room(ended, active)?;
     let op = touch.op();
     let first_rows = scans::first_rows(*active.allocator(), touch)?;
-    let (standing, was_active) = room::stand(active, txn, touch)?;
-    match holds::pin_and_hold(protocol, index, locks, txn, op, plan.row, plan) {
+    let (standing, was_active) = standings::stand(active, txn, touch)?;
+    match pin_and_hold(protocol, index, locks, txn, op, plan.row, plan) {
         Ok((current_was, next_was)) => Ok(Pending {
             event: Event { txn, op },
             standing,

@@ -4,17 +4,19 @@ ghost use Rattle.kr_model.specs.State.{start, active_of};
 ghost use Rattle.kr_model.specs.Step.{step, IsStep, takes_no_memory, refusal_of};
 ghost use Rattle.kr_model.specs.Run.{is_granted};
 ghost use Rattle.kr_model.specs.declared.Op.TheVariants as op_is;
-ghost use Rattle.kr_machine.specs.Parts.{ended_by, op_of_touch};
+ghost use Rattle.kr_touch.specs.Parts.{ended_by, op_of_touch};
 
 use crate::at_place::blocked;
-use crate::parts::{Ending, Part, Touch};
 use crate::pending::{Pending, PendingPart, Ready};
-use crate::sights::sight_of;
-use crate::{change, refusals, replies, reserve, room};
+use crate::{plans, reserve};
 use kr_holdings::{Holdings, Memory};
 use kr_model::{Mode, Name, Op, Pairs, Refusal, Reply, Txn, Txns};
 use kr_ordered::Ordered;
+use kr_plan::{refusals, room};
 use kr_protocol::Protocol;
+use kr_touch::parts::{Ending, Part, Touch};
+use kr_touch::sights::sight_of;
+use kr_touch::{change, replies};
 use kr_txn::{Ended, Standing, put_in};
 use std::alloc::Global;
 use std::marker::Model;
@@ -25,18 +27,18 @@ use std::marker::Model;
 /// While a step is ready it has taken what the step needs, and the state is seen as without it.
 #[derive(Drop)]
 pub struct Stepper<P: Protocol, I: Ordered, L: Holdings> {
-    /// The locking protocol.
-    pub(crate) protocol: P,
-    /// The index, with a pin for each change of an active transaction, and one for that of a pending step.
-    pub(crate) index: I,
-    /// The locks that are held, with those that a pending step keeps.
-    pub(crate) locks: L,
     /// The transactions that have ended, with room for each active one and for that of a pending step.
     pub(crate) ended: Ended,
     /// The active transactions, rising by number, without that of a pending step.
     pub(crate) active: Vec<Standing>,
     /// A step that has its memory and is neither done nor given up.
     pub(crate) pending: Option<Pending>,
+    /// The locking protocol.
+    pub(crate) protocol: P,
+    /// The index, with a pin for each change of an active transaction, and one for that of a pending step.
+    pub(crate) index: I,
+    /// The locks that are held, with those that a pending step keeps.
+    pub(crate) locks: L,
 }
 
 impl<P: Protocol, I: Ordered, L: Holdings> Model for Stepper<P, I, L> {
@@ -60,12 +62,12 @@ impl<P: Protocol, I: Ordered, L: Holdings> Stepper<P, I, L> {
         ensures { result ≡ record { protocol = protocol; state = start (I.map index); pending = None } }
     {
         Stepper {
-            protocol,
-            index,
-            locks,
             ended: Ended::new(alloc),
             active: Vec::new(alloc),
             pending: None,
+            protocol,
+            index,
+            locks,
         }
     }
 
@@ -221,7 +223,7 @@ impl<P: Protocol, I: Ordered, L: Holdings> Stepper<P, I, L> {
         let Some(sight) = sight_of(&self.index, scan, touch) else {
             return Err(Reply::Refused(Refusal::NoScan));
         };
-        let plan = sight.plan(&self.protocol, &self.locks, txn);
+        let plan = plans::plan(&self.protocol, &self.locks, txn, &sight);
         let alloc = *self.active.allocator();
         if !kr_plan::granted(&self.protocol, &self.locks, txn, &plan) {
             return Err(blocked(alloc, &self.protocol, &self.locks, txn, &plan));

@@ -1,4 +1,5 @@
-//! What an attempt requests, and whose locks conflict with it.
+//! What an attempt requests, whose locks conflict with it, and what is kept of it; which refusal applies, and room for a
+//! transaction.
 #![tactic(auto)]
 
 ghost use Rattle.std.specs.Prelude.{◌≡◌, ℕ, ◌<◌, ◌≤◌, IsTrue, List, [], ◌∷◌, OnOk, IfOk, ◌↔◌};
@@ -8,6 +9,10 @@ ghost use Rattle.kr_model.specs.Locks.{Locks, AreWithin, own, blockers};
 ghost use Rattle.kr_model.specs.Plan.{plan_of, plan_by, access, access_of, side_request, requests};
 ghost use Rattle.kr_model.proofs.Numbers.{merged};
 ghost use Rattle.kr_plan.specs.Modes.{SideIsMode, ArePlanModes};
+
+pub mod holds;
+pub mod refusals;
+pub mod room;
 
 use kr_holdings::{Holdings, Memory};
 pub use kr_model::{Mode, Name, Txn};

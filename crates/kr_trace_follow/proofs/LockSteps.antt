@@ -25,7 +25,7 @@ use Rattle.kr_model.proofs.Actives.{tied}
 use Rattle.kr_model.proofs.Keep.{kept_mode}
 use Rattle.kr_model.proofs.LockLaws.{own-keep_same, own-keep_other, own-release_other, find-release, name_or_not}
 use Rattle.kr_model.proofs.Requests.{AskModes, AreLocks, asks_by, kept_locks}
-use Rattle.kr_machine.specs.Pending.{attempt_of}
+use Rattle.kr_touch.specs.Attempts.{attempt_of}
 use Rattle.kr_trace_follow.specs.Since.{has_ended, plan_at}
 
 -- Requests that are kept --

@@ -9,7 +9,7 @@ use Rattle.kr_model.specs.Map.{Map}
 use Rattle.kr_model.specs.Locks.{Locks, Lock, Request, name_cmp, name_locked, holder_of, mode_held, name_asked, mode_asked, own}
 use Rattle.kr_model.specs.Plan.{plan_of, requests}
 use Rattle.kr_model.specs.State.{standing}
-use Rattle.kr_machine.specs.Pending.{attempt_of}
+use Rattle.kr_touch.specs.Attempts.{attempt_of}
 use Rattle.kr_trace_lines.specs.declared.deviation.Conflict.{Conflict}
 use Rattle.kr_trace_follow.specs.Lines.{Attempt}
 use Rattle.kr_trace_follow.specs.Since.{Since}

@@ -15,7 +15,7 @@ use Rattle.kr_model.specs.Locks.{Locks, Holder, Request, holder_cmp, holder_of, 
 use Rattle.kr_model.specs.Plan.{plan_of}
 use Rattle.kr_model.specs.State.{State, standing}
 use Rattle.kr_model.specs.Step.{step}
-use Rattle.kr_machine.specs.Pending.{attempt_of}
+use Rattle.kr_touch.specs.Attempts.{attempt_of}
 
 -- The number of a line for each transaction and name: 0 where the transaction holds no lock on the name.
 abbrev pub Since : Type 0

@@ -9,8 +9,8 @@ use Rattle.kr_model.specs.State.{idle, standing}
 use Rattle.kr_txn.specs.Numbered.{without_txn}
 use Rattle.kr_txn.specs.Standings.{active_of, entries}
 use Rattle.kr_txn.proofs.Lists.{find-without, put-rest}
-use Rattle.kr_machine.specs.Pins.{all_changes_of}
-use Rattle.kr_machine.proofs.Pins.{noted-put}
+use Rattle.kr_touch.specs.Pins.{all_changes_of}
+use Rattle.kr_touch.proofs.Pins.{noted-put}
 use Rattle.kr_ghost_machine.specs.Deeds.{effect_of, ghosts_after}
 use Rattle.kr_ghost_machine.specs.Machine.{AreHeld, shown}
 use Rattle.kr_ghost_machine.proofs.Attempted.{granted_as}

@@ -8,8 +8,8 @@ use Rattle.kr_model.specs.State.{Active, idle}
 use Rattle.kr_txn.specs.Numbered.{without_txn}
 use Rattle.kr_txn.specs.Standings.{active_of, entries, scan_of}
 use Rattle.kr_txn.proofs.Lists.{find-without, put_back, put-rest}
-use Rattle.kr_machine.specs.Pins.{all_changes_of, changes_of}
-use Rattle.kr_machine.proofs.Pins.{noted-put, noted-without}
+use Rattle.kr_touch.specs.Pins.{all_changes_of, changes_of}
+use Rattle.kr_touch.proofs.Pins.{noted-put, noted-without}
 use Rattle.kr_ghost_index.specs.Index.{changes}
 use Rattle.kr_ghost_machine.proofs.Backs.{counted_back, none_back, one_back, rolled, some_left}
 use Rattle.kr_ghost_machine.proofs.Resting.{held-same, put_rest, same_rest}

@@ -2,7 +2,7 @@ use Rattle.std.proofs.Common.{◌≤◌, sym, subst, arith}
 use Rattle.std.specs.Vec.{vec_len}
 use Rattle.kr_model.proofs.Requests.{AreLocks, released_locks}
 use Rattle.kr_txn.specs.Standings.{active_of}
-use Rattle.kr_machine.specs.Pins.{changes_of}
+use Rattle.kr_touch.specs.Pins.{changes_of}
 use Rattle.kr_ghost_machine.proofs.Resting.{ended_rest}
 use Rattle.kr_ghost_machine.proofs.ends.end.Goals as goal
 

@@ -1,5 +1,5 @@
 use Rattle.std.proofs.Common.{◌≡◌, ℕ, ◌+◌, ◌≤◌, length, reverse}
-use Rattle.kr_machine.specs.Pins.{changes_of}
+use Rattle.kr_touch.specs.Pins.{changes_of}
 use Rattle.kr_ghost_index.specs.Index.{changes}
 use Rattle.kr_ghost_machine.proofs.ends.settle.Given as goal
 

@@ -1,7 +1,7 @@
 use Rattle.std.proofs.Common.{◌+◌, ap, sym, ◌∙◌}
 use Rattle.kr_txn.specs.Standings.{active_of, entries}
-use Rattle.kr_machine.specs.Pins.{changes_of, all_changes_of}
-use Rattle.kr_machine.proofs.Pins.{noted-without}
+use Rattle.kr_touch.specs.Pins.{changes_of, all_changes_of}
+use Rattle.kr_touch.proofs.Pins.{noted-without}
 use Rattle.kr_ghost_machine.proofs.ends.take_leave.Goals as goal
 
 pub returns-in-Some-clause-noted : goal.returns-in-Some-clause-noted

@@ -1,7 +1,7 @@
 use Rattle.std.proofs.Common.{◌≡◌, ℕ, ◌+◌, ◌≤◌, length, reverse}
 use Rattle.kr_model.specs.Map.{restore_all}
 use Rattle.kr_ghost.specs.State.{ghosts_restored}
-use Rattle.kr_machine.specs.Pins.{changes_of}
+use Rattle.kr_touch.specs.Pins.{changes_of}
 use Rattle.kr_ghost_index.specs.Index.{changes}
 use Rattle.kr_ghost_machine.proofs.ends.undo.Given as goal
 

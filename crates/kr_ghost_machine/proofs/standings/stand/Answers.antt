@@ -3,8 +3,8 @@ use Rattle.std.specs.Ordering.{nat_cmp}
 use Rattle.std.specs.FinMap.{put}
 use Rattle.kr_txn.specs.Standings.{active_of, entries}
 use Rattle.kr_txn.proofs.Lists.{put_back}
-use Rattle.kr_machine.specs.Pins.{changes_of, all_changes_of}
-use Rattle.kr_machine.proofs.Pins.{noted-without}
+use Rattle.kr_touch.specs.Pins.{changes_of, all_changes_of}
+use Rattle.kr_touch.proofs.Pins.{noted-without}
 use Rattle.kr_ghost_machine.proofs.standings.stand.Goals as goal
 
 pub returns-in-Some-clause-back : goal.returns-in-Some-clause-back

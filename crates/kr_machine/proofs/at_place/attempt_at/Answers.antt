@@ -12,8 +12,10 @@ use Rattle.kr_model.specs.State.{State, Active, idle}
 use Rattle.kr_txn.specs.declared.Standing.{Standing}
 use Rattle.kr_txn.specs.Standings.{active_of, entries, number_of, scan_of}
 use Rattle.kr_txn.proofs.Lists.{found}
-use Rattle.kr_machine.specs.Parts.{op_of_touch}
-use Rattle.kr_machine.specs.Pending.{attempt_of, reply_of, rows_of, shown}
+use Rattle.kr_touch.specs.Parts.{op_of_touch}
+use Rattle.kr_touch.specs.Attempts.{attempt_of}
+use Rattle.kr_touch.specs.Effects.{reply_of, rows_of}
+use Rattle.kr_machine.specs.Pending.{shown}
 use Rattle.kr_machine.proofs.AtOnce.{attempts_nothing, is_blocked, not_granted, lacks_or_declined, lacks_memory, answers, at_once}
 use Rattle.kr_machine.proofs.at_place.attempt_at.Goals as goal
 

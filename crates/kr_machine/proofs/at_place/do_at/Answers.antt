@@ -5,9 +5,9 @@ use Rattle.std.specs.FinMap.{find, is_sorted}
 use Rattle.kr_model.specs.State.{idle}
 use Rattle.kr_txn.specs.Standings.{active_of, entries, number_of, IsInOrder}
 use Rattle.kr_txn.proofs.Lists.{in_order-put}
-use Rattle.kr_machine.specs.Parts.{op_of_touch}
-use Rattle.kr_machine.specs.Pending.{effect_of}
-use Rattle.kr_machine.specs.Pins.{all_changes_of, taken_pins}
+use Rattle.kr_touch.specs.Parts.{op_of_touch}
+use Rattle.kr_touch.specs.Effects.{effect_of}
+use Rattle.kr_touch.specs.Pins.{all_changes_of, taken_pins}
 use Rattle.kr_txn.proofs.InPlace.{same_position}
 use Rattle.kr_machine.proofs.InPlace.{placed_machine}
 use Rattle.kr_machine.proofs.at_place.do_at.Goals as goal

@@ -9,9 +9,10 @@ use Rattle.kr_model.specs.declared.Op.TheVariants as op
 use Rattle.kr_model.specs.declared.Reply.TheVariants as reply
 use Rattle.kr_txn.specs.Standings.{active_of, entries}
 use Rattle.kr_txn.proofs.Lists.{find-without, put_back, put-rest, in_order-without}
-use Rattle.kr_machine.specs.Pins.{changes_of, all_changes_of}
-use Rattle.kr_machine.proofs.Steps.{change_length, stepped_back, back_answers, back_has_changes, back_is_active}
-use Rattle.kr_machine.proofs.Pins.{noted-without}
+use Rattle.kr_touch.specs.Pins.{changes_of, all_changes_of}
+use Rattle.kr_plan.proofs.Refused.{change_length}
+use Rattle.kr_machine.proofs.Steps.{stepped_back, back_answers, back_has_changes, back_is_active}
+use Rattle.kr_touch.proofs.Pins.{noted-without}
 use Rattle.kr_machine.proofs.reserve.reserve_back.Goals as goal
 
 pub returns-in-Some-clause-seen_active : goal.returns-in-Some-clause-seen_active

@@ -7,11 +7,11 @@ use Rattle.kr_model.specs.State.{Active, idle}
 use Rattle.kr_model.specs.Step.{step}
 use Rattle.kr_txn.specs.Standings.{active_of, entries}
 use Rattle.kr_txn.proofs.Lists.{find-without, put_back, in_order-without}
-use Rattle.kr_machine.specs.Parts.{ended_by}
+use Rattle.kr_touch.specs.Parts.{ended_by}
 use Rattle.kr_machine.specs.Pending.{after_op}
-use Rattle.kr_machine.specs.Pins.{changes_of, all_changes_of}
+use Rattle.kr_touch.specs.Pins.{changes_of, all_changes_of}
 use Rattle.kr_machine.proofs.Steps.{stepped_end}
-use Rattle.kr_machine.proofs.Pins.{noted-without}
+use Rattle.kr_touch.proofs.Pins.{noted-without}
 use Rattle.kr_machine.proofs.reserve.reserve_end.Goals as goal
 
 pub returns-in-Some-clause-seen_active : goal.returns-in-Some-clause-seen_active

@@ -1,6 +1,6 @@
 use Rattle.std.proofs.Common.{◌≡◌, ◌∙◌, ap, Some}
 use Rattle.kr_model.specs.State.{standing}
-use Rattle.kr_machine.specs.Pending.{attempt_of}
+use Rattle.kr_touch.specs.Attempts.{attempt_of}
 use Rattle.kr_trace_follow.specs.Since.{plan_at}
 use Rattle.kr_trace_follow.proofs.AttemptLaws.{plan_modes}
 use Rattle.kr_trace_follow.proofs.attempts.tests_now.Goals as goal

@@ -2,7 +2,7 @@ use Rattle.std.proofs.Common.{All, IfOk, subst, ◌≤◌}
 use Rattle.kr_model.specs.Locks.{Lock}
 use Rattle.kr_model.specs.Protocol.{Protocol}
 use Rattle.kr_model.proofs.Keep.{entries_within}
-use Rattle.kr_machine.proofs.Finish.{all_of_items}
+use Rattle.kr_plan.proofs.Copies.{all_of_items}
 use Rattle.kr_ghost_machine.proofs.stepper.GhostStepper.locks.Goals as goal
 use Rattle.std.proofs.Common.{sym}
 

@@ -3,7 +3,7 @@ use Rattle.kr_model.specs.declared.Event.{Event}
 use Rattle.kr_model.specs.declared.Op.{Op}
 use Rattle.kr_model.specs.Step.{IsStep}
 use Rattle.kr_model.specs.Log.{Log, logged}
-use Rattle.kr_machine.specs.Parts.{op_of, op_of_key, op_of_touch}
+use Rattle.kr_touch.specs.Parts.{op_of, op_of_key, op_of_touch}
 use Rattle.kr_machine.specs.Logged.{IsLogged}
 use Rattle.kr_machine.proofs.Logged.{log_of_any_step}
 use Rattle.kr_machine.proofs.machine.Machine.step_at_once.Goals as goal

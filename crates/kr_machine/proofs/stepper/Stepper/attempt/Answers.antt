@@ -10,8 +10,10 @@ use Rattle.kr_model.specs.Step.{IsStep, refusal_of, step}
 use Rattle.kr_model.specs.declared.Reply.TheVariants as reply
 use Rattle.kr_model.specs.declared.Refusal.TheVariants as refusal
 use Rattle.kr_txn.specs.Standings.{entries, scan_of}
-use Rattle.kr_machine.specs.Parts.{op_of_touch}
-use Rattle.kr_machine.specs.Pending.{shown, attempt_of, rows_of, reply_of}
+use Rattle.kr_touch.specs.Parts.{op_of_touch}
+use Rattle.kr_machine.specs.Pending.{shown}
+use Rattle.kr_touch.specs.Attempts.{attempt_of}
+use Rattle.kr_touch.specs.Effects.{rows_of, reply_of}
 use Rattle.kr_machine.proofs.AtOnce.{is_blocked, lacks_memory, not_granted}
 use Rattle.kr_machine.proofs.Steps.{nothing_open, granted_reply}
 use Rattle.kr_machine.proofs.stepper.Stepper.attempt.Goals as goal

@@ -5,9 +5,9 @@ use Rattle.std.specs.Ordering.{nat_cmp}
 use Rattle.std.specs.FinMap.{put}
 use Rattle.kr_txn.specs.Standings.{active_of, entries}
 use Rattle.kr_machine.specs.Due.{Due}
-use Rattle.kr_machine.specs.Parts.{op_of_touch}
+use Rattle.kr_touch.specs.Parts.{op_of_touch}
 use Rattle.kr_machine.specs.Pending.{IsMachine, locks_before, pending_pins}
-use Rattle.kr_machine.specs.Pins.{taken_pins}
+use Rattle.kr_touch.specs.Pins.{taken_pins}
 use Rattle.kr_machine.proofs.Finish.{event_of_pending, keeps_no_lock, takes_no_pin, cancelled_machine}
 use Rattle.kr_machine.proofs.stepper.Stepper.cancel.Goals as goal
 use Rattle.kr_machine.proofs.stepper.Stepper.cancel.Goals.{in-End, in-Touch}

@@ -1,7 +1,7 @@
 use Rattle.std.proofs.Common.{arith, ◌≡◌, subst, sym, ap, ◌∙◌, None}
 use Rattle.kr_machine.specs.Pending.{IsMachine, pending_pins}
-use Rattle.kr_machine.specs.Pins.{taken_pins}
-use Rattle.kr_machine.specs.Parts.{op_of_touch}
+use Rattle.kr_touch.specs.Pins.{taken_pins}
+use Rattle.kr_touch.specs.Parts.{op_of_touch}
 use Rattle.kr_machine.proofs.Finish.{ended_machine, going_machine}
 use Rattle.kr_machine.proofs.stepper.Stepper.finish.Goals as goal
 

@@ -1,6 +1,6 @@
 use Rattle.std.proofs.Common.{All, ◌≤◌, IfOk, subst}
 use Rattle.kr_model.proofs.Keep.{entries_within}
-use Rattle.kr_machine.proofs.Finish.{all_of_items}
+use Rattle.kr_plan.proofs.Copies.{all_of_items}
 use Rattle.kr_machine.proofs.stepper.Stepper.locks.Goals as goal
 
 pub returns-clause-modes : goal.returns-clause-modes

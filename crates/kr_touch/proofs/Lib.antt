@@ -1,0 +1,5 @@
+pub mod Absent
+pub mod Pins
+pub mod NextNames
+pub mod InPlace
+pub mod Sighted
