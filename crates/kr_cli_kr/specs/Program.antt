@@ -24,7 +24,7 @@ use Rattle.kr_cli_ghost.specs.Runs.{ghost_report_line, ghost_judge_lines, IsSeri
 use Rattle.kr_cli_kr.specs.Threads.{threads_line, ghost_threads_line}
 use Rattle.kr_cli_tasks.specs.Words.{AreWords}
 use Rattle.kr_report.specs.declared.threaded.Threaded.{Threaded}
-use Rattle.kr_threads.specs.Threaded.{IsThreaded}
+use Rattle.kr_compared.specs.Threaded.{IsThreaded}
 use Rattle.kr_ghost_threads.specs.declared.made.GhostThreaded.{GhostThreaded}
 use Rattle.kr_ghost_threads.specs.Threaded.{IsGhostThreaded}
 use Rattle.kr_cli_tasks.specs.declared.tasks.Task.{Task}

@@ -10,7 +10,7 @@ ghost use Rattle.kr_cli.specs.declared.endings.Ending.{Ending};
 ghost use Rattle.kr_cli_kr.specs.Program.{WritesReport, Ends, Reports, TellsTask, ThreadsReported};
 ghost use Rattle.kr_cli_kr.specs.Threads.{threads_line};
 ghost use Rattle.kr_report.specs.declared.threaded.Threaded.{Threaded};
-ghost use Rattle.kr_threads.specs.Threaded.{IsThreaded};
+ghost use Rattle.kr_compared.specs.Threaded.{IsThreaded};
 
 use crate::ghosts::under_ghosts;
 use crate::threads::threads_over;

@@ -3,21 +3,17 @@ ghost use Rattle.std.specs.Prelude.{◌≡◌, ◌≢◌, All, IfOk, None, Err, 
 ghost use Rattle.kr_model.specs.Map.{IsMap};
 ghost use Rattle.kr_history.specs.Notes.{KnowsNoneFrom};
 ghost use Rattle.std.specs.List.Sorted.{IsStrictlyIncreasing};
-ghost use Rattle.kr_engine.specs.declared.closing.CloseFault.TheVariants as close_fault;
-ghost use Rattle.kr_engine.specs.Closed.{IsClosed};
-ghost use Rattle.kr_engine.specs.declared.wakes.Change.TheVariants as change_is;
-ghost use Rattle.kr_engine.specs.Waits.{in_the_way};
+ghost use Rattle.kr_records.specs.declared.closing.CloseFault.TheVariants as close_fault;
+ghost use Rattle.kr_records.specs.Closed.{IsClosed};
+ghost use Rattle.kr_records.specs.declared.wakes.Change.TheVariants as change_is;
+ghost use Rattle.kr_records.specs.Waits.{in_the_way};
 
-use crate::closing::{CloseFault, History};
 use crate::kernel::Core;
-use crate::queues::{Queues, Woken};
 use crate::seat::Seat;
-use crate::seat_state::SeatState;
-use crate::share::Share;
-use crate::wakes::Change;
 use kr_history::{EngineName, PlaceRow, Watch};
 use kr_model::Txns;
 use kr_protocol::Covered;
+use kr_records::{Change, CloseFault, History, Queues, SeatState, Share, Woken};
 use std::alloc::{AllocError, Global};
 use std::sync::{Mutex, Wait};
 
@@ -99,14 +95,8 @@ impl<P: Covered, K: EngineName> Engine<P, K> {
         ensures closed { IfOk result (λ h. IsClosed K.table K.opening h shares.now) }
         ensures place { result ≡ Err close_fault.Place → shares.now ≢ [] }
     {
-        let Engine {
-            alloc: _,
-            row,
-            core,
-            queues: _,
-        } = self;
-        let core = core.into_inner();
-        core.close(&row, shares)
+        let mut engine = self;
+        engine.close(shares)
     }
 
     /// The transactions whose calls are noted as waiting now, rising; or an error where a growth is refused. It waits for

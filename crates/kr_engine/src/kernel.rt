@@ -4,35 +4,22 @@ ghost use Rattle.kr_model.specs.Map.{IsMap};
 ghost use Rattle.kr_model.specs.State.{start};
 ghost use Rattle.kr_model.specs.Step.{step, is_end as ends, may_lack_memory};
 ghost use Rattle.kr_model.specs.Run.{is_granted};
-ghost use Rattle.kr_engine.specs.declared.faults.EngineFault.TheVariants as fault;
-ghost use Rattle.kr_engine.specs.Faults.{TellsReply, is_of_attempt, is_of_begin};
-ghost use Rattle.kr_engine.specs.Histories.{IsHistory, AreOfOneSeat, IsSerialHistory, entry, event};
-ghost use Rattle.kr_engine.specs.Numbers.{is_begun as begun_by_seat, was_begun as begun_by_some};
-ghost use Rattle.kr_engine.specs.Cores.{CountsAre, LastAreOwn, LastAre, AreOfSeats, AreBegun, AreBegunByOne, seat_at, no_seat, is_active as active_in, freed, unended, without};
+ghost use Rattle.kr_records.specs.declared.faults.EngineFault.TheVariants as fault;
+ghost use Rattle.kr_records.specs.Faults.{TellsReply, is_of_attempt, is_of_begin};
+ghost use Rattle.kr_records.specs.Histories.{IsHistory, AreOfOneSeat, IsSerialHistory, entry, event};
+ghost use Rattle.kr_records.specs.Numbers.{is_begun as begun_by_seat, was_begun as begun_by_some};
+ghost use Rattle.kr_records.specs.Cores.{CountsAre, LastAreOwn, LastAre, AreOfSeats, AreBegun, AreBegunByOne, seat_at, no_seat, is_active as active_in, freed, unended, without};
 
-use crate::faults::{EngineFault, Receipt};
-use crate::numbers::Numbers;
-use crate::waits::forget;
-use crate::writes::{is_end, write};
+use crate::writes::write;
 use kr_history::{EngineName, Entry, PlaceRow, Seen};
 use kr_index::Tree;
 use kr_locks::Buckets;
 use kr_machine::Stepper;
 use kr_model::{Event, Op, Reply, Txn};
 use kr_protocol::Covered;
+use kr_records::{EngineFault, Numbers, Receipt, SeatNote, forget, is_end};
 use std::alloc::{AllocError, Global};
 use std::marker::{Model, PhantomData};
-
-/// What is noted of a seat.
-#[derive(Clone, Copy, Debug)]
-pub struct SeatNote {
-    /// How many entries are of it.
-    pub count: u64,
-    /// The number that it began last.
-    pub last: Option<Txn>,
-    /// Whether it left.
-    pub left: bool,
-}
 
 /// All that lies under the lock: the machine, and what is known of the row's used places, of the numbers that were begun,
 /// of the seats and of the operations that wait.
@@ -54,8 +41,8 @@ pub struct Core<P: Covered, K: EngineName> {
 }
 
 impl<P: Covered, K: EngineName> Model for Core<P, K> {
-    ghost use Rattle.kr_engine.specs.Cores.{Shown, IsCore};
-    ghost use Rattle.kr_engine.specs.Numbers.{begun_by};
+    ghost use Rattle.kr_records.specs.Cores.{Shown, IsCore};
+    ghost use Rattle.kr_records.specs.Numbers.{begun_by};
 
     ghost Value = { Shown P };
 

@@ -4,22 +4,16 @@
 
 mod closing;
 mod engine;
-mod faults;
 mod kernel;
-mod numbers;
-mod queues;
 mod seat;
 mod seat_state;
-mod share;
 mod waits;
 mod wakes;
 mod writes;
 
-pub use closing::{CloseFault, History};
 pub use engine::Engine;
-pub use faults::{EngineFault, Receipt};
-pub use kernel::{Core, SeatNote};
+pub use kernel::Core;
 pub use kr_history::{EngineName, Entry, NewFault, PlaceRow, Watch};
 pub use kr_model::{Event, Mode, Name, Op, Pairs, Programs, Reply, Txn, Txns};
+pub use kr_records::{CloseFault, EngineFault, History, Receipt, SeatNote, Share};
 pub use seat::Seat;
-pub use share::Share;

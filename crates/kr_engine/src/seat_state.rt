@@ -1,63 +1,19 @@
-//! What a seat keeps of its own, and its attempts under the lock.
+//! The attempts of a seat under the lock.
 ghost use Rattle.std.specs.Prelude.{◌≡◌, ◌<◌, ◌≤◌, [], true, false, length, None, Err, IfOk, IfErr};
 ghost use mathlib.Core.List.{IsPrefix};
-ghost use Rattle.kr_engine.specs.declared.faults.EngineFault.TheVariants as fault;
-ghost use Rattle.kr_engine.specs.Faults.{is_refusal, is_blocked, is_unbegun, is_of_try, is_of_call};
+ghost use Rattle.kr_records.specs.declared.faults.EngineFault.TheVariants as fault;
+ghost use Rattle.kr_records.specs.Faults.{is_refusal, is_blocked, is_unbegun, is_of_try, is_of_call};
 ghost use Rattle.kr_model.specs.Step.{is_end as ends};
-ghost use Rattle.kr_engine.specs.Histories.{IsHistory, entries_of};
-ghost use Rattle.kr_engine.specs.Cores.{seat_at};
-ghost use Rattle.kr_engine.specs.Waits.{IsNoted};
-ghost use Rattle.kr_engine.specs.Seats.{Shows, SeesFault, ToldFault, IsIdle};
+ghost use Rattle.kr_records.specs.Histories.{IsHistory, entries_of};
+ghost use Rattle.kr_records.specs.Cores.{seat_at};
+ghost use Rattle.kr_records.specs.Waits.{IsNoted};
+ghost use Rattle.kr_records.specs.Seats.{Shows, SeesFault, ToldFault, IsIdle};
 
-use crate::faults::{Attempted, EngineFault};
 use crate::kernel::Core;
 use kr_history::{EngineName, PlaceRow, Seen};
 use kr_model::{Op, Txn};
 use kr_protocol::Covered;
-use std::marker::Model;
-
-/// What a seat keeps of its own. It takes no memory.
-#[derive(Drop)]
-pub(crate) struct SeatState<K: EngineName> {
-    /// Its number.
-    pub seat: usize,
-    /// The transaction that it speaks for.
-    pub speaks: Option<Txn>,
-    /// How many receipts it has.
-    pub count: u64,
-    /// The place of its last receipt.
-    pub last: Option<usize>,
-    /// What it has seen of the history.
-    pub view: Seen<K>,
-}
-
-impl<K: EngineName> Model for SeatState<K> {
-    ghost use Rattle.std.specs.Prelude.{◌≡◌};
-    ghost use Rattle.kr_engine.specs.Histories.{entries_of};
-    ghost use Rattle.kr_engine.specs.Seats.{Held};
-
-    ghost Value = { Held };
-
-    ghost view = { λ h. record { seat = h.seat; speaks = h.speaks; count = h.count; last = h.last; view = h.view } };
-
-    ghost invariant = { λ h. entries_of h.seat h.view ≡ h.count };
-}
-
-impl<K: EngineName> SeatState<K> {
-    /// That of a seat that has done nothing and seen nothing.
-    pub fn new(seat: usize, row: &PlaceRow) -> SeatState<K>
-        requires { row.now ≡ K.places }
-        ensures { result ≡ record { seat = seat; speaks = None; count = 0; last = None; view = [] } }
-    {
-        SeatState {
-            seat,
-            speaks: None,
-            count: 0,
-            last: None,
-            view: Seen::new(row),
-        }
-    }
-}
+use kr_records::{Attempted, EngineFault, SeatState};
 
 impl<P: Covered, K: EngineName> Core<P, K> {
     /// One attempt of a seat, in one hold. What the seat keeps is held against what is noted of it, the step is attempted,
@@ -149,12 +105,8 @@ impl<P: Covered, K: EngineName> Core<P, K> {
     pub(crate) fn fits(&self, seat: &SeatState<K>) -> bool
         ensures { result ≡ true → (length seat.now.view ≤ length self.now.entries) × (seat.now.seat < length self.now.seats) × (entries_of seat.now.seat self.now.entries ≡ seat.now.count) × ((seat_at self.now.seats seat.now.seat).last ≡ seat.now.speaks) }
     {
-        let seen = seat.view.len();
-        let number = seat.seat;
-        seen <= self.history.len()
-            && number < self.seats.len()
-            && self.seats[number].count == seat.count
-            && self.seats[number].last == seat.speaks
+        self.lemma_invariant();
+        seat.fits(&self.seats, &self.history)
     }
 
     /// What a seat has seen is where the history begins.

@@ -1,13 +1,11 @@
 //! Waiting: an operation is noted, unless it closes a cycle of waiting transactions.
-ghost use Rattle.std.specs.List.{list_any};
-ghost use Rattle.std.specs.Prelude.{◌≡◌, ◌==◌, ◌||◌, ◌≢◌, ◌≤◌, ◌∷◌, ◌++◌, [], ℕ, List, true, None, IfOk, IfErr, IfSome, IfNone, OnOk, OnErr, vec_len, vec_capacity};
+ghost use Rattle.std.specs.Prelude.{◌≡◌, ◌∷◌, ◌++◌, [], ℕ, List, true, None, IfOk, IfErr, IfSome, IfNone, OnOk, OnErr};
 ghost use Rattle.kr_deadlock.specs.Waits.{blockers_of, IsCycle};
-ghost use Rattle.kr_engine.specs.Faults.{is_of_wait};
-ghost use Rattle.kr_engine.specs.Histories.{event};
-ghost use Rattle.kr_engine.specs.Cores.{without};
-ghost use Rattle.kr_engine.specs.Waits.{in_the_way, blockers_now, IsWaitCycle, TellsCycle, AreTxnsOf};
+ghost use Rattle.kr_records.specs.Faults.{is_of_wait};
+ghost use Rattle.kr_records.specs.Histories.{event};
+ghost use Rattle.kr_records.specs.Cores.{without};
+ghost use Rattle.kr_records.specs.Waits.{in_the_way, blockers_now, IsWaitCycle, TellsCycle, AreTxnsOf};
 
-use crate::faults::EngineFault;
 use crate::kernel::Core;
 use kr_deadlock::{Waiting, find_cycle};
 use kr_history::EngineName;
@@ -16,7 +14,7 @@ use kr_locks::Buckets;
 use kr_machine::Stepper;
 use kr_model::{Event, Op, Txn, Txns};
 use kr_protocol::Covered;
-use kr_txn::put_once;
+use kr_records::{EngineFault, may_close, note, txns_of};
 use std::alloc::{AllocError, Global};
 
 impl<P: Covered, K: EngineName> Core<P, K> {
@@ -55,17 +53,6 @@ impl<P: Covered, K: EngineName> Core<P, K> {
     }
 }
 
-/// The transactions of operations, rising.
-fn txns_of(alloc: Global, events: &[Event]) -> Result<Vec<Txn>, AllocError>
-    ensures { IfOk result (λ txns. AreTxnsOf txns.items events.now) }
-{
-    let mut txns = Vec::new(alloc);
-    for event in events {
-        put_once(&mut txns, event.txn)?;
-    }
-    Ok(txns)
-}
-
 /// A cycle of waiting transactions in which this one is first, by its operation and by those noted.
 fn cycle_of<P: Covered>(
     alloc: Global,
@@ -87,30 +74,6 @@ fn cycle_of<P: Covered>(
         Some(cycle) => Ok(Some(Txns::from_vec(cycle))),
         None => Ok(None),
     }
-}
-
-/// Whether one of those that block a transaction is it, or has a noted operation. Else there is no cycle.
-fn may_close(txn: Txn, own: &[Txn], noted: &[Event]) -> bool
-    ensures { result ≡ list_any (λ u. (u == txn) || list_any (λ e. e.txn == u) noted.now) own.now }
-{
-    for &blocker in own {
-        if blocker == txn || is_noted(noted, blocker) {
-            return true;
-        }
-    }
-    false
-}
-
-/// Whether one of these operations is of the transaction.
-fn is_noted(noted: &[Event], txn: Txn) -> bool
-    ensures { result ≡ list_any (λ e. e.txn == txn) noted.now }
-{
-    for event in noted {
-        if event.txn == txn {
-            return true;
-        }
-    }
-    false
 }
 
 /// An entry for the requester, whom these block, and then one for each noted operation.
@@ -137,24 +100,4 @@ fn entries<P: Covered>(
         })?;
     }
     Ok(waits)
-}
-
-/// Notes an operation in place of one of its transaction.
-fn note(waiting: &mut Vec<Event>, event: Event) -> Result<(), AllocError>
-    ensures ok { OnOk result (waiting.new.items ≡ without event.txn waiting.old.items ++ event ∷ []) }
-    ensures err { OnErr result (waiting.new.items ≡ waiting.old.items) }
-{
-    waiting.reserve(1)?;
-    forget(waiting, event.txn);
-    waiting.push_reserved(event);
-    Ok(())
-}
-
-/// Takes a transaction's operation out.
-pub(crate) fn forget(waiting: &mut Vec<Event>, txn: Txn)
-    ensures items { waiting.new.items ≡ without txn waiting.old.items }
-    ensures bound { vec_len waiting.new ≤ vec_len waiting.old }
-    ensures capacity { vec_capacity waiting.new ≡ vec_capacity waiting.old }
-{
-    waiting.retain(|event| event.txn != txn);
 }

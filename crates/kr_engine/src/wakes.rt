@@ -2,9 +2,7 @@
 ghost use Rattle.std.specs.Prelude.{◌≡◌, ◌≢◌, ◌==◌, ℕ, List, [], true, All, None, IfOk};
 ghost use Rattle.std.specs.List.{AllZip, Contains, list_any};
 ghost use Rattle.kr_deadlock.specs.Waits.{IsCycle};
-ghost use Rattle.kr_engine.specs.declared.wakes.Change.TheVariants as change;
-ghost use Rattle.kr_engine.specs.Waits.{in_the_way, blockers_now, IsEntry, AreDeadlocked, HaveEntries};
-ghost use Rattle.kr_engine.specs.Wakes.{FreesNobody, LeavesKeys, BlocksNobody};
+ghost use Rattle.kr_records.specs.Waits.{in_the_way, blockers_now, IsEntry, AreDeadlocked};
 
 use crate::kernel::Core;
 use kr_deadlock::Waiting;
@@ -12,51 +10,10 @@ use kr_history::EngineName;
 use kr_index::Tree;
 use kr_locks::Buckets;
 use kr_machine::Stepper;
-use kr_model::{Event, Reply, Txn};
+use kr_model::{Event, Txn};
 use kr_protocol::Covered;
+use kr_records::shed_all;
 use std::alloc::{AllocError, Global};
-
-/// What a step changed that those who wait may wait for.
-#[derive(Clone, Copy, Debug, PartialEq, Eq)]
-pub(crate) enum Change {
-    /// Locks were added at most, or a key got another value, by which nobody requests another lock.
-    Nothing,
-    /// Locks were let go.
-    Locks,
-    /// The index may have other keys, by which those who wait may request other locks.
-    Index,
-}
-
-impl Change {
-    /// This one, or the other where this is nothing.
-    pub fn or(self, other: Change) -> Change {
-        match self {
-            Change::Nothing => other,
-            Change::Locks | Change::Index => self,
-        }
-    }
-}
-
-/// What a granted step with this reply changed.
-pub(crate) fn change_of(reply: &Reply) -> Change
-    ensures nothing { result ≡ change.Nothing → FreesNobody reply.now }
-    ensures locks { result ≡ change.Locks → BlocksNobody reply.now }
-    ensures keys { result ≢ change.Index → LeavesKeys reply.now }
-{
-    match reply {
-        Reply::Committed => Change::Locks,
-        Reply::Aborted | Reply::Done | Reply::Deleted(_) | Reply::Undone(_) => Change::Index,
-        Reply::Found(_)
-        | Reply::None
-        | Reply::Going(_)
-        | Reply::Rows(_)
-        | Reply::Duplicate
-        | Reply::Absent
-        | Reply::Updated(_)
-        | Reply::Blocked(_)
-        | Reply::Refused(_) => Change::Nothing,
-    }
-}
 
 impl<P: Covered, K: EngineName> Core<P, K> {
     /// Whether no operation is noted as waiting.
@@ -128,53 +85,4 @@ fn deadlocked<P: Covered>(
 {
     let waits = all_blockers(alloc, machine, noted)?;
     Ok(shed_all(waits))
-}
-
-/// Takes out those whom none of the rest blocks, again and again. Those of which each is blocked by another stay.
-fn shed_all(mut waits: Vec<Waiting>) -> Vec<Waiting>
-    ensures { (blockers : ℕ → List ℕ) (txns : List ℕ) → AreDeadlocked blockers txns → HaveEntries blockers txns waits.items → HaveEntries blockers txns result.items }
-{
-    for _ in 0..waits.len() {
-        if !shed(&mut waits) {
-            break;
-        }
-    }
-    waits
-}
-
-/// Takes out those whom none of the rest blocks. Whether there were any. Those of which each is blocked by another stay.
-fn shed(waits: &mut Vec<Waiting>) -> bool
-    ensures { (blockers : ℕ → List ℕ) (txns : List ℕ) → AreDeadlocked blockers txns → HaveEntries blockers txns waits.old.items → HaveEntries blockers txns waits.new.items }
-{
-    let count = waits.len();
-    for place in (0..count).rev() {
-        if !is_held(waits, &waits[place].blockers) {
-            waits.swap_remove(place);
-        }
-    }
-    waits.len() < count
-}
-
-/// Whether one of these waits.
-fn is_held(waits: &[Waiting], blockers: &[Txn]) -> bool
-    ensures { result ≡ list_any (λ u. list_any (λ w. w.txn == u) waits.now) blockers.now }
-{
-    for &blocker in blockers {
-        if has_entry(waits, blocker) {
-            return true;
-        }
-    }
-    false
-}
-
-/// Whether one of these entries is of the transaction.
-fn has_entry(waits: &[Waiting], txn: Txn) -> bool
-    ensures { result ≡ list_any (λ w. w.txn == txn) waits.now }
-{
-    for wait in waits {
-        if wait.txn == txn {
-            return true;
-        }
-    }
-    false
 }

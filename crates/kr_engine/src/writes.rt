@@ -2,38 +2,21 @@
 ghost use Rattle.std.specs.Prelude.{◌≡◌, ◌≢◌, ◌+◌, ◌<◌, ◌≤◌, true, false, length, None, Some, Err, IfOk, IfErr, OnOk, OnErr, IsTrue, slice_index_or};
 ghost use Rattle.kr_model.specs.Step.{step, is_end as ends, may_lack_memory};
 ghost use Rattle.kr_model.specs.Run.{is_granted};
-ghost use Rattle.kr_machine.specs.Pending.{end_reply as the_end_reply};
-ghost use Rattle.kr_engine.specs.declared.faults.EngineFault.TheVariants as fault;
-ghost use Rattle.kr_engine.specs.Faults.{TellsReply, is_of_attempt, is_of_write};
-ghost use Rattle.kr_engine.specs.Histories.{entry, event};
-ghost use Rattle.kr_engine.specs.Numbers.{begun_by, was_begun, ends_kept, HaveEnds};
-ghost use Rattle.kr_engine.specs.Cores.{freed};
+ghost use Rattle.kr_touch.specs.Parts.{end_reply as the_end_reply};
+ghost use Rattle.kr_records.specs.declared.faults.EngineFault.TheVariants as fault;
+ghost use Rattle.kr_records.specs.Faults.{TellsReply, is_of_attempt};
+ghost use Rattle.kr_records.specs.Histories.{entry, event};
+ghost use Rattle.kr_records.specs.Numbers.{begun_by, was_begun, ends_kept, HaveEnds};
+ghost use Rattle.kr_records.specs.Cores.{freed};
 
-use crate::faults::{EngineFault, fault_of};
-use crate::numbers::Numbers;
 use kr_history::{Entry, Known, PlaceRow};
 use kr_index::Tree;
 use kr_locks::Buckets;
 use kr_machine::{NotDone, Stepper};
 use kr_model::{Event, Op, Reply, Txn};
 use kr_protocol::Covered;
+use kr_records::{EngineFault, Numbers, fault_of, is_end, written};
 use std::alloc::Global;
-
-/// Whether the operation ends its transaction.
-pub(crate) fn is_end(op: Op) -> bool
-    ensures { result ≡ ends op }
-{
-    match op {
-        Op::Commit | Op::Abort => true,
-        Op::Fetch(_)
-        | Op::Scan(_, _)
-        | Op::Go
-        | Op::Insert(_, _)
-        | Op::Delete(_)
-        | Op::Update(_, _)
-        | Op::Back => false,
-    }
-}
 
 /// What an operation answers that ends its transaction.
 fn end_reply(op: Op) -> Reply
@@ -49,34 +32,6 @@ fn end_reply(op: Op) -> Reply
         | Op::Delete(_)
         | Op::Update(_, _)
         | Op::Back => Reply::Committed,
-    }
-}
-
-/// Writes a place with an entry of this event and a copy of its reply. `PlaceTaken` where the place refuses it, and `Memory`
-/// where a growth is refused.
-fn written(
-    alloc: Global,
-    row: &PlaceRow,
-    place: usize,
-    seat: usize,
-    event: Event,
-    reply: &Reply,
-) -> Result<Known<Entry>, EngineFault>
-    requires { place < length row.now }
-    ensures note { IfOk result (λ n. (n.cell ≡ slice_index_or row.now place 0) × (n.known ≡ Some (entry seat event reply.now))) }
-    ensures faults { IfErr result (λ f. is_of_write f ≡ true) }
-{
-    let Ok(reply) = reply.try_copy(alloc) else {
-        return Err(EngineFault::Memory);
-    };
-    let Ok(made) = Box::new(alloc, Entry { seat, event, reply }) else {
-        return Err(EngineFault::Memory);
-    };
-    let cell = row.cell(place);
-    let mut note = cell.note();
-    match cell.set_as(made, &mut note) {
-        Ok(()) => Ok(Known::of(&mut note)),
-        Err(_) => Err(EngineFault::PlaceTaken),
     }
 }
 

@@ -2,12 +2,9 @@
 #![tactic(auto)]
 
 mod calls;
-mod compared;
-mod history;
-mod left_out;
-mod report;
 mod run;
 mod work;
 
+pub use kr_compared::RunFault;
 pub use kr_workers::{Gate, Passage};
-pub use run::{RunFault, run_threads, show_threads};
+pub use run::{run_threads, show_threads};

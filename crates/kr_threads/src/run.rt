@@ -1,67 +1,21 @@
 //! A run of a script in several threads.
-ghost use Rattle.std.specs.Prelude.{◌≡◌, ◌<◌, ◌≤◌, All, IfOk, OnOk};
-ghost use Rattle.kr_model.specs.Protocol.{IsLawful};
+ghost use Rattle.std.specs.Prelude.{◌≡◌, ◌<◌, ◌≤◌, IfOk};
 ghost use Rattle.kr_model.specs.Map.{IsMap};
-ghost use Rattle.kr_engine.specs.Closed.{IsClosed};
-ghost use Rattle.kr_threads.specs.Faults.{fault_of_close, fault_of_row};
-ghost use Rattle.kr_threads.specs.declared.run.RunFault.TheVariants as fault;
-ghost use Rattle.kr_threads.specs.Told.{IsToldToOne, IsWorked};
-ghost use Rattle.kr_threads.specs.Threaded.{IsCompared, IsThreaded, ShowsThreads};
+ghost use Rattle.kr_compared.specs.Told.{IsWorked};
+ghost use Rattle.kr_compared.specs.Threaded.{IsCompared, IsThreaded, ShowsThreads};
 
-use crate::compared::{Worked, compared, shown_of, threaded_of};
-use crate::report::Report;
 use crate::work::{Worker, work};
-use kr_engine::{CloseFault, Engine, EngineName, History, NewFault, PlaceRow, Share};
+use kr_compared::{Report, RunFault, Worked, compared, finished, gather, shown_of, threaded_of};
+use kr_engine::{Engine, EngineName, History, PlaceRow};
 use kr_protocol::Covered;
 use kr_report::{Threaded, ThreadsShown};
 use kr_script::Script;
-use kr_workers::{Dealt, Gate, LeftOut, StepFault};
+use kr_workers::{Dealt, Gate, StepFault};
 use std::alloc::{AllocError, Global};
 use std::marker::Brand;
 use std::sync::{Mutex, Wait};
 use std::thread;
 use std::thread::Threads;
-
-/// Why a run shows nothing.
-#[derive(Debug, Drop)]
-pub enum RunFault {
-    /// A growth was refused.
-    Memory,
-    /// A place refused a write or there were too few, a number was taken, open or not begun, an abort was refused, a share
-    /// doesn't fit the history, a transaction is active at its end, it doesn't follow the script, or a step was left out where
-    /// its transaction hadn't come to it: only by a fault of the engine or of the run.
-    Place,
-}
-
-impl From<AllocError> for RunFault {
-    ghost from_gives = { λ _ e. e ≡ fault.Memory };
-
-    fn from(_e: AllocError) -> RunFault {
-        RunFault::Memory
-    }
-}
-
-impl From<NewFault> for RunFault {
-    ghost from_gives = { λ f e. e ≡ fault_of_row f };
-
-    fn from(fault: NewFault) -> RunFault {
-        match fault {
-            NewFault::Memory => RunFault::Memory,
-            NewFault::Places => RunFault::Place,
-        }
-    }
-}
-
-impl From<CloseFault> for RunFault {
-    ghost from_gives = { λ f e. e ≡ fault_of_close f };
-
-    fn from(fault: CloseFault) -> RunFault {
-        match fault {
-            CloseFault::Memory => RunFault::Memory,
-            CloseFault::Place => RunFault::Place,
-        }
-    }
-}
 
 /// Runs a script under a covered protocol in as many threads as there are workers, 1 to 64.
 ///
@@ -190,66 +144,4 @@ fn hired<'a, P: Covered, K: EngineName, R: Wait>(
         })?;
     }
     Ok(all)
-}
-
-/// The shares of all workers and the steps that they left out, or why the first worker gave up that did.
-fn gather<K: EngineName>(
-    alloc: Global,
-    reports: Vec<Report<K>>,
-) -> Result<(Vec<Share<K>>, Vec<LeftOut>), RunFault>
-    ensures { IfOk result (λ r. All (IsToldToOne K.table K.opening r.0.items) r.1.items) }
-{
-    let mut shares = Vec::new(alloc);
-    let mut left_out = Vec::new(alloc);
-    for report in reports {
-        add(&mut shares, &mut left_out, report)?;
-    }
-    Ok((shares, left_out))
-}
-
-/// Adds what one worker hands back.
-#[tactic(auto, using(crate::proofs::Gathered::all_told_both))]
-fn add<K: EngineName>(
-    shares: &mut Vec<Share<K>>,
-    left_out: &mut Vec<LeftOut>,
-    report: Report<K>,
-) -> Result<(), RunFault>
-    requires { All (IsToldToOne K.table K.opening shares.old.items) left_out.old.items }
-    ensures { OnOk result (All (IsToldToOne K.table K.opening shares.new.items) left_out.new.items) }
-{
-    let Report {
-        share,
-        left_out: mut more,
-        failed,
-    } = report;
-    if let Some(fault) = failed {
-        return Err(fault);
-    }
-    if shares.push(share).is_err() {
-        return Err(RunFault::Memory);
-    }
-    left_out.append(&mut more)?;
-    Ok(())
-}
-
-/// The closed history with the steps that were left out by transaction, then by number; or `Place` where a transaction is
-/// active.
-fn finished<K: EngineName>(
-    history: History,
-    shares: &[Share<K>],
-    left_out: Vec<LeftOut>,
-) -> Result<Worked, RunFault>
-    requires lawful { IsLawful K.table }
-    requires is_map { IsMap K.opening }
-    requires closed { IsClosed K.table K.opening history shares.now }
-    requires told { All (IsToldToOne K.table K.opening shares.now) left_out.items }
-    ensures worked { IfOk result (λ w. IsWorked K.table K.opening w.history w.left_out.items) }
-    ensures is_map { IfOk result (λ w. IsMap w.history.index) }
-{
-    if !history.unfinished.as_slice().is_empty() {
-        return Err(RunFault::Place);
-    }
-    let mut left_out = left_out;
-    left_out.sort_unstable_by_key(|l| (l.fault.txn, l.fault.step));
-    Ok(Worked { history, left_out })
 }

@@ -1,18 +1,16 @@
 //! What one worker does.
 ghost use Rattle.std.specs.Prelude.{◌≡◌, ◌<◌, false, Some, None, IfErr, OnErr};
-ghost use Rattle.kr_engine.specs.Faults.{is_blocked as blocked};
-ghost use Rattle.kr_model.specs.Step.{is_end as ends};
-ghost use Rattle.kr_engine.specs.Histories.{events_with_replies};
-ghost use Rattle.kr_engine.specs.Seats.{ToldFault};
-ghost use Rattle.kr_threads.specs.Told.{IsCaused};
+ghost use Rattle.kr_records.specs.Faults.{is_blocked as blocked};
+ghost use Rattle.kr_records.specs.Histories.{events_with_replies};
+ghost use Rattle.kr_records.specs.Seats.{ToldFault};
+ghost use Rattle.kr_compared.specs.Told.{IsCaused};
 
 use crate::calls::call_in_turn;
-use crate::left_out::settle;
-use crate::report::Report;
-use crate::run::RunFault;
+use kr_compared::{Report, RunFault, failure, settle};
 use kr_engine::{EngineFault, EngineName, Receipt, Seat};
 use kr_model::{Op, Txn};
 use kr_protocol::Covered;
+use kr_records::is_end;
 use kr_workers::{Dealt, Gate, LeftOut, MOST_CALLS, StepFault, Turn, WhyNotDone};
 use std::alloc::AllocError;
 use std::marker::Model;
@@ -36,7 +34,7 @@ pub(crate) struct Worker<'a, P: Covered, K: EngineName> {
 }
 
 impl<'a, P: Covered, K: EngineName> Model for Worker<'a, P, K> {
-    ghost use Rattle.kr_threads.specs.Told.{Working, IsWorker};
+    ghost use Rattle.kr_compared.specs.Told.{Working, IsWorker};
 
     ghost Value = { Working };
 
@@ -163,7 +161,7 @@ impl<P: Covered, K: EngineName> Worker<'_, P, K> {
     }
 
     /// One step of the transaction that the seat speaks for, which is noted where it is left out.
-    #[tactic(auto, using(crate::proofs::Told::told_refused, crate::proofs::Told::told_deadlock))]
+    #[tactic(auto, using(kr_compared::proofs::Told::told_refused, kr_compared::proofs::Told::told_deadlock))]
     fn do_step<G: Gate, R: Wait>(
         &mut self,
         rt: &R,
@@ -268,20 +266,5 @@ impl<P: Covered, K: EngineName> Worker<'_, P, K> {
             self.passed = Some(receipt.place);
         }
         result
-    }
-}
-
-/// Whether the operation ends its transaction.
-fn is_end(op: Op) -> bool
-    ensures { result ≡ ends op }
-{
-    matches!(op, Op::Commit | Op::Abort)
-}
-
-/// Why a worker gives up at this fault: `Memory` where a growth was refused.
-fn failure(fault: &EngineFault) -> RunFault {
-    match fault {
-        EngineFault::Memory => RunFault::Memory,
-        _ => RunFault::Place,
     }
 }

@@ -4,9 +4,9 @@ use Rattle.std.specs.Option.{IfSome, IfNone}
 use Rattle.kr_model.specs.declared.Event.{Event}
 use Rattle.kr_deadlock.specs.Waits.{blockers_of, IsCycle}
 use Rattle.kr_deadlock.proofs.Cycles.{IsCycle-same}
-use Rattle.kr_engine.specs.Histories.{event}
-use Rattle.kr_engine.specs.Waits.{blockers_now, in_the_way}
-use Rattle.kr_engine.proofs.Blockers.{no_cycle_without}
+use Rattle.kr_records.specs.Histories.{event}
+use Rattle.kr_records.specs.Waits.{blockers_now, in_the_way}
+use Rattle.kr_records.proofs.Blockers.{no_cycle_without}
 use Rattle.kr_engine.proofs.waits.cycle_of.Goals as goal
 
 -- none of those that block the requester is it or waits

@@ -1,8 +1,8 @@
 use Rattle.std.proofs.Common.{refl}
 use Rattle.kr_model.specs.declared.Event.{Event}
 use Rattle.kr_model.specs.declared.Op.TheVariants as op
-use Rattle.kr_engine.specs.Waits.{in_the_way}
-use Rattle.kr_engine.proofs.Blockers.{entries_push, entries_all}
+use Rattle.kr_records.specs.Waits.{in_the_way}
+use Rattle.kr_records.proofs.Blockers.{entries_push, entries_all}
 use Rattle.kr_engine.proofs.waits.entries.Goals as goal
 
 pub loop-other-preserved : goal.loop-other-preserved

@@ -3,8 +3,8 @@ use Rattle.std.specs.List.{AllZip}
 use Rattle.std.proofs.lemmas.List.{take_all}
 use Rattle.kr_model.specs.declared.Event.{Event}
 use Rattle.kr_model.specs.declared.Op.TheVariants as op
-use Rattle.kr_engine.specs.Waits.{IsEntry, in_the_way}
-use Rattle.kr_engine.proofs.Blockers.{all_push}
+use Rattle.kr_records.specs.Waits.{IsEntry, in_the_way}
+use Rattle.kr_records.proofs.Blockers.{all_push}
 use Rattle.kr_engine.proofs.wakes.all_blockers.Goals as goal
 
 pub loop-event-preserved : goal.loop-event-preserved

@@ -1,6 +1,6 @@
 use Rattle.std.proofs.Common.{take}
 use Rattle.std.specs.List.{AllZip}
-use Rattle.kr_engine.specs.Waits.{IsEntry, in_the_way}
+use Rattle.kr_records.specs.Waits.{IsEntry, in_the_way}
 use Rattle.kr_engine.proofs.wakes.all_blockers.Given as goal
 
 -- there are entries so far

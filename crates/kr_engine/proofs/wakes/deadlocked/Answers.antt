@@ -1,5 +1,5 @@
-use Rattle.kr_engine.specs.Waits.{in_the_way, blockers_now}
-use Rattle.kr_engine.proofs.Deadlocked.{cycle_is_deadlocked, entries_of_all, entry_there}
+use Rattle.kr_records.specs.Waits.{in_the_way, blockers_now}
+use Rattle.kr_records.proofs.Deadlocked.{cycle_is_deadlocked, entries_of_all, entry_there}
 use Rattle.kr_engine.proofs.wakes.deadlocked.Goals as goal
 
 pub returns-clause-all : goal.returns-clause-all

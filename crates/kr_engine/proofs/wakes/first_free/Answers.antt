@@ -2,7 +2,7 @@ use Rattle.std.proofs.lemmas.Grind.{common_steps}
 use Rattle.std.proofs.Common.{◌≢◌, [], List, All, subst, arith}
 use Rattle.std.proofs.lemmas.List.{take_all}
 use Rattle.kr_model.specs.declared.Event.{Event}
-use Rattle.kr_engine.specs.Waits.{in_the_way}
+use Rattle.kr_records.specs.Waits.{in_the_way}
 use Rattle.kr_engine.proofs.wakes.first_free.Goals as goal
 
 pub returns : goal.returns

@@ -1,5 +1,5 @@
 use Rattle.std.proofs.Common.{◌≢◌, [], All, take}
-use Rattle.kr_engine.specs.Waits.{in_the_way}
+use Rattle.kr_records.specs.Waits.{in_the_way}
 use Rattle.kr_engine.proofs.wakes.first_free.Given as goal
 
 -- the operations so far are blocked

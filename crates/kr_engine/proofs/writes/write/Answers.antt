@@ -2,7 +2,7 @@ use Rattle.std.proofs.Common.{arith}
 use Rattle.std.proofs.lemmas.Grind.{common_steps}
 use Rattle.std.proofs.Common.{sym, ◌∙◌}
 use Rattle.kr_model.specs.Step.{step}
-use Rattle.kr_engine.proofs.Ended.{ended_stays, ends_stay, nobody_ended}
+use Rattle.kr_records.proofs.Ended.{ended_stays, ends_stay, nobody_ended}
 use Rattle.kr_engine.proofs.writes.write.Goals as goal
 
 pub returns-clause-ends : goal.returns-clause-ends

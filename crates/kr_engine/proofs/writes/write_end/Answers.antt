@@ -5,11 +5,11 @@ use Rattle.kr_model.specs.declared.Reply.{Reply}
 use Rattle.kr_model.specs.State.{State}
 use Rattle.kr_model.specs.Step.{step}
 use Rattle.kr_model.specs.Run.{is_granted}
-use Rattle.kr_engine.specs.declared.numbers.Number.{Number}
-use Rattle.kr_engine.specs.Histories.{entry, event}
-use Rattle.kr_engine.specs.Numbers.{HaveEnds, number_at, nobody}
-use Rattle.kr_engine.proofs.Ends.{end_granted}
-use Rattle.kr_engine.proofs.Ended.{ends_taken, ends_back, ends_stay, works}
+use Rattle.kr_records.specs.declared.numbers.Number.{Number}
+use Rattle.kr_records.specs.Histories.{entry, event}
+use Rattle.kr_records.specs.Numbers.{HaveEnds, number_at, nobody}
+use Rattle.kr_engine.proofs.EndReplies.{end_granted}
+use Rattle.kr_records.proofs.Ended.{ends_taken, ends_back, ends_stay, works}
 use Rattle.kr_engine.proofs.writes.write_end.Goals as goal
 
 pub returns-in-Ok-set_as-clause-ends : goal.returns-in-Ok-set_as-clause-ends

@@ -1,7 +1,7 @@
 //! Rows of calls of a core of two seats, each with its answer: every call is there, and memory is ample.
 ghost use Rattle.std.specs.Prelude.{◌≡◌, ◌<◌, [], true, length};
 ghost use Rattle.kr_model.specs.Kvl.{kvl};
-ghost use Rattle.kr_engine.specs.Cores.{seat_at};
+ghost use Rattle.kr_records.specs.Cores.{seat_at};
 
 use super::{Short, of_fault, of_receipt};
 use kr_engine::{Core, EngineName, Op, PlaceRow, Txn};

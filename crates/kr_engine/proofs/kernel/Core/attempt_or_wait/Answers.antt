@@ -2,11 +2,11 @@ use Rattle.std.proofs.Common.{◌≡◌, ◌∷◌, List, Some, true, sym, ap, �
 use Rattle.kr_model.specs.Protocol.{Protocol}
 use Rattle.kr_deadlock.specs.Waits.{IsCycle}
 use Rattle.kr_history.specs.declared.name.Entry.{Entry}
-use Rattle.kr_engine.specs.Faults.{is_blocked}
-use Rattle.kr_engine.specs.Histories.{IsHistory, event}
-use Rattle.kr_engine.specs.Waits.{in_the_way, blockers_now, TellsCycle}
-use Rattle.kr_engine.specs.Seats.{Held}
-use Rattle.kr_engine.proofs.Showing.{waited, blocked_refusal, blocked_saw}
+use Rattle.kr_records.specs.Faults.{is_blocked}
+use Rattle.kr_records.specs.Histories.{IsHistory, event}
+use Rattle.kr_records.specs.Waits.{in_the_way, blockers_now, TellsCycle}
+use Rattle.kr_records.specs.Seats.{Held}
+use Rattle.kr_records.proofs.Showing.{waited, blocked_refusal, blocked_saw}
 use Rattle.kr_engine.proofs.kernel.Core.attempt_or_wait.Goals as goal
 
 pub returns-in-Err-wait-clause-fault : goal.returns-in-Err-wait-clause-fault

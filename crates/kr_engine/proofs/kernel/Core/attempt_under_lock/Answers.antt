@@ -1,10 +1,10 @@
 use Rattle.std.proofs.Common.{◌≡◌, ◌+◌, ◌++◌, ◌∷◌, [], List, Some, sym, ap, ◌∙◌, subst, arith, refl}
 use mathlib.Core.List.{IsPrefix}
 use Rattle.kr_history.specs.declared.name.Entry.{Entry}
-use Rattle.kr_engine.specs.Histories.{entries_of, entry, event}
-use Rattle.kr_engine.specs.Seats.{Held}
-use Rattle.kr_engine.proofs.Counts.{entries_of-within}
-use Rattle.kr_engine.proofs.Showing.{shows, own_more}
+use Rattle.kr_records.specs.Histories.{entries_of, entry, event}
+use Rattle.kr_records.specs.Seats.{Held}
+use Rattle.kr_records.proofs.Counts.{entries_of-within}
+use Rattle.kr_records.proofs.Showing.{shows, own_more}
 use Rattle.kr_engine.proofs.kernel.Core.attempt_under_lock.Goals as goal
 
 pub overflow_add-seat : goal.overflow_add-seat

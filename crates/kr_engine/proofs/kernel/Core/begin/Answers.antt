@@ -1,13 +1,13 @@
 use Rattle.std.proofs.lemmas.Grind.{common_steps}
 use Rattle.std.proofs.Common.{◌≡◌, ◌<◌, ◌+◌, ◌++◌, ◌∷◌, [], length, ℕ, List, Some, true, false, All, sym, ap, ◌∙◌, refl, subst, arith}
-use Rattle.kr_engine.specs.declared.numbers.Number.{Number}
-use Rattle.kr_engine.specs.Numbers.{begun_by, was_begun, is_begun, ends_kept, HaveEnds}
+use Rattle.kr_records.specs.declared.numbers.Number.{Number}
+use Rattle.kr_records.specs.Numbers.{begun_by, was_begun, is_begun, ends_kept, HaveEnds}
 use Rattle.std.specs.Prelude.{slice_set}
-use Rattle.kr_engine.specs.Cores.{LastAre, AreOfSeats}
-use Rattle.kr_engine.proofs.Counts.{counts_stay}
-use Rattle.kr_engine.proofs.Ends.{ends_more}
-use Rattle.kr_engine.proofs.Spoken.{last_more, given_more}
-use Rattle.kr_engine.proofs.Ended.{begun_with, ended_with_one, ends_with, live}
+use Rattle.kr_records.specs.Cores.{LastAre, AreOfSeats}
+use Rattle.kr_records.proofs.Counts.{counts_stay}
+use Rattle.kr_records.proofs.Ends.{ends_more}
+use Rattle.kr_records.proofs.Spoken.{last_more, given_more}
+use Rattle.kr_records.proofs.Ended.{begun_with, ended_with_one, ends_with, live}
 use Rattle.kr_engine.proofs.kernel.Core.begin.Goals as goal
 
 pub invariant_of-self : goal.invariant_of-self

@@ -3,7 +3,7 @@ use Rattle.std.specs.Prelude.{IfOk}
 use Rattle.std.specs.List.{Contains, list_any}
 use Rattle.kr_deadlock.specs.declared.Waiting.{Waiting}
 use Rattle.kr_deadlock.specs.Waits.{IsCycle}
-use Rattle.kr_engine.specs.Waits.{in_the_way, blockers_now, AreDeadlocked}
+use Rattle.kr_records.specs.Waits.{in_the_way, blockers_now, AreDeadlocked}
 use Rattle.kr_engine.proofs.kernel.Core.deadlocked.Goals as goal
 
 -- each set of which each is blocked by another is among the entries

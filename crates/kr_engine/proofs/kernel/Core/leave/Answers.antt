@@ -1,9 +1,9 @@
 use Rattle.std.proofs.Common.{arith}
 use Rattle.std.proofs.lemmas.Grind.{common_steps}
 use Rattle.std.proofs.Common.{◌<◌, length, ap, refl}
-use Rattle.kr_engine.specs.Numbers.{begun_by}
-use Rattle.kr_engine.proofs.Counts.{counts_stay}
-use Rattle.kr_engine.proofs.Spoken.{last_stay, given_stay}
+use Rattle.kr_records.specs.Numbers.{begun_by}
+use Rattle.kr_records.proofs.Counts.{counts_stay}
+use Rattle.kr_records.proofs.Spoken.{last_stay, given_stay}
 use Rattle.kr_engine.proofs.kernel.Core.leave.Goals as goal
 
 pub invariant_of-self : goal.invariant_of-self

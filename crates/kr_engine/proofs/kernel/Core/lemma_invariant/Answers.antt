@@ -1,12 +1,12 @@
 use Rattle.std.proofs.Common.{◌≡◌, ◌≤◌, ◌+◌, ◌∙◌, length, subst}
 use Rattle.kr_model.specs.Protocol.{IsLawful}
 use Rattle.kr_model.specs.Covers.{IsCovered}
-use Rattle.kr_engine.specs.Histories.{IsHistory, AreOfOneSeat, IsSerialHistory}
-use Rattle.kr_engine.specs.Cores.{CountsAre, LastAreOwn, LastAre, AreOfSeats, AreBegun, AreBegunByOne, unended}
-use Rattle.kr_engine.specs.Numbers.{begun_by}
-use Rattle.kr_engine.proofs.Spoken.{own_of_last, by_one_seat}
-use Rattle.kr_engine.proofs.Ended.{kept_unended}
-use Rattle.kr_engine.proofs.Histories.{of_one_seat, serial_history}
+use Rattle.kr_records.specs.Histories.{IsHistory, AreOfOneSeat, IsSerialHistory}
+use Rattle.kr_records.specs.Cores.{CountsAre, LastAreOwn, LastAre, AreOfSeats, AreBegun, AreBegunByOne, unended}
+use Rattle.kr_records.specs.Numbers.{begun_by}
+use Rattle.kr_records.proofs.Spoken.{own_of_last, by_one_seat}
+use Rattle.kr_records.proofs.Ended.{kept_unended}
+use Rattle.kr_records.proofs.Histories.{of_one_seat, serial_history}
 use Rattle.kr_engine.proofs.kernel.Core.lemma_invariant.Goals as goal
 
 pub returns : goal.returns

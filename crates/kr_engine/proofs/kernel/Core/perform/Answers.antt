@@ -4,19 +4,19 @@ use Rattle.std.proofs.lemmas.List.Elements.{All-push}
 use Rattle.std.specs.Prelude.{slice_set}
 use Rattle.kr_model.specs.Protocol.{Protocol}
 use Rattle.kr_model.specs.State.{State}
-use Rattle.kr_engine.specs.declared.kernel.SeatNote.{SeatNote}
+use Rattle.kr_records.specs.declared.notes.SeatNote.{SeatNote}
 use Rattle.kr_model.specs.Step.{step}
 use Rattle.kr_history.specs.declared.name.Entry.{Entry}
 use Rattle.kr_model.specs.Run.{is_granted}
-use Rattle.kr_engine.specs.Histories.{IsHistory, entry, event}
-use Rattle.kr_engine.specs.Numbers.{begun_by, was_begun, is_begun}
-use Rattle.kr_engine.specs.Cores.{CountsAre, LastAre, AreOfSeats}
-use Rattle.kr_engine.proofs.Counts.{counts_more, counts_within}
-use Rattle.kr_engine.proofs.Begun.{begun_by_one}
-use Rattle.kr_engine.proofs.Ended.{ended_after}
-use Rattle.kr_engine.proofs.Histories.{history_more}
-use Rattle.kr_engine.proofs.Lists.{some_has}
-use Rattle.kr_engine.proofs.Spoken.{last_stay, given_stay}
+use Rattle.kr_records.specs.Histories.{IsHistory, entry, event}
+use Rattle.kr_records.specs.Numbers.{begun_by, was_begun, is_begun}
+use Rattle.kr_records.specs.Cores.{CountsAre, LastAre, AreOfSeats}
+use Rattle.kr_records.proofs.Counts.{counts_more, counts_within}
+use Rattle.kr_records.proofs.Begun.{begun_by_one}
+use Rattle.kr_records.proofs.Ended.{ended_after}
+use Rattle.kr_records.proofs.Histories.{history_more}
+use Rattle.kr_records.proofs.Lists.{some_has}
+use Rattle.kr_records.proofs.Spoken.{last_stay, given_stay}
 use Rattle.kr_engine.proofs.kernel.Core.perform.Goals as goal
 
 pub overflow_add-index_mut : goal.overflow_add-index_mut

@@ -1,10 +1,10 @@
 use Rattle.std.proofs.Common.{ℕ, List, ◌∷◌, subst}
 use Rattle.std.specs.Option.{IfNone}
 use Rattle.kr_deadlock.specs.Waits.{IsCycle}
-use Rattle.kr_engine.specs.Histories.{event}
-use Rattle.kr_engine.specs.Waits.{blockers_now, in_the_way}
-use Rattle.kr_engine.proofs.Lists.{some_has, on_ok}
-use Rattle.kr_engine.proofs.Waiting.{cycle_waits, cycle_back}
+use Rattle.kr_records.specs.Histories.{event}
+use Rattle.kr_records.specs.Waits.{blockers_now, in_the_way}
+use Rattle.kr_records.proofs.Lists.{some_has, on_ok}
+use Rattle.kr_records.proofs.Waiting.{cycle_waits, cycle_back}
 use Rattle.kr_engine.proofs.kernel.Core.wait.Goals as goal
 
 pub returns-in-Some-clause-cycle : goal.returns-in-Some-clause-cycle

@@ -1,0 +1,45 @@
+-- What is told of the steps that weren't done, put together.
+use Rattle.std.proofs.Common.{◌≡◌, List, [], ◌∷◌, ◌++◌, refl, map, length, ◌==◌, true, All, arith}
+use Rattle.std.proofs.lemmas.Bool.{eqb-true}
+use Rattle.std.proofs.lemmas.List.Elements.{All-weaker, All-append, All-contains, Contains-append_left, Contains-push}
+use Rattle.kr_model.specs.Protocol.{Protocol}
+use Rattle.kr_model.specs.Map.{Map}
+use Rattle.kr_history.specs.declared.name.Entry.{Entry}
+use Rattle.kr_records.specs.declared.notes.SeatNote.{SeatNote}
+use Rattle.kr_records.specs.Histories.{events_with_replies}
+use Rattle.kr_records.specs.Closed.{Lent, StandsIn}
+use Rattle.kr_workers.specs.declared.left_out.LeftOut.{LeftOut}
+use Rattle.kr_compared.specs.Told.{IsLeftOut, AreTold, IsToldToOne}
+use Rattle.kr_compared.proofs.Told.{told_more}
+
+-- What is told to one of the shares is told to one of more.
+told_to_more : (p : Protocol) (opening : Map) (shares : List Lent) (s : Lent) (l : LeftOut) → IsToldToOne p opening shares l → IsToldToOne p opening (shares ++ s ∷ []) l
+told_to_more p opening shares s l t = record { share = t.share; among = Contains-append_left shares (s ∷ []) t.share t.among; told = t.told }
+
+-- What is told to the last is told to one.
+told_to_last : (p : Protocol) (opening : Map) (shares : List Lent) (s : Lent) (l : LeftOut) → IsLeftOut p opening (events_with_replies s.view) l → IsToldToOne p opening (shares ++ s ∷ []) l
+told_to_last p opening shares s l t = record { share = s; among = Contains-push shares s; told = t }
+
+-- A share more, and what was told to it.
+pub all_told_both : (p : Protocol) (opening : Map) (shares : List Lent) (s : Lent) (ls more : List LeftOut) → All (IsToldToOne p opening shares) ls → AreTold p opening s.view more → All (IsToldToOne p opening (shares ++ s ∷ [])) (ls ++ more)
+all_told_both p opening shares s ls more h t =
+    let to_one = IsToldToOne p opening (shares ++ s ∷ []) in
+    let old : All to_one ls = All-weaker (IsToldToOne p opening shares) to_one (told_to_more p opening shares s) ls h in
+    let new : All to_one more = All-weaker (IsLeftOut p opening (events_with_replies s.view)) to_one (told_to_last p opening shares s) more t in
+    All-append to_one ls more old new
+
+-- What is told to one of the shares that stand in the history is told at the end of a prefix of it.
+pub all_told_whole : (p : Protocol) (opening : Map) (seats : List SeatNote) (es : List Entry) (shares : List Lent) (ls : List LeftOut) → All (StandsIn seats es) shares → All (IsToldToOne p opening shares) ls → AreTold p opening es ls
+all_told_whole p opening seats es shares ls stand h =
+    let told : (l : LeftOut) → IsToldToOne p opening shares l → IsLeftOut p opening (events_with_replies es) l = λ l t. told_more p opening t.share.view es l.last l.next l.fault ((All-contains (StandsIn seats es) shares t.share stand t.among).begins) t.told in
+    All-weaker (IsToldToOne p opening shares) (IsLeftOut p opening (events_with_replies es)) told ls h
+
+-- A list whose image is empty is empty.
+pub none_mapped : {A B : Type 0} (f : A → B) (xs : List A) → map f xs ≡ [] → xs ≡ []
+none_mapped f [] is = refl
+none_mapped f (x ∷ xs) is = absurd (cc (is))
+
+-- A list with no length is empty.
+pub none_listed : {A : Type 0} (xs : List A) → (length xs == 0) ≡ true → xs ≡ []
+none_listed [] is = refl
+none_listed (x ∷ xs) is = let none : length (x ∷ xs) ≡ 0 = eqb-true _ _ is in absurd (omega arith)

@@ -1,0 +1,17 @@
+-- Which fault of a run each fault of its row and of its engine is.
+use Rattle.kr_history.specs.declared.row.NewFault.{NewFault}
+use Rattle.kr_history.specs.declared.row.NewFault.TheVariants as new
+use Rattle.kr_records.specs.declared.closing.CloseFault.{CloseFault}
+use Rattle.kr_records.specs.declared.closing.CloseFault.TheVariants as close
+use Rattle.kr_compared.specs.declared.fault.RunFault.{RunFault}
+use Rattle.kr_compared.specs.declared.fault.RunFault.TheVariants as fault
+
+-- Of a row that isn't made.
+abbrev pub fault_of_row : NewFault → RunFault
+fault_of_row new.Memory = fault.Memory
+fault_of_row new.Places = fault.Place
+
+-- Of an engine that doesn't close.
+abbrev pub fault_of_close : CloseFault → RunFault
+fault_of_close close.Memory = fault.Memory
+fault_of_close close.Place = fault.Place

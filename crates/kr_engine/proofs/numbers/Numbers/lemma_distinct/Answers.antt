@@ -1,7 +1,0 @@
-use Rattle.std.proofs.Common.{subst}
-use Rattle.kr_engine.specs.Numbers.{AreDistinct}
-use Rattle.kr_engine.proofs.Begun.{are_distinct}
-use Rattle.kr_engine.proofs.numbers.Numbers.lemma_distinct.Goals as goal
-
-pub returns : goal.returns
-returns c = subst AreDistinct c.self.view_is (are_distinct c.self.inside.places c.self.inside.list.items c.self.invariant)

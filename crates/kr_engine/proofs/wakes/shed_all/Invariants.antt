@@ -1,7 +1,0 @@
-use Rattle.std.proofs.Common.{ℕ, List}
-use Rattle.kr_engine.specs.Waits.{AreDeadlocked, HaveEntries}
-use Rattle.kr_engine.proofs.wakes.shed_all.Given as goal
-
--- those that are deadlocked are there still
-abbrev pub invariant-loop : goal.invariant-loop
-invariant-loop l = (blockers : ℕ → List ℕ) (txns : List ℕ) → AreDeadlocked blockers txns → HaveEntries blockers txns l.fn.waits.items → HaveEntries blockers txns l.waits.items

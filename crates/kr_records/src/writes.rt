@@ -1,0 +1,54 @@
+//! The write of a place.
+ghost use Rattle.std.specs.Prelude.{◌≡◌, ◌<◌, true, length, Some, IfOk, IfErr, slice_index_or};
+ghost use Rattle.kr_model.specs.Step.{is_end as ends};
+ghost use Rattle.kr_records.specs.Faults.{is_of_write};
+ghost use Rattle.kr_records.specs.Histories.{entry};
+
+use crate::faults::EngineFault;
+use kr_history::{Entry, Known, PlaceRow};
+use kr_model::{Event, Op, Reply};
+use std::alloc::Global;
+
+/// Whether the operation ends its transaction.
+pub fn is_end(op: Op) -> bool
+    ensures { result ≡ ends op }
+{
+    match op {
+        Op::Commit | Op::Abort => true,
+        Op::Fetch(_)
+        | Op::Scan(_, _)
+        | Op::Go
+        | Op::Insert(_, _)
+        | Op::Delete(_)
+        | Op::Update(_, _)
+        | Op::Back => false,
+    }
+}
+
+/// Writes a place with an entry of this event and a copy of its reply. `PlaceTaken` where the place refuses it, and `Memory`
+/// where a growth is refused.
+pub fn written(
+    alloc: Global,
+    row: &PlaceRow,
+    place: usize,
+    seat: usize,
+    event: Event,
+    reply: &Reply,
+) -> Result<Known<Entry>, EngineFault>
+    requires { place < length row.now }
+    ensures note { IfOk result (λ n. (n.cell ≡ slice_index_or row.now place 0) × (n.known ≡ Some (entry seat event reply.now))) }
+    ensures faults { IfErr result (λ f. is_of_write f ≡ true) }
+{
+    let Ok(reply) = reply.try_copy(alloc) else {
+        return Err(EngineFault::Memory);
+    };
+    let Ok(made) = Box::new(alloc, Entry { seat, event, reply }) else {
+        return Err(EngineFault::Memory);
+    };
+    let cell = row.cell(place);
+    let mut note = cell.note();
+    match cell.set_as(made, &mut note) {
+        Ok(()) => Ok(Known::of(&mut note)),
+        Err(_) => Err(EngineFault::PlaceTaken),
+    }
+}
