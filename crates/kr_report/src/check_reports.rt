@@ -3,10 +3,13 @@ ghost use Rattle.std.specs.Prelude.{◌≡◌, IfOk, string_bytes};
 ghost use Rattle.serde_json.specs.View.{view};
 ghost use Rattle.kr_report.specs.CheckReport.{from_data, place_data, failed_data, failed_list, check_data, check_text};
 
+use crate::values::{
+    accepted_value, case_value, one_value, rejected_value, request_value, two_value,
+};
 use kr_cases::{FailedCase, cases};
 use kr_model::{Origin, Requester, cover_code, row_word, rule_code, side_word};
 use kr_protocol::{Protocol, name_or_empty};
-use serde_json::{Value, json};
+use serde_json::Value;
 use std::alloc::{AllocError, Global};
 
 /// The names of the modes that a case is taken at.
@@ -18,19 +21,16 @@ pub(crate) fn from_value<P: Protocol>(
     ensures { IfOk result (λ v. view v ≡ from_data (P.names protocol.now) from) }
 {
     match from {
-        Origin::Own(own) => {
-            let own = name_or_empty(protocol, own);
-            json!(in alloc; [own])
-        }
+        Origin::Own(own) => one_value(alloc, name_or_empty(protocol, own)),
         Origin::Conversion { held, asked } => {
             let held = name_or_empty(protocol, held);
             let asked = name_or_empty(protocol, asked);
-            json!(in alloc; [held, asked])
+            two_value(alloc, held, asked)
         }
         Origin::Insert { own_next, own } => {
             let own_next = name_or_empty(protocol, own_next);
             let own = name_or_empty(protocol, own);
-            json!(in alloc; [own_next, own])
+            two_value(alloc, own_next, own)
         }
     }
 }
@@ -46,7 +46,7 @@ fn place_value<P: Protocol>(
     let side = side_word(place.side);
     let own = name_or_empty(protocol, place.own);
     let own_next = name_or_empty(protocol, place.own_next);
-    json!(in alloc; [row, side, own, own_next])
+    request_value(alloc, row, side, own, own_next)
 }
 
 fn failed_value<P: Protocol>(
@@ -61,7 +61,7 @@ fn failed_value<P: Protocol>(
     let from = from_value(alloc, protocol, failed.from)?;
     let mode = name_or_empty(protocol, failed.mode);
     let open = place_value(alloc, protocol, failed.hole)?;
-    json!(in alloc; {"case": case, "cover": cover, "from": from, "mode": mode, "open": open})
+    case_value(alloc, case, cover, from, mode, open)
 }
 
 fn failed_values<P: Protocol>(
@@ -88,10 +88,10 @@ fn check_value<P: Protocol>(
     let modes = protocol.count();
     let cases = cases(modes, protocol.updates());
     if failed.is_empty() {
-        return json!(in alloc; {"accepted": true, "cases": cases, "modes": modes});
+        return accepted_value(alloc, cases, modes);
     }
     let failed = failed_values(alloc, protocol, failed)?;
-    json!(in alloc; {"accepted": false, "cases": cases, "failed": failed, "modes": modes})
+    rejected_value(alloc, cases, failed, modes)
 }
 
 /// The report of a check that found these failed cases of a protocol, in their order; none is the report of a protocol

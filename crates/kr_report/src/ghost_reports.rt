@@ -4,12 +4,13 @@ ghost use Rattle.serde_json.specs.View.{view};
 ghost use Rattle.kr_report.specs.GhostCheckReport.{own_next, requester_data, failed_data, failed_list, check_data, check_text};
 
 use crate::check_reports::from_value;
+use crate::values::{accepted_value, case_value, rejected_value, request_value};
 use kr_ghost::{Access, FailedCase, Requester, access_words, cover_code, rule_code};
 use kr_ghost_check::cases;
 use kr_ghost_protocol::GhostProtocol;
 use kr_model::Mode;
 use kr_protocol::{Protocol, name_or_empty};
-use serde_json::{Value, json};
+use serde_json::Value;
 use std::alloc::{AllocError, Global};
 
 fn own_next(requester: Requester) -> Mode
@@ -31,7 +32,7 @@ fn requester_value<P: Protocol>(
     let (row, side) = access_words(requester.access);
     let own = name_or_empty(protocol, requester.own);
     let own_next = name_or_empty(protocol, own_next(requester));
-    json!(in alloc; [row, side, own, own_next])
+    request_value(alloc, row, side, own, own_next)
 }
 
 fn failed_value<P: Protocol>(
@@ -45,8 +46,8 @@ fn failed_value<P: Protocol>(
     let cover = cover_code(failed.cover);
     let from = from_value(alloc, protocol, failed.from)?;
     let mode = name_or_empty(protocol, failed.mode);
-    let hole = requester_value(alloc, protocol, failed.hole)?;
-    json!(in alloc; {"case": case, "cover": cover, "from": from, "mode": mode, "open": hole})
+    let open = requester_value(alloc, protocol, failed.hole)?;
+    case_value(alloc, case, cover, from, mode, open)
 }
 
 fn failed_values<P: Protocol>(
@@ -73,10 +74,10 @@ fn check_value<P: GhostProtocol>(
     let modes = protocol.count();
     let cases = cases(modes, protocol.updates(), protocol.inherits());
     if failed.is_empty() {
-        return json!(in alloc; {"accepted": true, "cases": cases, "modes": modes});
+        return accepted_value(alloc, cases, modes);
     }
     let failed = failed_values(alloc, protocol, failed)?;
-    json!(in alloc; {"accepted": false, "cases": cases, "failed": failed, "modes": modes})
+    rejected_value(alloc, cases, failed, modes)
 }
 
 /// The report of a check that found these failed cases of a protocol with ghosts, in their order; none is the report of a

@@ -7,6 +7,7 @@ mod replies;
 mod reports;
 mod threaded;
 mod threads_reports;
+mod values;
 mod writing;
 
 pub use check_reports::report_check;
