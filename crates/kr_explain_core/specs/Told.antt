@@ -1,7 +1,7 @@
 -- How an explanation is written: its text, and the lines of its runs.
 use Rattle.std.specs.Prelude.{◌≡◌, ℕ, List, ◌++◌, [], ◌∷◌, length, Bool, true, false, Option, Some, None, codes, decimal}
 use Rattle.kr_model.specs.Protocol.{Protocol}
-use Rattle.kr_explain_text.specs.Whole.{causes_words}
+use Rattle.kr_explain_text.specs.Whole.{accepted_words, causes_words, rejected_words}
 use Rattle.kr_explain_core.specs.declared.run.Run.{Run}
 use Rattle.kr_explain_core.specs.declared.explanation.Explanation.{Explanation}
 use Rattle.kr_explain_core.specs.declared.explanation.Explanation.TheVariants as told
@@ -9,18 +9,9 @@ use Rattle.kr_explain_core.specs.Blocks.{TellsAll}
 use Rattle.kr_explain_core.specs.Lines.{IsLineOf}
 use Rattle.kr_explain_core.specs.Explained.{has_run}
 
--- The words that the text of an accepted table begins with.
-abbrev pub accepted_words : ℕ → List ℕ
-accepted_words cases = codes "accepted: all " ++ (decimal cases ++ codes " cases hold. Every run under this table is serializable in commit order.")
-
 -- The words that the text of a table begins with that is safe, though cases of it fail.
 abbrev pub safe_words : ℕ → ℕ → List ℕ
 safe_words failed cases = codes "safe: " ++ (decimal failed ++ (codes " of " ++ (decimal cases ++ codes " cases fail, but no schedule reaches their locks. Every run is serializable in commit order.")))
-
--- The words that the text of a table begins with that isn't safe, where a run is known that goes wrong, or where none is.
-abbrev pub rejected_words : Bool → ℕ → ℕ → List ℕ
-rejected_words true failed cases = codes "rejected: " ++ (decimal failed ++ (codes " of " ++ (decimal cases ++ codes " cases fail. ")))
-rejected_words false failed cases = codes "not known to be safe: " ++ (decimal failed ++ (codes " of " ++ (decimal cases ++ codes " cases fail. ")))
 
 -- What is said below the verdict of a table that is ordered: that the verdict is exact.
 abbrev pub exact_words : Bool → List ℕ

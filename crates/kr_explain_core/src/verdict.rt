@@ -1,11 +1,11 @@
 //! What the text of an explanation begins with: the verdict, and whether it is exact.
 ghost use Rattle.std.specs.Prelude.{◌≡◌, IfOk, string_bytes};
 ghost use Rattle.kr_explain_core.specs.declared.explanation.Explanation.TheVariants as told;
-ghost use Rattle.kr_explain_core.specs.Told.{accepted_words, exact_words, rejected_words, safe_words, shown_words, verdict_words};
+ghost use Rattle.kr_explain_core.specs.Told.{exact_words, safe_words, shown_words, verdict_words};
 
 use crate::explanation::{Explanation, Failures};
 use kr_cases::Memory;
-use kr_explain_text::causes_words;
+use kr_explain_text::{accepted_words, causes_words, rejected_words};
 use std::alloc::Global;
 
 /// The words that the text begins with. The only fault is that a growth was refused.
@@ -39,15 +39,6 @@ fn rejected_text(alloc: Global, failures: &Failures) -> Result<String, Memory>
     format!(in alloc; "{words}{count}{shown}")
 }
 
-/// The words that the text of a table begins with of which all cases hold, so many.
-fn accepted_words(alloc: Global, cases: usize) -> Result<String, Memory>
-    ensures { IfOk result (λ text. string_bytes text ≡ accepted_words cases) }
-{
-    format!(in alloc;
-        "accepted: all {cases} cases hold. Every run under this table is serializable in commit order."
-    )
-}
-
 /// The words that the text of a table begins with that is safe, though so many cases fail.
 fn safe_words(alloc: Global, failed: usize, cases: usize) -> Result<String, Memory>
     ensures { IfOk result (λ text. string_bytes text ≡ safe_words failed cases) }
@@ -55,23 +46,6 @@ fn safe_words(alloc: Global, failed: usize, cases: usize) -> Result<String, Memo
     format!(in alloc;
         "safe: {failed} of {cases} cases fail, but no schedule reaches their locks. Every run is serializable in commit order."
     )
-}
-
-/// The words that the text of a table begins with that isn't safe, of which so many cases fail, and for which a run is known
-/// or isn't.
-fn rejected_words(
-    alloc: Global,
-    has_run: bool,
-    failed: usize,
-    cases: usize,
-) -> Result<String, Memory>
-    ensures { IfOk result (λ text. string_bytes text ≡ rejected_words has_run failed cases) }
-{
-    if has_run {
-        format!(in alloc; "rejected: {failed} of {cases} cases fail. ")
-    } else {
-        format!(in alloc; "not known to be safe: {failed} of {cases} cases fail. ")
-    }
 }
 
 /// What is said below the verdict where a table is ordered: that the verdict is exact.

@@ -40,9 +40,13 @@ count_of cases r = count_by (λ f. rule_number f.case == rule_number r) cases
 abbrev pub group_of : List FailedCase → Rule → Option (List ℕ)
 group_of cases r = if count_of cases r == 0 then None else Some (rule_code r ++ (codes ": " ++ decimal (count_of cases r)))
 
--- A group of so many cases, behind a comma unless it is the first; nothing where there are none.
+-- A group with this code of so many cases, behind a comma unless it is the first; nothing where there are none.
+abbrev pub counted_words : Bool → List ℕ → ℕ → List ℕ
+counted_words is_first code n = if n == 0 then [] else if is_first then code ++ (codes ": " ++ decimal n) else codes ", " ++ (code ++ (codes ": " ++ decimal n))
+
+-- The same of a group.
 abbrev pub group_behind : Bool → Rule → ℕ → List ℕ
-group_behind is_first r n = if n == 0 then [] else if is_first then rule_code r ++ (codes ": " ++ decimal n) else codes ", " ++ (rule_code r ++ (codes ": " ++ decimal n))
+group_behind is_first r n = counted_words is_first (rule_code r) n
 
 -- One case, or many.
 abbrev pub cases_word : ℕ → List ℕ

@@ -1,11 +1,12 @@
 //! The title of a cause: what is to blame, and the groups of its cases.
-ghost use Rattle.std.specs.Prelude.{◌≡◌, ◌++◌, ◌==◌, ◌&&◌, [], None, Some, IfOk, OnOk, codes, count_by, string_bytes};
+ghost use Rattle.std.specs.Prelude.{◌≡◌, ◌++◌, IfOk, OnOk, codes, count_by, string_bytes};
 ghost use Rattle.kr_explain_text.specs.Lines.{Adds};
-ghost use Rattle.kr_explain_text.specs.Titles.{IsTitle, blame_words, cases_word, count_of, counts_of, group_behind, groups_of, place_words, request_words, title_words};
-ghost use Rattle.kr_model.specs.declared.Span.TheVariants as span;
+ghost use Rattle.kr_explain_text.specs.Titles.{IsTitle, blame_words, count_of, counts_of, group_behind, groups_of, place_words, request_words, title_words};
 ghost use Rattle.kr_explain_causes.specs.declared.blame.Blame.TheVariants as blame;
 
+use crate::groups::{cases_word, counted, is_none_yet};
 use crate::lists::joined;
+use crate::requested::{early_sentence, nothing_sentence, weak_sentence};
 use crate::words::side_words;
 use crate::wrap::{INDENT, write_paragraph};
 use kr_cases::Memory;
@@ -71,29 +72,7 @@ fn count_of(cases: &[FailedCase], rule: Rule) -> usize
 fn group(alloc: Global, is_first: bool, rule: Rule, count: usize) -> Result<String, Memory>
     ensures { IfOk result (λ text. string_bytes text ≡ group_behind is_first rule count) }
 {
-    if count == 0 {
-        return Ok(String::new(alloc));
-    }
-    let code = rule_code(rule);
-    if is_first {
-        format!(in alloc; "{code}: {count}")
-    } else {
-        format!(in alloc; ", {code}: {count}")
-    }
-}
-
-/// Whether no group is written yet, behind one of so many cases.
-fn is_none_yet(is_first: bool, count: usize) -> bool
-    ensures { result ≡ (is_first && (count == 0)) }
-{
-    is_first && count == 0
-}
-
-/// The word for so many cases, behind a space.
-fn cases_word(count: usize) -> &'static str
-    ensures { result.now ≡ cases_word count }
-{
-    if count == 1 { " case" } else { " cases" }
+    counted(alloc, is_first, rule_code(rule), count)
 }
 
 /// How many of the cases are of each group, with their word.
@@ -195,28 +174,12 @@ fn place_sentence<P: Protocol>(
     ensures { IfOk result (λ text. string_bytes text ≡ blame_words (P.table protocol.now) (P.names protocol.now) (blame.Place row side)) }
 {
     match asked(protocol, row, side, 0) {
-        None => nothing_sentence(alloc, row, side),
+        None => nothing_sentence(alloc, row_word(row), side_words(side)),
         Some((mode, _)) => {
             let mode = name_or_empty(protocol, mode);
             void_sentence(alloc, row_word(row), side_words(side), mode)
         }
     }
-}
-
-/// That a row requests no lock.
-fn nothing_sentence(alloc: Global, row: Row, side: Side) -> Result<String, Memory>
-    ensures { IfOk result (λ text. string_bytes text ≡ request_words [] row side None) }
-{
-    joined(
-        alloc,
-        &[
-            "`",
-            row_word(row),
-            "` requests no lock on ",
-            side_words(side),
-            ".",
-        ],
-    )
 }
 
 /// That a row requests a mode that conflicts with none.
@@ -248,45 +211,11 @@ fn request_sentence<P: Protocol>(
     ensures { IfOk result (λ text. string_bytes text ≡ request_words (P.names protocol.now) row side asked) }
 {
     match asked {
-        None => nothing_sentence(alloc, row, side),
-        Some((_, Span::Instant)) => early_sentence(alloc, row, side),
+        None => nothing_sentence(alloc, row_word(row), side_words(side)),
+        Some((_, Span::Instant)) => early_sentence(alloc, row_word(row), side_words(side)),
         Some((mode, Span::Commit)) => {
             let mode = name_or_empty(protocol, mode);
             weak_sentence(alloc, row_word(row), side_words(side), mode)
         }
     }
-}
-
-/// That the lock of a row is released too early.
-fn early_sentence(alloc: Global, row: Row, side: Side) -> Result<String, Memory>
-    ensures { IfOk result (λ text. string_bytes text ≡ request_words [] row side (Some (0, span.Instant))) }
-{
-    joined(
-        alloc,
-        &[
-            "`",
-            row_word(row),
-            "` releases its lock on ",
-            side_words(side),
-            " too early.",
-        ],
-    )
-}
-
-/// That a row requests too weak a lock.
-fn weak_sentence(alloc: Global, row: &str, side: &str, mode: &str) -> Result<String, Memory>
-    ensures { IfOk result (λ text. string_bytes text ≡ codes "`" ++ (row.now ++ (codes "` requests too weak a lock on " ++ (side.now ++ (codes ": " ++ (mode.now ++ codes ".")))))) }
-{
-    joined(
-        alloc,
-        &[
-            "`",
-            row,
-            "` requests too weak a lock on ",
-            side,
-            ": ",
-            mode,
-            ".",
-        ],
-    )
 }

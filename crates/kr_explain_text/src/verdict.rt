@@ -2,45 +2,15 @@
 
 use crate::lists::joined;
 use crate::orders::{OtherOrders, orders};
+use crate::programs::{committed, operation_of, operation_words};
 use crate::spoken::{answer_text, op_text, txns_text};
 use crate::wrap::write_joined;
 use kr_cases::Memory;
 use kr_explain_runs::Counterexample;
-use kr_model::{Op, Program, Reply, Txn};
+use kr_model::{Reply, Txn};
 use kr_protocol::Protocol;
 use kr_serial::{Ran, Verdict, judge, run_any};
 use std::alloc::Global;
-
-/// The operation of this number, from 1, of a transaction's program.
-fn operation_of(programs: &[Program], txn: Txn, operation: u64) -> Op {
-    for program in programs {
-        if program.txn == txn {
-            return operation_at(program.operations.as_slice(), operation);
-        }
-    }
-    Op::Commit
-}
-
-/// The operation of this number, from 1, of a program.
-fn operation_at(operations: &[(Op, Reply)], operation: u64) -> Op {
-    let mut number: u64 = 1;
-    for (op, _) in operations {
-        if number == operation {
-            return *op;
-        }
-        number = number.saturating_add(1);
-    }
-    Op::Commit
-}
-
-/// The transactions that committed, in commit order.
-fn committed(alloc: Global, programs: &[Program]) -> Result<Vec<Txn>, Memory> {
-    let mut txns = Vec::new(alloc);
-    for program in programs {
-        txns.push(program.txn)?;
-    }
-    Ok(txns)
-}
 
 /// An operation of a program that the serial run gives another answer to.
 #[derive(Clone, Copy)]
@@ -182,23 +152,13 @@ fn operation_text(
     if is_alone {
         operation_of_one(alloc, txn, operation, op.as_str())
     } else {
-        operation_of_several(alloc, txn, operation, op.as_str())
+        operation_words(alloc, txn, operation, op.as_str())
     }
 }
 
 /// The operation of this number of the only transaction that commits.
 fn operation_of_one(alloc: Global, txn: Txn, operation: u64, op: &str) -> Result<String, Memory> {
     format!(in alloc; "only T{txn} commits. Its operation {operation}, {op}")
-}
-
-/// The operation of this number of one of several transactions.
-fn operation_of_several(
-    alloc: Global,
-    txn: Txn,
-    operation: u64,
-    op: &str,
-) -> Result<String, Memory> {
-    format!(in alloc; "operation {operation} of T{txn}, {op}")
 }
 
 /// How the programs run that committed in this order, for the answers to be compared.

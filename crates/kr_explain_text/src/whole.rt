@@ -1,9 +1,35 @@
-//! What is said of all the causes of a table.
+//! What is said of a whole table.
 ghost use Rattle.std.specs.Prelude.{◌≡◌, IfOk, string_bytes};
-ghost use Rattle.kr_explain_text.specs.Whole.{causes_words};
+ghost use Rattle.kr_explain_text.specs.Whole.{accepted_words, causes_words, rejected_words};
 
 use kr_cases::Memory;
 use std::alloc::Global;
+
+/// The words that the text of a table begins with of which all cases hold, so many. The only fault is that a growth was refused.
+pub fn accepted_words(alloc: Global, cases: usize) -> Result<String, Memory>
+    ensures { IfOk result (λ text. string_bytes text ≡ accepted_words cases) }
+{
+    format!(in alloc;
+        "accepted: all {cases} cases hold. Every run under this table is serializable in commit order."
+    )
+}
+
+/// The words that the text of a table begins with that isn't safe, of which so many cases fail, and for which a run is known
+/// or isn't. The only fault is that a growth was refused.
+pub fn rejected_words(
+    alloc: Global,
+    has_run: bool,
+    failed: usize,
+    cases: usize,
+) -> Result<String, Memory>
+    ensures { IfOk result (λ text. string_bytes text ≡ rejected_words has_run failed cases) }
+{
+    if has_run {
+        format!(in alloc; "rejected: {failed} of {cases} cases fail. ")
+    } else {
+        format!(in alloc; "not known to be safe: {failed} of {cases} cases fail. ")
+    }
+}
 
 /// How many causes there are, as a sentence: up to nine in words. The only fault is that a growth was refused.
 pub fn causes_words(alloc: Global, count: usize) -> Result<String, Memory>

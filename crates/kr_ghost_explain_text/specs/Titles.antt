@@ -10,6 +10,7 @@ use Rattle.kr_ghost.specs.Words.{access_words, rule_code}
 use Rattle.kr_ghost_explain.specs.declared.blame.GhostBlame.{GhostBlame}
 use Rattle.kr_ghost_explain.specs.declared.blame.GhostBlame.TheVariants as blame
 use Rattle.kr_ghost_explain.specs.declared.causes.GhostCause.{GhostCause}
+use Rattle.kr_explain_text.specs.Titles.{cases_word, counted_words}
 use Rattle.kr_ghost_explain_text.specs.Words.{access_side, rule_number, row_words, side_words}
 
 -- The groups of cases, in their order.
@@ -22,16 +23,12 @@ count_of cases r = count_by (λ f. rule_number f.case == rule_number r) cases
 
 -- A group of so many cases, behind a comma unless it is the first; nothing where there are none.
 abbrev pub group_words : Bool → Rule → ℕ → List ℕ
-group_words is_first r n = if n == 0 then [] else if is_first then rule_code r ++ (codes ": " ++ decimal n) else codes ", " ++ (rule_code r ++ (codes ": " ++ decimal n))
+group_words is_first r n = counted_words is_first (rule_code r) n
 
 -- How many of the cases are of each of these groups, in their order, the first with no comma where none came before.
 abbrev pub counts_from : Bool → List Rule → List FailedCase → List ℕ
 counts_from is_first [] cases = []
 counts_from is_first (r ∷ rs) cases = group_words is_first r (count_of cases r) ++ counts_from (is_first && (count_of cases r == 0)) rs cases
-
--- One case, or many.
-abbrev pub cases_word : ℕ → List ℕ
-cases_word n = if n == 1 then codes " case" else codes " cases"
 
 -- How many of the cases are of each group, in the order of the groups, with the word for so many cases.
 unfoldable pub groups_of : List FailedCase → List ℕ

@@ -1,23 +1,14 @@
 -- How what is explained of a table with ghosts is written.
-use Rattle.std.specs.Prelude.{◌≡◌, ℕ, ◌+◌, List, [], ◌∷◌, ◌++◌, length, Bool, true, false, codes, decimal, is_some}
-use Rattle.kr_explain_text.specs.Whole.{causes_words}
+use Rattle.std.specs.Prelude.{◌≡◌, ℕ, ◌+◌, List, [], ◌∷◌, ◌++◌, length, codes, decimal, is_some}
+use Rattle.kr_explain_text.specs.Whole.{accepted_words, causes_words, rejected_words}
 use Rattle.kr_ghost_explain.specs.declared.causes.GhostCause.{GhostCause}
 use Rattle.kr_ghost_explain.specs.declared.explanation.GhostExplanation.{GhostExplanation}
 use Rattle.kr_ghost_explain.specs.declared.explanation.GhostExplanation.TheVariants as told
 use Rattle.kr_ghost_explain_text.specs.Titles.{title_words}
 
--- The words that the text of an accepted table begins with.
-abbrev pub accepted_words : ℕ → List ℕ
-accepted_words cases = codes "accepted: all " ++ (decimal cases ++ codes " cases hold. Every run under this table is serializable in commit order.")
-
 -- The words that the text of a table begins with that is safe, though cases of it fail.
 abbrev pub safe_words : ℕ → ℕ → List ℕ
 safe_words failed cases = codes "safe: " ++ (decimal failed ++ (codes " of " ++ (decimal cases ++ codes " cases fail, but no schedule reaches their locks. Every run under this table is serializable in commit order.")))
-
--- The words that the text of a table begins with that isn't safe, where a schedule was found that goes wrong, or where none was.
-abbrev pub rejected_words : Bool → ℕ → ℕ → List ℕ
-rejected_words true failed cases = codes "rejected: " ++ (decimal failed ++ (codes " of " ++ (decimal cases ++ codes " cases fail. ")))
-rejected_words false failed cases = codes "not known to be safe: " ++ (decimal failed ++ (codes " of " ++ (decimal cases ++ codes " cases fail. ")))
 
 -- The words that a text begins with: the verdict, and how many cases hold or fail and how many causes that has.
 abbrev pub verdict_words : GhostExplanation → List ℕ

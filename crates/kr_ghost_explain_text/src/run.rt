@@ -1,12 +1,15 @@
 //! A schedule that goes wrong, as it is shown: its opening index, its moves, and the first answer that differs.
 
 use crate::rows::rows_of;
-use kr_explain_text::{answer_text, joined, op_text, pairs_text, txns_text, write_rows};
+use kr_explain_text::{
+    answer_text, committed, joined, op_text, operation_of, operation_words, pairs_text, txns_text,
+    write_rows,
+};
 use kr_ghost_protocol::GhostProtocol;
 use kr_ghost_run::run_moves;
 use kr_ghost_script::GhostScript;
 use kr_judge::{Verdict, judge_programs};
-use kr_model::{Memory, Op, Program, Reply, Txn};
+use kr_model::{Memory, Program, Txn};
 use std::alloc::Global;
 
 /// A schedule, behind an empty line.
@@ -80,11 +83,6 @@ fn operation_text(
     operation_words(alloc, txn, operation, op.as_str())
 }
 
-/// The operation of this number of a transaction.
-fn operation_words(alloc: Global, txn: Txn, operation: u64, op: &str) -> Result<String, Memory> {
-    format!(in alloc; "operation {operation} of T{txn}, {op}")
-}
-
 /// That an operation returned something, and in a serial run in this order returns something else.
 fn differs_words(
     alloc: Global,
@@ -111,31 +109,6 @@ fn differs_words(
 
 /// The transactions that committed, in commit order.
 fn order_text(alloc: Global, programs: &[Program]) -> Result<String, Memory> {
-    let mut txns = Vec::new(alloc);
-    for program in programs {
-        txns.push(program.txn)?;
-    }
+    let txns = committed(alloc, programs)?;
     txns_text(alloc, &txns)
-}
-
-/// The operation of this number, from 1, of a transaction's program.
-fn operation_of(programs: &[Program], txn: Txn, operation: u64) -> Op {
-    for program in programs {
-        if program.txn == txn {
-            return operation_at(program.operations.as_slice(), operation);
-        }
-    }
-    Op::Commit
-}
-
-/// The operation of this number, from 1, of a program.
-fn operation_at(operations: &[(Op, Reply)], operation: u64) -> Op {
-    let mut number: u64 = 1;
-    for (op, _) in operations {
-        if number == operation {
-            return *op;
-        }
-        number = number.saturating_add(1);
-    }
-    Op::Commit
 }

@@ -1,10 +1,12 @@
 //! The title of a cause: what is to blame, and the groups of its cases.
-ghost use Rattle.std.specs.Prelude.{◌≡◌, ◌++◌, ◌==◌, ◌&&◌, true, IfOk, OnOk, codes, string_bytes};
+ghost use Rattle.std.specs.Prelude.{◌≡◌, ◌++◌, true, IfOk, OnOk, codes, string_bytes};
 ghost use Rattle.kr_ghost_explain.specs.declared.blame.GhostBlame.TheVariants as blame;
-ghost use Rattle.kr_ghost_explain_text.specs.Titles.{all_groups, blame_words, cases_word, count_of, counts_from, group_words, groups_of, request_words, title_words};
+ghost use Rattle.kr_ghost_explain_text.specs.Titles.{all_groups, blame_words, count_of, counts_from, group_words, groups_of, request_words, title_words};
 
 use crate::words::{access_side, row_words, rule_number, side_words};
-use kr_explain_text::joined;
+use kr_explain_text::{
+    cases_word, counted, early_sentence, is_none_yet, joined, nothing_sentence, weak_sentence,
+};
 use kr_ghost::{FailedCase, Rule, access_words, rule_code};
 use kr_ghost_explain::{GhostBlame, GhostCause};
 use kr_model::{Memory, Mode, Span};
@@ -95,33 +97,11 @@ fn count_of(cases: &[FailedCase], rule: Rule) -> usize
         .count()
 }
 
-/// Whether no group is written yet, behind one of so many cases.
-fn is_none_yet(is_first: bool, count: usize) -> bool
-    ensures { result ≡ (is_first && (count == 0)) }
-{
-    is_first && count == 0
-}
-
 /// A group of so many cases, behind a comma unless it is the first; nothing where there are none.
 fn group(alloc: Global, is_first: bool, rule: Rule, count: usize) -> Result<String, Memory>
     ensures { IfOk result (λ text. string_bytes text ≡ group_words is_first rule count) }
 {
-    if count == 0 {
-        return Ok(String::new(alloc));
-    }
-    let code = rule_code(rule);
-    if is_first {
-        format!(in alloc; "{code}: {count}")
-    } else {
-        format!(in alloc; ", {code}: {count}")
-    }
-}
-
-/// The word for so many cases, behind a space.
-fn cases_word(count: usize) -> &'static str
-    ensures { result.now ≡ cases_word count }
-{
-    if count == 1 { " case" } else { " cases" }
+    counted(alloc, is_first, rule_code(rule), count)
 }
 
 /// What is to blame.
@@ -234,39 +214,4 @@ fn request_sentence<P: Protocol>(
             weak_sentence(alloc, row, side, name_or_empty(protocol, mode))
         }
     }
-}
-
-/// That a row requests no lock.
-fn nothing_sentence(alloc: Global, row: &str, side: &str) -> Result<String, Memory>
-    ensures { IfOk result (λ text. string_bytes text ≡ codes "`" ++ (row.now ++ (codes "` requests no lock on " ++ (side.now ++ codes ".")))) }
-{
-    joined(alloc, &["`", row, "` requests no lock on ", side, "."])
-}
-
-/// That the lock of a row is released too early.
-fn early_sentence(alloc: Global, row: &str, side: &str) -> Result<String, Memory>
-    ensures { IfOk result (λ text. string_bytes text ≡ codes "`" ++ (row.now ++ (codes "` releases its lock on " ++ (side.now ++ codes " too early.")))) }
-{
-    joined(
-        alloc,
-        &["`", row, "` releases its lock on ", side, " too early."],
-    )
-}
-
-/// That a row requests too weak a lock.
-fn weak_sentence(alloc: Global, row: &str, side: &str, mode: &str) -> Result<String, Memory>
-    ensures { IfOk result (λ text. string_bytes text ≡ codes "`" ++ (row.now ++ (codes "` requests too weak a lock on " ++ (side.now ++ (codes ": " ++ (mode.now ++ codes ".")))))) }
-{
-    joined(
-        alloc,
-        &[
-            "`",
-            row,
-            "` requests too weak a lock on ",
-            side,
-            ": ",
-            mode,
-            ".",
-        ],
-    )
 }

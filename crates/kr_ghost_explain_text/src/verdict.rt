@@ -1,9 +1,9 @@
 //! What the text begins with: the verdict.
 ghost use Rattle.std.specs.Prelude.{◌≡◌, IfOk, string_bytes};
-ghost use Rattle.kr_ghost_explain_text.specs.Told.{accepted_words, rejected_words, safe_words, verdict_words};
+ghost use Rattle.kr_ghost_explain_text.specs.Told.{safe_words, verdict_words};
 ghost use Rattle.kr_ghost_explain.specs.declared.explanation.GhostExplanation.TheVariants as told;
 
-use kr_explain_text::causes_words;
+use kr_explain_text::{accepted_words, causes_words, rejected_words};
 use kr_ghost_explain::{GhostExplanation, GhostFailures};
 use kr_model::Memory;
 use std::alloc::Global;
@@ -29,15 +29,6 @@ fn rejected_text(alloc: Global, failures: &GhostFailures) -> Result<String, Memo
     format!(in alloc; "{words}{count}")
 }
 
-/// The words for a table of which all cases hold, so many.
-fn accepted_words(alloc: Global, cases: usize) -> Result<String, Memory>
-    ensures { IfOk result (λ text. string_bytes text ≡ accepted_words cases) }
-{
-    format!(in alloc;
-        "accepted: all {cases} cases hold. Every run under this table is serializable in commit order."
-    )
-}
-
 /// The words for a table that is safe, though so many cases fail.
 fn safe_words(alloc: Global, failed: usize, cases: usize) -> Result<String, Memory>
     ensures { IfOk result (λ text. string_bytes text ≡ safe_words failed cases) }
@@ -45,20 +36,4 @@ fn safe_words(alloc: Global, failed: usize, cases: usize) -> Result<String, Memo
     format!(in alloc;
         "safe: {failed} of {cases} cases fail, but no schedule reaches their locks. Every run under this table is serializable in commit order."
     )
-}
-
-/// The words for a table that isn't safe, of which so many cases fail, and for which a schedule was found or wasn't.
-fn rejected_words(
-    alloc: Global,
-    has_schedule: bool,
-    failed: usize,
-    cases: usize,
-) -> Result<String, Memory>
-    ensures { IfOk result (λ text. string_bytes text ≡ rejected_words has_schedule failed cases) }
-{
-    if has_schedule {
-        format!(in alloc; "rejected: {failed} of {cases} cases fail. ")
-    } else {
-        format!(in alloc; "not known to be safe: {failed} of {cases} cases fail. ")
-    }
 }
