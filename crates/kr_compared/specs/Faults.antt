@@ -3,6 +3,8 @@ use Rattle.kr_history.specs.declared.row.NewFault.{NewFault}
 use Rattle.kr_history.specs.declared.row.NewFault.TheVariants as new
 use Rattle.kr_records.specs.declared.closing.CloseFault.{CloseFault}
 use Rattle.kr_records.specs.declared.closing.CloseFault.TheVariants as close
+use Rattle.kr_records.specs.declared.faults.EngineFault.{EngineFault}
+use Rattle.kr_records.specs.declared.faults.EngineFault.TheVariants as engine
 use Rattle.kr_compared.specs.declared.fault.RunFault.{RunFault}
 use Rattle.kr_compared.specs.declared.fault.RunFault.TheVariants as fault
 
@@ -15,3 +17,8 @@ fault_of_row new.Places = fault.Place
 abbrev pub fault_of_close : CloseFault → RunFault
 fault_of_close close.Memory = fault.Memory
 fault_of_close close.Place = fault.Place
+
+-- Of a call that a worker gives up at.
+abbrev pub fault_of_call : EngineFault → RunFault
+fault_of_call engine.Memory = fault.Memory
+fault_of_call _ = fault.Place

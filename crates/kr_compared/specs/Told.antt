@@ -1,5 +1,5 @@
 -- What is told of the steps that weren't done.
-use Rattle.std.specs.Prelude.{◌≡◌, ◌<◌, ◌≤◌, ◌+◌, ℕ, length, Bool, true, false, Option, List, [], ◌∷◌, All, Contains}
+use Rattle.std.specs.Prelude.{◌≡◌, ◌<◌, ◌≤◌, ◌+◌, ℕ, length, Bool, true, false, Option, None, is_some, if◌then◌else◌, List, [], ◌∷◌, All, Contains}
 use mathlib.Core.List.{IsPrefix}
 use Rattle.kr_model.specs.declared.Event.{Event}
 use Rattle.kr_model.specs.declared.Op.{Op}
@@ -15,6 +15,7 @@ use Rattle.kr_history.specs.declared.name.Entry.{Entry}
 use Rattle.kr_records.specs.Seats.{Held}
 use Rattle.kr_records.specs.declared.closing.History.{History}
 use Rattle.kr_records.specs.Closed.{Lent, IsClosed}
+use Rattle.kr_compared.specs.declared.fault.RunFault.{RunFault}
 use Rattle.kr_workers.specs.declared.faults.WhyNotDone.{WhyNotDone}
 use Rattle.kr_workers.specs.declared.faults.WhyNotDone.TheVariants.{Deadlock, Refused}
 use Rattle.kr_workers.specs.declared.faults.StepFault.{StepFault}
@@ -55,6 +56,10 @@ pub record IsToldAt (p : Protocol) (opening : Map) (history : List model.Entry) 
 abbrev pub IsLeftOut : Protocol → Map → List model.Entry → LeftOut → Type 0
 IsLeftOut p opening history l = IsToldAt p opening history l.last l.next l.fault
 
+-- A step that was left out, with the places between which it is told.
+abbrev pub left_between : Option ℕ → Option ℕ → StepFault → LeftOut
+left_between last next f = record { fault = f; last = last; next = next }
+
 -- A step that was left out is told at the end of a prefix of what one of the shares has seen.
 pub record IsToldToOne (p : Protocol) (opening : Map) (shares : List Lent) (l : LeftOut) : Type 0 where
   pub share : Lent
@@ -85,10 +90,16 @@ pub record IsNext (old new : List Entry) (place : ℕ) : Type 0 where
   pub after : length old ≤ place
   pub within : place < length new
 
--- What contracts see of what a worker hands back: its seat's share, and the steps that it left out.
+-- What contracts see of what a worker hands back: its seat's share, the steps that it left out, and why it gave up, where it did.
 pub record Reported : Type 0 where
   pub share : Lent
   pub left_out : List LeftOut
+  pub failed : Option RunFault
+
+-- Why the first of these workers gave up that did.
+abbrev pub first_failure : List Reported → Option RunFault
+first_failure [] = None
+first_failure (w ∷ ws) = if is_some w.failed then w.failed else first_failure ws
 
 -- The history is a closed engine's, no transaction is active at its end, and each step that was left out is told at the end of a prefix of it.
 pub record IsWorked (p : Protocol) (opening : Map) (h : History) (ls : List LeftOut) : Type 0 where

@@ -1,6 +1,6 @@
 //! Why a run shows nothing.
 ghost use Rattle.std.specs.Prelude.{◌≡◌};
-ghost use Rattle.kr_compared.specs.Faults.{fault_of_close, fault_of_row};
+ghost use Rattle.kr_compared.specs.Faults.{fault_of_call, fault_of_close, fault_of_row};
 ghost use Rattle.kr_compared.specs.declared.fault.RunFault.TheVariants as fault;
 
 use kr_history::NewFault;
@@ -49,7 +49,9 @@ impl From<CloseFault> for RunFault {
 }
 
 /// Why a worker gives up at this fault: `Memory` where a growth was refused.
-pub fn failure(fault: &EngineFault) -> RunFault {
+pub fn failure(fault: &EngineFault) -> RunFault
+    ensures { result ≡ fault_of_call fault.now }
+{
     match fault {
         EngineFault::Memory => RunFault::Memory,
         _ => RunFault::Place,

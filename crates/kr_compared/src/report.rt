@@ -20,7 +20,7 @@ impl<K: EngineName> Model for Report<K> {
 
     ghost Value = { Reported };
 
-    ghost view = { λ r. record { share = r.share; left_out = r.left_out.items } };
+    ghost view = { λ r. record { share = r.share; left_out = r.left_out.items; failed = r.failed } };
 
     ghost invariant = { λ r. AreTold K.table K.opening r.share.view r.left_out.items };
 }

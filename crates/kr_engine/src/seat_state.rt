@@ -1,5 +1,5 @@
 //! The attempts of a seat under the lock.
-ghost use Rattle.std.specs.Prelude.{◌≡◌, ◌<◌, ◌≤◌, [], true, false, length, None, Err, IfOk, IfErr};
+ghost use Rattle.std.specs.Prelude.{◌≡◌, ◌<◌, ◌≤◌, [], true, false, length, None, Err, IfOk, IfErr, Decides};
 ghost use mathlib.Core.List.{IsPrefix};
 ghost use Rattle.kr_records.specs.declared.faults.EngineFault.TheVariants as fault;
 ghost use Rattle.kr_records.specs.Faults.{is_refusal, is_blocked, is_unbegun, is_of_try, is_of_call};
@@ -103,7 +103,7 @@ impl<P: Covered, K: EngineName> Core<P, K> {
     /// Whether what a seat keeps fits what is noted of it: it was given, its count is that of its entries, it speaks for the
     /// number that it began last, and its view is no longer than the history.
     pub(crate) fn fits(&self, seat: &SeatState<K>) -> bool
-        ensures { result ≡ true → (length seat.now.view ≤ length self.now.entries) × (seat.now.seat < length self.now.seats) × (entries_of seat.now.seat self.now.entries ≡ seat.now.count) × ((seat_at self.now.seats seat.now.seat).last ≡ seat.now.speaks) }
+        ensures { Decides result ((length seat.now.view ≤ length self.now.entries) × (seat.now.seat < length self.now.seats) × (entries_of seat.now.seat self.now.entries ≡ seat.now.count) × ((seat_at self.now.seats seat.now.seat).last ≡ seat.now.speaks)) }
     {
         self.lemma_invariant();
         seat.fits(&self.seats, &self.history)

@@ -1,14 +1,15 @@
 -- Who stays where those whom none of the rest blocks are taken out.
-use Rattle.std.proofs.Common.{◌≡◌, ℕ, zero, suc, ◌<◌, ◌==◌, Bool, true, false, cond, ◌||◌, refl, List, [], ◌∷◌, length, ap, sym, ◌∙◌, subst, ⊎_elim, get_or, arith}
+use Rattle.std.proofs.Common.{◌≡◌, ℕ, zero, suc, ◌<◌, ◌≤◌, ◌-◌, ◌==◌, Bool, true, false, cond, ◌||◌, refl, List, [], ◌∷◌, length, ap, sym, ◌∙◌, subst, ⊎_elim, get_or, arith}
 use Rattle.std.specs.List.{AllZip, Contains, list_any, swap_remove}
 use Rattle.std.proofs.lemmas.Bool.{eqb-true, eq-eqb, false≢true}
 use Rattle.std.proofs.lemmas.List.Folds.{list_any_at}
+use Rattle.std.specs.Prelude.{◌⊎◌}
 use Rattle.std.proofs.lemmas.List.Elements.{Contains-append_cases, Contains-append_right, Contains-get_or}
 use Rattle.std.proofs.lemmas.List.Sorted.{Contains-permutation, IsPermutation-swap_remove}
 use Rattle.kr_deadlock.specs.declared.Waiting.{Waiting}
 use Rattle.kr_model.specs.declared.Event.{Event}
 use Rattle.kr_deadlock.specs.Waits.{IsChain, IsCycle}
-use Rattle.kr_records.specs.Waits.{blockers_now, IsEntry, AreDeadlocked, HaveEntries}
+use Rattle.kr_records.specs.Waits.{blockers_now, IsEntry, AreDeadlocked, HaveEntries, is_blocked_in}
 use Rattle.kr_records.proofs.Ways.{or_second}
 
 any_there : {A : Type 0} (p : A → Bool) (xs : List A) (x : A) → Contains xs x → p x ≡ true → list_any p xs ≡ true
@@ -26,6 +27,22 @@ pub same_at : {A : Type 0} (xs : List A) (i : ℕ) (x y : A) → i < length xs �
 same_at [] i x y within here there = absurd (omega arith)
 same_at (z ∷ zs) zero x y within here there = here ∙ sym there
 same_at (z ∷ zs) (suc i) x y within here there = same_at zs i x y (omega arith) here there
+
+at_any : {A : Type 0} (xs : List A) (i : ℕ) (d e : A) → i < length xs → get_or xs i d ≡ get_or xs i e
+at_any [] i d e within = absurd (omega arith)
+at_any (z ∷ zs) zero d e within = refl
+at_any (z ∷ zs) (suc i) d e within = at_any zs i d e (omega arith)
+
+-- Where those from a place on are blocked, and the one before it, those from there on are.
+pub held_more : (ws : List Waiting) (place : ℕ) (x : Waiting) → 0 < place → place ≤ length ws → x ≡ get_or ws (place - 1) x → is_blocked_in ws x ≡ true
+    → ((j : ℕ) → place ≤ j → j < length ws → (d : Waiting) → is_blocked_in ws (get_or ws j d) ≡ true) → (j : ℕ) → place - 1 ≤ j → j < length ws → (d : Waiting) → is_blocked_in ws (get_or ws j d) ≡ true
+held_more ws place x some few here blocked rest j from within d = ⊎_elim first (λ later. rest j later within d) by
+  where
+    by : (place - 1 ≡ j) ⊎ (place ≤ j)
+    by = grind arith
+
+    first : place - 1 ≡ j → is_blocked_in ws (get_or ws j d) ≡ true
+    first same = ap (is_blocked_in ws) (at_any ws j d x within ∙ ap (λ k. get_or ws k x) (sym same) ∙ sym here) ∙ blocked
 
 -- One whom none of these blocks is taken out, and none of the deadlocked ones.
 pub deadlocked_stay : (ws ws' : List Waiting) (i : ℕ) (x : Waiting) → i < length ws → x ≡ get_or ws i x → ws' ≡ swap_remove ws i x → list_any (λ u. list_any (λ w. w.txn == u) ws) x.blockers.items ≡ false

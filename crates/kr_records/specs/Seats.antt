@@ -1,5 +1,5 @@
 -- What a seat's calls show.
-use Rattle.std.specs.Prelude.{◌≡◌, ℕ, ◌+◌, true, false, List, [], ◌∷◌, ◌++◌, length, Option, Some}
+use Rattle.std.specs.Prelude.{◌≡◌, ℕ, ◌+◌, ◌<◌, ◌≤◌, true, false, List, [], ◌∷◌, ◌++◌, length, Option, Some}
 use mathlib.Core.List.{IsPrefix}
 use Rattle.kr_model.specs.declared.Event.{Event}
 use Rattle.kr_model.specs.declared.Op.{Op}
@@ -16,7 +16,8 @@ use Rattle.kr_records.specs.declared.faults.EngineFault.{EngineFault}
 use Rattle.kr_records.specs.declared.faults.EngineFault.TheVariants.{Deadlock, Refused}
 use Rattle.kr_records.specs.Histories.{IsHistory, AreOfOneSeat, entries_of, entry, event}
 use Rattle.kr_records.specs.Waits.{in_the_way, blockers_now}
-use Rattle.kr_records.specs.Cores.{is_active}
+use Rattle.kr_records.specs.Cores.{is_active, seat_at}
+use Rattle.kr_records.specs.declared.notes.SeatNote.{SeatNote}
 
 -- A seat's own part: its number, the transaction that it speaks for, how many receipts it has, the place of the last of them, and its view, the history that it has seen.
 pub record Held : Type 0 where
@@ -25,6 +26,10 @@ pub record Held : Type 0 where
   pub count : ℕ
   pub last : Option ℕ
   pub view : List Entry
+
+-- What a seat keeps fits what is noted of seats and the history: it has seen no more than there is, the seat was given, it has as many receipts as are noted, and it speaks for the number that is noted as its last.
+abbrev pub FitsNotes : List SeatNote → List Entry → Held → Type 0
+FitsNotes seats es h = (length h.view ≤ length es) × (h.seat < length seats) × ((seat_at seats h.seat).count ≡ h.count) × ((seat_at seats h.seat).last ≡ h.speaks)
 
 -- The history up to the receipt's place is a run under the engine's table. It begins with all that the seat had seen, and ends with the receipt, which is of the transaction that the seat speaks for and of the operation asked. Of this seat it has just as many entries as the seat has receipts. It is then what the seat has seen.
 pub record Shows (p : Protocol) (opening : Map) (old new : Held) (o : Op) (r : Receipt) : Type 0 where

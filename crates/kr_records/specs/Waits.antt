@@ -1,5 +1,5 @@
 -- Who is in whose way.
-use Rattle.std.specs.Prelude.{◌≡◌, ◌==◌, ℕ, false, List, [], ◌∷◌, ◌++◌, Option, Some, None, slice_get, nat_eq, if◌then◌else◌}
+use Rattle.std.specs.Prelude.{◌≡◌, ◌==◌, ℕ, Bool, true, false, All, List, [], ◌∷◌, ◌++◌, Option, Some, None, slice_get, nat_eq, if◌then◌else◌}
 use Rattle.std.specs.List.{Contains, IsDistinct, list_any}
 use Rattle.std.specs.List.Sorted.{IsStrictlyIncreasing}
 use Rattle.kr_model.specs.declared.Event.{Event}
@@ -53,6 +53,14 @@ AreDeadlocked blockers txns = (t : ℕ) → Contains txns t → (u : ℕ) × Con
 -- Each of these transactions has an entry, with those that block it.
 abbrev pub HaveEntries : (ℕ → List ℕ) → List ℕ → List Waiting → Type 0
 HaveEntries blockers txns ws = (t : ℕ) → Contains txns t → (w : Waiting) × Contains ws w × (w.txn ≡ t) × (w.blockers.items ≡ blockers t)
+
+-- Whether one of these blocks another.
+abbrev pub is_blocked_in : List Waiting → Waiting → Bool
+is_blocked_in ws w = list_any (λ u. list_any (λ v. v.txn == u) ws) w.blockers.items
+
+-- Each of these is blocked by one of them.
+abbrev pub AreHeld : List Waiting → Type 0
+AreHeld ws = All (λ w. is_blocked_in ws w ≡ true) ws
 
 -- A deadlock names a cycle of which this holds.
 abbrev pub TellsCycle : EngineFault → (List ℕ → Type 0) → Type 0

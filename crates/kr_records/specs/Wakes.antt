@@ -7,6 +7,23 @@ use Rattle.kr_model.specs.Map.{Map, IsMap}
 use Rattle.kr_model.specs.State.{State}
 use Rattle.kr_model.specs.Step.{step, is_full, WaitsFor}
 use Rattle.kr_model.specs.WellFormed.{IsState}
+use Rattle.kr_model.specs.declared.Reply.TheVariants as reply
+use Rattle.kr_records.specs.declared.wakes.Change.{Change}
+use Rattle.kr_records.specs.declared.wakes.Change.TheVariants.{Nothing, Locks, Index}
+
+-- What a granted step with this reply changed of that for which others wait: a commit lets locks go, and what changes or may change the keys, or may undo such a change, changes the index; nothing else does.
+abbrev pub change_by : Reply → Change
+change_by reply.Committed = Locks
+change_by reply.Aborted = Index
+change_by reply.Done = Index
+change_by (reply.Deleted v) = Index
+change_by (reply.Undone n) = Index
+change_by _ = Nothing
+
+-- The first of two changes, or the second where the first is nothing.
+abbrev pub first_change : Change → Change → Change
+first_change Nothing second = second
+first_change first _ = first
 
 -- A conversion keeps each conflict: a request that conflicts with a held mode conflicts with every mode that it is converted to.
 abbrev pub KeepsConflicts : Protocol → Type 0

@@ -1,6 +1,6 @@
 //! What a seat keeps of its own.
-ghost use Rattle.std.specs.Prelude.{◌≡◌, ◌<◌, ◌≤◌, [], true, length, None};
-ghost use Rattle.kr_records.specs.Cores.{seat_at};
+ghost use Rattle.std.specs.Prelude.{◌≡◌, [], None, Decides};
+ghost use Rattle.kr_records.specs.Seats.{FitsNotes};
 
 use crate::notes::SeatNote;
 use kr_history::{EngineName, PlaceRow, Seen};
@@ -52,7 +52,7 @@ impl<K: EngineName> SeatState<K> {
     /// Whether it fits what is noted of seats and the history: the seat was given, has as many receipts as are noted, speaks
     /// for the number that is noted as its last, and has seen no more than there is.
     pub fn fits(&self, seats: &[SeatNote], history: &Seen<K>) -> bool
-        ensures { result ≡ true → (length self.now.view ≤ length history.now) × (self.now.seat < length seats.now) × ((seat_at seats.now self.now.seat).count ≡ self.now.count) × ((seat_at seats.now self.now.seat).last ≡ self.now.speaks) }
+        ensures { Decides result (FitsNotes seats.now history.now self.now) }
     {
         if self.view.len() > history.len() || self.seat >= seats.len() {
             return false;

@@ -1,9 +1,9 @@
 //! Whom a step may let go on, by its reply, and who of those that wait is deadlocked.
-ghost use Rattle.std.specs.Prelude.{◌≡◌, ◌≢◌, ◌==◌, ℕ, List};
+ghost use Rattle.std.specs.Prelude.{◌≡◌, ◌≢◌, ◌==◌, ◌<◌, ℕ, List, true, false, length};
 ghost use Rattle.std.specs.List.{list_any};
 ghost use Rattle.kr_records.specs.declared.wakes.Change.TheVariants as change;
-ghost use Rattle.kr_records.specs.Waits.{AreDeadlocked, HaveEntries};
-ghost use Rattle.kr_records.specs.Wakes.{FreesNobody, LeavesKeys, BlocksNobody};
+ghost use Rattle.kr_records.specs.Waits.{AreDeadlocked, HaveEntries, AreHeld};
+ghost use Rattle.kr_records.specs.Wakes.{FreesNobody, LeavesKeys, BlocksNobody, change_by, first_change};
 
 use kr_deadlock::Waiting;
 use kr_model::{Reply, Txn};
@@ -21,7 +21,9 @@ pub enum Change {
 
 impl Change {
     /// This one, or the other where this is nothing.
-    pub fn or(self, other: Change) -> Change {
+    pub fn or(self, other: Change) -> Change
+        ensures { result ≡ first_change self other }
+    {
         match self {
             Change::Nothing => other,
             Change::Locks | Change::Index => self,
@@ -31,6 +33,7 @@ impl Change {
 
 /// What a granted step with this reply changed.
 pub fn change_of(reply: &Reply) -> Change
+    ensures is { result ≡ change_by reply.now }
     ensures nothing { result ≡ change.Nothing → FreesNobody reply.now }
     ensures locks { result ≡ change.Locks → BlocksNobody reply.now }
     ensures keys { result ≢ change.Index → LeavesKeys reply.now }
@@ -50,21 +53,21 @@ pub fn change_of(reply: &Reply) -> Change
     }
 }
 
-/// Takes out those whom none of the rest blocks, again and again. Those of which each is blocked by another stay.
+/// Takes out those whom none of the rest blocks, again and again. Those of which each is blocked by another stay, and each
+/// that stays is blocked by one that stays.
 pub fn shed_all(mut waits: Vec<Waiting>) -> Vec<Waiting>
-    ensures { (blockers : ℕ → List ℕ) (txns : List ℕ) → AreDeadlocked blockers txns → HaveEntries blockers txns waits.items → HaveEntries blockers txns result.items }
+    ensures stay { (blockers : ℕ → List ℕ) (txns : List ℕ) → AreDeadlocked blockers txns → HaveEntries blockers txns waits.items → HaveEntries blockers txns result.items }
+    ensures held { AreHeld result.items }
 {
-    for _ in 0..waits.len() {
-        if !shed(&mut waits) {
-            break;
-        }
-    }
+    while shed(&mut waits) {}
     waits
 }
 
 /// Takes out those whom none of the rest blocks. Whether there were any. Those of which each is blocked by another stay.
 fn shed(waits: &mut Vec<Waiting>) -> bool
-    ensures { (blockers : ℕ → List ℕ) (txns : List ℕ) → AreDeadlocked blockers txns → HaveEntries blockers txns waits.old.items → HaveEntries blockers txns waits.new.items }
+    ensures stay { (blockers : ℕ → List ℕ) (txns : List ℕ) → AreDeadlocked blockers txns → HaveEntries blockers txns waits.old.items → HaveEntries blockers txns waits.new.items }
+    ensures fewer { result ≡ true → length waits.new.items < length waits.old.items }
+    ensures held { result ≡ false → AreHeld waits.new.items }
 {
     let count = waits.len();
     for place in (0..count).rev() {

@@ -1,7 +1,11 @@
 use Rattle.std.proofs.Common.{ℕ, List}
+use Rattle.std.specs.Vec.{vec_len}
 use Rattle.kr_records.specs.Waits.{AreDeadlocked, HaveEntries}
 use Rattle.kr_records.proofs.wakes.shed_all.Given as goal
 
 -- those that are deadlocked are there still
 abbrev pub invariant-loop : goal.invariant-loop
 invariant-loop l = (blockers : ℕ → List ℕ) (txns : List ℕ) → AreDeadlocked blockers txns → HaveEntries blockers txns l.fn.waits.items → HaveEntries blockers txns l.waits.items
+
+abbrev pub decreases-loop : goal.decreases-loop
+decreases-loop l = vec_len l.waits

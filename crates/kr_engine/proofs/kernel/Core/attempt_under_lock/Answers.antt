@@ -9,7 +9,7 @@ use Rattle.kr_engine.proofs.kernel.Core.attempt_under_lock.Goals as goal
 
 pub overflow_add-seat : goal.overflow_add-seat
 overflow_add-seat g c =
-    let f = c.fits.ensures c.if-not-fits.false in
+    let f = c.fits.ensures.0 c.if-not-fits.false in
     let own : entries_of c.args.seat.now.seat c.args.self.now.entries ≡ c.args.seat.now.count = f.2 in
     let same : c.seat.inside.count ≡ c.args.seat.now.count = ap (λ (h : Held). h.count) c.seat.view_is in
     let r = c.in-Ok.ensures.receipt in
@@ -18,13 +18,13 @@ overflow_add-seat g c =
 
 pub invariant_of-seat : goal.invariant_of-seat
 invariant_of-seat g c =
-    let f = c.fits.ensures c.if-not-fits.false in
+    let f = c.fits.ensures.0 c.if-not-fits.false in
     let own : entries_of c.seat.inside.seat c.args.self.now.entries ≡ c.seat.inside.count = (λ i. entries_of (ap (λ (h : Held). h.seat) c.seat.view_is i) c.args.self.now.entries) ∙ f.2 ∙ sym (ap (λ (h : Held). h.count) c.seat.view_is) in
     ap (entries_of c.seat.inside.seat) (c.show_history.ensures.all ∙ c.in-Ok.ensures.entry) ∙ own_more c.seat.inside.seat c.seat.inside.count c.args.self.now.entries (entry c.seat.inside.seat (event c.in-Some.txn c.args.op) c.in-Ok.receipt.reply) refl own
 
 pub returns-in-Ok-clause-done : goal.returns-in-Ok-clause-done
 returns-in-Ok-clause-done g c =
-    let f = c.fits.ensures c.if-not-fits.false in
+    let f = c.fits.ensures.0 c.if-not-fits.false in
     let s = c.in-Ok.ensures in
     let place = c.in-Ok.receipt.place in
     let seat : c.seat.inside.seat ≡ c.args.seat.now.seat = ap (λ (h : Held). h.seat) c.seat.view_is in
