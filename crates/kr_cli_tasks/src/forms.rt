@@ -25,15 +25,27 @@ fn of_scripts<'a>(alloc: Global, name: &'a str) -> Result<Command<'a>, AllocErro
     of_table(alloc, name)?.arg(scripts)
 }
 
-/// The four forms.
-pub(crate) fn command<'a>(alloc: Global) -> Result<Command<'a>, AllocError> {
-    let forms = Command::new(alloc, "kr")
+/// The program's words, with no form yet.
+fn program<'a>(alloc: Global) -> Command<'a> {
+    Command::new(alloc, "kr")
         .no_binary_name(true)
         .disable_help_flag(true)
         .disable_help_subcommand(true)
-        .subcommand_required(true);
-    let forms = forms.subcommand(of_table(alloc, "check")?)?;
-    let forms = forms.subcommand(of_script(alloc, "run")?)?;
-    let forms = forms.subcommand(of_scripts(alloc, "judge")?)?;
-    forms.subcommand(of_script(alloc, "threads")?)
+        .subcommand_required(true)
+}
+
+/// The forms with one more, where that could be made.
+fn with<'a>(
+    forms: Command<'a>,
+    form: Result<Command<'a>, AllocError>,
+) -> Result<Command<'a>, AllocError> {
+    forms.subcommand(form?)
+}
+
+/// The four forms.
+pub(crate) fn command<'a>(alloc: Global) -> Result<Command<'a>, AllocError> {
+    let forms = with(program(alloc), of_table(alloc, "check"))?;
+    let forms = with(forms, of_script(alloc, "run"))?;
+    let forms = with(forms, of_scripts(alloc, "judge"))?;
+    with(forms, of_script(alloc, "threads"))
 }

@@ -97,13 +97,23 @@ impl<'a, P: GhostProtocol> Stand<'a, P> {
         ensures point { IfOk result (λ r. IfSome r (λ x. x.point ≡ after_purge (P.ghosts self.now.protocol) key self.now.point)) }
     {
         let mut copy = self.try_copy(alloc)?;
-        let before = copy.stepper.locks()?;
-        if !copy.stepper.purge(key)? {
-            return Ok(None);
+        let is_purged = copy.purge_here(alloc, line, key)?;
+        if is_purged { Ok(Some(copy)) } else { Ok(None) }
+    }
+
+    /// Purges a ghost before the line of this number, where it may be, and notes the locks that are inherited. It answers whether
+    /// it did.
+    fn purge_here(&mut self, alloc: Global, line: u64, key: u64) -> Result<bool, Memory>
+        ensures protocol { self.new.protocol ≡ self.old.protocol }
+        ensures point { OnOk result (self.new.point ≡ after_purge (P.ghosts self.old.protocol) key self.old.point) }
+    {
+        let before = self.stepper.locks()?;
+        if !self.stepper.purge(key)? {
+            return Ok(false);
         }
-        let after = copy.stepper.locks()?;
-        note_inherited(alloc, &mut copy.notes, line, &before, &after)?;
-        Ok(Some(copy))
+        let after = self.stepper.locks()?;
+        note_inherited(alloc, &mut self.notes, line, &before, &after)?;
+        Ok(true)
     }
 
     /// The same: where a run with purges leads to this state along the lines, one leads to the copy.
