@@ -13,7 +13,7 @@ use Rattle.kr_history.specs.declared.name.Entry.{Entry}
 use Rattle.kr_records.specs.declared.notes.SeatNote.{SeatNote}
 use Rattle.kr_records.specs.Histories.{events_with_replies}
 use Rattle.kr_records.specs.Closed.{Lent, StandsIn}
-use Rattle.kr_workers.specs.declared.faults.StepFault.{StepFault}
+use Rattle.kr_script.specs.declared.not_done.StepFault.{StepFault}
 use Rattle.kr_workers.specs.declared.left_out.LeftOut.{LeftOut}
 use Rattle.kr_compared.specs.Told.{IsLeftOut, AreTold, IsToldToOne, Reported, first_failure, left_between}
 use Rattle.kr_compared.proofs.Told.{told_more}

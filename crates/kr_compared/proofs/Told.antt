@@ -18,8 +18,8 @@ use Rattle.kr_records.specs.Seats.{Held, Shows, IsRefused, IsDeadlock, SeesFault
 use Rattle.kr_records.specs.declared.faults.Receipt.{Receipt}
 use Rattle.kr_records.specs.declared.faults.EngineFault.{EngineFault}
 use Rattle.kr_records.specs.declared.faults.EngineFault.TheVariants as fault
-use Rattle.kr_workers.specs.declared.faults.WhyNotDone.TheVariants.{Deadlock, Refused}
-use Rattle.kr_workers.specs.declared.faults.StepFault.{StepFault}
+use Rattle.kr_script.specs.declared.not_done.WhyNotDone.TheVariants.{Deadlock, Refused}
+use Rattle.kr_script.specs.declared.not_done.StepFault.{StepFault}
 use Rattle.kr_workers.specs.declared.left_out.LeftOut.{LeftOut}
 use Rattle.kr_workers.specs.Placed.{IsPast, IsUpTo}
 use Rattle.kr_workers.specs.Waits.{is_blocked_reply}

@@ -13,7 +13,7 @@ use Rattle.kr_records.specs.Histories.{events_with_replies}
 use Rattle.kr_judge.specs.declared.ran.Ran.{Ran}
 use Rattle.kr_workers.specs.Follows.{Follows}
 use Rattle.kr_report.specs.declared.threaded.Answered.{Answered}
-use Rattle.kr_workers.specs.declared.faults.StepFault.{StepFault}
+use Rattle.kr_script.specs.declared.not_done.StepFault.{StepFault}
 use Rattle.kr_report.specs.declared.threaded.Threaded.{Threaded}
 use Rattle.kr_report.specs.declared.threaded.ThreadsShown.{ThreadsShown}
 use Rattle.kr_compared.specs.Told.{IsTold}

@@ -16,9 +16,9 @@ use Rattle.kr_records.specs.Seats.{Held}
 use Rattle.kr_records.specs.declared.closing.History.{History}
 use Rattle.kr_records.specs.Closed.{Lent, IsClosed}
 use Rattle.kr_compared.specs.declared.fault.RunFault.{RunFault}
-use Rattle.kr_workers.specs.declared.faults.WhyNotDone.{WhyNotDone}
-use Rattle.kr_workers.specs.declared.faults.WhyNotDone.TheVariants.{Deadlock, Refused}
-use Rattle.kr_workers.specs.declared.faults.StepFault.{StepFault}
+use Rattle.kr_script.specs.declared.not_done.WhyNotDone.{WhyNotDone}
+use Rattle.kr_script.specs.declared.not_done.WhyNotDone.TheVariants.{Deadlock, Refused}
+use Rattle.kr_script.specs.declared.not_done.StepFault.{StepFault}
 use Rattle.kr_workers.specs.Waits.{is_blocked_reply}
 use Rattle.kr_workers.specs.declared.left_out.LeftOut.{LeftOut}
 use Rattle.kr_workers.specs.Counts.{done_by, missed_before}

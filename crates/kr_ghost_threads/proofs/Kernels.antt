@@ -20,7 +20,7 @@ use Rattle.kr_deadlock.specs.declared.Waiting.{Waiting}
 use Rattle.kr_deadlock.specs.Waits.{blockers_of, IsCycle}
 use Rattle.kr_deadlock.proofs.Cycles.{IsCycle-same}
 use Rattle.kr_workers.specs.Waits.{blockers_now, event}
-use Rattle.kr_workers.specs.declared.faults.StepFault.{StepFault}
+use Rattle.kr_script.specs.declared.not_done.StepFault.{StepFault}
 use Rattle.kr_ghost.specs.declared.moves.Move.{Move}
 use Rattle.kr_ghost.specs.declared.moves.Move.TheVariants.{Attempt, Purge}
 use Rattle.kr_ghost.specs.Protocol.{GhostProtocol}

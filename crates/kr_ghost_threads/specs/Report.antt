@@ -11,7 +11,7 @@ use Rattle.kr_script.specs.Replies.{after_word, numbers_data}
 use Rattle.kr_script.specs.Steps.{step_of}
 use Rattle.kr_report.specs.Report.{verdict_data}
 use Rattle.kr_report.specs.ThreadsReport.{faults_data}
-use Rattle.kr_workers.specs.declared.faults.StepFault.{StepFault}
+use Rattle.kr_script.specs.declared.not_done.StepFault.{StepFault}
 use Rattle.kr_ghost.specs.declared.moves.Move.{Move}
 use Rattle.kr_ghost.specs.declared.moves.Move.TheVariants.{Attempt, Purge}
 use Rattle.kr_ghost_report.specs.RunReport.{answer_data}

@@ -9,9 +9,9 @@ use Rattle.kr_model.specs.Run.{is_granted}
 use Rattle.kr_model.specs.Step.{blockers_in}
 use Rattle.kr_deadlock.specs.declared.Waiting.{Waiting}
 use Rattle.kr_deadlock.specs.Waits.{IsCycle}
-use Rattle.kr_workers.specs.declared.faults.WhyNotDone.{WhyNotDone}
-use Rattle.kr_workers.specs.declared.faults.WhyNotDone.TheVariants.{Deadlock, Refused}
-use Rattle.kr_workers.specs.declared.faults.StepFault.{StepFault}
+use Rattle.kr_script.specs.declared.not_done.WhyNotDone.{WhyNotDone}
+use Rattle.kr_script.specs.declared.not_done.WhyNotDone.TheVariants.{Deadlock, Refused}
+use Rattle.kr_script.specs.declared.not_done.StepFault.{StepFault}
 use Rattle.kr_workers.specs.Waits.{blockers_now, event, is_blocked_reply}
 use Rattle.kr_workers.specs.Counts.{done_by, missed_before}
 use Rattle.kr_ghost.specs.Protocol.{GhostProtocol}

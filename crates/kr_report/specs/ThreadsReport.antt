@@ -5,9 +5,9 @@ use Rattle.serde_json.specs.View.{items_of}
 use Rattle.serde_json.specs.Written.{compact_text}
 use Rattle.kr_model.specs.Map.{Map}
 use Rattle.kr_judge.specs.declared.verdict.Verdict.{Verdict}
-use Rattle.kr_workers.specs.declared.faults.WhyNotDone.{WhyNotDone}
-use Rattle.kr_workers.specs.declared.faults.WhyNotDone.TheVariants.{Deadlock, Refused}
-use Rattle.kr_workers.specs.declared.faults.StepFault.{StepFault}
+use Rattle.kr_script.specs.declared.not_done.WhyNotDone.{WhyNotDone}
+use Rattle.kr_script.specs.declared.not_done.WhyNotDone.TheVariants.{Deadlock, Refused}
+use Rattle.kr_script.specs.declared.not_done.StepFault.{StepFault}
 use Rattle.kr_report.specs.declared.threaded.Answered.{Answered}
 use Rattle.kr_script.specs.Json.{whole}
 use Rattle.kr_script.specs.Steps.{step_of}

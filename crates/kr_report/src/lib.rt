@@ -12,7 +12,7 @@ mod writing;
 
 pub use check_reports::report_check;
 pub use ghost_reports::report_ghost_check;
-pub use kr_workers::{Dealt, StepFault, WhyNotDone, follows};
+pub use kr_script::{StepFault, WhyNotDone};
 pub use replies::write_verdict;
 pub use reports::{report_played, report_run, report_verdict};
 pub use threaded::{Answered, Threaded, ThreadsShown};

@@ -1,9 +1,10 @@
-//! Scripts of transactions' steps: read from JSON, and written as a line that reads back; and replies, written as reports have
-//! them.
+//! Scripts of transactions' steps: read from JSON, and written as a line that reads back; replies, written as reports have them;
+//! and steps that a run left out.
 #![tactic(auto)]
 
 mod faults;
 mod line;
+mod not_done;
 mod parts;
 mod plain;
 pub mod reading;
@@ -14,6 +15,7 @@ mod writing;
 
 pub use faults::ScriptFault;
 pub use line::{lemma_event_fits, lemma_pairs_fit, write_script};
+pub use not_done::{StepFault, WhyNotDone};
 pub use parts::{length_of, number_at, word_at};
 pub use reading::{MAX_ELEMENTS, pair_of, pairs_of, read_script};
 pub use replies::{quoted, write_name, write_numbers, write_reply, write_with_numbers};

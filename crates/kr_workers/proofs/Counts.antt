@@ -11,7 +11,7 @@ use Rattle.std.proofs.lemmas.List.Elements.{All-push}
 use Rattle.std.proofs.lemmas.List.Sums.{count_by_more_yes, count_by_more_no, count_by-le-length}
 use Rattle.kr_model.specs.declared.Event.{Event}
 use Rattle.kr_model.specs.declared.Op.TheVariants.{Go}
-use Rattle.kr_workers.specs.declared.faults.StepFault.{StepFault}
+use Rattle.kr_script.specs.declared.not_done.StepFault.{StepFault}
 use Rattle.kr_workers.specs.Follows.{AreRising}
 use Rattle.kr_workers.specs.Dealt.{txn_at}
 use Rattle.kr_workers.specs.declared.left_out.LeftOut.{LeftOut}

@@ -6,7 +6,7 @@ use Rattle.std.proofs.lemmas.Bool.{eqb-true}
 use Rattle.std.proofs.lemmas.Bool.Decides.{nat_tests}
 use Rattle.std.proofs.lemmas.List.{get_or_read}
 use Rattle.std.proofs.lemmas.List.Folds.{list_any_at, list_any_none}
-use Rattle.kr_workers.specs.declared.faults.StepFault.{StepFault}
+use Rattle.kr_script.specs.declared.not_done.StepFault.{StepFault}
 use Rattle.kr_workers.specs.declared.wanted.Fate.TheVariants.{Done, Missed, Stuck}
 use Rattle.kr_workers.specs.Follows.{is_of, is_before, is_deadlock, is_missed, is_stuck, AreRising}
 use Rattle.kr_workers.specs.Fates.{fate_of, IsPlace}

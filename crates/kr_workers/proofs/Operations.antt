@@ -3,7 +3,7 @@ use Rattle.std.proofs.Common.{◌≡◌, ℕ, suc, ◌+◌, ◌-◌, ◌<◌, Bo
 use Rattle.std.specs.Prelude.{slice_get}
 use Rattle.kr_model.specs.declared.Op.{Op}
 use Rattle.kr_model.specs.Step.{is_end}
-use Rattle.kr_workers.specs.declared.faults.StepFault.{StepFault}
+use Rattle.kr_script.specs.declared.not_done.StepFault.{StepFault}
 use Rattle.kr_workers.specs.declared.wanted.Fate.{Fate}
 use Rattle.kr_workers.specs.declared.wanted.Fate.TheVariants.{Done, Missed, Stuck}
 use Rattle.kr_workers.specs.Follows.{is_missed, is_stuck, done_from, stays_active}

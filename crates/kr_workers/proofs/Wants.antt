@@ -9,7 +9,7 @@ use Rattle.std.proofs.lemmas.List.{take_more, get_or-take, length-take-le, lengt
 use Rattle.std.proofs.lemmas.List.Elements.{All-push, Contains-push}
 use Rattle.kr_model.specs.declared.Op.{Op}
 use Rattle.kr_model.specs.declared.Op.TheVariants.{Abort}
-use Rattle.kr_workers.specs.declared.faults.StepFault.{StepFault}
+use Rattle.kr_script.specs.declared.not_done.StepFault.{StepFault}
 use Rattle.kr_workers.specs.Follows.{done_from, closed, stays_active}
 use Rattle.kr_workers.specs.Dealt.{AreWanted, hand_in}
 use Rattle.kr_workers.proofs.Hands.{Hands, Hand, hand_there, same_test}

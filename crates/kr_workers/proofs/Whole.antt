@@ -6,7 +6,7 @@ use Rattle.std.proofs.lemmas.List.{append_cancel_right}
 use Rattle.std.proofs.lemmas.List.Elements.{All-contains}
 use Rattle.kr_model.specs.declared.Event.{Event}
 use Rattle.kr_model.specs.declared.Op.{Op}
-use Rattle.kr_workers.specs.declared.faults.StepFault.{StepFault}
+use Rattle.kr_script.specs.declared.not_done.StepFault.{StepFault}
 use Rattle.kr_workers.specs.Follows.{ops_of, op_at, done_from, closed, AreRising, Follows}
 use Rattle.kr_workers.specs.Dealt.{Dealing, AreDealt, AreWanted, firsts, ops_in, hand_in, IsAsked}
 use Rattle.kr_workers.proofs.Firsts.{occurs}

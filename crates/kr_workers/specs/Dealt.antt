@@ -6,7 +6,7 @@ use Rattle.std.specs.Ordering.{nat_cmp}
 use Rattle.kr_model.specs.declared.Event.{Event}
 use Rattle.kr_model.specs.declared.Op.{Op}
 use Rattle.kr_model.specs.declared.Op.TheVariants.{Go}
-use Rattle.kr_workers.specs.declared.faults.StepFault.{StepFault}
+use Rattle.kr_script.specs.declared.not_done.StepFault.{StepFault}
 use Rattle.kr_workers.specs.Follows.{ops_of, op_at, done_from, closed}
 
 -- The transactions that occur, each once, in order of first appearance.

@@ -1,7 +1,7 @@
 -- What becomes of the steps that a transaction comes to.
 use Rattle.std.specs.Prelude.{◌≡◌, ◌≤◌, ℕ, true, false, List, length, if◌then◌else◌}
 use Rattle.std.specs.List.Sorted.{IsPartitionPoint}
-use Rattle.kr_workers.specs.declared.faults.StepFault.{StepFault}
+use Rattle.kr_script.specs.declared.not_done.StepFault.{StepFault}
 use Rattle.kr_workers.specs.declared.wanted.Fate.{Fate}
 use Rattle.kr_workers.specs.declared.wanted.Fate.TheVariants.{Done, Missed, Stuck}
 use Rattle.kr_workers.specs.Follows.{is_before, is_missed, is_stuck}

@@ -5,9 +5,9 @@ use Rattle.kr_model.specs.declared.Event.{Event}
 use Rattle.kr_model.specs.declared.Op.{Op}
 use Rattle.kr_model.specs.declared.Op.TheVariants.{Abort}
 use Rattle.kr_model.specs.Step.{is_end}
-use Rattle.kr_workers.specs.declared.faults.WhyNotDone.{WhyNotDone}
-use Rattle.kr_workers.specs.declared.faults.WhyNotDone.TheVariants.{Deadlock, Refused}
-use Rattle.kr_workers.specs.declared.faults.StepFault.{StepFault}
+use Rattle.kr_script.specs.declared.not_done.WhyNotDone.{WhyNotDone}
+use Rattle.kr_script.specs.declared.not_done.WhyNotDone.TheVariants.{Deadlock, Refused}
+use Rattle.kr_script.specs.declared.not_done.StepFault.{StepFault}
 
 -- Scripts --
 

@@ -5,10 +5,10 @@ ghost use Rattle.kr_workers.specs.Follows.{Follows, AreRising, is_before};
 ghost use Rattle.kr_workers.specs.Dealt.{AreDealt, IsAsked};
 
 use crate::dealt::Dealt;
-use crate::faults::StepFault;
 use crate::undoing::{are_empty, undo};
 use crate::wanted::want_all;
 use kr_model::{Event, Txn};
+use kr_script::StepFault;
 use std::alloc::{AllocError, Global};
 
 /// Whether the events follow the steps of a script, which are given as they were dealt, with these faults: each

@@ -1,7 +1,7 @@
 //! Steps that a worker left out, and where in the history.
 ghost use Rattle.std.specs.Prelude.{◌≡◌, IfOk, map};
 
-use crate::faults::StepFault;
+use kr_script::StepFault;
 use std::alloc::{AllocError, Global};
 
 /// A step that was left out, between two steps of its transaction that were done.

@@ -3,7 +3,6 @@
 #![tactic(auto)]
 
 mod dealt;
-mod faults;
 mod following;
 mod gate;
 mod left_out;
@@ -13,9 +12,9 @@ mod undoing;
 mod wanted;
 
 pub use dealt::Dealt;
-pub use faults::{StepFault, WhyNotDone};
 pub use following::follows;
 pub use gate::{Gate, Passage};
+pub use kr_script::{StepFault, WhyNotDone};
 pub use left_out::{LeftOut, faults_of};
 pub use placing::are_placed;
 pub use turn::{MOST_CALLS, Turn};

@@ -5,9 +5,9 @@ ghost use Rattle.kr_workers.specs.Follows.{AreRising, is_before, is_of, stays_ac
 ghost use Rattle.kr_workers.specs.Dealt.{AreWanted, hand_in};
 ghost use Rattle.kr_workers.specs.Fates.{fate_of, IsPlace};
 
-use crate::faults::{StepFault, WhyNotDone};
 use crate::following::is_before;
 use kr_model::{Op, Txn};
+use kr_script::{StepFault, WhyNotDone};
 use std::alloc::{AllocError, Global};
 use std::collections::BTreeMap;
 

@@ -2,7 +2,7 @@ use Rattle.std.proofs.Common.{◌≡◌, ◌∙◌, map, ap, subst, List}
 use Rattle.std.specs.Prelude.{All}
 use Rattle.kr_model.specs.declared.Event.{Event}
 use Rattle.kr_workers.specs.Follows.{Follows, AreRising}
-use Rattle.kr_workers.specs.declared.faults.StepFault.{StepFault}
+use Rattle.kr_script.specs.declared.not_done.StepFault.{StepFault}
 use Rattle.kr_workers.specs.declared.left_out.LeftOut.{LeftOut}
 use Rattle.kr_workers.specs.Counts.{missed_before}
 use Rattle.kr_workers.specs.Placed.{IsBetween}

@@ -1,5 +1,5 @@
 use kr_model::{Event, Op, Refusal, Reply, Txn, Txns};
-use kr_report::{Dealt, StepFault, WhyNotDone, follows};
+use kr_workers::{Dealt, StepFault, WhyNotDone, follows};
 use std::alloc::{AllocError, Global};
 
 /// An operation of a transaction.

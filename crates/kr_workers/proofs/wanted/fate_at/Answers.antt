@@ -1,7 +1,7 @@
 use Rattle.std.proofs.Common.{◌≡◌, false, cond, sym, ◌∙◌, ap, subst, arith}
 use Rattle.std.proofs.lemmas.List.{get_or_read}
-use Rattle.kr_workers.specs.declared.faults.WhyNotDone.{WhyNotDone}
-use Rattle.kr_workers.specs.declared.faults.StepFault.{StepFault}
+use Rattle.kr_script.specs.declared.not_done.WhyNotDone.{WhyNotDone}
+use Rattle.kr_script.specs.declared.not_done.StepFault.{StepFault}
 use Rattle.kr_workers.specs.declared.wanted.Fate.TheVariants.{Stuck, Missed}
 use Rattle.kr_workers.specs.Follows.{is_of, is_deadlock}
 use Rattle.kr_workers.proofs.FaultPlaces.{fate_done, fate_there}

@@ -1,5 +1,5 @@
 use Rattle.std.proofs.Common.{◌≡◌, ◌+◌, List, sym, subst, refl}
-use Rattle.kr_workers.specs.declared.faults.StepFault.{StepFault}
+use Rattle.kr_script.specs.declared.not_done.StepFault.{StepFault}
 use Rattle.kr_workers.specs.Counts.{count_in}
 use Rattle.kr_ghost_threads.specs.Told.{IsKernel, IsCause}
 use Rattle.kr_ghost_threads.proofs.Kernels.{left_out_more}
