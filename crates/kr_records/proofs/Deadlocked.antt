@@ -5,7 +5,7 @@ use Rattle.std.proofs.lemmas.Bool.{eqb-true, eq-eqb, false≢true}
 use Rattle.std.proofs.lemmas.List.Folds.{list_any_at}
 use Rattle.std.specs.Prelude.{◌⊎◌}
 use Rattle.std.proofs.lemmas.List.Elements.{Contains-append_cases, Contains-append_right, Contains-get_or}
-use Rattle.std.proofs.lemmas.List.Sorted.{Contains-permutation, IsPermutation-swap_remove}
+use Rattle.std.proofs.lemmas.List.Sorted.{Contains-permutation, IsPermutation-swap_remove, IsPermutation-sym}
 use Rattle.kr_deadlock.specs.declared.Waiting.{Waiting}
 use Rattle.kr_model.specs.declared.Event.{Event}
 use Rattle.kr_deadlock.specs.Waits.{IsChain, IsCycle}
@@ -60,6 +60,12 @@ deadlocked_stay ws ws' i x within here is free blockers txns tied all t there =
         let held : list_any (λ v. v.txn == next.0) ws ≡ true = any_there (λ (v : Waiting). v.txn == next.0) ws entry.0 entry.1 (eq-eqb entry.0.txn next.0 entry.2) in
         let by_it : Contains x.blockers.items next.0 = subst (λ l. Contains l next.0) (sym (ap (λ (v : Waiting). v.blockers.items) same ∙ its)) next.2 in
         false≢true (sym free ∙ any_there (λ u. list_any (λ w. w.txn == u) ws) x.blockers.items next.0 by_it held)
+
+-- Who stays was there.
+pub stayed : (ws ws' : List Waiting) (i : ℕ) (x : Waiting) → i < length ws → x ≡ get_or ws i x → ws' ≡ swap_remove ws i x → (w : Waiting) → Contains ws' w → Contains ws w
+stayed ws ws' i x within here is w there =
+    let rest : Contains (x ∷ swap_remove ws i x) w = Contains-append_right (x ∷ []) (swap_remove ws i x) w (subst (λ l. Contains l w) is there) in
+    Contains-permutation (x ∷ swap_remove ws i x) ws w (IsPermutation-sym ws (x ∷ swap_remove ws i x) (IsPermutation-swap_remove ws i x within here)) rest
 
 -- Entries of the operations --
 

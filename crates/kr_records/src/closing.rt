@@ -64,11 +64,10 @@ pub enum CloseFault {
     Place,
 }
 
-/// Whether these shares fit. Where they do, each stands in the history.
+/// Whether these shares fit. Where they do, and each seat counts its entries, each stands in the history.
 pub fn fit_all<K: EngineName>(seats: &[SeatNote], history: &Seen<K>, shares: &[Share<K>]) -> bool
-    requires counts { CountsAre seats.now history.now }
     ensures fits { result ≡ list_all (fits seats.now history.now) shares.now }
-    ensures stand { result ≡ true → All (StandsIn seats.now history.now) shares.now }
+    ensures stand { CountsAre seats.now history.now → result ≡ true → All (StandsIn seats.now history.now) shares.now }
 {
     for share in shares {
         if !is_fitting(seats, history, share) {
@@ -78,11 +77,10 @@ pub fn fit_all<K: EngineName>(seats: &[SeatNote], history: &Seen<K>, shares: &[S
     true
 }
 
-/// Whether a share fits. Where it does, it stands in the history.
+/// Whether a share fits. Where it does, and each seat counts its entries, it stands in the history.
 fn is_fitting<K: EngineName>(seats: &[SeatNote], history: &Seen<K>, share: &Share<K>) -> bool
-    requires counts { CountsAre seats.now history.now }
     ensures fits { result ≡ fits seats.now history.now share.now }
-    ensures stands { result ≡ true → StandsIn seats.now history.now share.now }
+    ensures stands { CountsAre seats.now history.now → result ≡ true → StandsIn seats.now history.now share.now }
 {
     if share.seat() >= seats.len() {
         return false;

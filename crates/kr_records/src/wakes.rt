@@ -1,6 +1,7 @@
 //! Whom a step may let go on, by its reply, and who of those that wait is deadlocked.
-ghost use Rattle.std.specs.Prelude.{◌≡◌, ◌≢◌, ◌==◌, ◌<◌, ℕ, List, true, false, length};
+ghost use Rattle.std.specs.Prelude.{◌≡◌, ◌≢◌, ◌==◌, ◌<◌, ℕ, List, Contains, true, false, length};
 ghost use Rattle.std.specs.List.{list_any};
+ghost use Rattle.kr_deadlock.specs.declared.Waiting.{Waiting as Entry};
 ghost use Rattle.kr_records.specs.declared.wakes.Change.TheVariants as change;
 ghost use Rattle.kr_records.specs.Waits.{AreDeadlocked, HaveEntries, AreHeld};
 ghost use Rattle.kr_records.specs.Wakes.{FreesNobody, LeavesKeys, BlocksNobody, change_by, first_change};
@@ -53,21 +54,24 @@ pub fn change_of(reply: &Reply) -> Change
     }
 }
 
-/// Takes out those whom none of the rest blocks, again and again. Those of which each is blocked by another stay, and each
-/// that stays is blocked by one that stays.
+/// Takes out those whom none of the rest blocks, again and again. Those of which each is blocked by another stay, each that
+/// stays is blocked by one that stays, and nobody comes.
 pub fn shed_all(mut waits: Vec<Waiting>) -> Vec<Waiting>
     ensures stay { (blockers : ℕ → List ℕ) (txns : List ℕ) → AreDeadlocked blockers txns → HaveEntries blockers txns waits.items → HaveEntries blockers txns result.items }
     ensures held { AreHeld result.items }
+    ensures given { (w : Entry) → Contains result.items w → Contains waits.items w }
 {
     while shed(&mut waits) {}
     waits
 }
 
-/// Takes out those whom none of the rest blocks. Whether there were any. Those of which each is blocked by another stay.
+/// Takes out those whom none of the rest blocks. Whether there were any. Those of which each is blocked by another stay, and
+/// nobody comes.
 fn shed(waits: &mut Vec<Waiting>) -> bool
     ensures stay { (blockers : ℕ → List ℕ) (txns : List ℕ) → AreDeadlocked blockers txns → HaveEntries blockers txns waits.old.items → HaveEntries blockers txns waits.new.items }
     ensures fewer { result ≡ true → length waits.new.items < length waits.old.items }
     ensures held { result ≡ false → AreHeld waits.new.items }
+    ensures given { (w : Entry) → Contains waits.new.items w → Contains waits.old.items w }
 {
     let count = waits.len();
     for place in (0..count).rev() {

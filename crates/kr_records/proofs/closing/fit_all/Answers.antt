@@ -15,10 +15,10 @@ loop-share-preserved g c =
     let here : f x ≡ true = sym c.is_fitting.ensures.fits ∙ c.if-not-is_fitting.false in
     record {
       fit = list_all_more f shares c.loop-share.share-index x c.loop-share-test.true ∙ (λ i. c.loop-share.invariant.fit i && subst (λ (y : Lent). f y ≡ true) c.share-item.is here i);
-      stand = All-more P shares c.loop-share.share-index x c.loop-share-test.true c.loop-share.invariant.stand (subst P c.share-item.is (c.is_fitting.ensures.stands c.if-not-is_fitting.false));
+      stand = λ counts. All-more P shares c.loop-share.share-index x c.loop-share-test.true (c.loop-share.invariant.stand counts) (subst P c.share-item.is (c.is_fitting.ensures.stands counts c.if-not-is_fitting.false));
     }
 
 pub returns-clause-stand : goal.returns-clause-stand
 returns-clause-stand g c =
     let all : List Lent → Type 0 = All (StandsIn c.args.seats.now c.args.history.now) in
-    λ _. subst all (take_all c.loop-share.share-index c.args.shares.now (omega (arith, c.loop-share-test.false))) c.loop-share.invariant.stand
+    λ counts _. subst all (take_all c.loop-share.share-index c.args.shares.now (omega (arith, c.loop-share-test.false))) (c.loop-share.invariant.stand counts)

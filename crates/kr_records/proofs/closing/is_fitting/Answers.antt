@@ -9,4 +9,4 @@ pub returns-clause-fits : goal.returns-clause-fits
 returns-clause-fits g c = grind (arith, common_steps)
 
 pub returns-clause-stands : goal.returns-clause-stands
-returns-clause-stands g c = grind (arith, common_steps)
+returns-clause-stands g c = λ counts. grind (arith, common_steps)

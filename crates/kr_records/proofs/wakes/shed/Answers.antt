@@ -2,7 +2,7 @@ use Rattle.std.proofs.Common.{◌≡◌, ◌==◌, ◌-◌, ◌<◌, ◌∙◌, 
 use Rattle.std.proofs.lemmas.Grind.{common_steps}
 use Rattle.std.specs.List.{list_any}
 use Rattle.kr_records.specs.Waits.{is_blocked_in}
-use Rattle.kr_records.proofs.Deadlocked.{deadlocked_stay, held_more, same_at}
+use Rattle.kr_records.proofs.Deadlocked.{deadlocked_stay, held_more, same_at, stayed}
 use Rattle.kr_records.proofs.wakes.shed.Goals as goal
 
 pub loop-place-preserved-then-not-is_held : goal.loop-place-preserved-then-not-is_held
@@ -19,6 +19,7 @@ loop-place-preserved-then-not-is_held c =
       there = omega (arith, c.loop-place.invariant.there, c.loop-place-test.true, c.swap_remove.ensures.len);
       few = omega (arith, c.loop-place.invariant.few, c.swap_remove.ensures.len);
       held = λ same. absurd (omega (arith, same, c.loop-place.invariant.few, c.swap_remove.ensures.len));
+      given = λ w there. c.loop-place.invariant.given w (stayed ws c.swap_remove.new.self.items i x within c.swap_remove.ensures.value c.swap_remove.ensures.items w there);
       kept = λ blockers txns tied all. deadlocked_stay ws c.swap_remove.new.self.items i x within c.swap_remove.ensures.value c.swap_remove.ensures.items none blockers txns tied (c.loop-place.invariant.kept blockers txns tied all);
     }
 
@@ -32,6 +33,7 @@ loop-place-preserved c =
       there = omega (arith, c.loop-place.invariant.there);
       few = c.loop-place.invariant.few;
       held = λ same. held_more ws c.loop-place.place c.index.result.now c.loop-place-test.true c.loop-place.invariant.there c.index.ensures blocked (c.loop-place.invariant.held same);
+      given = c.loop-place.invariant.given;
       kept = c.loop-place.invariant.kept;
     }
 
