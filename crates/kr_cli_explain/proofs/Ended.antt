@@ -79,7 +79,7 @@ report_ends may_give words (Ok accepted) table w t are asked names ends = tt
 report_ends may_give words (Err e) table w t are asked names ends = λ own. ends_at may_give words table w t e are asked names ends
 
 -- what is wanted of the table that a word names was written
-pub report_answers : (may_give : List ℕ → Option (List ℕ) → Type 0) (words : List (List ℕ)) (old new : Option (List ℕ)) (r : Result Bool Ending) (table : List ℕ) (w : Wanted) (t : Named) → words ≡ words_of table w → IsAsked table w → Names may_give table t → IsLawfulTable t → IfOk r (ReportsTable t w old new) → IfOk r (Answers may_give words old new)
+pub report_answers : (may_give : List ℕ → Option (List ℕ) → Type 0) (words : List (List ℕ)) (old new : Option (List ℕ)) (r : Result Bool Ending) (table : List ℕ) (w : Wanted) (t : Named) → words ≡ words_of table w → IsAsked table w → Names may_give table t → IsLawfulTable t → IfOk r (ReportsTable t table w old new) → IfOk r (Answers may_give words old new)
 report_answers may_give words old new (Ok safe) table w t are asked names lawful reports =
     record { table = table; wanted = w; named = t; words_are = are; asked = asked; names = names; lawful = lawful; reports = reports }
 report_answers may_give words old new (Err e) table w t are asked names lawful reports = tt

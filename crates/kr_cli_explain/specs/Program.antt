@@ -30,13 +30,13 @@ use Rattle.kr_cli_explain.specs.Words.{words_of, AskNothingOfTables, IsAsked}
 use Rattle.kr_cli_explain.specs.declared.words.Wanted.{Wanted}
 use Rattle.kr_cli_explain.specs.declared.words.Wanted.TheVariants as wanted
 
--- A whole text of an explanation of a table with these names of its modes was written, and the answer is whether the table is safe.
-pub record Explains (p : Protocol) (names : List (List ℕ)) (old new : Option (List ℕ)) (safe : Bool) : Type 0 where
+-- A whole text of an explanation of a table that a word names, with these names of its modes, was written, and the answer is whether the table is safe.
+pub record Explains (p : Protocol) (names : List (List ℕ)) (table : List ℕ) (old new : Option (List ℕ)) (safe : Bool) : Type 0 where
   pub explanation : Explanation
   pub text : List ℕ
   pub explained : IsExplained p explanation
-  -- the text begins with the verdict, and has a block for each cause, with its title and its fixes
-  pub is_text : IsText p names explanation text
+  -- the text begins with the verdict, has a block for each cause, with its title and its fixes, and says how to run a schedule
+  pub is_text : IsText p names table explanation text
   pub verdict : is_safe explanation ≡ safe
   pub is_so : IsTrue safe ↔ IsSafe p
   pub written : Appends old new text
@@ -53,9 +53,9 @@ pub record WritesScript (p : Protocol) (number : ℕ) (old new : Option (List �
   pub written : Appends old new (line ++ 10 ∷ [])
 
 -- What is wanted of a table was written, and the answer is whether the table is safe; one of which there is a script isn't.
-abbrev pub Reports : Protocol → List (List ℕ) → Wanted → Option (List ℕ) → Option (List ℕ) → Bool → Type 0
-Reports p names wanted.Explanation old new safe = Explains p names old new safe
-Reports p names (wanted.Script number) old new safe = (safe ≡ false) × WritesScript p number old new
+abbrev pub Reports : Protocol → List (List ℕ) → List ℕ → Wanted → Option (List ℕ) → Option (List ℕ) → Bool → Type 0
+Reports p names table wanted.Explanation old new safe = Explains p names table old new safe
+Reports p names table (wanted.Script number) old new safe = (safe ≡ false) × WritesScript p number old new
 
 -- A table's cause of this number has no run, or there is no such cause; and the line tells that of the word that names the table.
 pub record TellsNoRun (p : Protocol) (table : List ℕ) (number : ℕ) (line : List ℕ) : Type 0 where
@@ -71,13 +71,13 @@ TellsMissing p table (wanted.Script number) line = TellsNoRun p table number lin
 
 -- Tables with ghosts --
 
--- A whole text of an explanation of a table with ghosts and these names of its modes was written, and the answer is whether the table is safe.
-pub record ExplainsGhosts (p : GhostProtocol) (names : List (List ℕ)) (old new : Option (List ℕ)) (safe : Bool) : Type 0 where
+-- A whole text of an explanation of a table with ghosts that a word names, with these names of its modes, was written, and the answer is whether the table is safe.
+pub record ExplainsGhosts (p : GhostProtocol) (names : List (List ℕ)) (table : List ℕ) (old new : Option (List ℕ)) (safe : Bool) : Type 0 where
   pub explanation : GhostExplanation
   pub text : List ℕ
   pub explained : ghosts.IsGhostExplained p explanation
-  -- the text begins with the verdict, and has each cause with its title
-  pub is_text : IsGhostText names explanation text
+  -- the text begins with the verdict, has each cause with its title, and says how to run a schedule
+  pub is_text : IsGhostText names table explanation text
   pub verdict : ghosts.is_safe explanation ≡ safe
   pub is_so : IsTrue safe ↔ IsSafeGhost p
   pub written : Appends old new text
@@ -93,9 +93,9 @@ pub record WritesGhostScript (p : GhostProtocol) (number : ℕ) (old new : Optio
   pub written : Appends old new (string_bytes schedule.line ++ 10 ∷ [])
 
 -- What is wanted of a table with ghosts was written, and the answer is whether the table is safe; one of which there is a script isn't.
-abbrev pub ReportsGhosts : GhostProtocol → List (List ℕ) → Wanted → Option (List ℕ) → Option (List ℕ) → Bool → Type 0
-ReportsGhosts p names wanted.Explanation old new safe = ExplainsGhosts p names old new safe
-ReportsGhosts p names (wanted.Script number) old new safe = (safe ≡ false) × WritesGhostScript p number old new
+abbrev pub ReportsGhosts : GhostProtocol → List (List ℕ) → List ℕ → Wanted → Option (List ℕ) → Option (List ℕ) → Bool → Type 0
+ReportsGhosts p names table wanted.Explanation old new safe = ExplainsGhosts p names table old new safe
+ReportsGhosts p names table (wanted.Script number) old new safe = (safe ≡ false) × WritesGhostScript p number old new
 
 -- A table with ghosts has no schedule of this number; and the line tells that of the word that names the table.
 pub record TellsNoSchedule (p : GhostProtocol) (table : List ℕ) (number : ℕ) (line : List ℕ) : Type 0 where
@@ -116,8 +116,8 @@ abbrev pub IsLawfulTable : Named → Type 0
 IsLawfulTable (Table t) = IsLawful (table_of t)
 IsLawfulTable (Ghosts t) = IsLawfulGhost (ghost.ghosts_of t)
 
--- What is wanted of it was written, and the answer is whether it is safe.
-abbrev pub ReportsTable : Named → Wanted → Option (List ℕ) → Option (List ℕ) → Bool → Type 0
+-- What is wanted of it was written, by the word that names it, and the answer is whether it is safe.
+abbrev pub ReportsTable : Named → List ℕ → Wanted → Option (List ℕ) → Option (List ℕ) → Bool → Type 0
 ReportsTable (Table t) = Reports (table_of t) (names_of t)
 ReportsTable (Ghosts t) = ReportsGhosts (ghost.ghosts_of t) (ghost.names_of t)
 
@@ -143,7 +143,7 @@ pub record Answers (may_give : List ℕ → Option (List ℕ) → Type 0) (words
   pub asked : IsAsked table wanted
   pub names : Names may_give table named
   pub lawful : IsLawfulTable named
-  pub reports : ReportsTable named wanted old new safe
+  pub reports : ReportsTable named table wanted old new safe
 
 -- The line tells why the word of a table names none; or what is missing of the table that it names.
 abbrev pub TellsWord : (List ℕ → Option (List ℕ) → Type 0) → List ℕ → Wanted → List ℕ → Type 0

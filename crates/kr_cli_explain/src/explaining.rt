@@ -19,7 +19,7 @@ pub fn write_explanation<P: Protocol, W: Sink>(
     table: &str,
     out: &mut W,
 ) -> Result<bool, Ending>
-    ensures explains { IfOk result (Explains (P.table protocol.now) (P.names protocol.now) (W.taken out.old) (W.taken out.new)) }
+    ensures explains { IfOk result (Explains (P.table protocol.now) (P.names protocol.now) table.now (W.taken out.old) (W.taken out.new)) }
     ensures err { IfErr result (EndsReport (TellsMissing (P.table protocol.now) table.now wanted.Explanation)) }
     ensures nothing { IfErr result (λ e. IsTrue (is_output e) ⊎ (out.new ≡ out.old)) }
     ensures cause { IfErr result (λ e. IsTrue (is_output e) → HasCause (W.failures out.old) (W.failures out.new)) }

@@ -33,7 +33,7 @@ fn report<P: Protocol, W: Sink>(
     wanted: Wanted,
     out: &mut W,
 ) -> Result<bool, Ending>
-    ensures reports { IfOk result (Reports (P.table protocol.now) (P.names protocol.now) wanted (W.taken out.old) (W.taken out.new)) }
+    ensures reports { IfOk result (Reports (P.table protocol.now) (P.names protocol.now) table.now wanted (W.taken out.old) (W.taken out.new)) }
     ensures err { IfErr result (EndsReport (TellsMissing (P.table protocol.now) table.now wanted)) }
     ensures nothing { IfErr result (λ e. IsTrue (is_output e) ⊎ (out.new ≡ out.old)) }
     ensures cause { IfErr result (λ e. IsTrue (is_output e) → HasCause (W.failures out.old) (W.failures out.new)) }
@@ -55,7 +55,7 @@ fn report_ghosts<P: GhostProtocol, W: Sink>(
     wanted: Wanted,
     out: &mut W,
 ) -> Result<bool, Ending>
-    ensures reports { IfOk result (ReportsGhosts (P.ghosts protocol.now) (P.names protocol.now) wanted (W.taken out.old) (W.taken out.new)) }
+    ensures reports { IfOk result (ReportsGhosts (P.ghosts protocol.now) (P.names protocol.now) table.now wanted (W.taken out.old) (W.taken out.new)) }
     ensures err { IfErr result (EndsReport (TellsGhostMissing (P.ghosts protocol.now) table.now wanted)) }
     ensures nothing { IfErr result (λ e. IsTrue (is_output e) ⊎ (out.new ≡ out.old)) }
     ensures cause { IfErr result (λ e. IsTrue (is_output e) → HasCause (W.failures out.old) (W.failures out.new)) }
@@ -77,7 +77,7 @@ fn report_table<W: Sink>(
     wanted: Wanted,
     out: &mut W,
 ) -> Result<bool, Ending>
-    ensures reports { IfOk result (ReportsTable named.now wanted (W.taken out.old) (W.taken out.new)) }
+    ensures reports { IfOk result (ReportsTable named.now table.now wanted (W.taken out.old) (W.taken out.new)) }
     ensures err { IfErr result (EndsReport (TellsOfTable named.now table.now wanted)) }
     ensures lawful { IsLawfulTable named.now }
     ensures nothing { IfErr result (λ e. IsTrue (is_output e) ⊎ (out.new ≡ out.old)) }

@@ -1,5 +1,5 @@
 -- The explanation of the table that bytes are, and the scripts of its causes.
-use Rattle.std.specs.Prelude.{◌≡◌, ◌↔◌, ℕ, Bool, List, Option, Some, None, IsTrue}
+use Rattle.std.specs.Prelude.{◌≡◌, ◌↔◌, ℕ, Bool, List, Option, Some, None, IsTrue, codes}
 use Rattle.kr_model.specs.Protocol.{Protocol}
 use Rattle.kr_model.specs.Safe.{IsSafe}
 use Rattle.kr_theorem.specs.Wrong.{GoesWrong}
@@ -12,12 +12,12 @@ use Rattle.kr_cli.specs.declared.tables.AnyTable.{AnyTable}
 use Rattle.kr_cli.specs.Tables.{table_of, names_of}
 use Rattle.kr_embed.specs.Inputs.{IsTable}
 
--- A whole text of an explanation of a table p with these names of its modes, and whether p is safe.
+-- A whole text of an explanation of a table p with these names of its modes, of which a command says `table`, and whether p is safe.
 pub record IsExplanationOf (p : Protocol) (names : List (List ℕ)) (safe : Bool) (text : List ℕ) : Type 0 where
   pub explanation : Explanation
   pub explained : IsExplained p explanation
   -- the text begins with the verdict, and has a block for each cause, with its title and its fixes
-  pub is_text : IsText p names explanation text
+  pub is_text : IsText p names (codes "table") explanation text
   pub verdict : is_safe explanation ≡ safe
   pub is_so : IsTrue safe ↔ IsSafe p
 

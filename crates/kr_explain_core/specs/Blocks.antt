@@ -1,9 +1,11 @@
 -- The text of an explanation block by block: one for each cause, in order.
-use Rattle.std.specs.Prelude.{◌≡◌, ◌+◌, ℕ, List, [], ◌∷◌, ◌++◌, is_some, Option, Some, None}
+use Rattle.std.specs.Prelude.{◌≡◌, ◌+◌, ℕ, Bool, true, false, List, [], ◌∷◌, ◌++◌, is_some, Option, Some, None}
 use Rattle.kr_model.specs.Protocol.{Protocol}
 use Rattle.kr_explain_text.specs.Titles.{IsTitle}
 use Rattle.kr_explain_text.specs.Edits.{IsMending}
 use Rattle.kr_explain_text.specs.Steps.{IsSchedule}
+use Rattle.kr_explain_text.specs.Whole.{command_words}
+use Rattle.kr_explain_core.specs.Explained.{has_run}
 use Rattle.kr_explain_core.specs.declared.run.Run.{Run}
 use Rattle.kr_explain_core.specs.declared.explanation.Explained.{Explained}
 use Rattle.kr_explain_core.specs.declared.explanation.Failures.{Failures}
@@ -38,15 +40,19 @@ AreNumbered Is n (e ∷ es) text =
 abbrev pub AreBlocks : Protocol → List (List ℕ) → ℕ → List Explained → List ℕ → Type 0
 AreBlocks p names = AreNumbered (IsBlock p names)
 
--- What is told of all causes: a block for each, from 1, and a last line.
-pub record TellsCauses (p : Protocol) (names : List (List ℕ)) (f : Failures) (text : List ℕ) : Type 0 where
+-- What is said behind the blocks, of the table that a word names: how to run the schedule of a cause, where there is one.
+abbrev pub end_words : Bool → List ℕ → List ℕ
+end_words true word = command_words word
+end_words false word = []
+
+-- What is told of all causes: a block for each, from 1, and how to run a schedule of theirs.
+pub record TellsCauses (p : Protocol) (names : List (List ℕ)) (word : List ℕ) (f : Failures) (text : List ℕ) : Type 0 where
   pub blocks : List ℕ
-  pub end : List ℕ
   pub are_blocks : AreBlocks p names 1 f.causes.items blocks
-  pub written : text ≡ blocks ++ end
+  pub written : text ≡ blocks ++ end_words (has_run f) word
 
 -- What comes between the verdict and the last line feed: nothing where all cases hold, and else each cause.
-abbrev pub TellsAll : Protocol → List (List ℕ) → Explanation → List ℕ → Type 0
-TellsAll p names (told.Accepted cases) text = text ≡ []
-TellsAll p names (told.Safe f) text = TellsCauses p names f text
-TellsAll p names (told.Rejected f) text = TellsCauses p names f text
+abbrev pub TellsAll : Protocol → List (List ℕ) → List ℕ → Explanation → List ℕ → Type 0
+TellsAll p names word (told.Accepted cases) text = text ≡ []
+TellsAll p names word (told.Safe f) text = TellsCauses p names word f text
+TellsAll p names word (told.Rejected f) text = TellsCauses p names word f text

@@ -30,9 +30,9 @@ verdict_words (told.Accepted n) = accepted_words n
 verdict_words (told.Safe f) = safe_words f.failed f.cases ++ exact_words f.is_ordered
 verdict_words (told.Rejected f) = rejected_words (has_run f) f.failed f.cases ++ (causes_words (length f.causes.items) ++ shown_words (has_run f) f.is_ordered)
 
--- A text of an explanation of a table p with these names of its modes: it begins with the verdict, then has a block for each cause in order, and ends with a line feed.
-abbrev pub IsText : Protocol → List (List ℕ) → Explanation → List ℕ → Type 0
-IsText p names e text = (telling : List ℕ) × (TellsAll p names e telling × (text ≡ verdict_words e ++ telling ++ 10 ∷ []))
+-- A text of an explanation of a table p that a word names, with these names of its modes: it begins with the verdict, then has a block for each cause in order, and how to run a schedule of theirs, and ends with a line feed.
+abbrev pub IsText : Protocol → List (List ℕ) → List ℕ → Explanation → List ℕ → Type 0
+IsText p names word e text = (telling : List ℕ) × (TellsAll p names word e telling × (text ≡ verdict_words e ++ telling ++ 10 ∷ []))
 
 -- The line of the script of a run, exactly where there is a run.
 abbrev pub IsScriptOf : Option Run → Option (List ℕ) → Type 0

@@ -3,7 +3,7 @@ ghost use Rattle.std.specs.Prelude.{◌≡◌, ◌++◌, IfOk, string_bytes, vec
 ghost use Rattle.kr_explain_text.specs.Edits.{IsMending};
 ghost use Rattle.kr_explain_text.specs.Steps.{IsSchedule};
 ghost use Rattle.kr_explain_text.specs.Titles.{IsTitle};
-ghost use Rattle.kr_explain_core.specs.Blocks.{AreBlocks, IsBlock, IsSaid, TellsAll, TellsCauses};
+ghost use Rattle.kr_explain_core.specs.Blocks.{AreBlocks, IsBlock, IsSaid, TellsAll, TellsCauses, end_words};
 ghost use Rattle.kr_explain_core.specs.Told.{IsText};
 
 use crate::effort::MOST_MENDED;
@@ -14,7 +14,7 @@ use crate::verdict::verdict_text;
 use kr_cases::Memory;
 use kr_explain_causes::{Cause, Mend};
 use kr_explain_text::{
-    Tries, write_body, write_case, write_command, write_mend, write_never_held, write_never_let_in,
+    Tries, command_text, write_body, write_case, write_mend, write_never_held, write_never_let_in,
     write_no_run, write_run, write_title,
 };
 use kr_protocol::Protocol;
@@ -22,15 +22,15 @@ use std::alloc::Global;
 
 impl Explanation {
     /// The text for a person, each line ended by a line feed: the verdict, and where cases fail, each cause with why it is
-    /// harmless or with its schedule, and its fixes. `word` names the table in the last lines. The table is to be the one
-    /// that was explained: its names, steps and answers are written. The only fault is that a growth was refused.
+    /// harmless or with its schedule, and its fixes; and where there is a schedule, the commands that run it, in which `word`
+    /// names the table. The table is to be the one that was explained: its names, steps and answers are written. The only fault is that a growth was refused.
     pub fn text<P: Protocol>(
         &self,
         alloc: Global,
         protocol: &P,
         word: &str,
     ) -> Result<String, Memory>
-        ensures { IfOk result (λ text. IsText (P.table protocol.now) (P.names protocol.now) self.now (string_bytes text)) }
+        ensures { IfOk result (λ text. IsText (P.table protocol.now) (P.names protocol.now) word.now self.now (string_bytes text)) }
     {
         let telling = self.telling(alloc, protocol, word)?;
         let mut out = verdict_text(alloc, self)?;
@@ -46,7 +46,7 @@ impl Explanation {
         protocol: &P,
         word: &str,
     ) -> Result<String, Memory>
-        ensures { IfOk result (λ text. TellsAll (P.table protocol.now) (P.names protocol.now) self.now (string_bytes text)) }
+        ensures { IfOk result (λ text. TellsAll (P.table protocol.now) (P.names protocol.now) word.now self.now (string_bytes text)) }
     {
         match self {
             Explanation::Accepted { .. } => Ok(String::new(alloc)),
@@ -64,7 +64,7 @@ fn causes_text<P: Protocol>(
     failures: &Failures,
     word: &str,
 ) -> Result<String, Memory>
-    ensures { IfOk result (λ text. TellsCauses (P.table protocol.now) (P.names protocol.now) failures.now (string_bytes text)) }
+    ensures { IfOk result (λ text. TellsCauses (P.table protocol.now) (P.names protocol.now) word.now failures.now (string_bytes text)) }
 {
     let blocks = blocks(alloc, protocol, &failures.causes)?;
     let end = end_text(alloc, failures.has_run(), word)?;
@@ -73,12 +73,13 @@ fn causes_text<P: Protocol>(
 }
 
 /// How to run the schedule of a cause, where there is one.
-fn end_text(alloc: Global, is_known: bool, word: &str) -> Result<String, Memory> {
-    let mut out = String::new(alloc);
+fn end_text(alloc: Global, is_known: bool, word: &str) -> Result<String, Memory>
+    ensures { IfOk result (λ text. string_bytes text ≡ end_words is_known word.now) }
+{
     if is_known {
-        write_command(&mut out, word)?;
+        return command_text(alloc, word);
     }
-    Ok(out)
+    Ok(String::new(alloc))
 }
 
 /// Two texts, one behind the other.

@@ -6,3 +6,4 @@ pub mod Titles
 pub mod Lists
 pub mod Edits
 pub mod Whole
+pub mod Programs

@@ -23,3 +23,8 @@ accepted_words cases = codes "accepted: all " ++ (decimal cases ++ codes " cases
 abbrev pub rejected_words : Bool → ℕ → ℕ → List ℕ
 rejected_words true failed cases = codes "rejected: " ++ (decimal failed ++ (codes " of " ++ (decimal cases ++ codes " cases fail. ")))
 rejected_words false failed cases = codes "not known to be safe: " ++ (decimal failed ++ (codes " of " ++ (decimal cases ++ codes " cases fail. ")))
+
+-- The commands that run the schedule of a cause, of the table that a word names, behind an empty line.
+abbrev pub command_words : List ℕ → List ℕ
+command_words word =
+    codes "\n\nTo replay the schedule of cause N:\n    kr_explain " ++ (word ++ (codes " --script N >schedule.json\n    kr run " ++ (word ++ codes " schedule.json")))

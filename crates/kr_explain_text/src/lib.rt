@@ -39,5 +39,5 @@ pub use rows::write_rows;
 pub use runs::{Tries, run_end, run_head, write_case, write_no_run, write_run};
 pub use spoken::{answer_text, lock_name, op_text, pairs_text, rows_text, txns_text};
 pub use title::write_title;
-pub use whole::{accepted_words, causes_words, rejected_words, write_command};
+pub use whole::{accepted_words, causes_words, command_text, rejected_words};
 pub use words::{cover_words, deed_words};

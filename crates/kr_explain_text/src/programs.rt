@@ -1,12 +1,15 @@
 //! What is said of the programs of a run.
 ghost use Rattle.std.specs.Prelude.{◌≡◌, ◌++◌, IfOk, codes, decimal, map, string_bytes};
+ghost use Rattle.kr_explain_text.specs.Programs.{operation_at, operation_in};
 
 use kr_cases::Memory;
 use kr_model::{Op, Program, Reply, Txn};
 use std::alloc::Global;
 
 /// The operation of this number, from 1, of a transaction's program; a commit where there is none.
-pub fn operation_of(programs: &[Program], txn: Txn, operation: u64) -> Op {
+pub fn operation_of(programs: &[Program], txn: Txn, operation: u64) -> Op
+    ensures { result ≡ operation_in programs.now txn operation }
+{
     for program in programs {
         if program.txn == txn {
             return operation_at(program.operations.as_slice(), operation);
@@ -15,16 +18,17 @@ pub fn operation_of(programs: &[Program], txn: Txn, operation: u64) -> Op {
     Op::Commit
 }
 
-/// The operation of this number, from 1, of a program.
-fn operation_at(operations: &[(Op, Reply)], operation: u64) -> Op {
-    let mut number: u64 = 1;
-    for (op, _) in operations {
-        if number == operation {
-            return *op;
-        }
-        number = number.saturating_add(1);
+/// The operation of this number, from 1, of a program; a commit where there is none.
+fn operation_at(operations: &[(Op, Reply)], operation: u64) -> Op
+    ensures { result ≡ operation_at operations.now operation }
+{
+    if operation == 0 {
+        return Op::Commit;
     }
-    Op::Commit
+    match operations.get(operation as usize - 1) {
+        Some((op, _)) => *op,
+        None => Op::Commit,
+    }
 }
 
 /// The words for an operation, `op` in words, by its number and its transaction. The only fault is that a growth was refused.

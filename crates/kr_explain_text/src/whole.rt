@@ -1,7 +1,8 @@
 //! What is said of a whole table.
 ghost use Rattle.std.specs.Prelude.{◌≡◌, IfOk, string_bytes};
-ghost use Rattle.kr_explain_text.specs.Whole.{accepted_words, causes_words, rejected_words};
+ghost use Rattle.kr_explain_text.specs.Whole.{accepted_words, causes_words, command_words, rejected_words};
 
+use crate::lists::joined;
 use kr_cases::Memory;
 use std::alloc::Global;
 
@@ -50,10 +51,18 @@ pub fn causes_words(alloc: Global, count: usize) -> Result<String, Memory>
     String::from_str(alloc, words)
 }
 
-/// Writes the commands that run the schedule of a cause, where `word` names the table.
-pub fn write_command(out: &mut String, word: &str) -> Result<(), Memory> {
-    write!(
-        out,
-        "\n\nTo replay the schedule of cause N:\n    kr_explain {word} --script N >schedule.json\n    kr run {word} schedule.json"
+/// The commands that run the schedule of a cause, where `word` names the table, behind an empty line.
+pub fn command_text(alloc: Global, word: &str) -> Result<String, Memory>
+    ensures { IfOk result (λ text. string_bytes text ≡ command_words word.now) }
+{
+    joined(
+        alloc,
+        &[
+            "\n\nTo replay the schedule of cause N:\n    kr_explain ",
+            word,
+            " --script N >schedule.json\n    kr run ",
+            word,
+            " schedule.json",
+        ],
     )
 }

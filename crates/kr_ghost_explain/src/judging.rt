@@ -1,5 +1,6 @@
 //! Whether a schedule with purges goes wrong.
-ghost use Rattle.std.specs.Prelude.{◌≡◌, ◌↔◌, IfOk, IsTrue, All};
+ghost use Rattle.std.specs.Prelude.{◌≡◌, Decides, IfOk, IsTrue, All};
+ghost use Rattle.std.specs.List.{list_all};
 ghost use Rattle.kr_model.specs.Map.{IsMap};
 ghost use Rattle.kr_model.specs.Run.{is_granted};
 ghost use Rattle.kr_model.specs.Serial.{AreSerial};
@@ -21,7 +22,7 @@ pub fn goes_wrong<P: GhostProtocol>(
     opening: &[(u64, u64)],
     moves: &[Move],
 ) -> Result<bool, Memory>
-    ensures { IfOk result (λ wrong. IsTrue wrong → GoesWrongBy (P.ghosts protocol.now) opening.now moves.now) }
+    ensures { IfOk result (λ wrong. Decides wrong (GoesWrongBy (P.ghosts protocol.now) opening.now moves.now)) }
 {
     if !is_map(opening) {
         return Ok(false);
@@ -33,13 +34,19 @@ pub fn goes_wrong<P: GhostProtocol>(
 /// Whether each answer of a run is granted, and its programs aren't serializable from its opening map.
 fn is_wrong(alloc: Global, opening: &[(u64, u64)], ran: &GhostRan) -> Result<bool, Memory>
     requires { IsMap opening.now }
-    ensures granted { IfOk result (λ wrong. IsTrue wrong → All (λ a. IsTrue (is_done a)) ran.now.answers) }
-    ensures not_serial { IfOk result (λ wrong. IsTrue wrong → AreSerial opening.now ran.now.programs → ⊥) }
+    ensures { IfOk result (λ wrong. Decides wrong (All (λ a. IsTrue (is_done a)) ran.now.answers × (AreSerial opening.now ran.now.programs → ⊥))) }
 {
-    if !ran.answers.as_slice().iter().all(is_done) {
+    if !are_done(ran.answers.as_slice()) {
         return Ok(false);
     }
     Ok(!judge_programs(alloc, opening, ran.programs.as_slice())?.is_serial())
+}
+
+/// Whether each of these was done.
+fn are_done(answers: &[Answer]) -> bool
+    ensures { result ≡ list_all is_done answers.now }
+{
+    answers.iter().all(is_done)
 }
 
 /// Whether a step was neither blocked nor refused, or a purge took its ghost away.

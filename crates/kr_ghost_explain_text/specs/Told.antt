@@ -1,5 +1,5 @@
 -- How what is explained of a table with ghosts is written.
-use Rattle.std.specs.Prelude.{◌≡◌, ℕ, ◌+◌, List, [], ◌∷◌, ◌++◌, length, codes, decimal, is_some}
+use Rattle.std.specs.Prelude.{◌≡◌, ℕ, ◌+◌, List, [], ◌∷◌, ◌++◌, Option, Some, None, length, codes, decimal, is_some}
 use Rattle.kr_explain_text.specs.Whole.{accepted_words, causes_words, rejected_words}
 use Rattle.kr_ghost_explain.specs.declared.causes.GhostCause.{GhostCause}
 use Rattle.kr_ghost_explain.specs.declared.explanation.GhostExplanation.{GhostExplanation}
@@ -22,19 +22,28 @@ AreTitled names n [] text = text ≡ []
 AreTitled names n (c ∷ cs) text =
     (said rest : List ℕ) × (AreTitled names (n + 1) cs rest × (text ≡ 10 ∷ 10 ∷ (title_words names n c ++ (said ++ rest))))
 
--- What is told of all causes: each in order, from 1, and what is said of all.
-pub record TellsGhostCauses (names : List (List ℕ)) (causes : List GhostCause) (text : List ℕ) : Type 0 where
+-- The commands that run the schedule, of the table that a word names, behind an empty line.
+abbrev pub replay_words : List ℕ → List ℕ
+replay_words word =
+    codes "\n\nTo replay the schedule:\n    kr_explain " ++ (word ++ (codes " --script 1 >schedule.json\n    kr run " ++ (word ++ codes " schedule.json")))
+
+-- What is said behind the causes of a table that isn't safe: the schedule that goes wrong, and behind it how to run it; or that none was found.
+abbrev pub IsEnd : {A : Type 0} → List ℕ → Option A → List ℕ → Type 0
+IsEnd word None end = end ≡ codes "\n\nNo schedule that goes wrong was found. That does not prove that no schedule does."
+IsEnd word (Some schedule) end = (run : List ℕ) × (end ≡ run ++ replay_words word)
+
+-- What is told of all causes: each in order, from 1, and behind them this end.
+pub record TellsGhostCauses (names : List (List ℕ)) (causes : List GhostCause) (end text : List ℕ) : Type 0 where
   pub blocks : List ℕ
-  pub end : List ℕ
   pub are_titled : AreTitled names 1 causes blocks
   pub written : text ≡ blocks ++ end
 
--- What comes between the verdict and the last line feed: nothing where all cases hold, and else each cause.
-abbrev pub TellsGhosts : List (List ℕ) → GhostExplanation → List ℕ → Type 0
-TellsGhosts names (told.Accepted cases) text = text ≡ []
-TellsGhosts names (told.Safe f) text = TellsGhostCauses names f.causes.items text
-TellsGhosts names (told.Rejected f) text = TellsGhostCauses names f.causes.items text
+-- What comes between the verdict and the last line feed, of the table that a word names: nothing where all cases hold, and else each cause.
+abbrev pub TellsGhosts : List (List ℕ) → List ℕ → GhostExplanation → List ℕ → Type 0
+TellsGhosts names word (told.Accepted cases) text = text ≡ []
+TellsGhosts names word (told.Safe f) text = TellsGhostCauses names f.causes.items [] text
+TellsGhosts names word (told.Rejected f) text = (end : List ℕ) × (IsEnd word f.schedule end × TellsGhostCauses names f.causes.items end text)
 
--- A text of an explanation of a table with these names of its modes: it begins with the verdict, then has each cause in order, and ends with a line feed.
-abbrev pub IsGhostText : List (List ℕ) → GhostExplanation → List ℕ → Type 0
-IsGhostText names e text = (telling : List ℕ) × (TellsGhosts names e telling × (text ≡ verdict_words e ++ (telling ++ 10 ∷ [])))
+-- A text of an explanation of a table that a word names, with these names of its modes: it begins with the verdict, then has each cause in order, and how to run a schedule that goes wrong, and ends with a line feed.
+abbrev pub IsGhostText : List (List ℕ) → List ℕ → GhostExplanation → List ℕ → Type 0
+IsGhostText names word e text = (telling : List ℕ) × (TellsGhosts names word e telling × (text ≡ verdict_words e ++ (telling ++ 10 ∷ [])))

@@ -1,6 +1,6 @@
 //! The text of what is explained of a table with ghosts.
-ghost use Rattle.std.specs.Prelude.{◌<◌, ◌+◌, ◌^◌, IfOk, length, string_bytes};
-ghost use Rattle.kr_ghost_explain_text.specs.Told.{AreTitled, IsGhostText, TellsGhostCauses, TellsGhosts};
+ghost use Rattle.std.specs.Prelude.{◌≡◌, ◌<◌, ◌+◌, ◌++◌, ◌^◌, IfOk, length, string_bytes};
+ghost use Rattle.kr_ghost_explain_text.specs.Told.{AreTitled, IsEnd, IsGhostText, TellsGhostCauses, TellsGhosts, replay_words};
 
 use crate::body::body;
 use crate::run::run_text;
@@ -13,7 +13,7 @@ use kr_model::Memory;
 use std::alloc::Global;
 
 /// The text for a person, each line ended by a line feed: the verdict, and where cases fail, each cause, and a schedule that goes
-/// wrong where one was found. `word` names the table in the last lines. The table is to be the one that was explained. The only
+/// wrong where one was found, with the commands that run it, in which `word` names the table. The table is to be the one that was explained. The only
 /// fault is that a growth was refused.
 pub fn ghost_text<P: GhostProtocol>(
     alloc: Global,
@@ -21,7 +21,7 @@ pub fn ghost_text<P: GhostProtocol>(
     explanation: &GhostExplanation,
     word: &str,
 ) -> Result<String, Memory>
-    ensures { IfOk result (λ text. IsGhostText (P.names protocol.now) explanation.now (string_bytes text)) }
+    ensures { IfOk result (λ text. IsGhostText (P.names protocol.now) word.now explanation.now (string_bytes text)) }
 {
     let verdict = verdict_text(alloc, explanation)?;
     let telling = telling(alloc, protocol, explanation, word)?;
@@ -35,7 +35,7 @@ fn telling<P: GhostProtocol>(
     explanation: &GhostExplanation,
     word: &str,
 ) -> Result<String, Memory>
-    ensures { IfOk result (λ text. TellsGhosts (P.names protocol.now) explanation.now (string_bytes text)) }
+    ensures { IfOk result (λ text. TellsGhosts (P.names protocol.now) word.now explanation.now (string_bytes text)) }
 {
     match explanation {
         GhostExplanation::Accepted { .. } => Ok(String::new(alloc)),
@@ -58,7 +58,7 @@ fn causes_text<P: GhostProtocol>(
     failures: &GhostFailures,
     end: &str,
 ) -> Result<String, Memory>
-    ensures { IfOk result (λ text. TellsGhostCauses (P.names protocol.now) failures.now.causes.items (string_bytes text)) }
+    ensures { IfOk result (λ text. TellsGhostCauses (P.names protocol.now) failures.now.causes.items end.now (string_bytes text)) }
 {
     let blocks = blocks(alloc, protocol, 1, failures.causes.as_slice())?;
     format!(in alloc; "{blocks}{end}")
@@ -103,7 +103,9 @@ fn end_text<P: GhostProtocol>(
     protocol: &P,
     schedule: &Option<GhostSchedule>,
     word: &str,
-) -> Result<String, Memory> {
+) -> Result<String, Memory>
+    ensures { IfOk result (λ end. IsEnd word.now schedule.now (string_bytes end)) }
+{
     match schedule {
         Some(schedule) => {
             let run = run_text(alloc, protocol, &schedule.script)?;
@@ -117,7 +119,9 @@ fn end_text<P: GhostProtocol>(
 }
 
 /// A schedule, and behind it the commands that replay it, where `word` names the table.
-fn with_commands(alloc: Global, run: &str, word: &str) -> Result<String, Memory> {
+fn with_commands(alloc: Global, run: &str, word: &str) -> Result<String, Memory>
+    ensures { IfOk result (λ text. string_bytes text ≡ run.now ++ replay_words word.now) }
+{
     joined(
         alloc,
         &[
