@@ -14,11 +14,11 @@ use crate::scripts::script_in;
 use crate::tables::table_in;
 use kr_cli::AnyTable;
 use kr_index::Tree;
+use kr_judge::{Index, judge_programs};
 use kr_locks::Buckets;
 use kr_machine::Machine;
-use kr_model::{Memory, Op, Reply, Txn, Txns};
+use kr_model::{Memory, Op, Reply, Txn};
 use kr_report::report_verdict;
-use kr_serial::{Index, Ran, Replies, Triples, judge};
 use std::alloc::Global;
 use std::marker::Model;
 
@@ -128,15 +128,8 @@ impl Session {
         ensures serial { IfOk result (λ told. IsTrue told.0 ↔ AreSerial self.now.opening self.now.log.committed) }
         ensures text { IfOk result (λ told. string_bytes told.1 ≡ verdict_text (codes "session") (verdict_so_far self.now)) }
     {
-        let ran = Ran {
-            opening: Index::copy_of(alloc, self.opening.as_slice())?,
-            replies: Replies::from_vec(Vec::new(alloc)),
-            programs: self.machine.programs()?,
-            index: Index::copy_of(alloc, self.opening.as_slice())?,
-            locks: Triples::from_vec(Vec::new(alloc)),
-            unfinished: Txns::from_vec(Vec::new(alloc)),
-        };
-        let verdict = judge(alloc, &ran)?;
+        let programs = self.machine.programs()?;
+        let verdict = judge_programs(alloc, self.opening.as_slice(), programs.as_slice())?;
         let text = report_verdict(alloc, "session", &verdict)?;
         Ok((verdict.is_serial(), text))
     }
