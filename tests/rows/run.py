@@ -1,5 +1,5 @@
 #!/usr/bin/env python3
-"""Runs rows of input and output over the built programs: run.py [--write] [--by-rattle] FILE.rows ..
+"""Runs rows of input and output over the built programs: run.py [--write] [--by-rattle] [--without-threads] FILE.rows ..
 
 A row is what calls of the programs print for some files. Each of its lines is a word, a colon and a text. First its name, then
 the files of the folder in which the programs run:
@@ -26,8 +26,8 @@ follow, with what they print:
     err     a line of standard error
 
 Lines that begin with # say something of the row below. An empty line ends a row. A call may take 20 seconds and 1 GB of memory.
---write puts what the programs print in the place of what was expected, but for begins, ends, has and times. Status 1 where
-something differs.
+--write puts what the programs print in the place of what was expected, but for begins, ends, has and times. --without-threads
+calls kr_run in the place of kr, and leaves out the rows that call another program, or `kr threads`. Status 1 where something differs.
 """
 import os
 import re
@@ -39,6 +39,7 @@ import tempfile
 TOP = os.path.dirname(os.path.dirname(os.path.dirname(os.path.abspath(__file__))))
 MEMORY = 1 << 30
 BUILT = ".by-rattle" if "--by-rattle" in sys.argv else ""
+WITHOUT_THREADS = "--without-threads" in sys.argv
 FILES = ("file", "text", "long", "copy", "edit", "cut")
 PARTS = ("begins", "ends", "has", "times")
 EXPECTED = ("status", "out", "err") + PARTS
@@ -123,6 +124,8 @@ def call(folder, words):
     words, _, given = words.partition(" < ")
     program, *words = words.split(" ")
     words = [unescaped(it) for it in words]
+    if WITHOUT_THREADS:
+        program = "kr_run"
     result = subprocess.run(
         [f"{TOP}/crates/{program}/out/{program}{BUILT}", *words],
         cwd=folder,
@@ -185,19 +188,27 @@ def hold(path, row):
     return count, wrong, lines
 
 
+def needs_no_threads(row):
+    """Whether a row calls kr alone, and never for a run by threads."""
+    calls = [text.split(" ")[:2] for _, word, text in row if word == "call"]
+    return all(it[0] == "kr" and it[1:] != ["threads"] for it in calls)
+
+
 def main():
     files = [it for it in sys.argv[1:] if not it.startswith("--")]
     count = wrong = 0
     for path in files:
         texts = []
         for row in blocks_of(path):
+            if WITHOUT_THREADS and not needs_no_threads(row):
+                continue
             calls, differing, lines = hold(path, row)
             count, wrong = count + calls, wrong + differing
             texts.append("\n".join(lines))
         if "--write" in sys.argv:
             with open(path, "w", encoding="utf-8") as file:
                 file.write("\n\n".join(texts) + "\n")
-    print(f"rows{BUILT}: {count - wrong} of {count} calls are as expected")
+    print(f"rows{BUILT}{' of kr_run' if WITHOUT_THREADS else ''}: {count - wrong} of {count} calls are as expected")
     sys.exit(1 if wrong else 0)
 
 

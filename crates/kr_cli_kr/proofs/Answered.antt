@@ -18,9 +18,11 @@ use Rattle.kr_cli_ghost.specs.declared.tables.AnyGhostTable.{AnyGhostTable}
 use Rattle.kr_cli_ghost.specs.Lawful.{lawful_ghosts_of}
 use Rattle.kr_cli_ghost.specs.Named.{NamesGhosts}
 use Rattle.kr_cli_ghost.specs.Tables as ghost
-use Rattle.kr_cli_kr.specs.Program.{Reports, ReportsGhosts, WritesReport}
-use Rattle.kr_cli_tasks.specs.Words.{AreWords}
-use Rattle.kr_cli_tasks.specs.declared.tasks.Task.{Task}
+use Rattle.kr_cli_run.specs.Program.{DoesTask}
+use Rattle.kr_cli_kr.specs.Program.{ThreadsReported, GhostThreadsReported, DoesThreads, Does, WritesReport}
+use Rattle.kr_cli_words.specs.Words.{AreWords}
+use Rattle.kr_cli_words.specs.declared.tasks.Task.{Task}
+use Rattle.kr_cli_words.specs.declared.tasks.Task.TheVariants.{Check, Run, Judge, Threads}
 use Rattle.kr_cli_tasks.proofs.Answered.{names_script}
 
 -- it is of a run by several threads of the script that a word names
@@ -29,13 +31,28 @@ threads_reported may_give p word bytes read old new serial same had (s, (d, (rea
     (is_serial, (s, (names_script may_give word bytes read s same had reads, (d, (threaded, written)))))
 
 -- it is under the table that a word names, which is lawful
-pub answered : (may_give : List ℕ → Option (List ℕ) → Type 0) (words : List (List ℕ)) (r : Result Bool Ending) (table : List ℕ) (task : Task) (t : AnyTable) (old new : Option (List ℕ)) → AreWords words table task → NamesTable may_give table t → IfOk r (Reports may_give (table_of t) (names_of t) task old new) → IfOk r (WritesReport may_give words old new)
-answered may_give words (Ok well) table task t old new ask names reports =
-    inl (record { table = table; task = task; named = t; ask = ask; names = names; lawful = lawful_of t; reports = reports })
-answered may_give words (Err e) table task t old new ask names reports = tt
+pub done : (may_give : List ℕ → Option (List ℕ) → Type 0) (r : Result Bool Ending) (table script : List ℕ) (t : AnyTable) (old new : Option (List ℕ)) → NamesTable may_give table t → IfOk r (ThreadsReported may_give (table_of t) (names_of t) script old new) → IfOk r (DoesThreads may_give table script old new)
+done may_give (Ok well) table script t old new names reports = inl (t, (names, (lawful_of t, reports)))
+done may_give (Err e) table script t old new names reports = tt
 
 -- or under the table with ghosts that a word names, which is lawful too
-pub answered_ghosts : (may_give : List ℕ → Option (List ℕ) → Type 0) (words : List (List ℕ)) (r : Result Bool Ending) (table : List ℕ) (task : Task) (t : AnyGhostTable) (old new : Option (List ℕ)) → AreWords words table task → NamesGhosts may_give table t → IfOk r (ReportsGhosts may_give (ghost.ghosts_of t) (ghost.names_of t) task old new) → IfOk r (WritesReport may_give words old new)
-answered_ghosts may_give words (Ok well) table task t old new ask names reports =
-    inr (record { table = table; task = task; named = t; ask = ask; names = names; lawful = lawful_ghosts_of t; reports = reports })
-answered_ghosts may_give words (Err e) table task t old new ask names reports = tt
+pub done_with_ghosts : (may_give : List ℕ → Option (List ℕ) → Type 0) (r : Result Bool Ending) (table script : List ℕ) (t : AnyGhostTable) (old new : Option (List ℕ)) → NamesGhosts may_give table t → IfOk r (GhostThreadsReported may_give (ghost.ghosts_of t) (ghost.names_of t) script old new) → IfOk r (DoesThreads may_give table script old new)
+done_with_ghosts may_give (Ok well) table script t old new names reports = inr (t, (names, (lawful_ghosts_of t, reports)))
+done_with_ghosts may_give (Err e) table script t old new names reports = tt
+
+-- or of a task without threads
+does_of : (may_give : List ℕ → Option (List ℕ) → Type 0) (table : List ℕ) (task : Task) (old new : Option (List ℕ)) (well : Bool) → DoesTask may_give table task old new well → Does may_give table task old new well
+does_of may_give table Check old new well does = does
+does_of may_give table (Run word) old new well does = does
+does_of may_give table (Judge words) old new well does = does
+does_of may_give table (Threads word workers) old new well (inl (t, (names, (lawful, reports)))) = absurd reports
+does_of may_give table (Threads word workers) old new well (inr (t, (names, (lawful, reports)))) = absurd reports
+
+pub does_task : (may_give : List ℕ → Option (List ℕ) → Type 0) (r : Result Bool Ending) (table : List ℕ) (task : Task) (old new : Option (List ℕ)) → IfOk r (DoesTask may_give table task old new) → IfOk r (Does may_give table task old new)
+does_task may_give (Ok well) table task old new does = does_of may_give table task old new well does
+does_task may_give (Err e) table task old new does = tt
+
+-- and that of the words that ask for the task
+pub answered : (may_give : List ℕ → Option (List ℕ) → Type 0) (words : List (List ℕ)) (r : Result Bool Ending) (table : List ℕ) (task : Task) (old new : Option (List ℕ)) → AreWords words table task → IfOk r (Does may_give table task old new) → IfOk r (WritesReport may_give words old new)
+answered may_give words (Ok well) table task old new ask does = (table, (task, (ask, does)))
+answered may_give words (Err e) table task old new ask does = tt

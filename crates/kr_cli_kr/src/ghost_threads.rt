@@ -13,7 +13,8 @@ ghost use Rattle.kr_cli_kr.specs.Threads.{ghost_threads_line};
 
 use kr_cli::{Ending, Files};
 use kr_cli_ghost::ghost_script_at;
-use kr_cli_tasks::{Workers, check_ghosts};
+use kr_cli_tasks::check_ghosts;
+use kr_cli_words::Workers;
 use kr_ghost_check::failed_cases;
 use kr_ghost_protocol::GhostProtocol;
 use kr_ghost_threads::{GhostRunFault, report_ghost_threads, run_ghost_threads};

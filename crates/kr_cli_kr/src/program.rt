@@ -7,19 +7,20 @@ ghost use Rattle.kr_script.specs.Script.{Script};
 ghost use Rattle.kr_cli.specs.Endings.{TellsOneLine, Unreported, is_output, ending_line};
 ghost use Rattle.kr_cli.specs.Named.{NamesScript, TellsNoScript};
 ghost use Rattle.kr_cli.specs.declared.endings.Ending.{Ending};
-ghost use Rattle.kr_cli_kr.specs.Program.{WritesReport, Ends, Reports, TellsTask, ThreadsReported};
+ghost use Rattle.kr_cli_run.specs.Program.{Ends};
+ghost use Rattle.kr_cli_kr.specs.Program.{DoesThreads, TellsThreads, ThreadsReported, WritesReport};
 ghost use Rattle.kr_cli_kr.specs.Threads.{threads_line};
 ghost use Rattle.kr_report.specs.declared.threaded.Threaded.{Threaded};
 ghost use Rattle.kr_compared.specs.Threaded.{IsThreaded};
 
-use crate::ghosts::under_ghosts;
+use crate::ghost_threads::check_and_thread_ghosts;
 use crate::threads::threads_over;
 use kr_cases::{Rejected, WhyRejected, check};
 use kr_cli::{Ending, Files, SCRIPT_BYTES, at_fault, finish, whole};
 use kr_cli_ghost::{Named, named_at};
-use kr_cli_tasks::{
-    OverFault, Task, Workers, check_over, judge_scripts, read_words, run_script, write_check,
-};
+use kr_cli_run::task_at;
+use kr_cli_tasks::{OverFault, write_check};
+use kr_cli_words::{Task, Workers, read_words};
 use kr_protocol::{Covered, Protocol};
 use kr_sink::Sink;
 use std::sync::Wait;
@@ -93,31 +94,24 @@ fn check_and_thread<
     }
 }
 
-/// Does a task under a protocol, and answers whether the table is accepted, or each run is serializable; under a covered
-/// protocol that is so, whatever the task. At a fault of scripts or memory nothing is written on `out`.
-fn under<
-    R: std::rt::Files + AllocGlobal + Threads + Wait + Sync,
-    P: Protocol + Sync,
-    F: Files + Sync,
-    W: Sink,
->(rt: &R, protocol: P, task: &Task, files: &F, out: &mut W) -> Result<bool, Ending>
-where
-    R::File: Send + Sync,
-    R::Dir: Send + Sync,
-    ensures reports { IfOk result (Reports (F.may_give files.now) (P.table protocol) (P.names protocol) task.now (W.taken out.old) (W.taken out.new)) }
-    ensures covered { IsCovered (P.table protocol) → IfOk result (λ is_well. IsTrue is_well) }
-    ensures err { IfErr result (Unreported (TellsTask (F.may_give files.now) task.now)) }
+/// Runs a script by several threads under the table that a word names, and answers whether the run of its history is serializable,
+/// which it is. Where the table is rejected the report of the check is written, and the script isn't read.
+fn threads_at<R: std::rt::Files + AllocGlobal + Threads + Wait + Sync, F: Files, W: Sink>(
+    rt: &R,
+    table: &str,
+    script: &str,
+    workers: Workers,
+    files: &F,
+    out: &mut W,
+) -> Result<bool, Ending>
+    ensures does { IfOk result (DoesThreads (F.may_give files.now) table.now script.now (W.taken out.old) (W.taken out.new)) }
+    ensures err { IfErr result (Unreported (TellsThreads (F.may_give files.now) table.now script.now)) }
     ensures nothing { IfErr result (λ e. IsTrue (is_output e) ⊎ (out.new ≡ out.old)) }
     ensures cause { IfErr result (λ e. IsTrue (is_output e) → HasCause (W.failures out.old) (W.failures out.new)) }
 {
-    let alloc = rt.alloc();
-    match task {
-        Task::Check => Ok(check_over(alloc, protocol, out)?),
-        Task::Run(script) => run_script(rt, &protocol, script, files, out),
-        Task::Judge(words) => judge_scripts(rt, &protocol, words.as_slice(), files, out),
-        Task::Threads(script, workers) => check_and_thread(
-            rt, protocol, script, *workers, files, out,
-        ),
+    match named_at(rt, table, files)? {
+        Named::Table(table) => check_and_thread(rt, table, script, workers, files, out),
+        Named::Ghosts(table) => check_and_thread_ghosts(rt, &table, script, workers, files, out),
     }
 }
 
@@ -138,9 +132,9 @@ where
     ensures cause { IfErr result (λ e. IsTrue (is_output e) → HasCause (W.failures out.old) (W.failures out.new)) }
 {
     let asked = read_words(rt.alloc(), words)?;
-    match named_at(rt, asked.table, files)? {
-        Named::Table(table) => under(rt, table, &asked.task, files, out),
-        Named::Ghosts(table) => under_ghosts(rt, &table, &asked.task, files, out),
+    match asked.task {
+        Task::Threads(script, workers) => threads_at(rt, asked.table, script, workers, files, out),
+        _ => task_at(rt, &asked, files, out),
     }
 }
 

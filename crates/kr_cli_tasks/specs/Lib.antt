@@ -1,4 +1,3 @@
 pub mod Runs
 pub mod Checks
 pub mod Judges
-pub mod Words

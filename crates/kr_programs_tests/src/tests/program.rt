@@ -103,6 +103,24 @@ where
     Left::on(alloc, status, &out, &err)
 }
 
+/// The same of the program without threads.
+fn run_without_threads<R: std::rt::Files + AllocGlobal + Threads + Sync>(
+    rt: &R,
+    words: &[&str],
+    files: &Texts,
+) -> Result<Left, AllocError>
+where
+    R::File: Send + Sync,
+    R::Dir: Send + Sync,
+{
+    let alloc = rt.alloc();
+    let words = owned(alloc, words)?;
+    let mut out = Io::new(Vec::new(alloc));
+    let mut err = Io::new(Vec::new(alloc));
+    let status = kr_cli_run::execute(rt, words.as_slice(), files, &mut out, &mut err);
+    Left::on(alloc, status, &out, &err)
+}
+
 /// These lines, each with the line feed that ends it.
 fn with_line_feed(alloc: Global, lines: &str) -> Result<String, AllocError> {
     let mut text = String::from_str(alloc, lines)?;
@@ -112,7 +130,28 @@ fn with_line_feed(alloc: Global, lines: &str) -> Result<String, AllocError> {
     Ok(text)
 }
 
-/// Runs the program as a row says, and compares what it leaves.
+/// Compares what the program left with what a row says.
+fn compare<R: AllocGlobal + Abort>(rt: &R, row: &Row, ran: &Left) -> Result<(), Fail> {
+    let alloc = rt.alloc();
+    let out = with_line_feed(alloc, row.out)?;
+    let err = with_line_feed(alloc, row.err)?;
+    let name = row.name;
+    assert_eq!(rt; ran.status, row.status, "{name}");
+    assert_eq!(rt; ran.out.as_slice(), out.as_str().as_bytes(), "{name}");
+    assert_eq!(rt; ran.err.as_slice(), err.as_str().as_bytes(), "{name}");
+    Ok(())
+}
+
+/// Whether words ask for a run by several threads.
+fn ask_for_threads(words: &[&str]) -> bool {
+    match words.first() {
+        Some(word) => *word == "threads",
+        None => false,
+    }
+}
+
+/// Runs the program as a row says, and compares what it leaves, and what the program without threads leaves where the row asks for
+/// none.
 fn leaves<R: std::rt::Files + AllocGlobal + Threads + Wait + Sync + Abort>(
     rt: &R,
     row: &Row,
@@ -121,18 +160,14 @@ where
     R::File: Send + Sync,
     R::Dir: Send + Sync,
 {
-    let alloc = rt.alloc();
     let files = Texts {
         table: row.table,
         script: row.script,
     };
-    let ran = run_program(rt, row.words, &files)?;
-    let out = with_line_feed(alloc, row.out)?;
-    let err = with_line_feed(alloc, row.err)?;
-    let name = row.name;
-    assert_eq!(rt; ran.status, row.status, "{name}");
-    assert_eq!(rt; ran.out.as_slice(), out.as_str().as_bytes(), "{name}");
-    assert_eq!(rt; ran.err.as_slice(), err.as_str().as_bytes(), "{name}");
+    compare(rt, row, &run_program(rt, row.words, &files)?)?;
+    if !ask_for_threads(row.words) {
+        compare(rt, row, &run_without_threads(rt, row.words, &files)?)?;
+    }
     Ok(())
 }
 

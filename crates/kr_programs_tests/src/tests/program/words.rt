@@ -1,5 +1,5 @@
 //! Words that are not read, and words of no form.
-use super::{RUN, Row, each_leaves};
+use super::{RUN, Row, Texts, compare, each_leaves, run_without_threads};
 use std::test::Fail;
 
 /// A fault of the words.
@@ -16,4 +16,18 @@ const ROWS: &[Row] = &[
 #[test]
 fn words_that_ask_for_nothing(rt: HostRuntime) -> Result<(), Fail> {
     each_leaves(&rt, ROWS)
+}
+
+#[test]
+fn threads_are_not_understood_without_them(rt: HostRuntime) -> Result<(), Fail> {
+    let files = Texts {
+        table: "",
+        script: super::PHANTOM,
+    };
+    let row = Row {
+        err: "kr: words not understood",
+        ..FAULT
+    };
+    let ran = run_without_threads(&rt, &["threads", "@kvl", "s"], &files)?;
+    compare(&rt, &row, &ran)
 }

@@ -1,6 +1,0 @@
-use Rattle.std.proofs.Common.{sym}
-use Rattle.kr_cli_kr.proofs.program.under.Goals as goal
-
--- The task is to judge these words.
-pub returns-in-Judge-clause-err : goal.returns-in-Judge-clause-err
-returns-in-Judge-clause-err g c = rw (c.in-Judge.is, sym c.as_slice.ensures.value) c.judge_scripts.ensures.err

@@ -1,0 +1,102 @@
+-- What the program writes of a check, of a run and of verdicts, under the table and of the scripts that words name, and why it ends without that. What files may give is a relation of words to bytes, or to none.
+use Rattle.std.specs.Prelude.{ℕ, Bool, List, Option, ◌↔◌, ◌⊎◌, IsTrue, All, map, string_bytes}
+use Rattle.std.specs.Io.KnownBytes.{Appends}
+use Rattle.kr_model.specs.Protocol.{Protocol, IsLawful}
+use Rattle.kr_model.specs.Covers.{IsCovered}
+use Rattle.kr_script.specs.Script.{Script}
+use Rattle.kr_ghost_script.specs.Script.{GhostScript}
+use Rattle.kr_cli.specs.declared.endings.Ending.{Ending}
+use Rattle.kr_cli.specs.declared.endings.Ending.TheVariants.{NotUnderstood, Memory, Place, Output, Told}
+use Rattle.kr_cli.specs.declared.tables.AnyTable.{AnyTable}
+use Rattle.kr_cli.specs.Files.{MayBeScript}
+use Rattle.kr_cli.specs.Named.{NamesTable, NamesScript, TellsNoScript}
+use Rattle.kr_cli.specs.Tables.{table_of, names_of}
+use Rattle.kr_ghost.specs.Protocol.{GhostProtocol, IsLawfulGhost}
+use Rattle.kr_ghost.specs.Covers.{IsCoveredGhost}
+use Rattle.kr_cli_ghost.specs.declared.tables.AnyGhostTable.{AnyGhostTable}
+use Rattle.kr_cli_ghost.specs.Named.{NamesGhosts, TellsNone}
+use Rattle.kr_cli_ghost.specs.Tables as ghost
+use Rattle.kr_cli_ghost.specs.Runs.{ghost_report_line, ghost_judge_lines, IsSerialGhosts, NamesGhostScript, NameGhostScripts, TellsNoGhostScript, TellsFirstGhost}
+use Rattle.kr_batch.specs.Names.{AreNamed}
+use Rattle.kr_cli_tasks.specs.Runs.{report_line, IsSerialScript}
+use Rattle.kr_cli_tasks.specs.Checks.{check_line, ghost_check_line}
+use Rattle.kr_cli_tasks.specs.Judges.{judge_lines, TellsFirst}
+use Rattle.kr_cli_words.specs.Words.{AreWords}
+use Rattle.kr_cli_words.specs.declared.tasks.Task.{Task}
+use Rattle.kr_cli_words.specs.declared.tasks.Task.TheVariants.{Check, Run, Judge, Threads}
+
+-- The whole report of a task was written, of the scripts that its words name, and the answer is whether the table is accepted, or each run is serializable. None is written of a run by several threads.
+abbrev pub Reports : (List ℕ → Option (List ℕ) → Type 0) → Protocol → List (List ℕ) → Task → Option (List ℕ) → Option (List ℕ) → Bool → Type 0
+Reports may_give p names Check old new well = Appends old new (check_line p names) × (IsTrue well ↔ IsCovered p)
+Reports may_give p names (Run word) old new well =
+    (s : Script) × (NamesScript may_give word.now s × (Appends old new (report_line p names s) × (IsTrue well ↔ IsSerialScript p s)))
+Reports may_give p names (Judge words) old new well = (ss : List Script) × (AreNamed (MayBeScript may_give) (map (λ w. w.now) words.items) ss
+    × (Appends old new (judge_lines p (map (λ w. w.now) words.items) ss) × (IsTrue well ↔ All (IsSerialScript p) ss)))
+Reports may_give p names (Threads word workers) old new well = ⊥
+
+-- The same of a task under a table with ghosts, of the scripts that its words name, which may have purges.
+abbrev pub ReportsGhosts : (List ℕ → Option (List ℕ) → Type 0) → GhostProtocol → List (List ℕ) → Task → Option (List ℕ) → Option (List ℕ) → Bool → Type 0
+ReportsGhosts may_give p names Check old new well = Appends old new (ghost_check_line p names) × (IsTrue well ↔ IsCoveredGhost p)
+ReportsGhosts may_give p names (Run word) old new well =
+    (s : GhostScript) × (NamesGhostScript may_give word.now s × (Appends old new (ghost_report_line p names s) × (IsTrue well ↔ IsSerialGhosts p s)))
+ReportsGhosts may_give p names (Judge words) old new well = (ss : List GhostScript) × (NameGhostScripts may_give (map (λ w. w.now) words.items) ss
+    × (Appends old new (ghost_judge_lines p (map (λ w. w.now) words.items) ss) × (IsTrue well ↔ All (IsSerialGhosts p) ss)))
+ReportsGhosts may_give p names (Threads word workers) old new well = ⊥
+
+-- The whole report of a task was written under the lawful table that a word names, without ghosts or with them.
+abbrev pub DoesTask : (List ℕ → Option (List ℕ) → Type 0) → List ℕ → Task → Option (List ℕ) → Option (List ℕ) → Bool → Type 0
+DoesTask may_give table task old new well =
+    ((t : AnyTable) × (NamesTable may_give table t × (IsLawful (table_of t) × Reports may_give (table_of t) (names_of t) task old new well)))
+    ⊎ ((t : AnyGhostTable) × (NamesGhosts may_give table t × (IsLawfulGhost (ghost.ghosts_of t) × ReportsGhosts may_give (ghost.ghosts_of t) (ghost.names_of t) task old new well)))
+
+-- The whole report of the task that these words ask for was written.
+abbrev pub WritesReport : (List ℕ → Option (List ℕ) → Type 0) → List (List ℕ) → Option (List ℕ) → Option (List ℕ) → Bool → Type 0
+WritesReport may_give words old new well = (table : List ℕ) × ((task : Task) × (AreWords words table task × DoesTask may_give table task old new well))
+
+-- The line tells why a word of a task names no script; of several, it is the first.
+abbrev pub TellsTask : (List ℕ → Option (List ℕ) → Type 0) → Task → List ℕ → Type 0
+TellsTask may_give Check = λ line. ⊥
+TellsTask may_give (Run word) = TellsNoScript may_give word.now
+TellsTask may_give (Judge words) = TellsFirst may_give (map (λ w. w.now) words.items)
+TellsTask may_give (Threads word workers) = TellsNoScript may_give word.now
+
+-- The line tells why a word of a task under a table with ghosts names no script; of several, it is the first.
+abbrev pub TellsGhostTask : (List ℕ → Option (List ℕ) → Type 0) → Task → List ℕ → Type 0
+TellsGhostTask may_give Check = λ line. ⊥
+TellsGhostTask may_give (Run word) = TellsNoGhostScript may_give word.now
+TellsGhostTask may_give (Judge words) = TellsFirstGhost may_give (map (λ w. w.now) words.items)
+TellsGhostTask may_give (Threads word workers) = TellsNoGhostScript may_give word.now
+
+-- The line tells why the word of a table names none; or, where it names one, why a word of a task names no script.
+abbrev pub TellsWord : (List ℕ → Option (List ℕ) → Type 0) → List ℕ → Task → List ℕ → Type 0
+TellsWord may_give table task line =
+    TellsNone may_give table line
+    ⊎ (((t : AnyGhostTable) × (NamesGhosts may_give table t × TellsGhostTask may_give task line))
+    ⊎ ((t : AnyTable) × (NamesTable may_give table t × TellsTask may_give task line)))
+
+-- A task is one by several threads.
+abbrev pub IsByThreads : Task → Type 0
+IsByThreads Check = ⊥
+IsByThreads (Run word) = ⊥
+IsByThreads (Judge words) = ⊥
+IsByThreads (Threads word workers) = Unit {0}
+
+-- A task ends without its report, or with a prefix of it: it is one by several threads, which isn't understood; or for memory, a place or output, or with a line that is told of a word, of which this holds.
+abbrev pub Undone : Task → (List ℕ → Type 0) → Ending → Type 0
+Undone task P NotUnderstood = IsByThreads task
+Undone task P Memory = Unit {0}
+Undone task P Place = Unit {0}
+Undone task P Output = Unit {0}
+Undone task P (Told line) = P (string_bytes line)
+
+-- The same of a task under the table that a word names. A line is told of that word, or of a word of the task.
+abbrev pub EndsTask : (List ℕ → Option (List ℕ) → Type 0) → List ℕ → Task → Ending → Type 0
+EndsTask may_give table task = Undone task (TellsWord may_give table task)
+
+-- Why the program ends without the report that these words ask for, or with a prefix of it. A line is told of a word of a task that they ask for.
+abbrev pub Ends : (List ℕ → Option (List ℕ) → Type 0) → List (List ℕ) → Ending → Type 0
+Ends may_give words NotUnderstood = Unit {0}
+Ends may_give words Memory = Unit {0}
+Ends may_give words Place = Unit {0}
+Ends may_give words Output = Unit {0}
+Ends may_give words (Told line) = (table : List ℕ) × ((task : Task) × (AreWords words table task × TellsWord may_give table task (string_bytes line)))
