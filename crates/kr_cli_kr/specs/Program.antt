@@ -5,6 +5,9 @@ use Rattle.kr_model.specs.Protocol.{Protocol, IsLawful}
 use Rattle.kr_model.specs.Covers.{IsCovered}
 use Rattle.kr_script.specs.Script.{Script}
 use Rattle.kr_ghost_script.specs.Script.{GhostScript}
+use Rattle.kr_cli.specs.Endings.{Unreported}
+use Rattle.kr_cli.specs.declared.endings.Ending.{Ending}
+use Rattle.kr_cli.specs.declared.endings.Ending.TheVariants.{NotUnderstood, Memory}
 use Rattle.kr_cli.specs.declared.tables.AnyTable.{AnyTable}
 use Rattle.kr_cli.specs.Named.{NamesTable, NamesScript, TellsNoScript}
 use Rattle.kr_cli.specs.Tables.{table_of, names_of}
@@ -18,7 +21,7 @@ use Rattle.kr_cli_tasks.specs.Checks.{check_line, ghost_check_line}
 use Rattle.kr_cli_words.specs.Words.{AreWords}
 use Rattle.kr_cli_words.specs.declared.tasks.Task.{Task}
 use Rattle.kr_cli_words.specs.declared.tasks.Task.TheVariants.{Check, Run, Judge, Threads}
-use Rattle.kr_cli_run.specs.Program.{DoesTask}
+use Rattle.kr_cli_run.specs.Program.{DoesTask, EndsTask}
 use Rattle.kr_cli_kr.specs.Threads.{threads_line, ghost_threads_line}
 use Rattle.kr_report.specs.declared.threaded.Threaded.{Threaded}
 use Rattle.kr_compared.specs.Threaded.{IsThreaded}
@@ -60,3 +63,15 @@ TellsThreads may_give table script line =
     TellsNone may_give table line
     ⊎ (((t : AnyGhostTable) × (NamesGhosts may_give table t × TellsNoGhostScript may_give script line))
     ⊎ ((t : AnyTable) × (NamesTable may_give table t × TellsNoScript may_give script line)))
+
+-- A task under the table that a word names ends without its report, or with a prefix of it; one by several threads for memory, a place or output, or with a line that tells of its table or its script.
+abbrev pub EndsAny : (List ℕ → Option (List ℕ) → Type 0) → List ℕ → Task → Ending → Type 0
+EndsAny may_give table Check = EndsTask may_give table Check
+EndsAny may_give table (Run word) = EndsTask may_give table (Run word)
+EndsAny may_give table (Judge words) = EndsTask may_give table (Judge words)
+EndsAny may_give table (Threads word workers) = Unreported (TellsThreads may_give table word.now)
+
+-- Why the program ends without the report that these words ask for, or with a prefix of it: the words aren't understood, or memory ran out, or the task that they ask for ends so.
+abbrev pub Ends : (List ℕ → Option (List ℕ) → Type 0) → List (List ℕ) → Ending → Type 0
+Ends may_give words e =
+    (e ≡ NotUnderstood) ⊎ ((e ≡ Memory) ⊎ ((table : List ℕ) × ((task : Task) × (AreWords words table task × EndsAny may_give table task e))))

@@ -1,5 +1,5 @@
 -- What the program writes of a check, of a run and of verdicts, under the table and of the scripts that words name, and why it ends without that. What files may give is a relation of words to bytes, or to none.
-use Rattle.std.specs.Prelude.{ℕ, Bool, List, Option, ◌↔◌, ◌⊎◌, IsTrue, All, map, string_bytes}
+use Rattle.std.specs.Prelude.{◌≡◌, ℕ, Bool, List, Option, ◌↔◌, ◌⊎◌, IsTrue, All, map, string_bytes}
 use Rattle.std.specs.Io.KnownBytes.{Appends}
 use Rattle.kr_model.specs.Protocol.{Protocol, IsLawful}
 use Rattle.kr_model.specs.Covers.{IsCovered}
@@ -8,6 +8,7 @@ use Rattle.kr_ghost_script.specs.Script.{GhostScript}
 use Rattle.kr_cli.specs.declared.endings.Ending.{Ending}
 use Rattle.kr_cli.specs.declared.endings.Ending.TheVariants.{NotUnderstood, Memory, Place, Output, Told}
 use Rattle.kr_cli.specs.declared.tables.AnyTable.{AnyTable}
+use Rattle.kr_cli.specs.Endings.{MemoryOrTold, Unreported}
 use Rattle.kr_cli.specs.Files.{MayBeScript}
 use Rattle.kr_cli.specs.Named.{NamesTable, NamesScript, TellsNoScript}
 use Rattle.kr_cli.specs.Tables.{table_of, names_of}
@@ -53,50 +54,28 @@ DoesTask may_give table task old new well =
 abbrev pub WritesReport : (List ℕ → Option (List ℕ) → Type 0) → List (List ℕ) → Option (List ℕ) → Option (List ℕ) → Bool → Type 0
 WritesReport may_give words old new well = (table : List ℕ) × ((task : Task) × (AreWords words table task × DoesTask may_give table task old new well))
 
--- The line tells why a word of a task names no script; of several, it is the first.
-abbrev pub TellsTask : (List ℕ → Option (List ℕ) → Type 0) → Task → List ℕ → Type 0
-TellsTask may_give Check = λ line. ⊥
-TellsTask may_give (Run word) = TellsNoScript may_give word.now
-TellsTask may_give (Judge words) = TellsFirst may_give (map (λ w. w.now) words.items)
-TellsTask may_give (Threads word workers) = TellsNoScript may_give word.now
+-- A task under a table without ghosts ends without its report, or with a prefix of it: for memory, a place or output, or a line tells why a word of it names no script, of several the first. One by several threads isn't understood.
+abbrev pub Undone : (List ℕ → Option (List ℕ) → Type 0) → Task → Ending → Type 0
+Undone may_give Check = Unreported (λ line. ⊥)
+Undone may_give (Run word) = Unreported (TellsNoScript may_give word.now)
+Undone may_give (Judge words) = Unreported (TellsFirst may_give (map (λ w. w.now) words.items))
+Undone may_give (Threads word workers) = λ e. e ≡ NotUnderstood
 
--- The line tells why a word of a task under a table with ghosts names no script; of several, it is the first.
-abbrev pub TellsGhostTask : (List ℕ → Option (List ℕ) → Type 0) → Task → List ℕ → Type 0
-TellsGhostTask may_give Check = λ line. ⊥
-TellsGhostTask may_give (Run word) = TellsNoGhostScript may_give word.now
-TellsGhostTask may_give (Judge words) = TellsFirstGhost may_give (map (λ w. w.now) words.items)
-TellsGhostTask may_give (Threads word workers) = TellsNoGhostScript may_give word.now
+-- The same of a task under a table with ghosts.
+abbrev pub UndoneGhosts : (List ℕ → Option (List ℕ) → Type 0) → Task → Ending → Type 0
+UndoneGhosts may_give Check = Unreported (λ line. ⊥)
+UndoneGhosts may_give (Run word) = Unreported (TellsNoGhostScript may_give word.now)
+UndoneGhosts may_give (Judge words) = Unreported (TellsFirstGhost may_give (map (λ w. w.now) words.items))
+UndoneGhosts may_give (Threads word workers) = λ e. e ≡ NotUnderstood
 
--- The line tells why the word of a table names none; or, where it names one, why a word of a task names no script.
-abbrev pub TellsWord : (List ℕ → Option (List ℕ) → Type 0) → List ℕ → Task → List ℕ → Type 0
-TellsWord may_give table task line =
-    TellsNone may_give table line
-    ⊎ (((t : AnyGhostTable) × (NamesGhosts may_give table t × TellsGhostTask may_give task line))
-    ⊎ ((t : AnyTable) × (NamesTable may_give table t × TellsTask may_give task line)))
-
--- A task is one by several threads.
-abbrev pub IsByThreads : Task → Type 0
-IsByThreads Check = ⊥
-IsByThreads (Run word) = ⊥
-IsByThreads (Judge words) = ⊥
-IsByThreads (Threads word workers) = Unit {0}
-
--- A task ends without its report, or with a prefix of it: it is one by several threads, which isn't understood; or for memory, a place or output, or with a line that is told of a word, of which this holds.
-abbrev pub Undone : Task → (List ℕ → Type 0) → Ending → Type 0
-Undone task P NotUnderstood = IsByThreads task
-Undone task P Memory = Unit {0}
-Undone task P Place = Unit {0}
-Undone task P Output = Unit {0}
-Undone task P (Told line) = P (string_bytes line)
-
--- The same of a task under the table that a word names. A line is told of that word, or of a word of the task.
+-- A task ends so under the table that a word names; or memory ran out, or a line tells why that word names no table.
 abbrev pub EndsTask : (List ℕ → Option (List ℕ) → Type 0) → List ℕ → Task → Ending → Type 0
-EndsTask may_give table task = Undone task (TellsWord may_give table task)
+EndsTask may_give table task e =
+    MemoryOrTold e (TellsNone may_give table)
+    ⊎ (((t : AnyGhostTable) × (NamesGhosts may_give table t × UndoneGhosts may_give task e))
+    ⊎ ((t : AnyTable) × (NamesTable may_give table t × Undone may_give task e)))
 
--- Why the program ends without the report that these words ask for, or with a prefix of it. A line is told of a word of a task that they ask for.
+-- Why the program ends without the report that these words ask for, or with a prefix of it: the words aren't understood, or memory ran out, or the task that they ask for ends so.
 abbrev pub Ends : (List ℕ → Option (List ℕ) → Type 0) → List (List ℕ) → Ending → Type 0
-Ends may_give words NotUnderstood = Unit {0}
-Ends may_give words Memory = Unit {0}
-Ends may_give words Place = Unit {0}
-Ends may_give words Output = Unit {0}
-Ends may_give words (Told line) = (table : List ℕ) × ((task : Task) × (AreWords words table task × TellsWord may_give table task (string_bytes line)))
+Ends may_give words e =
+    (e ≡ NotUnderstood) ⊎ ((e ≡ Memory) ⊎ ((table : List ℕ) × ((task : Task) × (AreWords words table task × EndsTask may_give table task e))))

@@ -3,7 +3,7 @@ ghost use Rattle.std.specs.Prelude.{◌≡◌, ◌⊎◌, IfOk, IfErr, IsTrue};
 ghost use Rattle.kr_sink.specs.Puts.{HasCause};
 ghost use Rattle.kr_ghost.specs.Covers.{IsCoveredGhost};
 ghost use Rattle.kr_cli.specs.Endings.{is_output};
-ghost use Rattle.kr_cli_run.specs.Program.{ReportsGhosts, TellsGhostTask, Undone};
+ghost use Rattle.kr_cli_run.specs.Program.{ReportsGhosts, UndoneGhosts};
 
 use kr_cli::{Ending, Files};
 use kr_cli_ghost::{judge_ghosts, run_ghosts};
@@ -24,7 +24,7 @@ pub fn under_ghosts<R: std::rt::Files + AllocGlobal, P: GhostProtocol, F: Files,
 ) -> Result<bool, Ending>
     ensures reports { IfOk result (ReportsGhosts (F.may_give files.now) (P.ghosts protocol.now) (P.names protocol.now) task.now (W.taken out.old) (W.taken out.new)) }
     ensures covered { IsCoveredGhost (P.ghosts protocol.now) → IfOk result (λ is_well. IsTrue is_well) }
-    ensures err { IfErr result (Undone task.now (TellsGhostTask (F.may_give files.now) task.now)) }
+    ensures err { IfErr result (UndoneGhosts (F.may_give files.now) task.now) }
     ensures nothing { IfErr result (λ e. IsTrue (is_output e) ⊎ (out.new ≡ out.old)) }
     ensures cause { IfErr result (λ e. IsTrue (is_output e) → HasCause (W.failures out.old) (W.failures out.new)) }
 {

@@ -3,7 +3,7 @@ ghost use Rattle.std.specs.Prelude.{◌≡◌, ◌⊎◌, IfOk, IfErr, IsTrue};
 ghost use Rattle.kr_model.specs.Covers.{IsCovered};
 ghost use Rattle.kr_sink.specs.Puts.{HasCause};
 ghost use Rattle.kr_cli.specs.Endings.{is_output};
-ghost use Rattle.kr_cli_run.specs.Program.{Reports, TellsTask, Undone};
+ghost use Rattle.kr_cli_run.specs.Program.{Reports, Undone};
 
 use kr_cli::{Ending, Files};
 use kr_cli_tasks::{check_over, judge_scripts, run_script};
@@ -26,7 +26,7 @@ where
     R::Dir: Send + Sync,
     ensures reports { IfOk result (Reports (F.may_give files.now) (P.table protocol) (P.names protocol) task.now (W.taken out.old) (W.taken out.new)) }
     ensures covered { IsCovered (P.table protocol) → IfOk result (λ is_well. IsTrue is_well) }
-    ensures err { IfErr result (Undone task.now (TellsTask (F.may_give files.now) task.now)) }
+    ensures err { IfErr result (Undone (F.may_give files.now) task.now) }
     ensures nothing { IfErr result (λ e. IsTrue (is_output e) ⊎ (out.new ≡ out.old)) }
     ensures cause { IfErr result (λ e. IsTrue (is_output e) → HasCause (W.failures out.old) (W.failures out.new)) }
 {

@@ -1,8 +1,7 @@
 use Rattle.std.specs.Prelude.{map, string_bytes}
 use Rattle.std.proofs.Common.{rules}
-use Rattle.kr_cli_run.proofs.Ended.{unread, ended}
 use Rattle.kr_cli_kr.proofs.Answered.{answered, does_task}
-use Rattle.kr_cli_kr.proofs.Ended.{threads_end}
+use Rattle.kr_cli_kr.proofs.Ended.{unread, ended, task_ends}
 use Rattle.kr_cli_kr.proofs.program.ask.Goals as goal
 
 pub returns-in_err-asked-clause-err : goal.returns-in_err-asked-clause-err
@@ -17,7 +16,7 @@ returns-in-Threads-clause-answers g c =
     answered (g.F.Files.may_give c.args.files.now) (map string_bytes c.args.words.now) c.threads_at.result c.in_ok-asked.asked.table.now c.in_ok-asked.asked.task (taken c.args.out.now) (taken c.threads_at.new.out) c.in_ok-asked.ensures.words (rw c.in-Threads.is c.threads_at.ensures.does)
 
 pub returns-in-Threads-clause-err : goal.returns-in-Threads-clause-err
-returns-in-Threads-clause-err g c = threads_end (g.F.Files.may_give c.args.files.now) (map string_bytes c.args.words.now) c.threads_at.result c.in_ok-asked.asked.table.now c.in_ok-asked.asked.task c.in_ok-asked.ensures.words (rw c.in-Threads.is c.threads_at.ensures.err)
+returns-in-Threads-clause-err g c = ended (g.F.Files.may_give c.args.files.now) (map string_bytes c.args.words.now) c.threads_at.result c.in_ok-asked.asked.table.now c.in_ok-asked.asked.task c.in_ok-asked.ensures.words (rw c.in-Threads.is c.threads_at.ensures.err)
 
 -- Any other task.
 pub returns-clause-answers : goal.returns-clause-answers
@@ -30,4 +29,4 @@ returns-clause-answers g c =
     answered may_give (map string_bytes c.args.words.now) c.task_at.result table task (taken c.args.out.now) (taken c.task_at.new.out) c.in_ok-asked.ensures.words does
 
 pub returns-clause-err : goal.returns-clause-err
-returns-clause-err g c = ended (g.F.Files.may_give c.args.files.now) (map string_bytes c.args.words.now) c.task_at.result c.in_ok-asked.asked.table.now c.in_ok-asked.asked.task c.in_ok-asked.ensures.words c.task_at.ensures.err
+returns-clause-err g c = task_ends (g.F.Files.may_give c.args.files.now) (map string_bytes c.args.words.now) c.task_at.result c.in_ok-asked.asked.table.now c.in_ok-asked.asked.task c.in_ok-asked.ensures.words c.task_at.ensures.err

@@ -1,7 +1,7 @@
 use Rattle.std.specs.Prelude.{true, false, codes, map, string_bytes, refl}
 use Rattle.kr_cli.proofs.Finished.{ok_at, ending_at, fault_at, silent_at}
 use Rattle.kr_cli.proofs.OneLine.{none_above, one_line}
-use Rattle.kr_cli_run.proofs.Ended.{none_in_line}
+use Rattle.kr_cli_kr.proofs.Ended.{none_in_line}
 use Rattle.kr_cli_kr.proofs.program.execute.Goals as goal
 
 pub returns-clause-accepts : goal.returns-clause-accepts
