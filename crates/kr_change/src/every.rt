@@ -11,7 +11,7 @@ use kr_protocol::Protocol;
 use std::alloc::Global;
 
 /// An entry of a table: what a row requests at a side, with some own modes on the next name.
-#[derive(Clone, Copy, Debug, PartialEq, Eq)]
+#[derive(Clone, Copy)]
 struct Entry {
     row: Row,
     side: Side,

@@ -1,5 +1,6 @@
 //! The names of the bundled tables.
-ghost use Rattle.std.specs.Prelude.{[], IfOk, string_bytes};
+ghost use Rattle.std.specs.Prelude.{◌≡◌, [], IfOk, string_bytes};
+ghost use Rattle.kr_cli.specs.Words.{is_bundled};
 ghost use Rattle.kr_cli_diagnosis.specs.Help.{IsHelp};
 
 use crate::help::Help;
@@ -9,13 +10,10 @@ use std::alloc::{AllocError, Global};
 const BUNDLED: [&str; 4] = ["@kvl", "@kvl-update", "@im", "@range-key"];
 
 /// Whether a word is that of a bundled table.
-pub fn is_bundled(word: &str) -> bool {
-    for name in &BUNDLED {
-        if *name == word {
-            return true;
-        }
-    }
-    false
+pub fn is_bundled(word: &str) -> bool
+    ensures { result ≡ is_bundled word.now }
+{
+    word == "@kvl" || word == "@kvl-update" || word == "@im" || word == "@range-key"
 }
 
 /// What helps at a word that begins with `@` and names no bundled table: their names, and the nearest.

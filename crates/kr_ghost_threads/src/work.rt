@@ -7,7 +7,7 @@ use crate::name::GhostRunName;
 use kr_ghost::Move;
 use kr_ghost_protocol::GhostProtocol;
 use kr_model::{Op, Txn};
-use kr_workers::Gate;
+use kr_workers::{Gate, is_end};
 use std::sync::{Condvar, Mutex, Wait};
 use std::thread;
 
@@ -135,9 +135,4 @@ impl<P: GhostProtocol, K: GhostRunName, G: Gate> Worker<'_, P, K, G> {
             }
         }
     }
-}
-
-/// Whether the operation ends its transaction.
-fn is_end(op: Op) -> bool {
-    matches!(op, Op::Commit | Op::Abort)
 }

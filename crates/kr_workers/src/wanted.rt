@@ -106,7 +106,7 @@ fn stays_active(ops: &[Op]) -> bool
 }
 
 /// Whether an operation ends its transaction.
-fn is_end(op: Op) -> bool
+pub fn is_end(op: Op) -> bool
     ensures { result ≡ is_end op }
 {
     matches!(op, Op::Commit | Op::Abort)
