@@ -4,7 +4,7 @@ use crate::held::held_text;
 use kr_explain_text::{answer_text, op_text};
 use kr_ghost::Move;
 use kr_ghost_protocol::GhostProtocol;
-use kr_ghost_run::{Answer, run_moves};
+use kr_ghost_run::{Answer, GhostRan, run_moves};
 use kr_ghost_script::GhostScript;
 use kr_model::{Memory, Txn};
 use std::alloc::Global;
@@ -88,6 +88,16 @@ fn put_after<P: GhostProtocol>(
     cells: &mut Vec<String>,
 ) -> Result<(), Memory> {
     let ran = run_moves(alloc, protocol, script.opening(), moves)?;
+    put_left(alloc, protocol, &ran, cells)
+}
+
+/// Puts behind the other cells what a run of the moves leaves: the answer to the last of them, and the locks after it.
+fn put_left<P: GhostProtocol>(
+    alloc: Global,
+    protocol: &P,
+    ran: &GhostRan,
+    cells: &mut Vec<String>,
+) -> Result<(), Memory> {
     cells.push(last_answer(alloc, ran.answers.as_slice())?)?;
     let held = held_text(alloc, protocol, ran.locks.as_slice())?;
     if !held.as_str().is_empty() {

@@ -42,7 +42,11 @@ fn differs_text<P: GhostProtocol>(
     script: &GhostScript,
 ) -> Result<String, Memory> {
     let ran = run_moves(alloc, protocol, script.opening(), script.moves())?;
-    let programs = ran.programs.as_slice();
+    differs_in(alloc, script, ran.programs.as_slice())
+}
+
+/// The same, in the run of these programs.
+fn differs_in(alloc: Global, script: &GhostScript, programs: &[Program]) -> Result<String, Memory> {
     let verdict = judge_programs(alloc, script.opening(), programs)?;
     differs_by(alloc, programs, &verdict)
 }

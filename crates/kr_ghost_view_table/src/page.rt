@@ -2,6 +2,8 @@
 ghost use Rattle.std.specs.Prelude.{◌≡◌, ◌↔◌, IfOk, IsTrue, string_bytes};
 ghost use Rattle.kr_ghost.specs.Covers.{failed_cases};
 ghost use Rattle.kr_ghost.specs.Safe.{IsSafeGhost};
+ghost use Rattle.kr_explain_core.specs.declared.explanation.Explanation.TheVariants as explanation;
+ghost use Rattle.kr_view_table.specs.Matrices.{matrix_words};
 ghost use Rattle.kr_ghost_view_table.specs.Page.{IsGhostTablePage, tables_words};
 
 use crate::cases::cases_text;
@@ -70,11 +72,18 @@ fn page<P: GhostProtocol>(
 fn tables<P: GhostProtocol>(alloc: Global, protocol: &P) -> Result<String, Memory>
     ensures { IfOk result (λ text. string_bytes text ≡ tables_words (P.ghosts protocol.now) (P.names protocol.now)) }
 {
-    let none = Explanation::Accepted { cases: 0 };
-    let compatible = matrix_text(alloc, protocol, &none, Matrix::Compatible)?;
-    let converted = matrix_text(alloc, protocol, &none, Matrix::Converted)?;
+    let compatible = matrix(alloc, protocol, Matrix::Compatible)?;
+    let converted = matrix(alloc, protocol, Matrix::Converted)?;
     let rules = rules_text(alloc, protocol, &[])?;
     let ghosts = ghosts(alloc, protocol)?;
     let covers = covers(alloc, protocol)?;
     format!(in alloc; "{compatible}{converted}{rules}{ghosts}{covers}")
+}
+
+/// A matrix, without numbers of causes: on this page no entry is blamed.
+fn matrix<P: GhostProtocol>(alloc: Global, protocol: &P, which: Matrix) -> Result<String, Memory>
+    ensures { IfOk result (λ text. string_bytes text ≡ matrix_words (P.table protocol.now) (P.names protocol.now) (explanation.Accepted 0) which) }
+{
+    let none = Explanation::Accepted { cases: 0 };
+    matrix_text(alloc, protocol, &none, which)
 }

@@ -1,6 +1,7 @@
 //! The page of a table.
 ghost use Rattle.std.specs.Prelude.{◌≡◌, ◌↔◌, ◌++◌, IfOk, IsTrue, string_bytes};
 ghost use Rattle.kr_model.specs.Safe.{IsSafe};
+ghost use Rattle.kr_explain_core.specs.Explained.{IsExplained};
 ghost use Rattle.kr_view_table.specs.Page.{IsTablePage, tables_words};
 
 use crate::causes::{causes, heading};
@@ -31,21 +32,33 @@ pub fn table_page<P: Protocol>(
     ensures safe { IfOk result (λ told. IsTrue told.1 ↔ IsSafe (P.table protocol.now)) }
 {
     let explanation = explain(alloc, protocol)?;
+    let page = page(alloc, protocol, table, &explanation)?;
+    Ok((page, explanation.is_safe()))
+}
+
+/// The page of a protocol that this explains.
+fn page<P: Protocol>(
+    alloc: Global,
+    protocol: &P,
+    table: &str,
+    explanation: &Explanation,
+) -> Result<String, Memory>
+    requires explained { IsExplained (P.table protocol.now) explanation.now }
+    ensures { IfOk result (λ page. IsTablePage (P.table protocol.now) (P.names protocol.now) table.now (string_bytes page)) }
+{
     let name = escape(alloc, table)?;
-    let is_safe = explanation.is_safe();
-    let verdict = verdict_text(alloc, &explanation)?;
+    let verdict = verdict_text(alloc, explanation)?;
     let shown = escape(alloc, verdict.as_str())?;
-    let tables = tables(alloc, protocol, &explanation)?;
-    let blocks = causes(alloc, protocol, causes_of(&explanation))?;
-    let page = framed(
+    let tables = tables(alloc, protocol, explanation)?;
+    let blocks = causes(alloc, protocol, causes_of(explanation))?;
+    framed(
         alloc,
         name.as_str(),
-        is_safe,
+        explanation.is_safe(),
         shown.as_str(),
         tables.as_str(),
         blocks.as_str(),
-    )?;
-    Ok((page, is_safe))
+    )
 }
 
 /// The matrices, the rules, what the modes protect, and what stands before the causes.
