@@ -1,12 +1,12 @@
 -- What the program writes of a check, of a run and of verdicts, under the table and of the scripts that words name, and why it ends without that. What files may give is a relation of words to bytes, or to none.
-use Rattle.std.specs.Prelude.{◌≡◌, ℕ, Bool, List, Option, ◌↔◌, ◌⊎◌, IsTrue, All, map, string_bytes}
+use Rattle.std.specs.Prelude.{◌≡◌, ℕ, Bool, List, Option, ◌↔◌, ◌⊎◌, IsTrue, All, map}
 use Rattle.std.specs.Io.KnownBytes.{Appends}
 use Rattle.kr_model.specs.Protocol.{Protocol, IsLawful}
 use Rattle.kr_model.specs.Covers.{IsCovered}
 use Rattle.kr_script.specs.Script.{Script}
 use Rattle.kr_ghost_script.specs.Script.{GhostScript}
 use Rattle.kr_cli.specs.declared.endings.Ending.{Ending}
-use Rattle.kr_cli.specs.declared.endings.Ending.TheVariants.{NotUnderstood, Memory, Place, Output, Told}
+use Rattle.kr_cli.specs.declared.endings.Ending.TheVariants.{NotUnderstood, Memory}
 use Rattle.kr_cli.specs.declared.tables.AnyTable.{AnyTable}
 use Rattle.kr_cli.specs.Endings.{MemoryOrTold, Unreported}
 use Rattle.kr_cli.specs.Files.{MayBeScript}
