@@ -2,7 +2,7 @@
 
 use crate::keys::{A, Y, Z};
 use crate::light::Light;
-use kr_model::Op;
+use kr_model::{Op, is_end};
 
 /// One or two steps of a transaction.
 #[derive(Clone, Copy)]
@@ -48,7 +48,7 @@ impl Move {
             Some(op) => op,
             None => self.first,
         };
-        matches!(last, Op::Commit | Op::Abort)
+        is_end(last)
     }
 }
 

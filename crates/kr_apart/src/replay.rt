@@ -6,7 +6,7 @@ use crate::keys::opening;
 use crate::light::Light;
 use crate::part::Script;
 use crate::tables::Tables;
-use kr_model::{Event, Memory, Op, Txn};
+use kr_model::{Event, Memory, Txn, is_end};
 use std::alloc::Global;
 
 /// A light machine, and which transaction has which seat.
@@ -44,11 +44,7 @@ impl Replay {
     /// Takes a step: whether it is granted.
     fn step(&mut self, flat: &Flat, event: Event) -> Option<bool> {
         let seat = self.seat_of(event.txn)?;
-        self.numbers[seat % 4] = if matches!(event.op, Op::Commit | Op::Abort) {
-            0
-        } else {
-            event.txn
-        };
+        self.numbers[seat % 4] = if is_end(event.op) { 0 } else { event.txn };
         self.light.step(flat, seat, event.op)
     }
 

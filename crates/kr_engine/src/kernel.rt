@@ -15,9 +15,9 @@ use kr_history::{EngineName, Entry, PlaceRow, Seen};
 use kr_index::Tree;
 use kr_locks::Buckets;
 use kr_machine::Stepper;
-use kr_model::{Event, Op, Reply, Txn};
+use kr_model::{Event, Op, Reply, Txn, is_end};
 use kr_protocol::Covered;
-use kr_records::{EngineFault, Numbers, Receipt, SeatNote, forget, is_end};
+use kr_records::{EngineFault, Numbers, Receipt, SeatNote, forget};
 use std::alloc::{AllocError, Global};
 use std::marker::{Model, PhantomData};
 

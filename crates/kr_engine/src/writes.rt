@@ -13,9 +13,9 @@ use kr_history::{Entry, Known, PlaceRow};
 use kr_index::Tree;
 use kr_locks::Buckets;
 use kr_machine::{NotDone, Stepper};
-use kr_model::{Event, Op, Reply, Txn};
+use kr_model::{Event, Op, Reply, Txn, is_end};
 use kr_protocol::Covered;
-use kr_records::{EngineFault, Numbers, fault_of, is_end, written};
+use kr_records::{EngineFault, Numbers, fault_of, written};
 use std::alloc::Global;
 
 /// What an operation answers that ends its transaction.

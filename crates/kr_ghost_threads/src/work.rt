@@ -6,8 +6,8 @@ use crate::kernel::{Kernel, Outcome};
 use crate::name::GhostRunName;
 use kr_ghost::Move;
 use kr_ghost_protocol::GhostProtocol;
-use kr_model::{Op, Txn};
-use kr_workers::{Gate, is_end};
+use kr_model::{Op, Txn, is_end};
+use kr_workers::Gate;
 use std::sync::{Condvar, Mutex, Wait};
 use std::thread;
 

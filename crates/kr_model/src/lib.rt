@@ -4,9 +4,11 @@
 
 mod copies;
 mod items;
+mod ops;
 mod words;
 
 pub use items::{Answers, Items, Pairs, Programs, Txns};
+pub use ops::is_end;
 use std::alloc::AllocError;
 pub use words::{
     cover_code, refusal_number, row_number, row_word, rule_code, rule_number, side_number,

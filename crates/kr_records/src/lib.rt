@@ -22,4 +22,4 @@ pub use seat_state::SeatState;
 pub use share::Share;
 pub use waits::{forget, may_close, note, txns_of};
 pub use wakes::{Change, change_of, shed_all};
-pub use writes::{is_end, written};
+pub use writes::written;

@@ -1,29 +1,12 @@
 //! The write of a place.
 ghost use Rattle.std.specs.Prelude.{◌≡◌, ◌<◌, true, length, Some, IfOk, IfErr, slice_index_or};
-ghost use Rattle.kr_model.specs.Step.{is_end as ends};
 ghost use Rattle.kr_records.specs.Faults.{is_of_write};
 ghost use Rattle.kr_records.specs.Histories.{entry};
 
 use crate::faults::EngineFault;
 use kr_history::{Entry, Known, PlaceRow};
-use kr_model::{Event, Op, Reply};
+use kr_model::{Event, Reply};
 use std::alloc::Global;
-
-/// Whether the operation ends its transaction.
-pub fn is_end(op: Op) -> bool
-    ensures { result ≡ ends op }
-{
-    match op {
-        Op::Commit | Op::Abort => true,
-        Op::Fetch(_)
-        | Op::Scan(_, _)
-        | Op::Go
-        | Op::Insert(_, _)
-        | Op::Delete(_)
-        | Op::Update(_, _)
-        | Op::Back => false,
-    }
-}
 
 /// Writes a place with an entry of this event and a copy of its reply. `PlaceTaken` where the place refuses it, and `Memory`
 /// where a growth is refused.

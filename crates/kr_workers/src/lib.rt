@@ -18,4 +18,3 @@ pub use kr_script::{StepFault, WhyNotDone};
 pub use left_out::{LeftOut, faults_of};
 pub use placing::are_placed;
 pub use turn::{MOST_CALLS, Turn};
-pub use wanted::is_end;

@@ -1,12 +1,11 @@
 //! What each transaction of a script is to do in a run in several threads.
 ghost use Rattle.std.specs.Prelude.{◌≡◌, ◌≢◌, AllPairs, ℕ, OnOk, IfOk};
-ghost use Rattle.kr_model.specs.Step.{is_end};
 ghost use Rattle.kr_workers.specs.Follows.{AreRising, is_before, is_of, stays_active, closed, done_from};
 ghost use Rattle.kr_workers.specs.Dealt.{AreWanted, hand_in};
 ghost use Rattle.kr_workers.specs.Fates.{fate_of, IsPlace};
 
 use crate::following::is_before;
-use kr_model::{Op, Txn};
+use kr_model::{Op, Txn, is_end};
 use kr_script::{StepFault, WhyNotDone};
 use std::alloc::{AllocError, Global};
 use std::collections::BTreeMap;
@@ -103,13 +102,6 @@ fn stays_active(ops: &[Op]) -> bool
         Some(op) => !is_end(*op),
         None => false,
     }
-}
-
-/// Whether an operation ends its transaction.
-pub fn is_end(op: Op) -> bool
-    ensures { result ≡ is_end op }
-{
-    matches!(op, Op::Commit | Op::Abort)
 }
 
 /// What became of a step that its transaction came to.
