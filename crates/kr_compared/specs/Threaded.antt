@@ -12,6 +12,9 @@ use Rattle.kr_records.specs.Closed.{IsClosed, Lent}
 use Rattle.kr_records.specs.Histories.{events_with_replies}
 use Rattle.kr_judge.specs.declared.ran.Ran.{Ran}
 use Rattle.kr_workers.specs.Follows.{Follows}
+use Rattle.kr_workers.specs.Counts.{missed_before}
+use Rattle.kr_workers.specs.Placed.{IsBetween}
+use Rattle.kr_workers.specs.declared.left_out.LeftOut.{LeftOut}
 use Rattle.kr_report.specs.declared.threaded.Answered.{Answered}
 use Rattle.kr_script.specs.declared.not_done.StepFault.{StepFault}
 use Rattle.kr_report.specs.declared.threaded.Threaded.{Threaded}
@@ -66,3 +69,8 @@ pub record ShowsThreads (p : Protocol) (opening : Map) (steps : List Event) (d :
   pub faults : d.faults.items ≡ whole.faults.items
   pub index : d.index ≡ whole.ran.index
   pub unfinished : d.unfinished ≡ whole.ran.unfinished
+
+-- The history follows the script's steps, but for those that were left out, and each of these was left out where its transaction had come to it.
+pub record IsFollowed (steps : List Event) (h : History) (ls : List LeftOut) : Type 0 where
+  pub follows : Follows steps (map (λ l. l.fault) ls) (map (λ e. e.event) h.entries.items)
+  pub placed : All (λ l. IsBetween (map (λ e. e.event) h.entries.items) (missed_before (map (λ l. l.fault) ls) l.fault.txn l.fault.step) l) ls

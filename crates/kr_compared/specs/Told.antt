@@ -1,5 +1,5 @@
 -- What is told of the steps that weren't done.
-use Rattle.std.specs.Prelude.{◌≡◌, ◌<◌, ◌≤◌, ◌+◌, ℕ, length, Bool, true, false, Option, None, is_some, if◌then◌else◌, List, [], ◌∷◌, All, Contains}
+use Rattle.std.specs.Prelude.{◌≡◌, ◌<◌, ◌≤◌, ◌+◌, ℕ, length, false, Option, None, is_some, if◌then◌else◌, List, [], ◌∷◌, All, Contains}
 use mathlib.Core.List.{IsPrefix}
 use Rattle.kr_model.specs.declared.Event.{Event}
 use Rattle.kr_model.specs.declared.Op.{Op}

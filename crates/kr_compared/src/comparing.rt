@@ -1,11 +1,12 @@
 //! What the workers did, compared with the script, and what is shown of it.
-ghost use Rattle.std.specs.Prelude.{◌≡◌, List, IfOk};
+ghost use Rattle.std.specs.Prelude.{◌≡◌, ◌≢◌, List, Err, IfOk};
 ghost use Rattle.kr_model.specs.declared.Event.{Event};
 ghost use Rattle.kr_model.specs.Protocol.{Protocol};
 ghost use Rattle.kr_model.specs.Map.{Map, IsMap};
 ghost use Rattle.kr_workers.specs.Dealt.{AreDealt};
 ghost use Rattle.kr_compared.specs.Told.{IsWorked};
-ghost use Rattle.kr_compared.specs.Threaded.{IsCompared, IsThreaded, ShowsThreads};
+ghost use Rattle.kr_compared.specs.Threaded.{IsCompared, IsFollowed, IsThreaded, ShowsThreads};
+ghost use Rattle.kr_compared.specs.declared.fault.RunFault.TheVariants as fault;
 
 use crate::fault::RunFault;
 use crate::history::{answers, ran_of, steps_of};
@@ -30,6 +31,8 @@ pub fn compared(
 ) -> Result<(History, Vec<StepFault>), RunFault>
     ensures compared { IfOk result (λ r. (p : Protocol) (opening : Map) (steps : List Event) → IsWorked p opening worked.history worked.left_out.items → AreDealt steps script → IsCompared p opening steps r.0 r.1.items) }
     ensures history { IfOk result (λ r. r.0 ≡ worked.history) }
+    ensures followed { (steps : List Event) → AreDealt steps script → IfOk result (λ r. IsFollowed steps worked.history worked.left_out.items) }
+    ensures place { (steps : List Event) → AreDealt steps script → IsFollowed steps worked.history worked.left_out.items → result ≢ Err fault.Place }
 {
     let Worked { history, left_out } = worked;
     let steps = steps_of(alloc, &history.entries)?;

@@ -1,9 +1,9 @@
 -- How many events are of a transaction.
-use Rattle.std.proofs.Common.{◌≡◌, ℕ, zero, suc, ◌+◌, ◌-◌, ◌<◌, ◌≤◌, ◌==◌, ◌&&◌, ◌||◌, Bool, true, false, cond, List, [], ◌∷◌, ◌++◌, length, length-append, take, get_or, min, add-one, refl, sym, ap, ◌∙◌, subst, arith, map}
-use Rattle.std.specs.Prelude.{slice_index_or, nat_eq, nat_lt, ◌≢◌, All}
+use Rattle.std.proofs.Common.{◌≡◌, ℕ, zero, suc, ◌+◌, ◌-◌, ◌<◌, ◌≤◌, ◌==◌, ◌&&◌, ◌||◌, Bool, true, false, cond, List, [], ◌∷◌, ◌++◌, length, length-append, take, get_or, min, add-one, refl, sym, ap, ◌∙◌, subst, arith, map, rules}
+use Rattle.std.specs.Prelude.{slice_index_or, nat_eq, nat_lt, ◌≢◌, ◌↔◌, IsTrue, All}
 use Rattle.std.specs.List.{count_by}
 use Rattle.std.specs.HashMap.{HashMap, get}
-use Rattle.std.specs.Prelude.{unwrap_or, Option, Some}
+use Rattle.std.specs.Prelude.{unwrap_or, Option, Some, None}
 use Rattle.std.proofs.lemmas.Bool.{eqb-true, eq-eqb}
 use Rattle.std.proofs.lemmas.Bool.Decides.{nat_tests}
 use Rattle.std.proofs.lemmas.List.{get_or_append_left, get_or_push, get_or-map, get_or_default, take_all, take_more, length-take-le, length-map}
@@ -21,6 +21,14 @@ use Rattle.kr_workers.specs.Placed.{AreNumbers, AreCounts, IsNumber, IsStart, Is
 nobody : Event
 nobody = record { txn = 0; op = Go }
 
+-- No test says both.
+pub not_both : (b : Bool) → b ≡ true → b ≡ false → ⊥
+not_both b t f = cc
+
+-- What never holds, and a test that says no.
+pub never : (A : Type 0) → (A → ⊥) → IsTrue false ↔ A
+never A not = (λ yes. absurd (not_both false yes refl), λ a. absurd (not a))
+
 -- An event of the transaction more.
 pub done_own : (t k : ℕ) (es : List Event) → k < length es → txn_at es k ≡ t → done_by t (take (k + 1) es) ≡ done_by t (take k es) + 1
 done_own t k es within own = count_by_more_yes (λ e. e.txn == t) es k (record { txn = 0; op = Go }) within (eq-eqb (txn_at es k) t own)
@@ -29,11 +37,13 @@ done_own t k es within own = count_by_more_yes (λ e. e.txn == t) es k (record {
 pub done_other : (t k : ℕ) (es : List Event) → k < length es → (txn_at es k == t) ≡ false → done_by t (take (k + 1) es) ≡ done_by t (take k es)
 done_other t k es within other = count_by_more_no (λ e. e.txn == t) es k (record { txn = 0; op = Go }) within other
 
--- The event at a place has its number among those of its transaction.
-pub number_at : (numbers : List ℕ) (es : List Event) (k t n : ℕ) → AreNumbers numbers es → k < length es → k < length numbers → txn_at es k ≡ t → slice_index_or numbers k 0 ≡ n → IsNumber es k t n
-number_at numbers es k t n are in_es in_numbers own is =
-    let with : done_by t (take (k + 1) es) ≡ n = ap (λ (u : ℕ). done_by u (take (k + 1) es)) (sym own) ∙ sym (are.each k in_numbers) ∙ is in
-    record { with = with; without = sym (done_own t k es in_es own) ∙ with }
+-- The number that was found is the event's, and no other.
+pub number_found : (es : List Event) (k t it n : ℕ) (found : Option ℕ) → ((m : ℕ) → (found ≡ Some m) ↔ IsNumber es k t m) → found ≡ Some it → (it ≡ n) ↔ IsNumber es k t n
+number_found es k t it n found are is = (λ same. (are n).0 (is ∙ ap Some same), λ number. ap (λ (o : Option ℕ). unwrap_or o it) (sym is ∙ (are n).1 number))
+
+-- Where none was found, it has none.
+pub none_found : (es : List Event) (k t n : ℕ) (found : Option ℕ) → ((m : ℕ) → (found ≡ Some m) ↔ IsNumber es k t m) → found ≡ None → IsNumber es k t n → ⊥
+none_found es k t n found are is number = search (rules, sym is ∙ (are n).1 number)
 
 -- One number more.
 pub numbers_more : (numbers longer : List ℕ) (es : List Event) (i n : ℕ) → AreNumbers numbers es → length numbers ≡ i → longer ≡ numbers ++ n ∷ [] → n ≡ done_by (txn_at es i) (take (i + 1) es) → AreNumbers longer es
@@ -216,6 +226,19 @@ txns_of_faults : (ls : List LeftOut) → map (λ l. l.fault.txn) ls ≡ map (λ 
 txns_of_faults [] = refl
 txns_of_faults (l ∷ ls) = ap (λ (ts : List ℕ). l.fault.txn ∷ ts) (txns_of_faults ls)
 
+-- Of its transaction, so many were left out before it.
+pub missed_at : (ls : List LeftOut) (i first : ℕ) (l : LeftOut) → i < length ls → l ≡ get_or ls i l → IsStart (map (λ x. x.fault.txn) ls) i first → AreRising (map (λ x. x.fault) ls)
+    → missed_before (map (λ x. x.fault) ls) l.fault.txn l.fault.step ≡ i - first
+missed_at ls i first l within is start rising =
+    let long : i < length faults = omega (arith, length-map ls (λ x. x.fault)) in
+    ap (λ (f : StepFault). missed_before faults f.txn f.step) (sym fault_is) ∙ missed_so_far faults (map (λ x. x.fault.txn) ls) i first l.fault rising (txns_of_faults ls) long start
+  where
+    faults : List StepFault
+    faults = map (λ x. x.fault) ls
+
+    fault_is : get_or faults i l.fault ≡ l.fault
+    fault_is = get_or-map (λ x. x.fault) ls i l l.fault within ∙ ap (λ (x : LeftOut). x.fault) (sym is)
+
 -- One more that was left out where its transaction came to it.
 pub placed_more : (es : List Event) (ls : List LeftOut) (i first : ℕ) (l : LeftOut) → i < length ls → l ≡ get_or ls i l → IsStart (map (λ x. x.fault.txn) ls) i first → IsBetween es (i - first) l
     → AreRising (map (λ x. x.fault) ls)
@@ -224,22 +247,20 @@ pub placed_more : (es : List Event) (ls : List LeftOut) (i first : ℕ) (l : Lef
 placed_more es ls i first l within is start between rising so_far =
     subst (All placed) (sym (take_more ls i l within)) (All-push placed (take i ls) (get_or ls i l) so_far (subst placed is here))
   where
-    faults : List StepFault
-    faults = map (λ x. x.fault) ls
-
     placed : LeftOut → Type 0
     placed x = IsBetween es (missed_before (map (λ y. y.fault) ls) x.fault.txn x.fault.step) x
 
-    fault_is : get_or faults i l.fault ≡ l.fault
-    fault_is = get_or-map (λ x. x.fault) ls i l l.fault within ∙ ap (λ (x : LeftOut). x.fault) (sym is)
-
-    number : missed_before faults l.fault.txn l.fault.step ≡ i - first
-    number =
-        let long : i < length faults = omega (arith, length-map ls (λ x. x.fault)) in
-        ap (λ (f : StepFault). missed_before faults f.txn f.step) (sym fault_is) ∙ missed_so_far faults (map (λ x. x.fault.txn) ls) i first l.fault rising (txns_of_faults ls) long start
-
     here : placed l
-    here = subst (λ (n : ℕ). IsBetween es n l) (sym number) between
+    here = subst (λ (n : ℕ). IsBetween es n l) (sym (missed_at ls i first l within is start rising)) between
+
+-- Where all were left out so, this one was.
+pub placed_at : (es : List Event) (ls : List LeftOut) (i first : ℕ) (l : LeftOut) → i < length ls → l ≡ get_or ls i l → IsStart (map (λ x. x.fault.txn) ls) i first
+    → AreRising (map (λ x. x.fault) ls)
+    → All (λ x. IsBetween es (missed_before (map (λ x. x.fault) ls) x.fault.txn x.fault.step) x) ls
+    → IsBetween es (i - first) l
+placed_at es ls i first l within is start rising all =
+    subst (λ (n : ℕ). IsBetween es n l) (missed_at ls i first l within is start rising)
+    (subst (λ (x : LeftOut). IsBetween es (missed_before (map (λ y. y.fault) ls) x.fault.txn x.fault.step) x) (sym is) (all i l within))
 
 -- The last place but the next.
 pub starts_before : (txns : List ℕ) (i first : ℕ) → IsStart txns i first → IsStart txns (i + 1 - 1) first

@@ -7,6 +7,7 @@ use Rattle.kr_model.specs.declared.Event.{Event}
 use Rattle.kr_model.specs.Run as model
 use Rattle.kr_workers.specs.Counts.{done_by}
 use Rattle.kr_workers.specs.Placed.{IsPast, IsUpTo, AreDoneUpTo, AreDoneBefore}
+use Rattle.kr_workers.proofs.Counts.{done_own}
 
 -- No more are done up to a place than in all.
 done_less : (t k : ℕ) (es : List Event) → done_by t (take k es) ≤ done_by t es
@@ -47,17 +48,18 @@ module _ (es : List Event) (history before : List model.Entry) (events : model.e
 
   low : (last : Option ℕ) (t number : ℕ) → IsPast before last → AreDoneUpTo es last t number → number ≤ done_by t ev
   low None t number past up_to = omega (arith, up_to)
-  low (Some k) t number past up_to =
+  low (Some k) t number past to =
       let in' : k < length ev = omega (arith, long, past) in
       let done = at_least es ev rest t k whole in' in
-      omega (arith, up_to, done)
+      omega (arith, to.is, done)
 
   high : (next : Option ℕ) (t number : ℕ) → IsUpTo before next → AreDoneBefore es next t number → done_by t ev ≤ number
   high None t number up_to done = let most = at_most_all es ev rest t whole in omega (arith, most, done)
   high (Some k) t number up_to done =
       let in' : length ev ≤ k = omega (arith, long, up_to) in
       let most = at_most es ev rest t k whole in' in
-      omega (arith, most, done)
+      let one = done_own t k es done.within done.own in
+      omega (arith, most, one, done.is)
 
   -- Between its places a transaction has done just so many steps.
   pub done_between : (last next : Option ℕ) (t number : ℕ) → IsPast before last → IsUpTo before next → AreDoneUpTo es last t number → AreDoneBefore es next t number → done_by t (model.events_of before) ≡ number

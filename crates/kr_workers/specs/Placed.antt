@@ -37,18 +37,19 @@ AreCounts counts es = (t : ℕ) → count_in counts t ≡ done_by t es
 
 -- The event at this place is the transaction's, and of this number among its own, from 1.
 pub record IsNumber (es : List Event) (k t number : ℕ) : Type 0 where
-  pub with : done_by t (take (k + 1) es) ≡ number
-  pub without : done_by t (take k es) + 1 ≡ number
+  pub within : k < length es
+  pub own : txn_at es k ≡ t
+  pub is : done_by t (take (k + 1) es) ≡ number
 
--- Up to this place just so many events are of the transaction; none where there is no place.
+-- Up to this place, where the event is the transaction's, just so many are of it; none where there is no place.
 abbrev pub AreDoneUpTo : List Event → Option ℕ → ℕ → ℕ → Type 0
 AreDoneUpTo es None t number = number ≡ 0
-AreDoneUpTo es (Some k) t number = done_by t (take (k + 1) es) ≡ number
+AreDoneUpTo es (Some k) t number = IsNumber es k t number
 
--- Before this place just so many events are of the transaction; of all events where there is no place.
+-- Before this place, where the event is the transaction's, just so many are of it; of all events where there is no place.
 abbrev pub AreDoneBefore : List Event → Option ℕ → ℕ → ℕ → Type 0
 AreDoneBefore es None t number = done_by t es ≡ number
-AreDoneBefore es (Some k) t number = done_by t (take k es) ≡ number
+AreDoneBefore es (Some k) t number = IsNumber es k t (number + 1)
 
 -- Between the places of a step that was left out, its transaction had done all earlier steps but so many.
 pub record IsBetween (es : List Event) (earlier : ℕ) (l : LeftOut) : Type 0 where

@@ -1,5 +1,5 @@
 //! Whether steps were left out where their transactions came to them.
-ghost use Rattle.std.specs.Prelude.{◌≡◌, ◌<◌, ◌-◌, true, All, IfOk, map, length};
+ghost use Rattle.std.specs.Prelude.{◌≡◌, ◌<◌, ◌-◌, ◌↔◌, ℕ, Some, IsTrue, All, IfOk, map, length};
 ghost use Rattle.kr_workers.specs.Follows.{AreRising};
 ghost use Rattle.kr_workers.specs.Counts.{missed_before, count_in};
 ghost use Rattle.kr_workers.specs.Placed.{AreNumbers, AreCounts, IsNumber, IsBetween, AreDoneUpTo, AreDoneBefore, IsStart};
@@ -14,7 +14,7 @@ use std::collections::HashMap;
 ///
 /// It takes a look by hash or two for each event and for each step; an error where a growth is refused.
 pub fn are_placed(alloc: Global, left_out: &[LeftOut], events: &[Event]) -> Result<bool, AllocError>
-    ensures { IfOk result (λ yes. yes ≡ true → AreRising (map (λ l. l.fault) left_out.now) → All (λ l. IsBetween events.now (missed_before (map (λ l. l.fault) left_out.now) l.fault.txn l.fault.step) l) left_out.now) }
+    ensures { IfOk result (λ yes. AreRising (map (λ l. l.fault) left_out.now) → (IsTrue yes ↔ (All (λ l. IsBetween events.now (missed_before (map (λ l. l.fault) left_out.now) l.fault.txn l.fault.step) l) left_out.now))) }
 {
     if left_out.is_empty() {
         return Ok(true);
@@ -68,18 +68,16 @@ fn count_of(counts: &HashMap<Txn, u64>, txn: Txn) -> u64
     }
 }
 
-/// Whether the event at a place is the transaction's, and of this number among its own, from 1.
-fn is_number(events: &[Event], numbers: &[u64], place: usize, txn: Txn, number: u64) -> bool
-    requires { AreNumbers numbers.now events.now }
-    ensures { result ≡ true → IsNumber events.now place txn number }
+/// The number of the event at a place among those of its transaction, from 1, where it is of this one.
+fn number_at(events: &[Event], numbers: &[u64], place: usize, txn: Txn) -> Option<u64>
+    requires long { length numbers.now ≡ length events.now }
+    requires numbers { AreNumbers numbers.now events.now }
+    ensures { (n : ℕ) → ((result ≡ Some n) ↔ (IsNumber events.now place txn n)) }
 {
-    if place >= events.len() || place >= numbers.len() {
-        return false;
+    if place >= events.len() || events[place].txn != txn {
+        return None;
     }
-    if events[place].txn != txn {
-        return false;
-    }
-    numbers[place] == number
+    Some(numbers[place])
 }
 
 /// Whether just so many events up to a place are of the transaction, whose the event there is; or none, where there is no
@@ -91,12 +89,16 @@ fn are_done_up_to(
     txn: Txn,
     number: u64,
 ) -> bool
-    requires { AreNumbers numbers.now events.now }
-    ensures { result ≡ true → AreDoneUpTo events.now last txn number }
+    requires long { length numbers.now ≡ length events.now }
+    requires numbers { AreNumbers numbers.now events.now }
+    ensures { IsTrue result ↔ (AreDoneUpTo events.now last txn number) }
 {
-    match last {
-        Some(place) => is_number(events, numbers, place, txn, number),
-        None => number == 0,
+    let Some(place) = last else {
+        return number == 0;
+    };
+    match number_at(events, numbers, place, txn) {
+        Some(it) => it == number,
+        None => false,
     }
 }
 
@@ -110,13 +112,17 @@ fn are_done_before(
     txn: Txn,
     number: u64,
 ) -> bool
+    requires long { length numbers.now ≡ length events.now }
     requires numbers { AreNumbers numbers.now events.now }
     requires counts { AreCounts counts.now events.now }
-    ensures { result ≡ true → AreDoneBefore events.now next txn number }
+    ensures { IsTrue result ↔ (AreDoneBefore events.now next txn number) }
 {
-    match next {
-        Some(place) => number < u64::MAX && is_number(events, numbers, place, txn, number + 1),
-        None => count_of(counts, txn) == number,
+    let Some(place) = next else {
+        return count_of(counts, txn) == number;
+    };
+    match number_at(events, numbers, place, txn) {
+        Some(it) => it > number && it - 1 == number,
+        None => false,
     }
 }
 
@@ -128,9 +134,10 @@ fn is_between(
     numbers: &[u64],
     counts: &HashMap<Txn, u64>,
 ) -> bool
+    requires long { length numbers.now ≡ length events.now }
     requires numbers { AreNumbers numbers.now events.now }
     requires counts { AreCounts counts.now events.now }
-    ensures { result ≡ true → IsBetween events.now earlier left.now }
+    ensures { IsTrue result ↔ (IsBetween events.now earlier left.now) }
 {
     let txn = left.fault.txn;
     let step = left.fault.step;

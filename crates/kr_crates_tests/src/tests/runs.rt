@@ -3,6 +3,7 @@
 mod batch;
 mod counterexample;
 mod follows;
+mod placed;
 mod report;
 mod script;
 mod serial;
