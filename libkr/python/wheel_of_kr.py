@@ -1,5 +1,5 @@
 """Builds the wheel of the module kr for pip, as PEP 517 asks, from Python alone. libkr.so of ../out is put beside the module, where
-`./lib` has built it."""
+`./build` has built it."""
 import base64
 import hashlib
 import os
