@@ -1,5 +1,5 @@
 #!/usr/bin/env python3
-"""Runs rows of input and output over the built programs: run.py [--write] [--by-rattle] [--without-threads] FILE.rows ..
+"""Runs rows of input and output over the built programs: run.py [--write] [--by-rattle] [--where-built] FILE.rows ..
 
 A row is what calls of the programs print for some files. Each of its lines is a word, a colon and a text. First its name, then
 the files of the folder in which the programs run:
@@ -26,8 +26,9 @@ follow, with what they print:
     err     a line of standard error
 
 Lines that begin with # say something of the row below. An empty line ends a row. A call may take 20 seconds and 1 GB of memory.
---write puts what the programs print in the place of what was expected, but for begins, ends, has and times. --without-threads
-calls kr_run in the place of kr, and leaves out the rows that call another program, or `kr threads`. Status 1 where something differs.
+--write puts what the programs print in the place of what was expected, but for begins, ends, has and times. --by-rattle takes each
+program as the kit's second compiler built it, NAME.by-rattle beside it, which the gate leaves there. --where-built leaves out, and
+tells, rows that call a program that isn't built, or of which the second compiler's is older. Status 1 where something differs.
 """
 import os
 import re
@@ -39,7 +40,7 @@ import tempfile
 TOP = os.path.dirname(os.path.dirname(os.path.dirname(os.path.abspath(__file__))))
 MEMORY = 1 << 30
 BUILT = ".by-rattle" if "--by-rattle" in sys.argv else ""
-WITHOUT_THREADS = "--without-threads" in sys.argv
+PROGRAMS = ("kr", "kr_explain", "kr_view", "kr_trace", "kr_suite", "kr_relax")
 FILES = ("file", "text", "long", "copy", "edit", "cut")
 PARTS = ("begins", "ends", "has", "times")
 EXPECTED = ("status", "out", "err") + PARTS
@@ -119,15 +120,29 @@ def put(folder, word, text):
         file.write(content)
 
 
+def file_of(program, built=BUILT):
+    return f"{TOP}/crates/{program}/out/{program}{built}"
+
+
+def is_built(program):
+    """Whether a program is built, and by the second compiler since then, where that is asked for."""
+    files = file_of(program, ""), file_of(program)
+    return all(map(os.path.exists, files)) and os.path.getmtime(files[1]) >= os.path.getmtime(files[0])
+
+
+def not_built(row):
+    """The programs that a row calls and that aren't built."""
+    names = {text.split(" ")[0] for _, word, text in row if word == "call"}
+    return {it for it in names.intersection(PROGRAMS) if not is_built(it)}
+
+
 def call(folder, words):
     """What a call prints, and its status."""
     words, _, given = words.partition(" < ")
     program, *words = words.split(" ")
     words = [unescaped(it) for it in words]
-    if WITHOUT_THREADS:
-        program = "kr_run"
     result = subprocess.run(
-        [f"{TOP}/crates/{program}/out/{program}{BUILT}", *words],
+        [file_of(program), *words],
         cwd=folder,
         stdin=open(os.path.join(folder, given), "rb") if given else subprocess.DEVNULL,
         capture_output=True,
@@ -188,19 +203,16 @@ def hold(path, row):
     return count, wrong, lines
 
 
-def needs_no_threads(row):
-    """Whether a row calls kr alone, and never for a run by threads."""
-    calls = [text.split(" ")[:2] for _, word, text in row if word == "call"]
-    return all(it[0] == "kr" and it[1:] != ["threads"] for it in calls)
-
-
 def main():
     files = [it for it in sys.argv[1:] if not it.startswith("--")]
-    count = wrong = 0
+    if "--write" in sys.argv and "--where-built" in sys.argv:
+        sys.exit("--write writes all rows")
+    count = wrong = left_out = 0
     for path in files:
         texts = []
         for row in blocks_of(path):
-            if WITHOUT_THREADS and not needs_no_threads(row):
+            if "--where-built" in sys.argv and not_built(row):
+                left_out += 1
                 continue
             calls, differing, lines = hold(path, row)
             count, wrong = count + calls, wrong + differing
@@ -208,7 +220,9 @@ def main():
         if "--write" in sys.argv:
             with open(path, "w", encoding="utf-8") as file:
                 file.write("\n\n".join(texts) + "\n")
-    print(f"rows{BUILT}{' of kr_run' if WITHOUT_THREADS else ''}: {count - wrong} of {count} calls are as expected")
+    if left_out:
+        print(f"rows{BUILT}: {left_out} rows are left out, since they call a program that isn't built{' so' if BUILT else ''}")
+    print(f"rows{BUILT}: {count - wrong} of {count} calls are as expected")
     sys.exit(1 if wrong else 0)
 
 
