@@ -103,24 +103,6 @@ where
     Left::on(alloc, status, &out, &err)
 }
 
-/// The same of the program without threads.
-fn run_without_threads<R: std::rt::Files + AllocGlobal + Threads + Sync>(
-    rt: &R,
-    words: &[&str],
-    files: &Texts,
-) -> Result<Left, AllocError>
-where
-    R::File: Send + Sync,
-    R::Dir: Send + Sync,
-{
-    let alloc = rt.alloc();
-    let words = owned(alloc, words)?;
-    let mut out = Io::new(Vec::new(alloc));
-    let mut err = Io::new(Vec::new(alloc));
-    let status = kr_cli_run::execute(rt, words.as_slice(), files, &mut out, &mut err);
-    Left::on(alloc, status, &out, &err)
-}
-
 /// These lines, each with the line feed that ends it.
 fn with_line_feed(alloc: Global, lines: &str) -> Result<String, AllocError> {
     let mut text = String::from_str(alloc, lines)?;
@@ -142,16 +124,7 @@ fn compare<R: AllocGlobal + Abort>(rt: &R, row: &Row, ran: &Left) -> Result<(), 
     Ok(())
 }
 
-/// Whether words ask for a run by several threads.
-fn ask_for_threads(words: &[&str]) -> bool {
-    match words.first() {
-        Some(word) => *word == "threads",
-        None => false,
-    }
-}
-
-/// Runs the program as a row says, and compares what it leaves, and what the program without threads leaves where the row asks for
-/// none.
+/// Runs the program as a row says, and compares what it leaves.
 fn leaves<R: std::rt::Files + AllocGlobal + Threads + Wait + Sync + Abort>(
     rt: &R,
     row: &Row,
@@ -164,11 +137,7 @@ where
         table: row.table,
         script: row.script,
     };
-    compare(rt, row, &run_program(rt, row.words, &files)?)?;
-    if !ask_for_threads(row.words) {
-        compare(rt, row, &run_without_threads(rt, row.words, &files)?)?;
-    }
-    Ok(())
+    compare(rt, row, &run_program(rt, row.words, &files)?)
 }
 
 /// Runs the program as each row says.

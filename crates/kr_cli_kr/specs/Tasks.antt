@@ -1,4 +1,4 @@
--- What the program writes of a check, of a run and of verdicts, under the table and of the scripts that words name, and why it ends without that. What files may give is a relation of words to bytes, or to none.
+-- What is written of a check, of a run and of verdicts, under the table and of the scripts that words name, and why these tasks end without that. What files may give is a relation of words to bytes, or to none.
 use Rattle.std.specs.Prelude.{◌≡◌, ℕ, Bool, List, Option, ◌↔◌, ◌⊎◌, IsTrue, All, map}
 use Rattle.std.specs.Io.KnownBytes.{Appends}
 use Rattle.kr_model.specs.Protocol.{Protocol, IsLawful}
@@ -6,7 +6,7 @@ use Rattle.kr_model.specs.Covers.{IsCovered}
 use Rattle.kr_script.specs.Script.{Script}
 use Rattle.kr_ghost_script.specs.Script.{GhostScript}
 use Rattle.kr_cli.specs.declared.endings.Ending.{Ending}
-use Rattle.kr_cli.specs.declared.endings.Ending.TheVariants.{NotUnderstood, Memory}
+use Rattle.kr_cli.specs.declared.endings.Ending.TheVariants.{NotUnderstood}
 use Rattle.kr_cli.specs.declared.tables.AnyTable.{AnyTable}
 use Rattle.kr_cli.specs.Endings.{MemoryOrTold, Unreported}
 use Rattle.kr_cli.specs.Files.{MayBeScript}
@@ -22,7 +22,6 @@ use Rattle.kr_batch.specs.Names.{AreNamed}
 use Rattle.kr_cli_tasks.specs.Runs.{report_line, IsSerialScript}
 use Rattle.kr_cli_tasks.specs.Checks.{check_line, ghost_check_line}
 use Rattle.kr_cli_tasks.specs.Judges.{judge_lines, TellsFirst}
-use Rattle.kr_cli_words.specs.Words.{AreWords}
 use Rattle.kr_cli_words.specs.declared.tasks.Task.{Task}
 use Rattle.kr_cli_words.specs.declared.tasks.Task.TheVariants.{Check, Run, Judge, Threads}
 
@@ -50,10 +49,6 @@ DoesTask may_give table task old new well =
     ((t : AnyTable) × (NamesTable may_give table t × (IsLawful (table_of t) × Reports may_give (table_of t) (names_of t) task old new well)))
     ⊎ ((t : AnyGhostTable) × (NamesGhosts may_give table t × (IsLawfulGhost (ghost.ghosts_of t) × ReportsGhosts may_give (ghost.ghosts_of t) (ghost.names_of t) task old new well)))
 
--- The whole report of the task that these words ask for was written.
-abbrev pub WritesReport : (List ℕ → Option (List ℕ) → Type 0) → List (List ℕ) → Option (List ℕ) → Option (List ℕ) → Bool → Type 0
-WritesReport may_give words old new well = (table : List ℕ) × ((task : Task) × (AreWords words table task × DoesTask may_give table task old new well))
-
 -- A task under a table without ghosts ends without its report, or with a prefix of it: for memory, a place or output, or a line tells why a word of it names no script, of several the first. One by several threads isn't understood.
 abbrev pub Undone : (List ℕ → Option (List ℕ) → Type 0) → Task → Ending → Type 0
 Undone may_give Check = Unreported (λ line. ⊥)
@@ -74,8 +69,3 @@ EndsTask may_give table task e =
     MemoryOrTold e (TellsNone may_give table)
     ⊎ (((t : AnyGhostTable) × (NamesGhosts may_give table t × UndoneGhosts may_give task e))
     ⊎ ((t : AnyTable) × (NamesTable may_give table t × Undone may_give task e)))
-
--- Why the program ends without the report that these words ask for, or with a prefix of it: the words aren't understood, or memory ran out, or the task that they ask for ends so.
-abbrev pub Ends : (List ℕ → Option (List ℕ) → Type 0) → List (List ℕ) → Ending → Type 0
-Ends may_give words e =
-    (e ≡ NotUnderstood) ⊎ ((e ≡ Memory) ⊎ ((table : List ℕ) × ((task : Task) × (AreWords words table task × EndsTask may_give table task e))))

@@ -3,7 +3,7 @@ ghost use Rattle.std.specs.Prelude.{◌≡◌, ◌⊎◌, IfOk, IfErr, IsTrue};
 ghost use Rattle.kr_model.specs.Covers.{IsCovered};
 ghost use Rattle.kr_sink.specs.Puts.{HasCause};
 ghost use Rattle.kr_cli.specs.Endings.{is_output};
-ghost use Rattle.kr_cli_run.specs.Program.{Reports, Undone};
+ghost use Rattle.kr_cli_kr.specs.Tasks.{Reports, Undone};
 
 use kr_cli::{Ending, Files};
 use kr_cli_tasks::{check_over, judge_scripts, run_script};

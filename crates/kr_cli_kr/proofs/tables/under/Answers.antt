@@ -1,5 +1,5 @@
 use Rattle.std.proofs.Common.{sym, refl}
-use Rattle.kr_cli_run.proofs.tables.under.Goals as goal
+use Rattle.kr_cli_kr.proofs.tables.under.Goals as goal
 
 -- The task is to run this script.
 pub returns-in-Run-clause-err : goal.returns-in-Run-clause-err

@@ -1,4 +1,4 @@
--- What is known of a report that was written.
+-- What is known of the report of a task without threads that was written.
 use Rattle.std.specs.Prelude.{ℕ, List, Bool, Option, Result, Ok, Err, IfOk}
 use Rattle.std.proofs.Common.{inl, inr}
 use Rattle.kr_cli.specs.declared.endings.Ending.{Ending}
@@ -10,8 +10,7 @@ use Rattle.kr_cli_ghost.specs.declared.tables.AnyGhostTable.{AnyGhostTable}
 use Rattle.kr_cli_ghost.specs.Lawful.{lawful_ghosts_of}
 use Rattle.kr_cli_ghost.specs.Named.{NamesGhosts}
 use Rattle.kr_cli_ghost.specs.Tables as ghost
-use Rattle.kr_cli_run.specs.Program.{Reports, ReportsGhosts, DoesTask, WritesReport}
-use Rattle.kr_cli_words.specs.Words.{AreWords}
+use Rattle.kr_cli_kr.specs.Tasks.{Reports, ReportsGhosts, DoesTask}
 use Rattle.kr_cli_words.specs.declared.tasks.Task.{Task}
 
 -- it is under the table that a word names, which is lawful
@@ -23,8 +22,3 @@ done may_give (Err e) table task t old new names reports = tt
 pub done_with_ghosts : (may_give : List ℕ → Option (List ℕ) → Type 0) (r : Result Bool Ending) (table : List ℕ) (task : Task) (t : AnyGhostTable) (old new : Option (List ℕ)) → NamesGhosts may_give table t → IfOk r (ReportsGhosts may_give (ghost.ghosts_of t) (ghost.names_of t) task old new) → IfOk r (DoesTask may_give table task old new)
 done_with_ghosts may_give (Ok well) table task t old new names reports = inr (t, (names, (lawful_ghosts_of t, reports)))
 done_with_ghosts may_give (Err e) table task t old new names reports = tt
-
--- and that of the words that ask for the task
-pub answered : (may_give : List ℕ → Option (List ℕ) → Type 0) (words : List (List ℕ)) (r : Result Bool Ending) (table : List ℕ) (task : Task) (old new : Option (List ℕ)) → AreWords words table task → IfOk r (DoesTask may_give table task old new) → IfOk r (WritesReport may_give words old new)
-answered may_give words (Ok well) table task old new ask does = (table, (task, (ask, does)))
-answered may_give words (Err e) table task old new ask does = tt

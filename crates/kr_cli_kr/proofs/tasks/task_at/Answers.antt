@@ -1,7 +1,7 @@
 use Rattle.std.proofs.Common.{rules}
-use Rattle.kr_cli_run.proofs.Answered.{done, done_with_ghosts}
-use Rattle.kr_cli_run.proofs.Ended.{no_table, task_ends, ghost_task_ends}
-use Rattle.kr_cli_run.proofs.program.task_at.Goals as goal
+use Rattle.kr_cli_kr.proofs.TaskAnswered.{done, done_with_ghosts}
+use Rattle.kr_cli_kr.proofs.TaskEnded.{no_table, task_ends, ghost_task_ends}
+use Rattle.kr_cli_kr.proofs.tasks.task_at.Goals as goal
 
 pub returns-in_err-table-clause-err : goal.returns-in_err-table-clause-err
 returns-in_err-table-clause-err g c =

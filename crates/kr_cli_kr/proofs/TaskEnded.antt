@@ -1,4 +1,4 @@
--- Why the program ends without a report.
+-- Why a task without threads ends without a report.
 use Rattle.std.proofs.Common.{◌≡◌, ◌⊎◌, ℕ, Bool, List, Option, Result, Ok, Err, IfErr, map, codes, string_bytes, subst, sym, inl, inr, refl}
 use Rattle.kr_cli.specs.declared.endings.Ending.{Ending}
 use Rattle.kr_cli.specs.declared.endings.Ending.TheVariants.{NotUnderstood, Memory, Place, Output, Told}
@@ -12,8 +12,7 @@ use Rattle.kr_cli_ghost.specs.Named.{NamesGhosts, TellsNone}
 use Rattle.kr_cli_ghost.specs.Runs.{TellsNoGhostScript, TellsFirstGhost}
 use Rattle.kr_cli_ghost.proofs.OneLine.{none_in_none, none_in_no_ghost_script, none_in_first_ghost}
 use Rattle.kr_cli_tasks.specs.Judges.{TellsFirst}
-use Rattle.kr_cli_run.specs.Program.{Undone, UndoneGhosts, EndsTask, Ends}
-use Rattle.kr_cli_words.specs.Words.{AreWords}
+use Rattle.kr_cli_kr.specs.Tasks.{Undone, UndoneGhosts, EndsTask}
 use Rattle.kr_cli_words.specs.declared.tasks.Task.{Task}
 use Rattle.kr_cli_words.specs.declared.tasks.Task.TheVariants.{Check, Run, Judge, Threads}
 
@@ -30,16 +29,6 @@ task_ends may_give (Err e) table task t names ends = inr (inr (t, (names, ends))
 pub ghost_task_ends : (may_give : List ℕ → Option (List ℕ) → Type 0) (r : Result Bool Ending) (table : List ℕ) (task : Task) (t : AnyGhostTable) → NamesGhosts may_give table t → IfErr r (UndoneGhosts may_give task) → IfErr r (EndsTask may_give table task)
 ghost_task_ends may_give (Ok well) table task t names ends = tt
 ghost_task_ends may_give (Err e) table task t names ends = inr (inl (t, (names, ends)))
-
--- and so does the program: it reads no words,
-pub unread : (may_give : List ℕ → Option (List ℕ) → Type 0) (words : List (List ℕ)) (e : Ending) → (e ≡ Memory) ⊎ (e ≡ NotUnderstood) → Ends may_give words e
-unread may_give words e (inl memory) = inr (inl memory)
-unread may_give words e (inr not_understood) = inl not_understood
-
--- or the task that they ask for ends.
-pub ended : (may_give : List ℕ → Option (List ℕ) → Type 0) (words : List (List ℕ)) (r : Result Bool Ending) (table : List ℕ) (task : Task) → AreWords words table task → IfErr r (EndsTask may_give table task) → IfErr r (Ends may_give words)
-ended may_give words (Ok well) table task ask ends = tt
-ended may_give words (Err e) table task ask ends = inr (inr (table, (task, (ask, ends))))
 
 -- The line has no line feed --
 
@@ -90,8 +79,3 @@ pub none_in_ending : (may_give : List ℕ → Option (List ℕ) → Type 0) (tab
 none_in_ending may_give table task e (inl told) = none_in_no_table may_give table e told
 none_in_ending may_give table task e (inr (inl (t, (names, ends)))) = none_in_ghost_task may_give task e ends
 none_in_ending may_give table task e (inr (inr (t, (names, ends)))) = none_in_task may_give task e ends
-
-pub none_in_line : (may_give : List ℕ → Option (List ℕ) → Type 0) (words : List (List ℕ)) (e : Ending) → Ends may_give words e → HasNoLineFeed (line_of e)
-none_in_line may_give words e (inl not_understood) = none_in_not_understood e not_understood
-none_in_line may_give words e (inr (inl memory)) = none_in_memory e memory
-none_in_line may_give words e (inr (inr (table, (task, (ask, ends))))) = none_in_ending may_give table task e ends

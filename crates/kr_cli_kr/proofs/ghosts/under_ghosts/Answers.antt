@@ -1,6 +1,6 @@
 use Rattle.std.proofs.Common.{sym, refl}
 use Rattle.kr_ghost.proofs.AllCases.{covered_is_safe}
-use Rattle.kr_cli_run.proofs.ghosts.under_ghosts.Goals as goal
+use Rattle.kr_cli_kr.proofs.ghosts.under_ghosts.Goals as goal
 
 -- The task is to run this script.
 pub returns-in-Run-clause-reports : goal.returns-in-Run-clause-reports

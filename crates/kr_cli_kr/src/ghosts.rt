@@ -3,7 +3,7 @@ ghost use Rattle.std.specs.Prelude.{◌≡◌, ◌⊎◌, IfOk, IfErr, IsTrue};
 ghost use Rattle.kr_sink.specs.Puts.{HasCause};
 ghost use Rattle.kr_ghost.specs.Covers.{IsCoveredGhost};
 ghost use Rattle.kr_cli.specs.Endings.{is_output};
-ghost use Rattle.kr_cli_run.specs.Program.{ReportsGhosts, UndoneGhosts};
+ghost use Rattle.kr_cli_kr.specs.Tasks.{ReportsGhosts, UndoneGhosts};
 
 use kr_cli::{Ending, Files};
 use kr_cli_ghost::{judge_ghosts, run_ghosts};
