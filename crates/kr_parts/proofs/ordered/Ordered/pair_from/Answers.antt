@@ -1,6 +1,6 @@
 use Rattle.std.proofs.Common.{is_some, sym, ◌∙◌, ap}
-use Rattle.kr_ordered.proofs.NextNames.{least_present}
-use Rattle.kr_ordered.proofs.Ordered.pair_from.Goals as goal
+use Rattle.kr_parts.proofs.NextNames.{least_present}
+use Rattle.kr_parts.proofs.ordered.Ordered.pair_from.Goals as goal
 
 pub unreachable-requires : goal.unreachable-requires
 unreachable-requires g c =

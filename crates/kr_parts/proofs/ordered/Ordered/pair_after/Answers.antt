@@ -1,8 +1,8 @@
 use Rattle.std.proofs.Common.{arith}
 use Rattle.std.proofs.lemmas.Grind.{common_steps}
 use Rattle.std.proofs.Common.{is_some, suc, sym, ◌∙◌, ap}
-use Rattle.kr_ordered.proofs.NextNames.{least_present}
-use Rattle.kr_ordered.proofs.Ordered.pair_after.Goals as goal
+use Rattle.kr_parts.proofs.NextNames.{least_present}
+use Rattle.kr_parts.proofs.ordered.Ordered.pair_after.Goals as goal
 
 pub unreachable-requires : goal.unreachable-requires
 unreachable-requires g c =

@@ -1,11 +1,9 @@
 //! A lock table as a machine sees it: the locks that transactions hold on names, and what it answers of them.
-#![tactic(auto)]
-
 ghost use Rattle.std.specs.Prelude.{◌≡◌, ◌≢◌, ◌<◌, ◌≤◌, [], ◌∷◌, ◌↔◌, IsTrue, IsOk, OnOk, OnErr, IfOk};
 ghost use Rattle.kr_model.specs.Locks.{Locks, AreWithin, own, keep_or_drop, release, blockers};
 ghost use Rattle.kr_model.specs.declared.Span.TheVariants as span;
 
-pub use kr_model::{Memory, Mode, Name, Txn};
+use kr_model::{Memory, Mode, Name, Txn};
 use kr_protocol::Protocol;
 use std::alloc::Global;
 

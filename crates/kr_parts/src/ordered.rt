@@ -2,14 +2,11 @@
 //!
 //! A pinned key has its place, so writing it or taking it away needs no memory and cannot fail.
 //! A caller that has to finish what it began pins the key first, while it may still give up.
-#![tactic(auto)]
-
 ghost use Rattle.std.specs.Prelude.{◌≡◌, ℕ, ◌+◌, ◌-◌, ◌<◌, ◌==◌, if◌then◌else◌, is_some, Some, IfSome, IfNone, OnOk, OnErr, IfOk};
 ghost use Rattle.kr_model.specs.declared.Name.TheVariants.{Key, End};
 ghost use Rattle.kr_model.specs.Map.{Map, IsMap, get, set, without, at, after};
 
-use kr_model::Pairs;
-pub use kr_model::{Memory, Name};
+use kr_model::{Memory, Name, Pairs};
 use std::alloc::Global;
 
 /// A map from keys to values in the order of the keys, with a count of pins for each key.
