@@ -10,7 +10,7 @@ use Rattle.kr_model.specs.Protocol.{Protocol}
 use Rattle.kr_model.specs.Map.{Map}
 use Rattle.kr_model.specs.Step.{step}
 use Rattle.kr_deadlock.specs.Waits.{IsCycle}
-use Rattle.kr_history.specs.declared.name.Entry.{Entry}
+use Rattle.kr_records.specs.declared.name.Entry.{Entry}
 use Rattle.kr_records.specs.Histories.{event, events_with_replies}
 use Rattle.kr_records.specs.Waits.{in_the_way, blockers_now}
 use Rattle.kr_records.specs.Faults.{is_of_try, is_blocked}

@@ -8,7 +8,7 @@ use Rattle.kr_model.specs.State.{State}
 use Rattle.kr_model.specs.Serial.{AreSerial}
 use Rattle.kr_model.specs.Run as model
 use Rattle.kr_model.proofs.WellFormedLaws.{run_is_state}
-use Rattle.kr_history.specs.declared.name.Entry.{Entry}
+use Rattle.kr_records.specs.declared.name.Entry.{Entry}
 use Rattle.kr_records.specs.declared.closing.History.{History}
 use Rattle.kr_records.specs.Histories.{IsHistory, events_with_replies}
 use Rattle.kr_records.specs.Closed.{IsClosed, Lent}

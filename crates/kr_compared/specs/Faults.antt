@@ -1,6 +1,6 @@
 -- Which fault of a run each fault of its row and of its engine is.
-use Rattle.kr_history.specs.declared.row.NewFault.{NewFault}
-use Rattle.kr_history.specs.declared.row.NewFault.TheVariants as new
+use Rattle.kr_records.specs.declared.row.NewFault.{NewFault}
+use Rattle.kr_records.specs.declared.row.NewFault.TheVariants as new
 use Rattle.kr_records.specs.declared.closing.CloseFault.{CloseFault}
 use Rattle.kr_records.specs.declared.closing.CloseFault.TheVariants as close
 use Rattle.kr_records.specs.declared.faults.EngineFault.{EngineFault}

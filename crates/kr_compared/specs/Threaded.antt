@@ -6,7 +6,7 @@ use Rattle.kr_model.specs.Map.{Map}
 use Rattle.kr_model.specs.State.{State}
 use Rattle.kr_model.specs.Serial.{AreSerial}
 use Rattle.kr_model.specs.Run as model
-use Rattle.kr_history.specs.declared.name.Entry.{Entry}
+use Rattle.kr_records.specs.declared.name.Entry.{Entry}
 use Rattle.kr_records.specs.declared.closing.History.{History}
 use Rattle.kr_records.specs.Closed.{IsClosed, Lent}
 use Rattle.kr_records.specs.Histories.{events_with_replies}

@@ -11,7 +11,7 @@ use Rattle.kr_model.specs.Run as model
 use Rattle.kr_deadlock.specs.Waits.{IsCycle}
 use Rattle.kr_records.specs.Histories.{event, events_with_replies}
 use Rattle.kr_records.specs.Waits.{in_the_way, blockers_now}
-use Rattle.kr_history.specs.declared.name.Entry.{Entry}
+use Rattle.kr_records.specs.declared.name.Entry.{Entry}
 use Rattle.kr_records.specs.Seats.{Held}
 use Rattle.kr_records.specs.declared.closing.History.{History}
 use Rattle.kr_records.specs.Closed.{Lent, IsClosed}

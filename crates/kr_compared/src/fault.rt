@@ -3,8 +3,7 @@ ghost use Rattle.std.specs.Prelude.{◌≡◌};
 ghost use Rattle.kr_compared.specs.Faults.{fault_of_call, fault_of_close, fault_of_row};
 ghost use Rattle.kr_compared.specs.declared.fault.RunFault.TheVariants as fault;
 
-use kr_history::NewFault;
-use kr_records::{CloseFault, EngineFault};
+use kr_records::{CloseFault, EngineFault, NewFault};
 use std::alloc::AllocError;
 
 /// Why a run shows nothing.

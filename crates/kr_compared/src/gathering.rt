@@ -11,8 +11,7 @@ ghost use Rattle.kr_compared.specs.declared.fault.RunFault.TheVariants as fault;
 use crate::comparing::Worked;
 use crate::fault::RunFault;
 use crate::report::Report;
-use kr_history::EngineName;
-use kr_records::{History, Share};
+use kr_records::{EngineName, History, Share};
 use kr_workers::LeftOut;
 use std::alloc::Global;
 

@@ -7,10 +7,9 @@ ghost use Rattle.kr_model.specs.State.{State};
 ghost use Rattle.kr_records.specs.Histories.{IsHistory, events_with_replies};
 ghost use Rattle.kr_compared.specs.Threaded.{answered};
 
-use kr_history::Entry;
 use kr_judge::{Index, Ran, Replies, Triples};
 use kr_model::Event;
-use kr_records::History;
+use kr_records::{Entry, History};
 use kr_report::Answered;
 use std::alloc::{AllocError, Global};
 

@@ -1,8 +1,7 @@
 //! What a worker hands back.
 
 use crate::fault::RunFault;
-use kr_history::EngineName;
-use kr_records::Share;
+use kr_records::{EngineName, Share};
 use kr_workers::LeftOut;
 use std::marker::Model;
 

@@ -1,5 +1,5 @@
 use Rattle.std.proofs.Common.{◌≡◌, ◌∙◌, map, ap, Vec}
-use Rattle.kr_history.specs.declared.name.Entry.{Entry}
+use Rattle.kr_records.specs.declared.name.Entry.{Entry}
 use Rattle.kr_compared.specs.Threaded.{answered}
 use Rattle.kr_compared.proofs.Wholes.{threaded_whole, ran_of_closed}
 use Rattle.kr_compared.proofs.comparing.threaded_of.Goals as goal
