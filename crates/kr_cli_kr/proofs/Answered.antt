@@ -6,7 +6,7 @@ use Rattle.kr_model.specs.Protocol.{Protocol}
 use Rattle.kr_script.specs.Script.{Script}
 use Rattle.kr_script.specs.Reading.{reading}
 use Rattle.kr_report.specs.declared.threaded.Threaded.{Threaded}
-use Rattle.kr_compared.specs.Threaded.{IsThreaded}
+use Rattle.kr_threads.specs.Threaded.{IsThreaded}
 use Rattle.kr_cli.specs.declared.endings.Ending.{Ending}
 use Rattle.kr_cli.specs.declared.tables.AnyTable.{AnyTable}
 use Rattle.kr_cli.specs.Files.{MayBeScript}

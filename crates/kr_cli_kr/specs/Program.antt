@@ -24,7 +24,7 @@ use Rattle.kr_cli_words.specs.declared.tasks.Task.TheVariants.{Check, Run, Judge
 use Rattle.kr_cli_kr.specs.Tasks.{DoesTask, EndsTask}
 use Rattle.kr_cli_kr.specs.Threads.{threads_line, ghost_threads_line}
 use Rattle.kr_report.specs.declared.threaded.Threaded.{Threaded}
-use Rattle.kr_compared.specs.Threaded.{IsThreaded}
+use Rattle.kr_threads.specs.Threaded.{IsThreaded}
 use Rattle.kr_ghost_threads.specs.declared.made.GhostThreaded.{GhostThreaded}
 use Rattle.kr_ghost_threads.specs.Threaded.{IsGhostThreaded}
 

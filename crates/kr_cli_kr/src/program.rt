@@ -10,7 +10,7 @@ ghost use Rattle.kr_cli.specs.declared.endings.Ending.{Ending};
 ghost use Rattle.kr_cli_kr.specs.Program.{DoesThreads, Ends, TellsThreads, ThreadsReported, WritesReport};
 ghost use Rattle.kr_cli_kr.specs.Threads.{threads_line};
 ghost use Rattle.kr_report.specs.declared.threaded.Threaded.{Threaded};
-ghost use Rattle.kr_compared.specs.Threaded.{IsThreaded};
+ghost use Rattle.kr_threads.specs.Threaded.{IsThreaded};
 
 use crate::ghost_threads::check_and_thread_ghosts;
 use crate::tasks::task_at;
