@@ -7,3 +7,9 @@ pub mod Runs
 pub mod Tested
 pub mod Growing
 pub mod Everything
+pub mod Absent
+pub mod AbsentSteps
+pub mod Comes
+pub mod SafeRuns
+pub mod Lists
+pub mod Marked

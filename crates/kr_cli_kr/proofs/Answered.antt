@@ -6,7 +6,7 @@ use Rattle.kr_model.specs.Protocol.{Protocol}
 use Rattle.kr_script.specs.Script.{Script}
 use Rattle.kr_script.specs.Reading.{reading}
 use Rattle.kr_report.specs.declared.threaded.Threaded.{Threaded}
-use Rattle.kr_compared.specs.Threaded.{IsThreaded}
+use Rattle.kr_threads.specs.Threaded.{IsThreaded}
 use Rattle.kr_cli.specs.declared.endings.Ending.{Ending}
 use Rattle.kr_cli.specs.declared.tables.AnyTable.{AnyTable}
 use Rattle.kr_cli.specs.Files.{MayBeScript}
@@ -18,7 +18,7 @@ use Rattle.kr_cli_ghost.specs.declared.tables.AnyGhostTable.{AnyGhostTable}
 use Rattle.kr_cli_ghost.specs.Lawful.{lawful_ghosts_of}
 use Rattle.kr_cli_ghost.specs.Named.{NamesGhosts}
 use Rattle.kr_cli_ghost.specs.Tables as ghost
-use Rattle.kr_cli_run.specs.Program.{DoesTask}
+use Rattle.kr_cli_kr.specs.Tasks.{DoesTask}
 use Rattle.kr_cli_kr.specs.Program.{ThreadsReported, GhostThreadsReported, DoesThreads, Does, WritesReport}
 use Rattle.kr_cli_words.specs.Words.{AreWords}
 use Rattle.kr_cli_words.specs.declared.tasks.Task.{Task}

@@ -11,8 +11,8 @@ use Rattle.kr_cli_ghost.specs.declared.tables.AnyGhostTable.{AnyGhostTable}
 use Rattle.kr_cli_ghost.specs.Named.{NamesGhosts, TellsNone}
 use Rattle.kr_cli_ghost.specs.Runs.{TellsNoGhostScript}
 use Rattle.kr_cli_ghost.proofs.OneLine.{none_in_none, none_in_no_ghost_script}
-use Rattle.kr_cli_run.specs.Program.{EndsTask}
-use Rattle.kr_cli_run.proofs.Ended.{none_in_told, none_in_not_understood, none_in_memory, none_in_ending}
+use Rattle.kr_cli_kr.specs.Tasks.{EndsTask}
+use Rattle.kr_cli_kr.proofs.TaskEnded.{none_in_told, none_in_not_understood, none_in_memory, none_in_ending}
 use Rattle.kr_cli_kr.specs.Program.{TellsThreads, EndsAny, Ends}
 use Rattle.kr_cli_words.specs.Words.{AreWords}
 use Rattle.kr_cli_words.specs.declared.tasks.Task.{Task}
@@ -46,7 +46,7 @@ no_script may_give r table script t names ends = less r (TellsNoScript may_give 
 pub no_ghost_script : (may_give : List ℕ → Option (List ℕ) → Type 0) (r : Result Bool Ending) (table script : List ℕ) (t : AnyGhostTable) → NamesGhosts may_give table t → IfErr r (Unreported (TellsNoGhostScript may_give script)) → IfErr r (Unreported (TellsThreads may_give table script))
 no_ghost_script may_give r table script t names ends = less r (TellsNoGhostScript may_give script) (TellsThreads may_give table script) (λ line tells. inr (inl (t, (names, tells)))) ends
 
--- A task without threads ends as in `kr_cli_run`; there one by several threads isn't understood.
+-- A task ends as `task_at` does, to which one by several threads isn't understood.
 ends_of : (may_give : List ℕ → Option (List ℕ) → Type 0) (table : List ℕ) (task : Task) (e : Ending) → EndsTask may_give table task e → (e ≡ NotUnderstood) ⊎ EndsAny may_give table task e
 ends_of may_give table Check e ends = inr ends
 ends_of may_give table (Run word) e ends = inr ends

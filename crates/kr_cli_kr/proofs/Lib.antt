@@ -1,2 +1,4 @@
+pub mod TaskAnswered
+pub mod TaskEnded
 pub mod Answered
 pub mod Ended

@@ -1,4 +1,4 @@
--- What the program writes of the task that words ask for, under the table and of the scripts that they name: of a check, a run or verdicts as `kr_cli_run` does, and of a run by several threads. What files may give is a relation of words to bytes, or to none.
+-- What the program writes of the task that words ask for, under the table and of the scripts that they name: of a check, a run or verdicts, and of a run by several threads. What files may give is a relation of words to bytes, or to none.
 use Rattle.std.specs.Prelude.{◌≡◌, ℕ, Bool, true, false, List, Option, ◌⊎◌}
 use Rattle.std.specs.Io.KnownBytes.{Appends}
 use Rattle.kr_model.specs.Protocol.{Protocol, IsLawful}
@@ -21,10 +21,10 @@ use Rattle.kr_cli_tasks.specs.Checks.{check_line, ghost_check_line}
 use Rattle.kr_cli_words.specs.Words.{AreWords}
 use Rattle.kr_cli_words.specs.declared.tasks.Task.{Task}
 use Rattle.kr_cli_words.specs.declared.tasks.Task.TheVariants.{Check, Run, Judge, Threads}
-use Rattle.kr_cli_run.specs.Program.{DoesTask, EndsTask}
+use Rattle.kr_cli_kr.specs.Tasks.{DoesTask, EndsTask}
 use Rattle.kr_cli_kr.specs.Threads.{threads_line, ghost_threads_line}
 use Rattle.kr_report.specs.declared.threaded.Threaded.{Threaded}
-use Rattle.kr_compared.specs.Threaded.{IsThreaded}
+use Rattle.kr_threads.specs.Threaded.{IsThreaded}
 use Rattle.kr_ghost_threads.specs.declared.made.GhostThreaded.{GhostThreaded}
 use Rattle.kr_ghost_threads.specs.Threaded.{IsGhostThreaded}
 

@@ -9,7 +9,7 @@ use Rattle.kr_script.specs.Reading.{reading}
 use Rattle.kr_report.specs.ThreadsReport.{threads_text}
 use Rattle.kr_sink.specs.Puts.{AppendsFront, HasCause}
 use Rattle.kr_report.specs.declared.threaded.Threaded.{Threaded}
-use Rattle.kr_compared.specs.Threaded.{IsThreaded}
+use Rattle.kr_threads.specs.Threaded.{IsThreaded}
 use Rattle.kr_ghost.specs.Protocol.{GhostProtocol}
 use Rattle.kr_ghost_run.specs.Ran.{verdict_of_moves}
 use Rattle.kr_ghost_threads.specs.declared.made.GhostThreaded.{GhostThreaded}

@@ -10,14 +10,14 @@ ghost use Rattle.kr_cli.specs.declared.endings.Ending.{Ending};
 ghost use Rattle.kr_cli_kr.specs.Program.{DoesThreads, Ends, TellsThreads, ThreadsReported, WritesReport};
 ghost use Rattle.kr_cli_kr.specs.Threads.{threads_line};
 ghost use Rattle.kr_report.specs.declared.threaded.Threaded.{Threaded};
-ghost use Rattle.kr_compared.specs.Threaded.{IsThreaded};
+ghost use Rattle.kr_threads.specs.Threaded.{IsThreaded};
 
 use crate::ghost_threads::check_and_thread_ghosts;
+use crate::tasks::task_at;
 use crate::threads::threads_over;
 use kr_cases::{Rejected, WhyRejected, check};
 use kr_cli::{Ending, Files, SCRIPT_BYTES, at_fault, finish, whole};
 use kr_cli_ghost::{Named, named_at};
-use kr_cli_run::task_at;
 use kr_cli_tasks::{OverFault, write_check};
 use kr_cli_words::{Task, Workers, read_words};
 use kr_protocol::{Covered, Protocol};

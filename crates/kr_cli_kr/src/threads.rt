@@ -7,7 +7,7 @@ ghost use Rattle.std.specs.Io.KnownBytes.{Appends};
 ghost use Rattle.kr_script.specs.Reading.{reading};
 ghost use Rattle.kr_script.specs.Script.{Script};
 ghost use Rattle.kr_report.specs.declared.threaded.Threaded.{Threaded as Outcome};
-ghost use Rattle.kr_compared.specs.Threaded.{IsThreaded, ShowsThreads};
+ghost use Rattle.kr_threads.specs.Threaded.{IsThreaded, ShowsThreads};
 ghost use Rattle.kr_cli_kr.specs.Threads.{threads_line, ExplainsThreads};
 ghost use Rattle.kr_cli_tasks.specs.declared.faults.OverFault.TheVariants as fault;
 

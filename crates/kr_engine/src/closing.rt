@@ -5,10 +5,9 @@ ghost use Rattle.kr_records.specs.declared.closing.CloseFault.TheVariants as fau
 ghost use Rattle.kr_records.specs.Closed.{fits, IsClosed};
 
 use crate::kernel::Core;
-use kr_history::{EngineName, PlaceRow};
 use kr_model::{Mode, Name, Pairs, Txn, Txns};
 use kr_protocol::Covered;
-use kr_records::{CloseFault, History, Share, copies_of, fit_all};
+use kr_records::{CloseFault, EngineName, History, PlaceRow, Share, copies_of, fit_all};
 use std::alloc::AllocError;
 
 impl<P: Covered, K: EngineName> Core<P, K> {

@@ -1,7 +1,7 @@
 //! One lock over the core.
 ghost use Rattle.std.specs.Prelude.{◌≡◌, ◌≢◌, All, IfOk, None, Err, []};
 ghost use Rattle.kr_model.specs.Map.{IsMap};
-ghost use Rattle.kr_history.specs.Notes.{KnowsNoneFrom};
+ghost use Rattle.kr_records.specs.Notes.{KnowsNoneFrom};
 ghost use Rattle.std.specs.List.Sorted.{IsStrictlyIncreasing};
 ghost use Rattle.kr_records.specs.declared.closing.CloseFault.TheVariants as close_fault;
 ghost use Rattle.kr_records.specs.Closed.{IsClosed};
@@ -10,10 +10,11 @@ ghost use Rattle.kr_records.specs.Waits.{in_the_way};
 
 use crate::kernel::Core;
 use crate::seat::Seat;
-use kr_history::{EngineName, PlaceRow, Watch};
 use kr_model::Txns;
 use kr_protocol::Covered;
-use kr_records::{Change, CloseFault, History, Queues, SeatState, Share, Woken};
+use kr_records::{
+    Change, CloseFault, EngineName, History, PlaceRow, Queues, SeatState, Share, Watch, Woken,
+};
 use std::alloc::{AllocError, Global};
 use std::sync::{Mutex, Wait};
 

@@ -11,13 +11,14 @@ ghost use Rattle.kr_records.specs.Numbers.{is_begun as begun_by_seat, was_begun 
 ghost use Rattle.kr_records.specs.Cores.{CountsAre, LastAreOwn, LastAre, AreOfSeats, AreBegun, AreBegunByOne, seat_at, no_seat, is_active as active_in, freed, unended, without};
 
 use crate::writes::write;
-use kr_history::{EngineName, Entry, PlaceRow, Seen};
 use kr_index::Tree;
 use kr_locks::Buckets;
 use kr_machine::Stepper;
 use kr_model::{Event, Op, Reply, Txn, is_end};
 use kr_protocol::Covered;
-use kr_records::{EngineFault, Numbers, Receipt, SeatNote, forget};
+use kr_records::{
+    EngineFault, EngineName, Entry, Numbers, PlaceRow, Receipt, SeatNote, Seen, forget,
+};
 use std::alloc::{AllocError, Global};
 use std::marker::{Model, PhantomData};
 

@@ -13,7 +13,9 @@ mod writes;
 
 pub use engine::Engine;
 pub use kernel::Core;
-pub use kr_history::{EngineName, Entry, NewFault, PlaceRow, Watch};
 pub use kr_model::{Event, Mode, Name, Op, Pairs, Programs, Reply, Txn, Txns};
-pub use kr_records::{CloseFault, EngineFault, History, Receipt, SeatNote, Share};
+pub use kr_records::{
+    CloseFault, EngineFault, EngineName, Entry, History, NewFault, PlaceRow, Receipt, SeatNote,
+    Share, Watch,
+};
 pub use seat::Seat;

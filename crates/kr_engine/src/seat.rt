@@ -2,17 +2,16 @@
 ghost use Rattle.std.specs.Prelude.{◌≡◌, ◌≢◌, true, false, length, IfOk, IfErr, OnOk, OnErr, Some, None, Err};
 ghost use mathlib.Core.List.{IsPrefix};
 ghost use Rattle.kr_model.specs.Step.{is_end as ends};
-ghost use Rattle.kr_history.specs.Notes.{KnowsAll, KnowsNoneFrom};
+ghost use Rattle.kr_records.specs.Notes.{KnowsAll, KnowsNoneFrom};
 ghost use Rattle.kr_records.specs.declared.faults.EngineFault.TheVariants as fault;
 ghost use Rattle.kr_records.specs.Faults.{is_unbegun, is_blocked, is_of_begin, is_of_try, is_of_call};
 ghost use Rattle.kr_records.specs.Closed.{lent};
 ghost use Rattle.kr_records.specs.Seats.{Shows, SeesFault, ToldFault, IsOpen, IsIdle};
 
 use crate::engine::Engine;
-use kr_history::{EngineName, Watch};
 use kr_model::{Op, Txn};
 use kr_protocol::Covered;
-use kr_records::{Change, EngineFault, Receipt, SeatState, Share, change_of};
+use kr_records::{Change, EngineFault, EngineName, Receipt, SeatState, Share, Watch, change_of};
 use std::alloc::AllocError;
 use std::marker::Model;
 use std::sync::Wait;

@@ -10,10 +10,9 @@ ghost use Rattle.kr_records.specs.Waits.{IsNoted};
 ghost use Rattle.kr_records.specs.Seats.{Shows, SeesFault, ToldFault, IsIdle};
 
 use crate::kernel::Core;
-use kr_history::{EngineName, PlaceRow, Seen};
 use kr_model::{Op, Txn};
 use kr_protocol::Covered;
-use kr_records::{Attempted, EngineFault, SeatState};
+use kr_records::{Attempted, EngineFault, EngineName, PlaceRow, SeatState, Seen};
 
 impl<P: Covered, K: EngineName> Core<P, K> {
     /// One attempt of a seat, in one hold. What the seat keeps is held against what is noted of it, the step is attempted,

@@ -8,13 +8,12 @@ ghost use Rattle.kr_records.specs.Waits.{in_the_way, blockers_now, IsWaitCycle, 
 
 use crate::kernel::Core;
 use kr_deadlock::{Waiting, find_cycle};
-use kr_history::EngineName;
 use kr_index::Tree;
 use kr_locks::Buckets;
 use kr_machine::Stepper;
 use kr_model::{Event, Op, Txn, Txns};
 use kr_protocol::Covered;
-use kr_records::{EngineFault, may_close, note, txns_of};
+use kr_records::{EngineFault, EngineName, may_close, note, txns_of};
 use std::alloc::{AllocError, Global};
 
 impl<P: Covered, K: EngineName> Core<P, K> {

@@ -6,13 +6,12 @@ ghost use Rattle.kr_records.specs.Waits.{in_the_way, blockers_now, IsEntry, AreD
 
 use crate::kernel::Core;
 use kr_deadlock::Waiting;
-use kr_history::EngineName;
 use kr_index::Tree;
 use kr_locks::Buckets;
 use kr_machine::Stepper;
 use kr_model::{Event, Txn};
 use kr_protocol::Covered;
-use kr_records::shed_all;
+use kr_records::{EngineName, shed_all};
 use std::alloc::{AllocError, Global};
 
 impl<P: Covered, K: EngineName> Core<P, K> {

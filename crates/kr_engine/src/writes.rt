@@ -9,13 +9,12 @@ ghost use Rattle.kr_records.specs.Histories.{entry, event};
 ghost use Rattle.kr_records.specs.Numbers.{begun_by, was_begun, ends_kept, HaveEnds};
 ghost use Rattle.kr_records.specs.Cores.{freed};
 
-use kr_history::{Entry, Known, PlaceRow};
 use kr_index::Tree;
 use kr_locks::Buckets;
 use kr_machine::{NotDone, Stepper};
 use kr_model::{Event, Op, Reply, Txn, is_end};
 use kr_protocol::Covered;
-use kr_records::{EngineFault, Numbers, fault_of, written};
+use kr_records::{EngineFault, Entry, Known, Numbers, PlaceRow, fault_of, written};
 use std::alloc::Global;
 
 /// What an operation answers that ends its transaction.

@@ -16,7 +16,7 @@ use Rattle.kr_index.specs.Slots.{Entries, pairs_of, with_value, least}
 use Rattle.kr_index.specs.declared.stretches.Stretch.{Stretch}
 use Rattle.kr_index.specs.Stretches.{IsIn, IsRising, IsBare}
 use Rattle.kr_index.proofs.SlotLaws.{first, second}
-use Rattle.kr_ordered.proofs.NextNames.{two, past, here, skip, none_from, none_below}
+use Rattle.kr_parts.proofs.NextNames.{two, past, here, skip, none_from, none_below}
 
 -- A walk through the entries from c up to e --
 

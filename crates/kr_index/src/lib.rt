@@ -10,6 +10,6 @@ mod values;
 mod walks;
 
 pub use kr_model::{Memory, Name};
-pub use kr_ordered::Ordered;
+pub use kr_parts::Ordered;
 pub use sorted::Sorted;
 pub use tree::Tree;

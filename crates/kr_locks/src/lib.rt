@@ -8,6 +8,6 @@ mod list;
 mod names;
 
 pub use buckets::Buckets;
-pub use kr_holdings::Holdings;
 pub use kr_model::{Memory, Mode, Name, Txn};
+pub use kr_parts::Holdings;
 pub use list::List;

@@ -3,8 +3,8 @@ ghost use Rattle.kr_machine.specs.declared.accepted.NotDone.TheVariants as not_d
 ghost use Rattle.kr_model.specs.declared.Reply.TheVariants as reply_is;
 ghost use Rattle.kr_model.specs.declared.Refusal.TheVariants as refusal_is;
 
-use kr_holdings::Memory;
 use kr_model::{Refusal, Reply};
+use kr_parts::Memory;
 
 /// Why a step wasn't done.
 #[derive(Drop)]

@@ -9,9 +9,8 @@ ghost use Rattle.kr_touch.specs.Attempts.{attempt_of};
 
 use crate::plans;
 use crate::stepper::Stepper;
-use kr_holdings::{Holdings, Memory};
 use kr_model::{Mode, Name, Op, Plan, Txn};
-use kr_ordered::Ordered;
+use kr_parts::{Holdings, Memory, Ordered};
 use kr_plan::{refusals, room};
 use kr_protocol::Protocol;
 use kr_touch::parts::Part;

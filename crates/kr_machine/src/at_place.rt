@@ -22,9 +22,8 @@ ghost use Rattle.kr_touch.specs.Sights.{IsSight};
 
 use crate::accepted::NotDone;
 use crate::{grants, plans};
-use kr_holdings::Holdings;
 use kr_model::{Plan, Refusal, Reply, Txn, Txns};
-use kr_ordered::Ordered;
+use kr_parts::{Holdings, Ordered};
 use kr_plan::{holds, refusals};
 use kr_protocol::Protocol;
 use kr_touch::parts::Touch;

@@ -6,9 +6,8 @@ ghost use Rattle.kr_plan.specs.Modes.{ArePlanModes};
 ghost use Rattle.kr_plan.specs.Holds.{put_back, HoldsSide};
 ghost use Rattle.kr_touch.specs.Pins.{taken_pins};
 
-use kr_holdings::{Holdings, Memory};
 use kr_model::{Mode, Op, Plan, Row, Txn};
-use kr_ordered::Ordered;
+use kr_parts::{Holdings, Memory, Ordered};
 use kr_plan::holds::hold_both;
 use kr_protocol::Protocol;
 use kr_touch::change;

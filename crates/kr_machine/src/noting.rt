@@ -10,9 +10,8 @@ ghost use Rattle.kr_machine.specs.Logged.{MayKeep, twice, has_list};
 
 use crate::pending::DueReply;
 use crate::stepper::Stepper;
-use kr_holdings::{Holdings, Memory};
 use kr_model::{Event, Op, Reply, Txn};
-use kr_ordered::Ordered;
+use kr_parts::{Holdings, Memory, Ordered};
 use kr_protocol::Protocol;
 use kr_touch::parts::{KeyTouch, Part};
 use kr_txn::Log;

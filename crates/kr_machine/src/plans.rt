@@ -4,8 +4,8 @@ ghost use Rattle.kr_model.specs.Locks.{AreWithin};
 ghost use Rattle.kr_model.specs.Plan.{access, plan_by};
 ghost use Rattle.kr_plan.specs.Modes.{ArePlanModes};
 
-use kr_holdings::Holdings;
 use kr_model::{Plan, Txn};
+use kr_parts::Holdings;
 use kr_protocol::Protocol;
 use kr_touch::sights::Sight;
 

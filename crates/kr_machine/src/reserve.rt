@@ -18,9 +18,8 @@ ghost use Rattle.kr_touch.specs.Pins.{taken_pins};
 
 use crate::grants::pin_and_hold;
 use crate::pending::{Pending, PendingPart};
-use kr_holdings::{Holdings, Memory};
 use kr_model::{Event, Op, Plan, Txn};
-use kr_ordered::Ordered;
+use kr_parts::{Holdings, Memory, Ordered};
 use kr_plan::{holds, room};
 use kr_protocol::Protocol;
 use kr_touch::granted::GrantedTouch;

@@ -8,8 +8,8 @@ ghost use Rattle.kr_model.proofs.Keep.{Held};
 ghost use Rattle.kr_plan.specs.Modes.{SideIsMode, ArePlanModes};
 ghost use Rattle.kr_plan.specs.Holds.{put_back, HoldsSide};
 
-use kr_holdings::{Holdings, Memory};
 use kr_model::{Mode, Name, Plan, Span, Txn};
+use kr_parts::{Holdings, Memory};
 use kr_protocol::Protocol;
 
 /// Keeps the mode to which the own one is converted by a request, and answers the mode before.

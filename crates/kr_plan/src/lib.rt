@@ -14,10 +14,9 @@ pub mod holds;
 pub mod refusals;
 pub mod room;
 
-use kr_holdings::{Holdings, Memory};
 pub use kr_model::{Mode, Name, Txn};
 use kr_model::{Plan, Row, Side, Span, Step};
-use kr_ordered::Ordered;
+use kr_parts::{Holdings, Memory, Ordered};
 use kr_protocol::Protocol;
 use kr_txn::put_once;
 use std::alloc::Global;

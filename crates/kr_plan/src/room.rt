@@ -6,8 +6,8 @@ ghost use Rattle.kr_model.specs.Locks.{add_once, release};
 ghost use Rattle.kr_model.specs.State.{idle};
 ghost use Rattle.kr_txn.specs.Standings.{active_of, scan_of, entries};
 
-use kr_holdings::Holdings;
 use kr_model::Txn;
+use kr_parts::Holdings;
 use kr_txn::{Ended, Memory, Scan, Standing, position, put_in};
 
 /// The scan in progress of a transaction, if there is one.

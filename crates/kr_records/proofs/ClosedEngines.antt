@@ -4,7 +4,7 @@ use Rattle.std.specs.Prelude.{All, map}
 use Rattle.kr_model.specs.Protocol.{Protocol}
 use Rattle.kr_model.specs.Map.{Map}
 use Rattle.kr_model.specs.State.{State}
-use Rattle.kr_history.specs.declared.name.Entry.{Entry}
+use Rattle.kr_records.specs.declared.name.Entry.{Entry}
 use Rattle.kr_records.specs.declared.notes.SeatNote.{SeatNote}
 use Rattle.kr_records.specs.declared.closing.History.{History}
 use Rattle.kr_records.specs.Histories.{IsHistory, AreOfOneSeat, IsSerialHistory}

@@ -1,7 +1,7 @@
 -- Copies of entries, and the shares so far.
 use Rattle.std.proofs.Common.{◌≡◌, ℕ, zero, suc, ◌+◌, List, [], ◌∷◌, ◌++◌, take, Some, ap, ◌∙◌, arith}
 use Rattle.std.specs.Prelude.{slice_get}
-use Rattle.kr_history.specs.declared.name.Entry.{Entry}
+use Rattle.kr_records.specs.declared.name.Entry.{Entry}
 
 take_next : {A : Type 0} (ys : List A) (k : ℕ) (e : A) → slice_get ys k ≡ Some e → take k ys ++ e ∷ [] ≡ take (suc k) ys
 take_next [] k e h = absurd cc

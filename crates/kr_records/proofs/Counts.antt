@@ -3,7 +3,7 @@ use Rattle.std.proofs.Common.{◌≡◌, ◌≢◌, ℕ, suc, ◌+◌, ◌<◌, 
 use Rattle.std.specs.Prelude.{slice_index_or, slice_set}
 use Rattle.std.proofs.lemmas.List.{get_or-set_same, get_or-set_other}
 use Rattle.std.proofs.lemmas.Bool.Decides.{eqb_tells}
-use Rattle.kr_history.specs.declared.name.Entry.{Entry}
+use Rattle.kr_records.specs.declared.name.Entry.{Entry}
 use Rattle.kr_records.specs.declared.notes.SeatNote.{SeatNote}
 use Rattle.kr_records.specs.Histories.{entries_of}
 use Rattle.kr_records.specs.Cores.{CountsAre, seat_at, no_seat}

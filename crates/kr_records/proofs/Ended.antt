@@ -23,7 +23,7 @@ use Rattle.kr_model.specs.Run.{is_granted}
 use Rattle.kr_model.proofs.Actives.{any_add_once, tied, untied}
 use Rattle.kr_model.proofs.KindsOfSteps.{not_refused}
 use Rattle.kr_records.specs.declared.numbers.Number.{Number}
-use Rattle.kr_history.specs.declared.name.Entry.{Entry}
+use Rattle.kr_records.specs.declared.name.Entry.{Entry}
 use Rattle.kr_records.specs.Numbers.{begun_by, was_begun, is_begun, nobody, IsPlace, HaveEnds, ends_kept}
 use Rattle.kr_records.specs.Cores.{unended}
 use Rattle.kr_records.proofs.Ends.{begun_more}

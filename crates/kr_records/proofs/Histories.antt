@@ -8,7 +8,7 @@ use Rattle.kr_model.specs.Step.{step}
 use Rattle.kr_model.specs.Run as model
 use Rattle.kr_model.specs.Log.{Log, no_log, logged, log_after}
 use Rattle.kr_model.proofs.LogLaws.{log_of_run, log_after_one}
-use Rattle.kr_history.specs.declared.name.Entry.{Entry}
+use Rattle.kr_records.specs.declared.name.Entry.{Entry}
 use Rattle.kr_model.specs.Map.{IsMap}
 use Rattle.kr_model.specs.Protocol.{IsLawful}
 use Rattle.kr_model.specs.Covers.{IsCovered}

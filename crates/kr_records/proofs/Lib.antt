@@ -1,3 +1,9 @@
+pub mod Cells
+pub mod Knowing
+pub mod Lending
+pub mod RowLists
+pub mod Tokens
+pub mod Watching
 pub mod Lists
 pub mod Begun
 pub mod Blockers

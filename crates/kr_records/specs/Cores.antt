@@ -6,7 +6,7 @@ use Rattle.kr_model.specs.Protocol.{Protocol}
 use Rattle.kr_model.specs.Map.{Map, IsMap}
 use Rattle.kr_model.specs.State.{State, active_of, has_ended}
 use Rattle.kr_model.specs.Step.{is_end}
-use Rattle.kr_history.specs.declared.name.Entry.{Entry}
+use Rattle.kr_records.specs.declared.name.Entry.{Entry}
 use Rattle.kr_records.specs.declared.notes.SeatNote.{SeatNote}
 use Rattle.kr_records.specs.declared.numbers.Number.{Number}
 use Rattle.kr_records.specs.Histories.{IsHistory, entries_of}

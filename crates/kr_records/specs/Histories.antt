@@ -8,7 +8,7 @@ use Rattle.kr_model.specs.Map.{Map}
 use Rattle.kr_model.specs.State.{State}
 use Rattle.kr_model.specs.Run as model
 use Rattle.kr_model.specs.Serial.{IsSerialRun}
-use Rattle.kr_history.specs.declared.name.Entry.{Entry}
+use Rattle.kr_records.specs.declared.name.Entry.{Entry}
 
 abbrev pub event : ℕ → Op → Event
 event txn op = record { txn = txn; op = op }

@@ -1,3 +1,6 @@
+pub mod Notes
+pub mod Owned
+pub mod Rows
 pub mod Faults
 pub mod Histories
 pub mod Numbers

@@ -10,7 +10,7 @@ use Rattle.kr_model.specs.State.{State}
 use Rattle.kr_model.specs.Step.{step}
 use Rattle.kr_model.specs.Run.{is_granted}
 use Rattle.kr_deadlock.specs.Waits.{IsCycle}
-use Rattle.kr_history.specs.declared.name.Entry.{Entry}
+use Rattle.kr_records.specs.declared.name.Entry.{Entry}
 use Rattle.kr_records.specs.declared.faults.Receipt.{Receipt}
 use Rattle.kr_records.specs.declared.faults.EngineFault.{EngineFault}
 use Rattle.kr_records.specs.declared.faults.EngineFault.TheVariants.{Deadlock, Refused}

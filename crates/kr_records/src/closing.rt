@@ -10,9 +10,12 @@ ghost use Rattle.kr_records.specs.Cores.{CountsAre};
 ghost use Rattle.kr_records.specs.Histories.{IsHistory, events_with_replies};
 ghost use Rattle.kr_records.specs.Closed.{fits, StandsIn};
 
+use crate::known::Known;
+use crate::name::{EngineName, Entry};
 use crate::notes::SeatNote;
+use crate::row::PlaceRow;
+use crate::seen::Seen;
 use crate::share::Share;
-use kr_history::{EngineName, Entry, Known, PlaceRow, Seen};
 use kr_model::{Mode, Name, Pairs, Programs, Txn, Txns};
 use kr_txn::Log;
 use std::alloc::{AllocError, Global};

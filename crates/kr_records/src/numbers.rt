@@ -2,7 +2,7 @@
 ghost use Rattle.std.specs.Prelude.{◌≡◌, ◌+◌, ◌<◌, ◌++◌, ◌∷◌, [], true, false, length, None, Some, OnOk, OnErr, slice_set, is_some};
 ghost use Rattle.kr_records.specs.Numbers.{begun_by, was_begun, is_begun, ends_kept, number_at, AreDistinct, IsPlace};
 
-use kr_history::Entry;
+use crate::name::Entry;
 use kr_model::Txn;
 use std::alloc::{AllocError, Global};
 use std::collections::HashMap;

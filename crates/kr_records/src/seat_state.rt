@@ -2,8 +2,10 @@
 ghost use Rattle.std.specs.Prelude.{◌≡◌, [], None, Decides};
 ghost use Rattle.kr_records.specs.Seats.{FitsNotes};
 
+use crate::name::EngineName;
 use crate::notes::SeatNote;
-use kr_history::{EngineName, PlaceRow, Seen};
+use crate::row::PlaceRow;
+use crate::seen::Seen;
 use kr_model::Txn;
 use std::marker::Model;
 

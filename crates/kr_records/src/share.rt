@@ -2,8 +2,9 @@
 ghost use Rattle.std.specs.Prelude.{◌≡◌};
 ghost use Rattle.kr_records.specs.Closed.{lent};
 
+use crate::name::EngineName;
 use crate::seat_state::SeatState;
-use kr_history::{EngineName, Seen};
+use crate::seen::Seen;
 use std::marker::Model;
 
 /// What a seat that left keeps, and lends to the closing of its engine.

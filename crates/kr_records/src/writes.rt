@@ -4,7 +4,9 @@ ghost use Rattle.kr_records.specs.Faults.{is_of_write};
 ghost use Rattle.kr_records.specs.Histories.{entry};
 
 use crate::faults::EngineFault;
-use kr_history::{Entry, Known, PlaceRow};
+use crate::known::Known;
+use crate::name::Entry;
+use crate::row::PlaceRow;
 use kr_model::{Event, Reply};
 use std::alloc::Global;
 

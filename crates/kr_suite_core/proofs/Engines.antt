@@ -10,7 +10,7 @@ use Rattle.kr_change.specs.declared.change.Change.{Change}
 use Rattle.kr_change.specs.declared.change.Change.TheVariants.{Compatible}
 use Rattle.kr_change.specs.Changes.{changed}
 use Rattle.kr_change.specs.Every.{changes_of}
-use Rattle.kr_alike_safe.specs.Coming.{AlikeOnMaps}
+use Rattle.kr_alike.specs.Coming.{AlikeOnMaps}
 use Rattle.kr_apart.specs.Apart.{PartAtTheLast, TellsApart}
 use Rattle.kr_suite_core.specs.Suite.{IsTested, IsTold, IsSharedOut, IsSuite, Passes, Fails, replies_under}
 use Rattle.kr_suite_core.specs.declared.tested.Tested.{Tested}

@@ -12,7 +12,7 @@ use Rattle.kr_model.specs.Run.{Entry, run, replies_of, is_granted}
 use Rattle.kr_change.specs.declared.change.Change.{Change}
 use Rattle.kr_change.specs.Changes.{changed}
 use Rattle.kr_change.specs.Every.{changes_of}
-use Rattle.kr_alike_safe.specs.Coming.{AlikeOnMaps}
+use Rattle.kr_alike.specs.Coming.{AlikeOnMaps}
 use Rattle.kr_apart.specs.Apart.{is_blocked, PartAtTheLast, TellsApart}
 use Rattle.kr_apart.proofs.ScriptParts.{not_granted}
 use Rattle.kr_suite_core.specs.Equal.{is_equal}

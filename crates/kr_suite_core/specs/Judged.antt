@@ -4,7 +4,7 @@ use Rattle.std.specs.List.{list_any}
 use Rattle.kr_model.specs.Protocol.{Protocol}
 use Rattle.kr_change.specs.declared.change.Change.{Change}
 use Rattle.kr_change.specs.Changes.{changed}
-use Rattle.kr_alike_safe.specs.Coming.{AlikeOnMaps}
+use Rattle.kr_alike.specs.Coming.{AlikeOnMaps}
 use Rattle.kr_suite_core.specs.Equal.{is_equal}
 use Rattle.kr_suite_core.specs.declared.judged.Judged.{Judged}
 use Rattle.kr_suite_core.specs.declared.tested.Tested.{Tested}

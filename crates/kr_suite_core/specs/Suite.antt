@@ -8,7 +8,7 @@ use Rattle.kr_model.specs.Run.{run, replies_of}
 use Rattle.kr_change.specs.declared.change.Change.{Change}
 use Rattle.kr_change.specs.Changes.{changed}
 use Rattle.kr_change.specs.Every.{changes_of}
-use Rattle.kr_alike_safe.specs.Coming.{AlikeOnMaps}
+use Rattle.kr_alike.specs.Coming.{AlikeOnMaps}
 use Rattle.kr_apart.specs.Apart.{TellsApart, PartAtTheLast}
 use Rattle.kr_suite_core.specs.declared.tested.Tested.{Tested}
 use Rattle.kr_suite_core.specs.declared.classes.Suite.{Suite}

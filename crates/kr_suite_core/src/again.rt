@@ -1,13 +1,13 @@
 //! A second look at the changes that no part names, where the table is safe.
 ghost use Rattle.std.specs.Prelude.{◌≡◌, IsTrue, IfOk, All};
 ghost use Rattle.kr_change.specs.Changes.{changed};
-ghost use Rattle.kr_alike_safe.specs.Coming.{AlikeOnMaps};
+ghost use Rattle.kr_alike.specs.Coming.{AlikeOnMaps};
 ghost use Rattle.kr_suite_core.specs.Judged.{IsJudged, changes_in};
 
 use crate::judged::Judged;
 use crate::left::is_told;
 use crate::tested::Tested;
-use kr_alike_safe::alike_if_safe;
+use kr_alike::alike_if_safe;
 use kr_change::{Change, Changed};
 use kr_decide::{Rejected, Safe, WhyRejected};
 use kr_model::Memory;

@@ -2,7 +2,7 @@
 ghost use Rattle.std.specs.Prelude.{◌≡◌, IsTrue, IfOk, All};
 ghost use Rattle.std.specs.List.{filter_map};
 ghost use Rattle.kr_change.specs.Changes.{changed};
-ghost use Rattle.kr_alike_safe.specs.Coming.{AlikeOnMaps};
+ghost use Rattle.kr_alike.specs.Coming.{AlikeOnMaps};
 ghost use Rattle.kr_suite_core.specs.Judged.{IsJudged, alike_of, changes_in, other_of};
 
 use kr_alike::alike;

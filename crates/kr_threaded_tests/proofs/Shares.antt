@@ -1,6 +1,6 @@
 -- Which shares fit an engine of two seats: a share that doesn't can't come from its seats, so no call shows that it is told.
 use Rattle.std.proofs.Common.{◌≡◌, ℕ, true, false, [], ◌∷◌, None, Some, refl}
-use Rattle.kr_history.specs.declared.name.Entry.{Entry}
+use Rattle.kr_records.specs.declared.name.Entry.{Entry}
 use Rattle.kr_records.specs.Cores.{no_seat}
 use Rattle.kr_records.specs.declared.notes.SeatNote.{SeatNote}
 use Rattle.kr_records.specs.Closed.{Lent, fits}

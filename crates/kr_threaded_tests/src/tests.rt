@@ -1,5 +1,15 @@
 mod cycles;
+mod diagnosis;
 mod engine;
+mod explain_program;
+mod explanation;
 mod ghosts;
+mod picture;
 mod places;
+mod program;
+mod relax_program;
+mod shell;
+mod suite_program;
 mod threads;
+mod trace_program;
+mod view_program;

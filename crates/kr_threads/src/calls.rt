@@ -3,7 +3,7 @@ ghost use Rattle.std.specs.Prelude.{◌≡◌, ◌≤◌, ◌-◌, false, IfOk, 
 ghost use mathlib.Core.List.{IsPrefix};
 ghost use Rattle.kr_records.specs.Faults.{is_blocked as blocked};
 ghost use Rattle.kr_records.specs.Seats.{ToldFault};
-ghost use Rattle.kr_compared.specs.Told.{IsNext};
+ghost use Rattle.kr_threads.specs.Told.{IsNext};
 
 use kr_engine::{EngineFault, EngineName, Receipt, Seat};
 use kr_model::{Op, Reply};
@@ -12,7 +12,7 @@ use kr_workers::Turn;
 use std::sync::Wait;
 
 /// A call of a seat. In the worker's turn it is attempted, and where the step is blocked the turn is given up for the wait.
-#[tactic(auto, using(kr_compared::proofs::Told::told_at_once, kr_compared::proofs::Told::next_shown))]
+#[tactic(auto, using(crate::proofs::Told::told_at_once, crate::proofs::Told::next_shown))]
 pub(crate) fn call_in_turn<P: Covered, K: EngineName, R: Wait>(
     rt: &R,
     seat: &mut Seat<'_, P, K>,

@@ -1,11 +1,14 @@
 //! A run of a script in several threads.
 ghost use Rattle.std.specs.Prelude.{◌≡◌, ◌<◌, ◌≤◌, IfOk};
 ghost use Rattle.kr_model.specs.Map.{IsMap};
-ghost use Rattle.kr_compared.specs.Told.{IsWorked};
-ghost use Rattle.kr_compared.specs.Threaded.{IsCompared, IsThreaded, ShowsThreads};
+ghost use Rattle.kr_threads.specs.Told.{IsWorked};
+ghost use Rattle.kr_threads.specs.Threaded.{IsCompared, IsThreaded, ShowsThreads};
 
+use crate::comparing::{Worked, compared, shown_of, threaded_of};
+use crate::fault::RunFault;
+use crate::gathering::{finished, gather};
+use crate::report::Report;
 use crate::work::{Worker, work};
-use kr_compared::{Report, RunFault, Worked, compared, finished, gather, shown_of, threaded_of};
 use kr_engine::{Engine, EngineName, History, PlaceRow};
 use kr_protocol::Covered;
 use kr_report::{Threaded, ThreadsShown};

@@ -3,10 +3,12 @@ ghost use Rattle.std.specs.Prelude.{◌≡◌, ◌<◌, false, Some, None, IfErr
 ghost use Rattle.kr_records.specs.Faults.{is_blocked as blocked};
 ghost use Rattle.kr_records.specs.Histories.{events_with_replies};
 ghost use Rattle.kr_records.specs.Seats.{ToldFault};
-ghost use Rattle.kr_compared.specs.Told.{IsCaused};
+ghost use Rattle.kr_threads.specs.Told.{IsCaused};
 
 use crate::calls::call_in_turn;
-use kr_compared::{Report, RunFault, failure, settle};
+use crate::fault::{RunFault, failure};
+use crate::left_out::settle;
+use crate::report::Report;
 use kr_engine::{EngineFault, EngineName, Receipt, Seat};
 use kr_model::{Op, Txn, is_end};
 use kr_protocol::Covered;
@@ -33,7 +35,7 @@ pub(crate) struct Worker<'a, P: Covered, K: EngineName> {
 }
 
 impl<'a, P: Covered, K: EngineName> Model for Worker<'a, P, K> {
-    ghost use Rattle.kr_compared.specs.Told.{Working, IsWorker};
+    ghost use Rattle.kr_threads.specs.Told.{Working, IsWorker};
 
     ghost Value = { Working };
 
@@ -160,7 +162,7 @@ impl<P: Covered, K: EngineName> Worker<'_, P, K> {
     }
 
     /// One step of the transaction that the seat speaks for, which is noted where it is left out.
-    #[tactic(auto, using(kr_compared::proofs::Told::told_refused, kr_compared::proofs::Told::told_deadlock))]
+    #[tactic(auto, using(crate::proofs::Told::told_refused, crate::proofs::Told::told_deadlock))]
     fn do_step<G: Gate, R: Wait>(
         &mut self,
         rt: &R,

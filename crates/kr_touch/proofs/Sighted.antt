@@ -12,7 +12,7 @@ use Rattle.kr_model.specs.declared.Step.{Step}
 use Rattle.kr_model.specs.declared.Step.TheVariants as attempt
 use Rattle.kr_model.specs.Map.{Map, IsMap, get, at, after}
 use Rattle.kr_model.proofs.MapLaws.{t_of}
-use Rattle.kr_ordered.proofs.NextNames.{none_from, none_below}
+use Rattle.kr_parts.proofs.NextNames.{none_from, none_below}
 use Rattle.kr_model.specs.Plan.{Access, access, access_of}
 use Rattle.kr_model.specs.State.{Scan}
 use Rattle.kr_model.specs.Step.{name_to_look}

@@ -12,7 +12,7 @@ use crate::granted::GrantedTouch;
 use crate::parts::{Ending, KeyTouch, Touch};
 use crate::scans;
 use kr_model::{Op, Row};
-use kr_ordered::{Memory, Ordered};
+use kr_parts::{Memory, Ordered};
 use kr_txn::{Scan, Standing};
 
 /// The key that an operation changes, by the row of its attempt: that of an insert where it is absent, and that of a

@@ -20,7 +20,7 @@ use crate::parts::{KeyTouch, Touch};
 use crate::sights::Sight;
 use crate::standings::make_room_in;
 use kr_model::{Row, Step, Txn};
-use kr_ordered::{Memory, Name, Ordered};
+use kr_parts::{Memory, Name, Ordered};
 use kr_txn::{Scan, Standing};
 
 /// Takes room for what is added to the transaction at this place.

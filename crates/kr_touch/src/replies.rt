@@ -9,7 +9,7 @@ ghost use Rattle.kr_touch.specs.Effects.{reply_of, rows_of};
 ghost use Rattle.kr_touch.specs.Sights.{value_at, value_of_name};
 
 use kr_model::{Pairs, Reply, Step};
-use kr_ordered::{Memory, Name};
+use kr_parts::{Memory, Name};
 use kr_txn::Scan;
 use std::alloc::Global;
 

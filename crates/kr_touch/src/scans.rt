@@ -8,7 +8,7 @@ ghost use Rattle.kr_touch.specs.Room.{HasFirstRoom};
 ghost use Rattle.kr_touch.specs.Effects.{look_effect};
 
 use crate::parts::Touch;
-use kr_ordered::{Memory, Name, Ordered};
+use kr_parts::{Memory, Name, Ordered};
 use kr_txn::{Scan, Standing};
 use std::alloc::Global;
 

@@ -14,7 +14,7 @@ ghost use Rattle.kr_touch.specs.Sights.{IsPairAt, IsSight};
 
 use crate::parts::{KeyTouch, Touch};
 use kr_model::{Row, Step};
-use kr_ordered::{Name, Ordered};
+use kr_parts::{Name, Ordered};
 use kr_txn::Scan;
 
 /// An attempt, with what it finds in the index.

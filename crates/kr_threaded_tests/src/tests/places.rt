@@ -1,8 +1,8 @@
 //! Each call once with ample memory, and how the cost of learning grows.
 ghost use Rattle.std.specs.Prelude.{◌≡◌, ◌+◌, ◌<◌, length, IfOk, OnOk, IsSome, slice_index_or};
 
-use kr_history::{EngineName, Entry, Known, NewFault, PlaceRow, Seen, Watch};
 use kr_model::{Event, Op, Reply};
+use kr_records::{EngineName, Entry, Known, NewFault, PlaceRow, Seen, Watch};
 use std::alloc::{AllocError, Global};
 use std::marker::Brand;
 use std::process::Abort;

@@ -1,8 +1,7 @@
 //! Which changed tables are alike with the table that they were made from, compared with what was worked out by hand.
 //!
 //! Modes of key-value locking: IS is 1, IX 2, S 3, SIX 4, X 5. Those of index-specific locking: S is 1, X 2.
-use kr_alike::alike;
-use kr_alike_safe::alike_if_safe;
+use kr_alike::{alike, alike_if_safe};
 use kr_change::{Change, Changed, changes_of};
 use kr_decide::Safe;
 use kr_model::{Row, Side, Span};

@@ -1,6 +1,6 @@
 use Rattle.std.proofs.Common.{is_some, sym, ◌∙◌, ap}
 use Rattle.kr_index.specs.Slots.{pairs_of}
-use Rattle.kr_ordered.proofs.NextNames.{least_present}
+use Rattle.kr_parts.proofs.NextNames.{least_present}
 use Rattle.kr_index.proofs.firsts.pair_past.Goals as goal
 
 pub unreachable-requires : goal.unreachable-requires

@@ -1,7 +1,7 @@
 use Rattle.std.proofs.Common.{sym, ◌∙◌, ap}
 use Rattle.kr_index.specs.Slots.{pairs_of, value_in}
 use Rattle.kr_index.proofs.SlotLaws.{get-pairs}
-use Rattle.kr_ordered.proofs.NextNames.{end_from}
+use Rattle.kr_parts.proofs.NextNames.{end_from}
 use Rattle.kr_index.proofs.TreeLaws.{at_first, at_end}
 use Rattle.kr_index.proofs.walks.name_at.Goals as goal
 

@@ -1,6 +1,6 @@
 use Rattle.std.proofs.Common.{◌≡◌, ◌∙◌, subst}
 use Rattle.kr_model.specs.Log.{logged}
-use Rattle.kr_history.specs.declared.name.Entry.{Entry}
+use Rattle.kr_records.specs.declared.name.Entry.{Entry}
 use Rattle.kr_records.proofs.Histories.{log_next}
 use Rattle.kr_records.proofs.closing.programs_of.Goals as goal
 

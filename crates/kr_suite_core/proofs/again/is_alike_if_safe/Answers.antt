@@ -1,7 +1,7 @@
 use Rattle.std.proofs.Common.{◌≡◌, ◌∙◌, ap, subst, IfOk, IsTrue}
 use Rattle.kr_model.specs.Protocol.{Protocol}
 use Rattle.kr_change.specs.Changes.{changed}
-use Rattle.kr_alike_safe.specs.Coming.{AlikeOnMaps}
+use Rattle.kr_alike.specs.Coming.{AlikeOnMaps}
 use Rattle.kr_suite_core.proofs.again.is_alike_if_safe.Goals as goal
 
 pub returns-in-Some : goal.returns-in-Some

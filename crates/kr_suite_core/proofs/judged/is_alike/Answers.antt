@@ -3,7 +3,7 @@ use Rattle.std.proofs.lemmas.Result.{IfOk-weaker}
 use Rattle.kr_model.specs.Protocol.{Protocol}
 use Rattle.kr_change.specs.Changes.{changed}
 use Rattle.kr_alike.specs.Alike.{Alike}
-use Rattle.kr_alike_safe.specs.Coming.{AlikeOnMaps}
+use Rattle.kr_alike.specs.Coming.{AlikeOnMaps}
 use Rattle.kr_suite_core.proofs.judged.is_alike.Goals as goal
 
 pub returns-in-Some : goal.returns-in-Some

@@ -1,4 +1,4 @@
-use Rattle.kr_compared.proofs.Told.{prefix_more, told_after_blocked, next_after}
+use Rattle.kr_threads.proofs.Told.{prefix_more, told_after_blocked, next_after}
 use Rattle.kr_threads.proofs.calls.call_in_turn.Goals as goal
 
 pub returns-clause-begins : goal.returns-clause-begins

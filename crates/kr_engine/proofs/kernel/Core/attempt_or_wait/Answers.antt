@@ -1,7 +1,7 @@
 use Rattle.std.proofs.Common.{◌≡◌, ◌∷◌, List, Some, true, sym, ap, ◌∙◌, subst}
 use Rattle.kr_model.specs.Protocol.{Protocol}
 use Rattle.kr_deadlock.specs.Waits.{IsCycle}
-use Rattle.kr_history.specs.declared.name.Entry.{Entry}
+use Rattle.kr_records.specs.declared.name.Entry.{Entry}
 use Rattle.kr_records.specs.Faults.{is_blocked}
 use Rattle.kr_records.specs.Histories.{IsHistory, event}
 use Rattle.kr_records.specs.Waits.{in_the_way, blockers_now, TellsCycle}

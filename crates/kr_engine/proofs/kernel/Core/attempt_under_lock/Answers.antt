@@ -1,6 +1,6 @@
 use Rattle.std.proofs.Common.{◌≡◌, ◌+◌, ◌++◌, ◌∷◌, [], List, Some, sym, ap, ◌∙◌, subst, arith, refl}
 use mathlib.Core.List.{IsPrefix}
-use Rattle.kr_history.specs.declared.name.Entry.{Entry}
+use Rattle.kr_records.specs.declared.name.Entry.{Entry}
 use Rattle.kr_records.specs.Histories.{entries_of, entry, event}
 use Rattle.kr_records.specs.Seats.{Held}
 use Rattle.kr_records.proofs.Counts.{entries_of-within}

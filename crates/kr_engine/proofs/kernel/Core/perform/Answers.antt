@@ -6,7 +6,7 @@ use Rattle.kr_model.specs.Protocol.{Protocol}
 use Rattle.kr_model.specs.State.{State}
 use Rattle.kr_records.specs.declared.notes.SeatNote.{SeatNote}
 use Rattle.kr_model.specs.Step.{step}
-use Rattle.kr_history.specs.declared.name.Entry.{Entry}
+use Rattle.kr_records.specs.declared.name.Entry.{Entry}
 use Rattle.kr_model.specs.Run.{is_granted}
 use Rattle.kr_records.specs.Histories.{IsHistory, entry, event}
 use Rattle.kr_records.specs.Numbers.{begun_by, was_begun, is_begun}

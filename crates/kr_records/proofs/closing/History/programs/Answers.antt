@@ -1,7 +1,7 @@
 use Rattle.std.proofs.Common.{◌∙◌, List, ap}
 use Rattle.std.proofs.lemmas.Result.{IfOk-weaker}
 use Rattle.kr_model.specs.Log.{log_after, no_log}
-use Rattle.kr_history.specs.declared.name.Entry.{Entry}
+use Rattle.kr_records.specs.declared.name.Entry.{Entry}
 use Rattle.kr_records.specs.Histories.{events_with_replies}
 use Rattle.kr_records.proofs.Histories.{programs_of_history}
 use Rattle.kr_records.proofs.closing.History.programs.Goals as goal

@@ -1,7 +1,7 @@
 use Rattle.std.proofs.Common.{◌∙◌, sym, ap, subst}
 use Rattle.kr_records.specs.Histories.{events_with_replies}
-use Rattle.kr_compared.specs.Told.{Working, IsCaused}
-use Rattle.kr_compared.proofs.Told.{worker_note}
+use Rattle.kr_threads.specs.Told.{Working, IsCaused}
+use Rattle.kr_threads.proofs.Told.{worker_note}
 use Rattle.kr_threads.proofs.work.Worker.note.Goals as goal
 
 pub invariant_of-self-2 : goal.invariant_of-self-2

@@ -1,5 +1,0 @@
-use Rattle.kr_alike_safe.proofs.Runs.{alike_are_serial}
-use Rattle.kr_alike_safe.proofs.laws.alike_are_serial.Goals as goal
-
-pub returns : goal.returns
-returns c = alike_are_serial

@@ -1,4 +1,0 @@
-pub mod Coming
-pub mod Alone
-pub mod Asked
-pub mod Deletes

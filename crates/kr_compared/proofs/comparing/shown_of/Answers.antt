@@ -1,6 +1,0 @@
-use Rattle.std.proofs.Common.{refl}
-use Rattle.kr_compared.proofs.Wholes.{shown_whole}
-use Rattle.kr_compared.proofs.comparing.shown_of.Goals as goal
-
-pub returns : goal.returns
-returns c = λ p opening steps compared. shown_whole p opening steps c.args.history _ compared c.in_ok-history.ensures refl refl

@@ -1,7 +1,0 @@
-use Rattle.std.proofs.Common.{◌<◌, ℕ}
-use Rattle.kr_history.specs.Notes.{AgreeAt}
-use Rattle.kr_history.proofs.watch.Watch.meet.Given as goal
-
--- they agree at the places looked at so far
-abbrev pub invariant-loop-place : goal.invariant-loop-place
-invariant-loop-place g l = (k : ℕ) → k < l.place → AgreeAt l.self l.other k

@@ -1,0 +1,57 @@
+-- A name has one last value, so two rows of the same names have the same values.
+use Rattle.std.proofs.Common.{List, [], ◌∷◌, refl, map}
+use mir.Syntax.{a_type, named}
+use mir.Val.{Val, vptr, vunit}
+use mir.MapTy.{inst_fn}
+use base.Logic.{SProp, emp, via, fst∗, guard_i}
+use base.Fml.{Fml, ftrue, fsep, flft, fhide}
+use types.Logic.{sem}
+use types.Kit.{‵, raw, ◌⊛◌, given, ◌$◌, ◌∵◌, !, qed, by, move, keep, drop, split, fsplit, fjoin, learn, use1, use2, feq_i}
+use types.Run.{of_opd, unit_lit, returns, enter}
+use types.ByLocal.{alloc_all, pass_all, free_all, look_at, sets}
+use contract.Monad.{fact, fact_i, fact_use}
+use contract.BorrowLft.{◌⊑◌}
+use contract.Running.{tables}
+use denote.Exit.{yes}
+use denote.RattleType.{RattleType, owns}
+use denote.Signature.{types_at, plain}
+use denote.Builtin.{RefOf}
+use denote.Ref.{shr_vals, shr_Tells}
+use denote.Memory.{hidden_shr}
+use denote.Opens.{unhide}
+use denote.Steps.{nothing, heard}
+use denote.Param.{param, layouts}
+use denote.Struct.Lending.{lent_out}
+use denote.Triple.Walked.{Stays, stay_dropped, walk_of, Goes-dropped}
+use Rattle.std.specs.contracts.marker.PhantomData as marker
+use Rattle.std.proofs.raw_atomic.Walks.{proved}
+use mathlib.Core.List.{IsPrefix}
+use Rattle.kr_records.specs.Owned.{all_noted, name_in}
+use Rattle.kr_records.proofs.Cells.{all_agree}
+use Rattle.kr_records.specs.contracts.known_cells.KnownCells as Known
+use Rattle.kr_records.proofs.Tokens.{Token, ends}
+use Rattle.kr_records.specs.contracts.known_cells.KnownCells.lemma_agree.{ended, clauses}
+use Rattle.kr_records.specs.contracts.known_cells.KnownCells.lemma_agree.Key.{name as #self}
+use Rattle.kr_records.proofs.known_cells.KnownCells.lemma_agree.Statement.{statement}
+use Rattle.kr_records.proofs.known_cells.KnownCells.lemma_agree.Code as code
+
+pub lemma_agree_spec : {M : Type 1} → statement M
+lemma_agree_spec 𝓤 𝓛 𝓜 𝓡 wired T L =
+    let H = 𝓛.H in let 𝓣 = tables 𝓤 H 𝓜 𝓡 𝓡.env in let R : RattleType = param 0 T in let En = ended T in
+    let inst = layouts (a_type ∷ []) (T, tt) in let fn = inst_fn inst code.function in let c = clauses T 𝓛 𝓜.mem 𝓡.returns in
+    let hs : Stays En.signature.params En.kept = (stay_dropped (RefOf (0 ∷ []) tt (plain (λ _. Known.the_row R)) (λ _. tt)) yes, (stay_dropped (RefOf (1 ∷ []) tt (plain (λ _. Known.the_row R)) (λ _. tt)) yes, tt)) in
+    proved 𝓛 En hs c 𝓜 𝓡 (Goes-dropped 𝓛 3 (RefOf (0 ∷ []) tt (plain (λ _. Known.the_row R)) (λ _. tt)) yes (λ κs x f. refl), (Goes-dropped 𝓛 3 (RefOf (1 ∷ []) tt (plain (λ _. Known.the_row R)) (λ _. tt)) yes (λ κs x f. refl), tt)) (#self inst) fn (code.unfolded 𝓤 H 𝓜 𝓡 wired (T, tt))
+    (λ κs. (shr_vals, (shr_vals, tt))) (λ κs. (shr_Tells (named 0) κs.0 (Known.the_row R), (shr_Tells (named 1) κs.1.0 (Known.the_row R), tt))) (λ κs qs bounds a gh are.
+    let me = a.0.now in let other = a.1.0.now in
+    let y : (walk_of 𝓛 En hs c).Ghost = ((κs, qs, bounds, a, (vptr a.0.ref_ptr.0 a.0.ref_ptr.1 ∷ [], (vptr a.1.0.ref_ptr.0 a.1.0.ref_ptr.1 ∷ [], tt))), gh) in let Post : Val → SProp 𝓤 = (walk_of 𝓛 En hs c).post y in
+    let toks : Fml = fsep (flft κs.0 qs.0) (fsep (flft κs.1.0 qs.1.0) (fsep (flft κs.1.1.0 qs.1.1.0) ftrue)) in
+    let So : Type 0 = IsPrefix me.known other.known in let Same : Type 0 = IsPrefix (map name_in me.known) (map name_in other.known) in let N : Fml = all_noted R me.known in let O : Fml = all_noted R other.known in
+    qed 𝓛 ((‵ toks ⊛ ‵ (owns (types_at En.signature.params κs) a y.0.4)) ∷ raw (fact 𝓤 (κs.1.1.0 ⊑ T.lives)) ∷ raw (fact 𝓤 Same) ∷ []) ∵ move ! (2 ∷ []) $ heard ! Same (λ same. keep ! (0 ∷ []) $ split ! $
+    fsplit ! $ move ! (1 ∷ []) $ fsplit ! $ move ! (3 ∷ []) $ fsplit ! $ fsplit ! $ move ! (2 ∷ []) $ fsplit ! $ fsplit ! $ keep ! (1 ∷ 4 ∷ 7 ∷ 5 ∷ 6 ∷ []) $
+    enter ! 𝓣.C 𝓣.Λ fn (vptr a.0.ref_ptr.0 a.0.ref_ptr.1 ∷ vptr a.1.0.ref_ptr.0 a.1.0.ref_ptr.1 ∷ []) Post $ alloc_all ! (λ l. pass_all ! refl ((tt, tt), ((tt, tt), tt)) $
+    use1 𝓛 (‵ (hidden_shr (Token R) κs.1.0 (record {}, tt) a.1.0.ref_ptr.0 a.1.0.ref_ptr.1) ⊛ ‵ (fhide O)) (lent_out 𝓛 (Known.struct R) (Known.the_codes T.Denot R.coded (marker.the_row R).coded) (Known.the_heap R) (Known.the_lent R) κs.1.0 other a.1.0.ref_ptr.0 a.1.0.ref_ptr.1) $ split ! $ drop ! $ unhide ! $ move ! (1 ∷ []) $
+    use1 𝓛 (‵ (hidden_shr (Token R) κs.0 (record {}, tt) a.0.ref_ptr.0 a.0.ref_ptr.1) ⊛ ‵ (fhide N)) (lent_out 𝓛 (Known.struct R) (Known.the_codes T.Denot R.coded (marker.the_row R).coded) (Known.the_heap R) (Known.the_lent R) κs.0 me a.0.ref_ptr.0 a.0.ref_ptr.1) $ split ! $ drop ! $ unhide ! $
+    use2 𝓛 (given So (‵ N)) (fact_use 𝓤 So (all_agree 𝓛 R me.known other.known same) (λ so. via 𝓤 _ (fst∗ 𝓤 (sem 𝓛 N) (sem 𝓛 O)) (guard_i 𝓤 So (sem 𝓛 N) so))) $ learn ! (λ so. drop ! $
+    sets ! (of_opd ! (unit_lit !)) refl (tt, tt) $ feq_i ! (List Val) (vunit ∷ []) (vunit ∷ []) refl $
+    move ! (2 ∷ 3 ∷ []) $ fjoin ! $ move ! (2 ∷ 0 ∷ []) $ fjoin ! $ nothing ! $ nothing ! $ fjoin ! $ nothing ! $ fjoin ! $
+    returns ! (look_at ! 0 refl) $ free_all ! refl $ keep ! (1 ∷ 0 ∷ 2 ∷ []) $ by ! (ends 𝓛 En hs c y vunit tt (tt, (tt, tt)) (tt, (tt, tt)) (fact_i 𝓤 _ (emp 𝓤) so))))))
