@@ -15,7 +15,7 @@ use Rattle.kr_model.specs.declared.Side.TheVariants.{Current, Next}
 use Rattle.kr_model.specs.declared.Span.{Span}
 use Rattle.kr_model.specs.Protocol.{Protocol, IsLawful, IsMode, MovesNoKey}
 use Rattle.kr_table.specs.Tables.{TableData, Request, IsTable, protocol_of, ask_of, in_range, asks_mode, are_good}
-use Rattle.kr_modes.specs.Matrix.{convert_of, IsMatrix}
+use Rattle.kr_table.specs.Matrix.{convert_of, IsMatrix}
 
 -- of numbers in a range, each
 range_at : (m : ℕ) (xs : List ℕ) (i d : ℕ) → list_all (in_range m) xs ≡ true → i < length xs → (0 < slice_index_or xs i d) × (slice_index_or xs i d ≤ m)

@@ -16,7 +16,7 @@ use Rattle.kr_table.specs.Tables.{IsTable, TableData}
 use Rattle.kr_table.specs.Reading.{matrix_in, table_of_parts, judged, table_of, unless_faulty}
 use Rattle.kr_table.proofs.Sound.{sound}
 use Rattle.kr_table.proofs.Laws.{matrix_sound}
-use Rattle.kr_modes.specs.Matrix.{IsMatrix}
+use Rattle.kr_table.specs.Matrix.{IsMatrix}
 
 pub table_sound : (rows : Rows) (u : Bool) (p : Parts) (names : List (String Global)) (ds : Items) (b c r : Data) → count_faults (items_len ds) ≡ [] → mode_faults 0 [] ds ≡ []
     → map string_bytes names ≡ names_of ds → content_faults rows (map string_bytes names) b c r ≡ [] → data_of p ≡ table_of_parts u (map string_bytes names) b c r → IsTable (data_of p)

@@ -1,3 +1,4 @@
+pub mod Matrix
 pub mod Faults
 pub mod Members
 pub mod DocumentFaults

@@ -6,7 +6,7 @@ use Rattle.toml.specs.Parse.{parse_document}
 use Rattle.kr_model.specs.declared.Span.{Span}
 use Rattle.kr_model.specs.declared.Span.TheVariants.{Instant, Commit}
 use Rattle.kr_model.specs.Firsts.{first}
-use Rattle.kr_modes.specs.Matrix.{Matrix}
+use Rattle.kr_table.specs.Matrix.{Matrix}
 use Rattle.kr_table.specs.Faults.{Fault, too_long, not_toml}
 use Rattle.kr_table.specs.Members.{names_of, modes_in, items_in, items_within, data_in, text_in, pair_in}
 use Rattle.kr_table.specs.DocumentFaults.{is_mode, faults, updates_in}

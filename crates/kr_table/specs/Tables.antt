@@ -7,7 +7,7 @@ use Rattle.kr_model.specs.declared.Side.{Side}
 use Rattle.kr_model.specs.declared.Side.TheVariants.{Current, Next}
 use Rattle.kr_model.specs.declared.Span.{Span}
 use Rattle.kr_model.specs.Protocol.{Protocol}
-use Rattle.kr_modes.specs.Matrix.{Matrix, ok_of, convert_of}
+use Rattle.kr_table.specs.Matrix.{Matrix, ok_of, convert_of}
 use Rattle.kr_table.specs.DocumentFaults.{is_good}
 
 -- The mode and the span that are requested, or nothing.

@@ -2,15 +2,15 @@
 //! it shares with them.
 ghost use Rattle.std.specs.Prelude.{◌≡◌, ◌≤◌, ◌++◌, ◌∷◌, IfOk, OnOk, [], codes, length, map, string_bytes, unwrap_or};
 ghost use Rattle.toml.specs.View.{view, items_view};
-ghost use Rattle.kr_modes.specs.Matrix.{IsMatrix};
+ghost use Rattle.kr_table.specs.Matrix.{IsMatrix};
 ghost use Rattle.kr_table.specs.Members.{names_of, items_in, text_in, pair_in};
 ghost use Rattle.kr_table.specs.DocumentFaults.{is_mode};
 ghost use Rattle.kr_table.specs.Reading as spec;
 ghost use Rattle.kr_table.specs.Shown.{data_of};
 
+use crate::modes::Modes;
 use crate::table::Parts;
-use kr_model::Memory;
-use kr_modes::{Mode, Modes};
+use kr_model::{Memory, Mode};
 use kr_protocol::Span;
 use std::alloc::Global;
 use toml::Value;

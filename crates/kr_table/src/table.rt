@@ -2,11 +2,12 @@
 ghost use Rattle.std.specs.Prelude.{◌≡◌, ◌≤◌, ℕ, IfNone, IfSome, length};
 ghost use Rattle.kr_model.specs.Protocol.{Protocol, IsLawful};
 ghost use Rattle.kr_model.specs.ModeNames.{name_of, AreModeNames};
-ghost use Rattle.kr_modes.specs.Matrix.{IsNamed};
+ghost use Rattle.kr_table.specs.Matrix.{IsNamed};
 ghost use Rattle.kr_table.specs.Tables.{IsTable, protocol_of};
 ghost use Rattle.kr_table.specs.Shown.{data_of};
 
-use kr_modes::{Mode, Modes};
+use crate::modes::Modes;
+use kr_model::Mode;
 use kr_protocol::{Protocol, Row, Side, Span};
 
 /// What a table is made of. Insert and delete have a request for each own mode on the next name,

@@ -5,8 +5,7 @@ ghost use Rattle.toml.specs.Data.{array, string as a_text, table as a_table, no_
 ghost use Rattle.kr_model.specs.ModeNames.{name_of};
 ghost use Rattle.kr_table.specs.Writing as spec;
 
-use kr_model::Memory;
-use kr_modes::Mode;
+use kr_model::{Memory, Mode};
 use std::alloc::Global;
 use toml::{Table as Document, Value};
 

@@ -8,8 +8,7 @@ ghost use Rattle.kr_table.specs.Writing as spec;
 
 use crate::table::Parts;
 use crate::writing::entries::{name_at, put_in, text};
-use kr_model::Memory;
-use kr_modes::Mode;
+use kr_model::{Memory, Mode};
 use kr_protocol::Span;
 use std::alloc::Global;
 use toml::{Table as Document, Value};

@@ -1,7 +1,7 @@
 //! Two modes of which the order matters, looked at by every call.
 ghost use Rattle.std.specs.Prelude.{◌≡◌, length, IfOk};
 
-use kr_modes::{Mode, Modes};
+use kr_table::{Mode, Modes};
 use std::alloc::{AllocError, Global};
 use std::test::Fail;
 

@@ -1,8 +1,0 @@
-use Rattle.std.proofs.Common.{[]}
-use Rattle.kr_modes.specs.Matrix.{matrix_of, ok_of}
-use Rattle.kr_modes.proofs.Rows.{IsRowTo}
-use Rattle.kr_modes.proofs.modes.row_of.Given as goal
-
--- the bits of the modes so far
-abbrev pub invariant-loop-held : goal.invariant-loop-held
-invariant-loop-held l = IsRowTo (ok_of (matrix_of l.names l.ok []) l.requested) l.held l.row
