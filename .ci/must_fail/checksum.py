@@ -1,8 +1,8 @@
 """The checksum of an edit with what its refusal rests on in its own crate: the edit's text; the functions that it changes and the one
 that it names (`at:`) whole, or what else it changes, with their proof files; and what these name, and what that names in turn: of other
 functions their contracts, other items of src/ whole, and the files of specs/ that define such a name. A word counts as naming each
-item of that name. Not the lemmas of proofs/, which are proved and so refuse no less; not the crates below, and not the kit: for these
-all edits are tried. It is of texts without their places, so that it stays where something else is moved or changed."""
+item of that name. Not the lemmas of proofs/, which prove no more than is true; not the crates below, and not the kit: for a new kit all
+edits are tried. It is of texts without comments and places, so that it stays where something else is moved or changed."""
 
 import hashlib
 
@@ -38,8 +38,9 @@ class Texts:
 
     def sum_of(self, edit, text=None):
         """The checksum of an edit, or of one with this text in its place."""
-        own = self.whole_of(edit)
-        return sum_of([edit.text if text is None else text, *(it.encode() for it in own), b'', *(it.encode() for it in self.reached_from(own))])
+        text, own = edit.text if text is None else text, self.whole_of(edit)
+        reached = self.reached_from([*own, text.decode()])
+        return sum_of([text, *(it.encode() for it in own), b'', *(it.encode() for it in reached)])
 
     def whole_of(self, edit):
         """The texts that count whole: of what the edit changes, of the function that it names, and of their proof files."""
@@ -56,9 +57,10 @@ class Texts:
         return [(self.name_of(path, it), path, it) for path, file in self.files.items() for it in file.items if it.kind == 'fn']
 
     def functions_at(self, at):
-        """The function of a line `at:`; each with its last name, where a check calls it by what stands nowhere."""
+        """The function of a line `at:`. Where a check calls it by what stands nowhere, each with its last name, or else all files."""
         every = self.functions()
-        return [it for it in every if is_at(it[0], at)] or [it for it in every if is_named(it[0], at.split('::')[-1])]
+        found = [it for it in every if is_at(it[0], at)] or [it for it in every if is_named(it[0], at.split('::')[-1])]
+        return found or [(None, path, None) for path in self.files]
 
     def name_of(self, path, item):
         """What function_at calls a function; None of another item."""

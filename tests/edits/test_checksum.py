@@ -72,6 +72,20 @@ class Checksum(unittest.TestCase):
         self.stays_with(f'{SPECS}/Days.antt', 'n < 7', 'n < 8')
         self.stays_with('crates.txt', 'kr_small:', 'kr_small: kr_other')
 
+    def test_what_its_new_text_names(self):
+        path = 'crates/kr_small/must-fail/adds-nothing.edit'
+        self.small.put(path, FILES[path].replace('sum += 0;', 'sum += weekday(0);'))
+        self.changes_with(f'{SRC}/stock.rt', 'weekday(day: u64)', 'weekday(day: u32)')
+        self.stays_with(f'{SRC}/stock.rt', 'day % 7', 'day % 8')
+
+    def test_an_at_that_stands_nowhere(self):
+        path = 'crates/kr_small/must-fail/cheap.edit'
+        self.name = 'cheap'
+        for at, is_same in ('Other::price', True), ('Other::none', False):
+            self.small.put(path, FILES[path].replace('shop::price', at))
+            self.changes_with(f'{SRC}/shop.rt', 'item.price.min(MOST)', 'MOST.min(item.price)')
+            self.assertIs(self.after(f'{SRC}/stock.rt', 'day % 7', 'day % 8'), is_same)
+
     def test_a_const_is_whole_for_who_names_it(self):
         self.stays_with(f'{SRC}/shop.rt', 'MOST: u64 = 100', 'MOST: u64 = 99')
         self.name = 'forgets-most'

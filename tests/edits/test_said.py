@@ -93,6 +93,17 @@ class TriedAgain(unittest.TestCase):
         edit = edit_at('sink::print')
         self.assert_again(edit, reason('kr_sink', edit, lines_of('gone-goal')), ['returns-in_err-put_all-2-clause-err'])
 
+    def test_where_answers_name_what_is_gone(self):
+        edit = edit_at('take_out')
+        lost = ['returns-in-Some-clause-found', 'returns-in-Some-clause-rest']
+        self.assert_again(edit, reason('kr_txn', edit, lines_of('lost-name')), lost)
+        edit = edit_at('take_out', gone=lost)
+        self.assertIn('Answers.returns-in-Some-clause-found`', reason('kr_txn', edit, lines_of('lost-name')), 'it was to be taken away')
+
+    def test_where_all_answers_are_to_goals_that_are_gone(self):
+        edit = edit_at('Ended::has')
+        self.assert_again(edit, reason('kr_txn', edit, lines_of('lost-name')), ['returns-else-is_in', 'returns-then-is_in'])
+
     def test_where_a_goal_is_gone_and_a_search_finds_one_that_fails(self):
         edit = edit_at('sink::print', searches=True)
         self.assertEqual(reason('kr_sink', edit, lines_of('gone-goal')), 'no proof: `search` did not prove `returns-clause-ok`')
