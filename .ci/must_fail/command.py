@@ -2,6 +2,7 @@
 
 import argparse
 import os
+import shutil
 import subprocess
 import time
 from concurrent.futures import ThreadPoolExecutor, as_completed
@@ -70,9 +71,7 @@ class Run:
 
     def sample(self):
         """Which twentieth of the edits the gate tries beside those of no line that fits."""
-        is_of_git = (TOP / '.git').exists()
-        asked = ['git', '-C', str(TOP), 'rev-parse', 'HEAD']
-        commit = subprocess.run(asked, capture_output=True, text=True, check=True).stdout.strip() if is_of_git else ''
+        commit = commit_of(TOP)
         sample = bucket_now(commit, self.ledger.path.read_bytes() if self.ledger.path.exists() else b'')
         print(f'edits: the sample is number {sample} of {BUCKETS}, by {f"the commit {commit[:8]}" if commit else "the ledger"}')
         return sample
@@ -112,8 +111,11 @@ class Run:
         self.write()
 
     def is_as_before(self, edit, texts):
-        found, text = self.before[edit.name]
-        return edit.path.exists() and edit.path.read_bytes() == edit.text and texts.sum_of(edit, text) == found
+        checksum, text = self.before[edit.name]
+        try:
+            return edit.path.read_bytes() == edit.text and texts.sum_of(edit, text) == checksum
+        except OSError:
+            return False
 
     def write(self):
         if not self.given.gate:
@@ -132,6 +134,13 @@ class Run:
             print(f'edits: .ci/refused lacks a line that fits of {unfit} edits: {WRITES}')
         print(f'edits: {self.refused} refused, {self.failed} not')
         return 1 if self.failed or not self.before else 0
+
+
+def commit_of(top):
+    """The commit that a clone is at; '' of a folder without git."""
+    if not (top / '.git').exists() or not shutil.which('git'):
+        return ''
+    return subprocess.run(['git', '-C', str(top), 'rev-parse', 'HEAD'], capture_output=True, text=True).stdout.strip()
 
 
 def try_edits(crate, edits, names_goals):

@@ -2,7 +2,7 @@
 
 import unittest
 
-from small import FILES, SHOP, STOCK, Small
+from small import FILES, SHOP, Small
 from must_fail.checksum import Texts
 from must_fail.edit import Edit
 from must_fail.items import LOGIC_TOKEN, RUST_TOKEN, RustFile, imports_of, plain, type_of

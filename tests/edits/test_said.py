@@ -155,9 +155,10 @@ class BadEdits(unittest.TestCase):
         self.assertIsNone(said.unreadable(['src/a.rt:1:2: error: `returns`: a false statement reads well']))
 
     def test_of_a_body_that_is_not_covered(self):
-        lines = [f'fn kr_a::a::f: no proof: the borrow checker {said.UNCOVERED} yet', said.NOT_PROVED]
-        self.assertIsNone(said.reason_of('kr_a', 'a::f', lines, []))
-        self.assertEqual(said.of_whole_crate('kr_a', lines, 1), (False, f'BAD EDIT: the prover {said.UNCOVERED}: kr_a::a::f'))
+        lines = lines_of('uncovered')
+        self.assertIsNone(said.reason_of('kr_sink', 'sink::print', lines, []))
+        found = (False, 'BAD EDIT: the prover does not cover this function: kr_sink::sink::print')
+        self.assertEqual(said.of_whole_crate('kr_sink', lines, 1), found)
 
 
 class Checks(unittest.TestCase):
