@@ -19,6 +19,7 @@ HEAD = re.compile(
     r'(fn|impl|struct|enum|union|trait|static|const|type|mod|use|macro_rules!|ghost|\w+!)(?![\w!])\s*(\w*)'
 )
 DEFINED = re.compile(r"(?:(?:pub|abbrev|unfoldable|record|data) )*([^\W\d][\w'-]*)|\s+(?:pub )?([^\W\d][\w'-]*) :")
+OPERATOR = re.compile(r'(?:(?:pub|abbrev|unfoldable) )*[^\s:]*◌')
 
 
 class Item(NamedTuple):
@@ -181,4 +182,6 @@ class LogicFile:
     @functools.cached_property
     def names(self):
         lines = [it for it in self.text.split('\n') if not re.match(r'(pub )?(mod|use) ', it)]
-        return {self.stem} | {it[1] or it[2] for it in map(DEFINED.match, lines) if it} - {'pub'}
+        names = {self.stem} | {it[1] or it[2] for it in map(DEFINED.match, lines) if it}
+        # (An operator is no word: its file counts as named wherever anything is imported.)
+        return names | {'Rattle'} if any(OPERATOR.match(it) for it in lines) else names

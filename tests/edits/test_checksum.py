@@ -65,6 +65,12 @@ class Checksum(unittest.TestCase):
         self.changes_with(f'{SPECS}/Stocks.antt', 'n ≡ s.price', 's.price ≡ n')
         self.stays_with(f'{SPECS}/Prices.antt', '-- a sum', '-- the sum')
 
+    def test_an_operator_counts_as_named(self):
+        self.small.put(f'{SPECS}/Days.antt', FILES[f'{SPECS}/Days.antt'] + '\npub ◌⊑◌ : ℕ → ℕ → Type 0\n')
+        before = self.sum()
+        self.small.change(f'{SPECS}/Days.antt', 'n < 7', 'n < 8')
+        self.assertNotEqual(self.sum(), before)
+
     def test_what_it_does_not_name(self):
         self.stays_with(f'{SRC}/shop.rt', 'self.sum += price;', 'self.sum = self.sum + price;')
         self.stays_with(f'{SRC}/stock.rt', 'day % 7', 'day % 8')
