@@ -20,7 +20,6 @@ use std::marker::Model;
 /// `own`, `test` and `blockers` look at the holders of the name, and `test` at none of them where the mask shows that no mode
 /// conflicts. A name is found by its hash, and `keep` takes a logarithmic number of looks at transactions beside that.
 /// `release` goes over the transaction's own names. `copy` goes over all locks and puts them in order.
-#[derive(Drop)]
 pub struct Buckets {
     alloc: Global,
     names: Names,
@@ -267,5 +266,16 @@ impl Holdings for Buckets {
 
     fn copy(&self, alloc: Global) -> Result<Vec<((Name, Txn), Mode)>, Memory> {
         all_locks(alloc, &self.names)
+    }
+}
+
+/// By hand, so that crates above call it by its contract and don't prove a destructor of their own.
+impl Drop for Buckets {
+    fn drop(self) {
+        let Buckets {
+            alloc: _,
+            names: _,
+            held: _,
+        } = self;
     }
 }

@@ -18,7 +18,6 @@ type Lock = ((Name, Txn), Mode);
 ///
 /// `own`, `test` and `blockers` find the name by bisection, and look at no lock on another name. `keep` finds the place
 /// by bisection, and moves the locks behind it where one comes or goes. `release` and `copy` go over the list once.
-#[derive(Drop)]
 pub struct List {
     held: Vec<Lock>,
 }
@@ -203,5 +202,12 @@ impl Holdings for List {
 
     fn copy(&self, alloc: Global) -> Result<Vec<((Name, Txn), Mode)>, Memory> {
         Vec::from_slice(alloc, &self.held)
+    }
+}
+
+/// By hand, so that crates above call it by its contract and don't prove a destructor of their own.
+impl Drop for List {
+    fn drop(self) {
+        let List { held: _ } = self;
     }
 }
