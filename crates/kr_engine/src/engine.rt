@@ -20,7 +20,6 @@ use std::sync::{Mutex, Wait};
 
 /// A machine under one lock, with a row of places for its history. Threads do the steps of transactions by its seats, and
 /// read the row by watches.
-#[derive(Drop)]
 pub struct Engine<P: Covered, K: EngineName> {
     pub(crate) alloc: Global,
     pub(crate) row: PlaceRow,
@@ -143,5 +142,17 @@ impl<P: Covered, K: EngineName> Engine<P, K> {
             }
             Err(_) => self.queues.wake_all(),
         }
+    }
+}
+
+/// By hand, so that crates above call it by its contract and don't prove a destructor of their own.
+impl<P: Covered, K: EngineName> Drop for Engine<P, K> {
+    fn drop(self) {
+        let Engine {
+            alloc: _,
+            row: _,
+            core: _,
+            queues: _,
+        } = self;
     }
 }

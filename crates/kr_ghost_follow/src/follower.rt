@@ -21,7 +21,6 @@ use std::mem::replace;
 ///
 /// It keeps no line. A line looks at all names once a key may be a ghost, and copies a state for each ghost whose purge may
 /// matter to it.
-#[derive(Drop)]
 pub struct Follower<'a, P: GhostProtocol> {
     /// Of the states that stand the one with the fewest purges.
     first: Stand<'a, P>,
@@ -140,6 +139,21 @@ impl<'a, P: GhostProtocol> Follower<'a, P> {
         ensures { result ≡ self.now.cut }
     {
         self.cut
+    }
+}
+
+/// By hand, so that crates above call it by its contract and don't prove a destructor of their own.
+impl<'a, P: GhostProtocol> Drop for Follower<'a, P> {
+    fn drop(self) {
+        let Follower {
+            first: _,
+            others: _,
+            queued: _,
+            found: _,
+            cut: _,
+            may_purge: _,
+            lost: _,
+        } = self;
     }
 }
 

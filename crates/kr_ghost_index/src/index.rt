@@ -29,7 +29,6 @@ pub struct Look {
 ///
 /// It counts the changes of each key that can still be undone: a key with such a change is never purged. `pairs`, `ghosts` and
 /// `try_copy` look at all names, and each other call at a logarithmic number of them.
-#[derive(Drop)]
 pub struct GhostIndex {
     slots: BTreeMap<u64, Slot>,
 }
@@ -195,5 +194,12 @@ impl GhostIndex {
         ensures absent { (k : ℕ) → among self.now.ghosts k ≡ true → get self.now.map k ≡ None }
     {
         let _ = &self.slots;
+    }
+}
+
+/// By hand, so that crates above call it by its contract and don't prove a destructor of their own.
+impl Drop for GhostIndex {
+    fn drop(self) {
+        let GhostIndex { slots: _ } = self;
     }
 }

@@ -25,7 +25,6 @@ use std::marker::Model;
 /// An index with ghosts under a locking protocol, with the locks of its transactions and how each stands.
 ///
 /// Contracts see its protocol, and its state between two moves.
-#[derive(Drop)]
 pub struct GhostStepper<P: GhostProtocol, L: Holdings> {
     pub(crate) protocol: P,
     pub(crate) index: GhostIndex,
@@ -179,6 +178,19 @@ impl<P: GhostProtocol, L: Holdings> GhostStepper<P, L> {
         ensures { IfOk result (λ txns. txns ≡ map (λ a. a.0) self.now.state.state.active) }
     {
         kr_txn::numbers(*self.active.allocator(), &self.active)
+    }
+}
+
+/// By hand, so that crates above call it by its contract and don't prove a destructor of their own.
+impl<P: GhostProtocol, L: Holdings> Drop for GhostStepper<P, L> {
+    fn drop(self) {
+        let GhostStepper {
+            protocol: _,
+            index: _,
+            locks: _,
+            ended: _,
+            active: _,
+        } = self;
     }
 }
 

@@ -12,7 +12,7 @@ use kr_table::Table;
 
 /// A table with ghosts that was read: its modes, what its rows request, and what becomes of the locks on a ghost that is purged. It
 /// takes memory only where it is read.
-#[derive(Debug, Drop)]
+#[derive(Debug)]
 pub struct GhostTable {
     pub(crate) table: Table,
     pub(crate) revive: Option<(Mode, Span)>,
@@ -102,4 +102,15 @@ impl GhostProtocol for GhostTable {
     ghost tables = { λ t. refl };
 
     ghost lawful_ghosts = { λ t. lawful_ghosts_of (data_of t.table t.revive t.heirs) t.table.lawful t.revives t.leaves };
+}
+
+/// By hand, so that crates above call it by its contract and don't prove a destructor of their own.
+impl Drop for GhostTable {
+    fn drop(self) {
+        let GhostTable {
+            table: _,
+            revive: _,
+            heirs: _,
+        } = self;
+    }
 }

@@ -25,7 +25,6 @@ use std::marker::Model;
 /// Contracts see its protocol, its state between two steps, the log of the steps so far, and the event of a step that is
 /// ready and not yet done. While a step is ready the machine has taken what the step needs, and the state is seen as
 /// without it.
-#[derive(Drop)]
 pub struct Machine<P: Protocol, I: Ordered, L: Holdings> {
     /// The programs so far, and the committed ones.
     log: Log,
@@ -238,5 +237,16 @@ impl<P: Protocol, I: Ordered, L: Holdings> Machine<P, I, L> {
         self.log.note(ready.event, noted);
         let _ = self.stepper.finish(ready);
         told
+    }
+}
+
+/// By hand, so that crates above call it by its contract and don't prove a destructor of their own.
+impl<P: Protocol, I: Ordered, L: Holdings> Drop for Machine<P, I, L> {
+    fn drop(self) {
+        let Machine {
+            log: _,
+            due: _,
+            stepper: _,
+        } = self;
     }
 }

@@ -24,7 +24,6 @@ use std::marker::Model;
 ///
 /// Contracts see its protocol, its state between two steps, and the event of a step that is ready and not yet done.
 /// While a step is ready it has taken what the step needs, and the state is seen as without it.
-#[derive(Drop)]
 pub struct Stepper<P: Protocol, I: Ordered, L: Holdings> {
     /// The transactions that have ended, with room for each active one and for that of a pending step.
     pub(crate) ended: Ended,
@@ -294,5 +293,19 @@ impl<P: Protocol, I: Ordered, L: Holdings> Stepper<P, I, L> {
             }
         }
         reply
+    }
+}
+
+/// By hand, so that crates above call it by its contract and don't prove a destructor of their own.
+impl<P: Protocol, I: Ordered, L: Holdings> Drop for Stepper<P, I, L> {
+    fn drop(self) {
+        let Stepper {
+            ended: _,
+            active: _,
+            pending: _,
+            protocol: _,
+            index: _,
+            locks: _,
+        } = self;
     }
 }

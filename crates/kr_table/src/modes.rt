@@ -8,7 +8,7 @@ use std::marker::Model;
 
 /// 1 to 15 modes by name, with their compatibility and their conversion. The mode at place `i` of
 /// the names is `i + 1`, and 0 is no lock. No call takes memory.
-#[derive(Debug, Drop)]
+#[derive(Debug)]
 pub struct Modes {
     names: Vec<String>,
     compatible: Vec<bool>,
@@ -189,5 +189,17 @@ impl Modes {
             }
         }
         None
+    }
+}
+
+/// By hand, so that crates above call it by its contract and don't prove a destructor of their own.
+impl Drop for Modes {
+    fn drop(self) {
+        let Modes {
+            names: _,
+            compatible: _,
+            conversion: _,
+            rows: _,
+        } = self;
     }
 }

@@ -26,7 +26,6 @@ use std::marker::Model;
 ///
 /// It keeps no line: the index, the locks, since which lines they are held, what is waited for, the active transactions,
 /// and the numbers of those that have ended.
-#[derive(Drop)]
 pub struct Follower<'a, P: Protocol> {
     /// The table.
     protocol: &'a P,
@@ -127,6 +126,22 @@ impl<'a, P: Protocol> Follower<'a, P> {
         ensures { result ≡ (let at = (self.now.following).at in at.queued) }
     {
         self.queued
+    }
+}
+
+/// By hand, so that crates above call it by its contract and don't prove a destructor of their own.
+impl<'a, P: Protocol> Drop for Follower<'a, P> {
+    fn drop(self) {
+        let Follower {
+            protocol: _,
+            stepper: _,
+            scans: _,
+            notes: _,
+            waiting: _,
+            queued: _,
+            found: _,
+            lost: _,
+        } = self;
     }
 }
 

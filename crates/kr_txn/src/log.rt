@@ -13,7 +13,6 @@ use std::marker::Model;
 /// The programs so far of the transactions that haven't ended, and the committed programs in the order of their commits.
 ///
 /// Contracts see the log, and the transaction whose next operation and end have their memory.
-#[derive(Drop)]
 pub struct Log {
     /// Those that haven't ended, rising by number.
     unfinished: Vec<Unfinished>,
@@ -109,5 +108,16 @@ impl Log {
             ready: _,
         } = self;
         Programs::from_vec(committed)
+    }
+}
+
+/// By hand, so that crates above call it by its contract and don't prove a destructor of their own.
+impl Drop for Log {
+    fn drop(self) {
+        let Log {
+            unfinished: _,
+            committed: _,
+            ready: _,
+        } = self;
     }
 }
