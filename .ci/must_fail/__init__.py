@@ -12,4 +12,6 @@
     ledger.py    .ci/refused, and which edits the gate tries
     tree.py      the crates and edits of the repository
     command.py   the command .ci/edits
+
+Its tests: python3 -B -m unittest discover -s tests/edits
 """

@@ -38,9 +38,9 @@ class Texts:
 
     def sum_of(self, edit, text=None):
         """The checksum of an edit, or of one with this text in its place."""
-        text, own = edit.text if text is None else text, self.whole_of(edit)
-        reached = self.reached_from([*own, text.decode()])
-        return sum_of([text, *(it.encode() for it in own), b'', *(it.encode() for it in reached)])
+        own = self.whole_of(edit)
+        reached = self.reached_from([*own, *(new for _, _, new in edit.changes)])
+        return sum_of([edit.text if text is None else text, *(it.encode() for it in own), b'', *(it.encode() for it in reached)])
 
     def whole_of(self, edit):
         """The texts that count whole: of what the edit changes, of the function that it names, and of their proof files."""

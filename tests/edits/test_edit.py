@@ -63,9 +63,8 @@ class Edits(unittest.TestCase):
         }.items():
             with self.assertRaisesRegex(Fault, why):
                 self.edit('a', text)
-        self.edit_that_cannot_be_read()
 
-    def edit_that_cannot_be_read(self):
+    def test_edits_that_cannot_be_read(self):
         self.small.put('crates/kr_small/must-fail/a.edit', 'old: x\nnew: y\n')
         self.small.put('crates/kr_small/must-fail/b.edit', 'file: src/none.rt\nold: x\nnew: y\n')
         edits, faults = edits_of(names_of(self.small.top))
