@@ -10,7 +10,7 @@ from pathlib import Path
 
 from .check import Crate
 from .checksum import Texts
-from .ledger import BUCKETS, Ledger, Line, bucket_now, bucket_of
+from .ledger import BUCKETS, Ledger, Line, bucket_now, buckets_of
 from .naming import name_goals
 from .tree import TOP, crates_of, edits_of, is_one_of, kit, names_of
 from .trying import tried
@@ -42,6 +42,7 @@ class Run:
         self.given, self.ledger = given, Ledger(TOP / '.ci/refused')
         self.listed = crates_of((TOP / 'crates.txt').read_text())
         self.names = names_of(TOP)
+        self.buckets = buckets_of(self.names)
         self.edits, self.faults = edits_of({name: it for name, it in self.names.items() if not given.edits or is_one_of(name, given.edits)})
         self.before = {}  # of each edit its checksum and its text
         for crate, of_crate in self.edits.items():
@@ -67,7 +68,7 @@ class Run:
         if self.given.all or self.given.edits:
             return 'as all are' if self.given.all else 'as they are named'
         why = self.ledger.why_tried(edit.name, self.before[edit.name][0])
-        return why or ('of the sample' if bucket_of(edit.name) == sample else '')
+        return why or ('of the sample' if self.buckets[edit.name] == sample else '')
 
     def sample(self):
         """Which twentieth of the edits the gate tries beside those of no line that fits."""

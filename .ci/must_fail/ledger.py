@@ -64,9 +64,14 @@ def read(path):
     return all_edits, lines
 
 
-def bucket_of(name):
-    """In which twentieth of the edits an edit is."""
-    return int(hashlib.sha256(name.encode()).hexdigest(), 16) % BUCKETS
+def buckets_of(names):
+    """In which twentieth each of these edits is. The edits of a crate stand together, since one check tries them, and reads once what
+    the crate stands on."""
+    def place(text):
+        return hashlib.sha256(text.encode()).hexdigest()
+
+    order = sorted(names, key=lambda it: (place(it.partition('/')[0]), place(it)))
+    return {name: at * BUCKETS // len(order) for at, name in enumerate(order)}
 
 
 def bucket_now(commit, ledger):

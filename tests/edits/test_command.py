@@ -9,7 +9,7 @@ import unittest
 from small import FILES, Small
 from must_fail.checksum import Texts
 from must_fail.edit import Edit
-from must_fail.ledger import BUCKETS, bucket_now, bucket_of
+from must_fail.ledger import BUCKETS, bucket_now, buckets_of
 
 NAMES = ['adds-nothing', 'cheap', 'forgets-most', 'takes-twice']
 DAY = '2020-01-01'
@@ -161,7 +161,7 @@ class Command(unittest.TestCase):
     def test_a_line_by_hand_is_found_out_when_its_turn_comes(self):
         """Of an edit that the prover lets through."""
         self.lets_through('Till::add')
-        own = bucket_of('kr_small/takes-twice')
+        own = buckets_of(f'kr_small/{it}' for it in NAMES)['kr_small/takes-twice']
         for bucket in own, (own + 1) % BUCKETS:
             self.write_for(bucket)
             status, said = self.run_edits('--gate')
@@ -173,7 +173,7 @@ class Command(unittest.TestCase):
     def test_a_commit_chooses_the_sample(self):
         self.lets_through('Till::add')
         self.write_all()
-        own, seen = bucket_of('kr_small/takes-twice'), set()
+        own, seen = buckets_of(f'kr_small/{it}' for it in NAMES)['kr_small/takes-twice'], set()
         self.git('init', '-q')
         for it in range(200):
             self.git('commit', '-q', '--allow-empty', '-m', f'{it}')

@@ -5,7 +5,7 @@ import unittest
 from pathlib import Path
 
 import small  # noqa: F401
-from must_fail.ledger import BUCKETS, Ledger, Line, bucket_now, bucket_of
+from must_fail.ledger import BUCKETS, Ledger, Line, bucket_now, buckets_of
 
 ALL = '# All 2 edits were tried on 2026-11-30 with rattle-kit-1 (logic 0123).\n'
 
@@ -70,11 +70,17 @@ class Sample(unittest.TestCase):
         self.assertGreater(len({bucket_now('', b'%d' % it) for it in range(100)}), BUCKETS // 2)
 
     def test_each_edit_is_in_one_of_equal_parts(self):
-        counts = [0] * BUCKETS
-        for it in range(20000):
-            counts[bucket_of(f'kr_a/edit-{it}')] += 1
-        self.assertTrue(all(900 < it < 1100 for it in counts), counts)
-        self.assertEqual(bucket_of('kr_a/b'), bucket_of('kr_a/b'))
+        names = [f'kr_{crate}/edit-{it}' for crate in range(30) for it in range(10 + crate)]
+        buckets = buckets_of(names)
+        self.assertEqual(buckets, buckets_of(reversed(names)))
+        counts = [list(buckets.values()).count(it) for it in range(BUCKETS)]
+        self.assertEqual(sum(counts), len(names))
+        self.assertLessEqual(max(counts) - min(counts), 1)
+
+    def test_the_edits_of_a_crate_stand_together(self):
+        buckets = buckets_of([f'kr_{crate}/edit-{it}' for crate in range(40) for it in range(20)])
+        for crate in range(40):
+            self.assertLessEqual(len({bucket for name, bucket in buckets.items() if name.startswith(f'kr_{crate}/')}), 2)
 
 
 if __name__ == '__main__':
