@@ -8,7 +8,6 @@ use kr_decide::Survey;
 use kr_explain_causes::{Cause, Mend};
 
 /// What is said of a table, and where cases of it fail, why.
-#[derive(Drop)]
 pub enum Explanation {
     /// All cases hold, so many.
     Accepted { cases: usize },
@@ -73,4 +72,15 @@ pub struct Explained {
     /// The changes that mend it, of those that were tried; or `None` where none was tried, since so many causes come before
     /// it.
     pub mend: Option<Mend>,
+}
+
+/// By hand, so that crates above call it by its contract and don't prove a destructor of their own.
+impl Drop for Explanation {
+    fn drop(self) {
+        match self {
+            Explanation::Accepted { cases: _ } => {}
+            Explanation::Safe(_) => {}
+            Explanation::Rejected(_) => {}
+        }
+    }
 }
