@@ -79,8 +79,8 @@ impl Drop for Explanation {
     fn drop(self) {
         match self {
             Explanation::Accepted { cases: _ } => {}
-            Explanation::Safe(_) => {}
-            Explanation::Rejected(_) => {}
+            Explanation::Safe(_failures) => {}
+            Explanation::Rejected(_failures) => {}
         }
     }
 }

@@ -65,8 +65,8 @@ impl Drop for GhostExplanation {
     fn drop(self) {
         match self {
             GhostExplanation::Accepted { cases: _ } => {}
-            GhostExplanation::Safe(_) => {}
-            GhostExplanation::Rejected(_) => {}
+            GhostExplanation::Safe(_failures) => {}
+            GhostExplanation::Rejected(_failures) => {}
         }
     }
 }
