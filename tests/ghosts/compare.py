@@ -280,7 +280,7 @@ def main():
     seed, tables, runs = (int(it) for it in [*sys.argv[1:], *('1', '20', '4')[len(sys.argv) - 1 :]])
     text, wrong, counts = laws(seed, tables, runs)
     folder = pathlib.Path(tempfile.mkdtemp())
-    subprocess.run([TOP / '.ci/copy-of', folder, 'kr_ghost'], check=True)
+    subprocess.run([TOP / 'tools/copy-of', folder, 'kr_ghost'], check=True)
     proofs = folder / 'crates/kr_ghost/proofs'
     (proofs / 'Compared.antt').write_text(text)
     with (proofs / 'Lib.antt').open('a') as lib:
