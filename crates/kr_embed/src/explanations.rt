@@ -8,7 +8,7 @@ use crate::tables::table_in;
 use kr_explain_core::explain;
 use std::alloc::Global;
 
-/// Whether the table that the bytes are is safe, accepted or not, and the text that says why, as `kr_explain` prints it of a
+/// Whether the table that the bytes are is safe, accepted or not, and the text that says why, as `kr explain` prints it of a
 /// file named `table`.
 pub fn explain_bytes(alloc: Global, table: &[u8]) -> Result<(bool, String), Fault>
     ensures explained { IfOk result (λ told. IsExplanation table.now told.0 (string_bytes told.1)) }

@@ -27,4 +27,4 @@ rejected_words false failed cases = codes "not known to be safe: " ++ (decimal f
 -- The commands that run the schedule of a cause, of the table that a word names, behind an empty line.
 abbrev pub command_words : List ℕ → List ℕ
 command_words word =
-    codes "\n\nTo replay the schedule of cause N:\n    kr_explain " ++ (word ++ (codes " --script N >schedule.json\n    kr run " ++ (word ++ codes " schedule.json")))
+    codes "\n\nTo replay the schedule of cause N:\n    kr explain " ++ (word ++ (codes " --script N >schedule.json\n    kr run " ++ (word ++ codes " schedule.json")))

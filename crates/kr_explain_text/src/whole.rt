@@ -58,7 +58,7 @@ pub fn command_text(alloc: Global, word: &str) -> Result<String, Memory>
     joined(
         alloc,
         &[
-            "\n\nTo replay the schedule of cause N:\n    kr_explain ",
+            "\n\nTo replay the schedule of cause N:\n    kr explain ",
             word,
             " --script N >schedule.json\n    kr run ",
             word,

@@ -25,7 +25,7 @@ AreTitled names n (c ∷ cs) text =
 -- The commands that run the schedule, of the table that a word names, behind an empty line.
 abbrev pub replay_words : List ℕ → List ℕ
 replay_words word =
-    codes "\n\nTo replay the schedule:\n    kr_explain " ++ (word ++ (codes " --script 1 >schedule.json\n    kr run " ++ (word ++ codes " schedule.json")))
+    codes "\n\nTo replay the schedule:\n    kr explain " ++ (word ++ (codes " --script 1 >schedule.json\n    kr run " ++ (word ++ codes " schedule.json")))
 
 -- What is said behind the causes of a table that isn't safe: the schedule that goes wrong, and behind it how to run it; or that none was found.
 abbrev pub IsEnd : {A : Type 0} → List ℕ → Option A → List ℕ → Type 0

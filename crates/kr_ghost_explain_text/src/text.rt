@@ -126,7 +126,7 @@ fn with_commands(alloc: Global, run: &str, word: &str) -> Result<String, Memory>
         alloc,
         &[
             run,
-            "\n\nTo replay the schedule:\n    kr_explain ",
+            "\n\nTo replay the schedule:\n    kr explain ",
             word,
             " --script 1 >schedule.json\n    kr run ",
             word,

@@ -1,4 +1,4 @@
-//! A part of a trace as a text: its steps, as `kr_explain` writes those of a run; how it differs from what a table answers, in
+//! A part of a trace as a text: its steps, as `kr explain` writes those of a run; how it differs from what a table answers, in
 //! a sentence; and whether its answers are serializable, in another.
 #![tactic(auto)]
 

@@ -1,4 +1,4 @@
-//! The steps of a part as a table, as `kr_explain` writes those of a run.
+//! The steps of a part as a table, as `kr explain` writes those of a run.
 ghost use Rattle.std.specs.Prelude.{◌≡◌, ◌++◌, IfOk, OnOk, string_bytes};
 ghost use Rattle.kr_explain_text.specs.Steps.{rows_of, texts};
 ghost use Rattle.kr_trace_text.specs.Steps.{head_cells, is_marked, step_cells, step_rows, steps_text};

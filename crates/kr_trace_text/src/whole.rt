@@ -89,7 +89,7 @@ fn marked_by(deviation: Option<&Deviation>) -> Option<u64>
     }
 }
 
-/// A part with this number, as `kr_explain` writes a run: the index with which it begins; its steps, each with the number of its
+/// A part with this number, as `kr explain` writes a run: the index with which it begins; its steps, each with the number of its
 /// line and the engine's answer, and a mark at the line that differs from what the table answers; and in a sentence how it
 /// differs, with each lock in the way, or that none does. There is no line feed at the end. The error is memory alone.
 pub fn part_text<P: Protocol>(

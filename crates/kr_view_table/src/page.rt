@@ -19,7 +19,7 @@ use std::alloc::Global;
 /// The page of a protocol, whose table has this name, and whether the table is safe, accepted or not.
 ///
 /// The page is HTML that stands alone. It has the name as its title and heading, and then the verdict, in the words of
-/// `kr_explain`: accepted, safe, or rejected exactly where the table is. Below that are its two matrices, with a cell for each
+/// `kr explain`: accepted, safe, or rejected exactly where the table is. Below that are its two matrices, with a cell for each
 /// two modes; a row for each operation, with what it requests; a row for each mode, with what it protects; and a block for
 /// each cause, with its title, and a band for each step of its schedule, if it has one and is among the first 16. An entry
 /// that a cause blames has its number. No text of the table is markup. The only error is that a growth was refused.

@@ -16,7 +16,7 @@ pub const MOST_DRAWN: usize = 16;
 
 /// What stands in place of the schedule of a cause that comes behind them.
 pub const UNDRAWN: &str =
-    "<p class=\"limit\">The schedules of the first 16 causes are drawn. kr_explain prints that of this one.</p>\n";
+    "<p class=\"limit\">The schedules of the first 16 causes are drawn. kr explain prints that of this one.</p>\n";
 
 /// The schedule of the cause of a number, if it has one.
 pub fn schedule<P: Protocol>(
