@@ -1,6 +1,6 @@
 #!/usr/bin/env bash
 # Wall time and processor time of `kr judge @kvl` on 4,096 scripts of 50 steps, on 1, 2 and 4 processors: the best of 20
-# runs of the whole process, reading included. The scripts are the same each time. Build first, by any run of ./kr.
+# runs of the whole process, reading included. The scripts are the same each time. Build first, by `./build`.
 set -eu
 top=$(cd "$(dirname "${BASH_SOURCE[0]}")/.." && pwd)
 kr=$top/crates/kr/out/kr

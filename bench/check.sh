@@ -1,6 +1,6 @@
 #!/usr/bin/env bash
 # Mean processor time of `kr check` on a table of fifteen modes, accepted and rejected, over 200 runs of the program each.
-# Build first, by any run of ./kr. The time is user and system time of the whole process, start and reading included.
+# Build first, by `./build`. The time is user and system time of the whole process, start and reading included.
 set -eu
 top=$(cd "$(dirname "${BASH_SOURCE[0]}")/.." && pwd)
 for table in fifteen-modes-accepted fifteen-modes-rejected; do

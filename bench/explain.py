@@ -1,6 +1,6 @@
 #!/usr/bin/env python3
-"""Measures `kr_explain` on changed tables and on tables of fifteen modes, and prints what bench/README.md tells:
-bench/explain.py [SEED [TABLES]], 1 and 60 if none are given. Build first, by any run of ./kr_explain.
+"""Measures `kr explain` on changed tables and on tables of fifteen modes, and prints what bench/README.md tells:
+bench/explain.py [SEED [TABLES]], 1 and 60 if none are given. Build first, by `./build`.
 
 For each bundled table so many tables are made that differ from it in one entry, and as many of fifteen modes that are drawn
 at random; of these the ones that are rejected count. A line has how many they are, the greatest processor time (user and
@@ -17,7 +17,7 @@ TOP = os.path.dirname(os.path.dirname(os.path.abspath(__file__)))
 sys.path.insert(0, os.path.join(TOP, "tests", "second"))
 from samples import Draft
 
-EXPLAIN = os.path.join(TOP, "crates", "kr_explain", "out", "kr_explain")
+KR = os.path.join(TOP, "crates", "kr", "out", "kr")
 BUNDLED = ["im", "kvl", "kvl-update", "range-key"]
 BOUNDS = ["; not tried: ", " Tried: ", "No fix was tried"]  # what a text says of what was left out
 
@@ -25,7 +25,7 @@ BOUNDS = ["; not tried: ", " Tried: ", "No fix was tried"]  # what a text says o
 def explained(table):
     """The processor time in seconds, the status and the text of one run, on one line."""
     with tempfile.NamedTemporaryFile("w+") as text:
-        child = subprocess.Popen([EXPLAIN, table], stdout=text)
+        child = subprocess.Popen([KR, "explain", table], stdout=text)
         _, status, used = os.wait4(child.pid, 0)
         child.returncode = os.waitstatus_to_exitcode(status)
         if child.returncode not in (0, 1):

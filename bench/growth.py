@@ -1,6 +1,6 @@
 #!/usr/bin/env python3
 """Measures `kr run @kvl` on the scripts of bench/scripts.py, and prints the table of bench/README.md:
-bench/growth.py [KIND..], all kinds where none is named. Build first, by any run of ./kr.
+bench/growth.py [KIND..], all kinds where none is named. Build first, by `./build`.
 
 A row has the processor time (user and system) of the whole process at 10,000 and at 100,000 steps, the least of seven
 runs, its start and the reading of the script included; the growth, which is the slope of log time over log size between

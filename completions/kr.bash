@@ -1,4 +1,4 @@
-# Completions of kr, kr_explain, kr_view, kr_trace, kr_suite and kr_relax for bash.
+# Completions of kr for bash.
 
 _kr_files() { # files of this kind, and folders
   compopt -o filenames
@@ -6,7 +6,7 @@ _kr_files() { # files of this kind, and folders
   mapfile -t -O "${#COMPREPLY[@]}" COMPREPLY < <(compgen -d -- "$cur")
 }
 
-_kr_table() { # and these options; a name that begins with @ is no file's
+_kr_table() { # and these words; a name that begins with @ is no file's
   _kr_words @kvl @kvl-update @im @range-key "$@"
   [[ $cur == @* ]] || _kr_files .toml
 }
@@ -15,32 +15,28 @@ _kr_words() { mapfile -t COMPREPLY < <(compgen -W "$*" -- "$cur"); }
 
 _kr() {
   local cur words=() it after=
+  local ghosts='@record-gap @range-ghost @next-key-ghost' about='--help -h --version'
   COMPREPLY=()
   for it in "${COMP_WORDS[@]:0:COMP_CWORD+1}"; do # bash may part a word behind an @
     if [ "$after" = @ ]; then words[-1]+=$it; else words+=("$it"); fi
     after=$it
   done
   cur=${words[-1]}
-  case ${words[0]##*/}.${#words[@]}.${words[1]} in
-  kr.2.*) _kr_words check run judge threads ;;
-  kr.3.check | kr.3.run | kr.3.judge | kr.3.threads) _kr_table @record-gap @range-ghost @next-key-ghost ;;
-  kr.4.run | kr.4.threads | kr.*.judge) _kr_files .json ;;
-  kr.5.threads) _kr_words --workers ;;
-  kr_explain.2.* | kr_view.2.*) _kr_table @record-gap @range-ghost @next-key-ghost --help -h --version ;;
-  kr_suite.2.* | kr_relax.2.*) _kr_table --help -h --version ;;
-  kr_explain.3.-*) ;;
-  kr_explain.3.*) _kr_words --script ;;
-  kr_view.3.-*) ;;
-  kr_view.3.*) _kr_files .json ;;
-  kr_trace.2.*) _kr_table @record-gap @range-ghost @next-key-ghost --serial --some-order --help -h --version ;;
-  kr_trace.3.-h | kr_trace.3.--help | kr_trace.3.--version) ;;
-  kr_trace.3.*) _kr_files .trace ;;
-  kr_trace.4.-*) ;;
-  kr_trace.4.*) _kr_words --tell ;;
-  kr_suite.3.-*) ;;
-  kr_suite.3.*) _kr_words --left ;;
-  kr_relax.3.-*) ;;
-  kr_relax.3.*) _kr_words --write --why ;;
+  case ${#words[@]}.${words[1]}.${words[2]} in
+  2.* | 3.help.*) _kr_words check run judge threads explain view trace suite relax help version ;;
+  3.check.* | 3.run.* | 3.judge.* | 3.threads.*) _kr_table $ghosts ;;
+  3.explain.* | 3.view.*) _kr_table $ghosts $about ;;
+  3.trace.*) _kr_table $ghosts --serial --some-order $about ;;
+  3.suite.* | 3.relax.*) _kr_table $about ;;
+  4.trace.--serial | 4.trace.--some-order) _kr_files .trace ;;
+  *.explain.-* | *.view.-* | *.trace.-* | *.suite.-* | *.relax.-*) ;;
+  4.run.* | 4.threads.* | *.judge.* | 4.view.*) _kr_files .json ;;
+  5.threads.*) _kr_words --workers ;;
+  4.explain.*) _kr_words --script ;;
+  4.trace.*) _kr_files .trace ;;
+  5.trace.*) _kr_words --tell ;;
+  4.suite.*) _kr_words --left ;;
+  4.relax.*) _kr_words --write --why ;;
   esac
 }
-complete -F _kr kr kr_explain kr_view kr_trace kr_suite kr_relax
+complete -F _kr kr

@@ -136,7 +136,7 @@ int kr_check(const void *table, size_t table_length, void *text, size_t room, si
 int kr_decide(const void *table, size_t table_length, void *text, size_t room, size_t *length);
 
 /* Explains a table. KR_OK: it is safe, accepted or not. KR_NO: it is rejected, or not known to be safe. The text is what
-   `kr_explain` prints of a file named `table`, to its last line feed: the verdict, and where cases fail, each cause, with a
+   `kr explain` prints of a file named `table`, to its last line feed: the verdict, and where cases fail, each cause, with a
    schedule that goes wrong where one is known, and what mends it.
    Also KR_TABLE with the fault's line, KR_NOMEM, KR_MISUSE. */
 int kr_explain(const void *table, size_t table_length, void *text, size_t room, size_t *length);

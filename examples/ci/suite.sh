@@ -1,16 +1,15 @@
 #!/usr/bin/env bash
 # A job for continuous integration: does the tests of a table on an engine, as docs/SUITE.md has them.
 #
-#     suite.sh KR_SUITE KR_TRACE TABLE ADAPTER [WORD..]
+#     suite.sh KR TABLE ADAPTER [WORD..]
 #
-# The first two are programs, crates/kr_suite/out/kr_suite and crates/kr_trace/out/kr_trace. ADAPTER is called with the words: it
-# reads the suite of TABLE, does its steps on the engine, and prints each with the engine's reply. It may leave out the parts with a
-# step `back`. Prints the report of each part that fails, and how many parts were done. Status 0 where each reply is the table's,
-# whatever entries the suite leaves; 1 where one differs; 2 at a fault of the table or of what the adapter prints, where it fails,
-# or where it leaves out a step.
+# KR is the program, crates/kr/out/kr. ADAPTER is called with the words: it reads the suite of TABLE, does its steps on the engine, and
+# prints each with the engine's reply. It may leave out the parts with a step `back`. Prints the report of each part that fails, and
+# how many parts were done. Status 0 where each reply is the table's, whatever entries the suite leaves; 1 where one differs; 2 at a
+# fault of the table or of what the adapter prints, where it fails, or where it leaves out a step.
 set -uo pipefail
-suiter=$1 tracer=$2 table=$3
-shift 3
+kr=$1 table=$2
+shift 2
 
 fault() {
   echo "suite.sh: $*" >&2
@@ -20,10 +19,10 @@ fault() {
 # How many steps the parts without a step `back` have.
 steps() { awk '/^{/ { all += back ? 0 : n; n = back = 0 } /^\[/ { n++ } /"back"/ { back = 1 } END { print all + (back ? 0 : n) }' <<<"$1"; }
 
-suite=$("$suiter" "$table")
+suite=$("$kr" suite "$table")
 [ $? -le 1 ] || exit 2
 trace=$("$@" <<<"$suite") || fault "$1 ends with status $?"
-report=$("$tracer" "$table" /dev/stdin <<<"$trace")
+report=$("$kr" trace "$table" /dev/stdin <<<"$trace")
 status=$?
 grep -ve '^$' -e '"conforms":\["yes"\].*"verdict":\["serial"\]' <<<"$report"
 [ $status -le 1 ] || exit 2

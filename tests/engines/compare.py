@@ -1,5 +1,5 @@
 #!/usr/bin/env python3
-"""Compares kr_trace (KR_TRACE in the environment, or the built one) with kr_trace.py, which is written from docs/TRACES.md alone:
+"""Compares kr trace (of KR in the environment, or the built one) with second_trace.py, which is written from docs/TRACES.md alone:
 on random traces both have to print the same bytes and end with the same status.
 
     compare.py [--parts N] [--seed N]     so many parts, by default 3,000, ten under each random table
@@ -21,14 +21,14 @@ import tempfile
 
 sys.dont_write_bytecode = True
 
-import kr_trace
+import second_trace
 from engine import WAYS
-from kr_trace import MOST_TRIED
 from lines import DEEPEST, ENDS, is_reply
 from program import TOP, said_of, text_of
 from runner import Run
 from samples import Draft, Script
 from schedule import Schedule
+from second_trace import MOST_TRIED
 from table import Table
 
 TEXTS = ['a gap', 'Größe', '"', '\\', '\n', '\x7f', '', '\U0001f512', '</script>']
@@ -48,13 +48,13 @@ class Differs(Exception):
 
 
 def said_by_second(word, trace):
-    """What kr_trace.py prints, with its status."""
-    out, table = io.StringIO(), None if word[0] == '-' else kr_trace.table_at(word)
+    """What second_trace.py prints, with its status."""
+    out, table = io.StringIO(), None if word[0] == '-' else second_trace.table_at(word)
     try:
-        held = kr_trace.hold(table, io.BytesIO(trace), out, word == '--some-order')
+        held = second_trace.hold(table, io.BytesIO(trace), out, word == '--some-order')
         return out.getvalue(), '', 0 if held else 1
-    except kr_trace.Fault as fault:
-        return out.getvalue(), f'kr_trace: /dev/stdin: fault {fault.args[0]} at {fault.args[1]}\n', 2
+    except second_trace.Fault as fault:
+        return out.getvalue(), f'kr: /dev/stdin: fault {fault.args[0]} at {fault.args[1]}\n', 2
 
 
 # Traces --------------------------------------------------------------------------------------------------------------------

@@ -1,5 +1,5 @@
 #!/usr/bin/env python3
-"""Holds the planted engines with kr_trace (KR_TRACE in the environment, or the built one): the right one conforms in each of N
+"""Holds the planted engines with kr trace (of KR in the environment, or the built one): the right one conforms in each of N
 random parts, and its answers are serializable in commit order; each wrong one, in a tenth as many parts, differs at the line
 where it first decides what the right one doesn't, in the same way, and nowhere else; and some part of each differs.
 
@@ -33,7 +33,7 @@ def parts(way, seed, count):
 
 
 def hold(way, seed, count):
-    """Whether kr_trace says of each part what it should."""
+    """Whether kr trace says of each part what it should."""
     trace, wrong = parts(way, seed, count)
     wrong = [None] * count if way == 'right' else wrong
     kinds, queued = collections.Counter(), 0
@@ -42,7 +42,7 @@ def hold(way, seed, count):
         kinds[conforms[0]] += 1
         queued += report['queued']
         if conforms[:2] != (expected or ['yes']) or not expected and report['verdict'] != ['serial']:
-            print(f'planted: {way}: with the seed {seed} it differs so: {expected}, and kr_trace says: {report}')
+            print(f'planted: {way}: with the seed {seed} it differs so: {expected}, and kr trace says: {report}')
             return False
     print(f'planted: {way}: {trace.count(10)} lines, {queued} queued', *(f'{kinds[it]} {it}' for it in sorted(kinds)), sep=', ')
     if way != 'right' and not any(wrong):

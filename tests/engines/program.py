@@ -1,4 +1,4 @@
-"""The programs that are held: those that KR_TRACE and KR in the environment name, or else the built ones."""
+"""The program that is held: the one that KR in the environment names, or else the built one."""
 
 import json
 import os
@@ -10,8 +10,8 @@ TOP = pathlib.Path(__file__).resolve().parents[2]
 TABLES = TOP / 'tables'
 
 
-def built(name):
-    path = os.environ.get(name.upper(), TOP / f'crates/{name}/out/{name}')
+def built():
+    path = os.environ.get('KR', TOP / 'crates/kr/out/kr')
     if not os.access(path, os.X_OK):
         sys.exit(f'{pathlib.Path(sys.argv[0]).name}: there is no program {path}')
     return path
@@ -23,8 +23,8 @@ def text_of(lines):
 
 
 def said_of(word, trace):
-    """What kr_trace prints of a trace, with its status."""
-    ran = subprocess.run([built('kr_trace'), word, '/dev/stdin'], input=trace, capture_output=True)
+    """What kr trace prints of a trace, with its status."""
+    ran = subprocess.run([built(), 'trace', word, '/dev/stdin'], input=trace, capture_output=True)
     return ran.stdout.decode(), ran.stderr.decode(), ran.returncode
 
 

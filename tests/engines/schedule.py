@@ -19,7 +19,7 @@ class Schedule:
     Each line is written where the engine decides, and the end of a transaction before what it lets go on.
 
     Beside the engine a right one does the same steps, until it decides one otherwise: `wrong` is then what is wrong, as
-    `kr_trace` names it, and the line."""
+    `kr trace` names it, and the line."""
 
     TRANSACTIONS, KEYS, STATEMENTS = 4, range(10, 50, 5), 6
     CHANCES = {'fetch': 25, 'insert': 25, 'delete': 18, 'update': 12, 'scan': 20}

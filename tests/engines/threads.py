@@ -1,7 +1,6 @@
 #!/usr/bin/env python3
-"""Holds the histories of `kr threads`, as those of any other engine, with kr_trace against the table under which the threads
-ran: each conforms, and is serializable in commit order. The programs are those that KR and KR_TRACE in the environment name, or
-the built ones.
+"""Holds the histories of `kr threads`, as those of any other engine, with kr trace against the table under which the threads
+ran: each conforms, and is serializable in commit order. The program is the one that KR in the environment names, or the built one.
 
     threads.py [--parts N] [--seed N]           so many random scripts of many transactions, by default 1,000, for eight
                                                 workers, a quarter of them under each table of tables/
@@ -53,7 +52,7 @@ def histories(table, count, rand):
         for _ in range(count):
             its = script(rand, 'update' in table.stem)
             path.write_text(json.dumps(its))
-            command = [built('kr'), 'threads', table, path, '--workers', str(WORKERS)]
+            command = [built(), 'threads', table, path, '--workers', str(WORKERS)]
             report = json.loads(subprocess.run(command, stdout=subprocess.PIPE, check=True).stdout)
             deadlocks += sum(cause[0] == 'deadlock' for _, _, cause in report['faults'])
             lines += trace_of(its, report)

@@ -1,16 +1,16 @@
 #!/usr/bin/env python3
-"""Holds that kr's decision is exact on the tables of corpus.py: what `kr check` and `kr_explain` say of each is compared
+"""Holds that kr's decision is exact on the tables of corpus.py: what `kr check` and `kr explain` say of each is compared
 with condition.py, and for each table that is rejected a schedule has to go wrong.
 
-    compare.py KR KR_EXPLAIN [--count N | --all]   N tables spread over the kinds, 100 if nothing is said, or all
-    compare.py --self [N]                          condition.py beside walks.py and schedules.py, on so many tables
+    compare.py KR [--count N | --all]   N tables spread over the kinds, 100 if nothing is said, or all
+    compare.py --self [N]               condition.py beside walks.py and schedules.py, on so many tables
 
 Prints a line for each kind: how many tables, which of them `kr check` accepts and rejects, how many of those that are
 rejected are safe, and how many have a schedule; `undecided` are those that aren't safe and have none. A contradiction is
-whatever the programs say otherwise than condition.py, and a schedule that doesn't go wrong, or of which a step is blocked
+whatever kr says otherwise than condition.py, and a schedule that doesn't go wrong, or of which a step is blocked
 or refused; each is printed with the table. Status 1 where there is one, or one that is undecided.
 
-With `--self` no program is run. A schedule is then what schedules.py makes, which the runner of tests/second runs, and what
+With `--self` kr is not run. A schedule is then what schedules.py makes, which the runner of tests/second runs, and what
 a search by random walks finds is counted beside it. A contradiction is also a wrong run under a table that is safe."""
 
 import collections
@@ -48,9 +48,9 @@ def expect(holds, what):
         raise Contradiction(what)
 
 
-class Programs:
-    def __init__(self, program, explainer):
-        self.program, self.explainer = (str(pathlib.Path(it).resolve()) for it in (program, explainer))
+class Program:
+    def __init__(self, program):
+        self.program = str(pathlib.Path(program).resolve())
 
     def decide(self, entry):
         """Which columns the table counts in."""
@@ -62,17 +62,16 @@ class Programs:
     def write(folder, name, text):
         (pathlib.Path(folder) / name).write_text(text)
 
-    @staticmethod
-    def ran(folder, *words):
-        ran = subprocess.run(words, cwd=folder, capture_output=True, text=True)
+    def ran(self, folder, *words):
+        ran = subprocess.run([self.program, *words], cwd=folder, capture_output=True, text=True)
         return ran.returncode, ran.stdout
 
     def decide_in(self, folder, table):
-        status, _ = self.ran(folder, self.program, 'check', 'table.toml')
+        status, _ = self.ran(folder, 'check', 'table.toml')
         expect(status in (0, 1), f'check: status {status}')
         is_accepted, safe = status == 0, is_safe(table)
         expect(safe or not is_accepted, 'accepted, and not safe')
-        status, text = self.ran(folder, self.explainer, 'table.toml')
+        status, text = self.ran(folder, 'explain', 'table.toml')
         wanted = 'accepted' if is_accepted else 'safe' if safe else 'rejected'
         first = text.partition(':')[0]
         is_open = wanted == 'rejected' and first == OPEN  # no schedule is known
@@ -89,19 +88,19 @@ class Programs:
     def script(self, folder, text):
         """The script of the first cause that has one."""
         causes = sum(line.partition('.')[0].isdigit() for line in text.splitlines())
-        scripts = (self.ran(folder, self.explainer, 'table.toml', '--script', str(n)) for n in range(1, causes + 1))
+        scripts = (self.ran(folder, 'explain', 'table.toml', '--script', str(n)) for n in range(1, causes + 1))
         return next((script for status, script in scripts if status == 1), None)
 
     def expect_wrong(self, folder, script):
         self.write(folder, 'script.json', script)
-        status, text = self.ran(folder, self.program, 'run', 'table.toml', 'script.json')
+        status, text = self.ran(folder, 'run', 'table.toml', 'script.json')
         expect(status == 1, f'the schedule ends with status {status}')
         replies = [it[0] for it in json.loads(text)['replies']]
         expect('blocked' not in replies and 'refused' not in replies, 'a step of the schedule is blocked or refused')
 
 
 def decide_by_itself(entry):
-    """The same, without the programs."""
+    """The same, without the program."""
     table = Table(entry.text)
     is_accepted, safe = corpus.failed(table) == 0, is_safe(table)
     expect(safe or not is_accepted, 'accepted, and not safe')
@@ -152,16 +151,16 @@ def main(*words):
             entries = corpus.sample(int(*count or ['100']))
             with concurrent.futures.ProcessPoolExecutor(workers) as pool:
                 return 0 if compare(decide_by_itself, entries, pool, COLUMNS) else 1
-        case [program, explainer, '--all']:
+        case [program, '--all']:
             entries = every
-        case [program, explainer, '--count', count]:
+        case [program, '--count', count]:
             entries = corpus.sample(int(count))
-        case [program, explainer]:
+        case [program]:
             entries = corpus.sample(100)
         case _:
             sys.exit(__doc__)
     with concurrent.futures.ProcessPoolExecutor(workers) as pool:
-        return 0 if compare(Programs(program, explainer).decide, entries, pool) else 1
+        return 0 if compare(Program(program).decide, entries, pool) else 1
 
 
 if __name__ == '__main__':

@@ -1,14 +1,14 @@
 #!/usr/bin/env python3
 """Holds that on ordered tables safe is exact: random ordered tables, decided by condition.py, beside the fixed schedules of
-crates/kr_theorem, which the runner of tests/second runs, walks, and what kr_explain says.
+crates/kr_theorem, which the runner of tests/second runs, walks, and what kr explain says.
 
-    ordered.py [N [KR_EXPLAIN]]   N random ordered tables, 200 if nothing is said; always the same ones
+    ordered.py [N [KR]]   N random ordered tables, 200 if nothing is said; always the same ones
 
 A mode is a set of atoms, and the converted mode of two is their union. A request is compatible with a held lock where no
 atom of the one conflicts with one of the other. Half of the tables are then given stronger requests until no fixed schedule
 goes wrong. Prints how many tables are of each kind, and how many of those that aren't safe a walk goes wrong under too. A
 contradiction is a safe table under which a schedule or a walk goes wrong, one that isn't safe under which no fixed schedule
-does, one of which kr_explain says otherwise or shows no schedule, and a bundled table that isn't ordered; and, of
+does, one of which kr explain says otherwise or shows no schedule, and a bundled table that isn't ordered; and, of
 examples/no-schedule, a table that is ordered, safe or explained as rejected, or under which a schedule or a walk goes wrong.
 Status 1 where there is one."""
 
@@ -145,7 +145,7 @@ def ordered_of(draws):
     return drawn
 
 
-def decided(explainer, n):
+def decided(program, n):
     """What is found of the n-th table: its text and kind, whether a walk goes wrong under it, and what contradicts."""
     draws = random.Random(f'ordered {n}')
     drawn = ordered_of(draws)
@@ -164,20 +164,20 @@ def decided(explainer, n):
     if safe and walked:
         faults.append(f'it is safe, and a walk goes wrong: {walked}')
     kind = 'accepted' if corpus.failed(table) == 0 else 'safe' if safe else 'rejected'
-    if explainer and (said := explained(explainer, text)) != kind:
-        faults.append(f'it is {kind}, and kr_explain says {said}')
+    if program and (said := explained(program, text)) != kind:
+        faults.append(f'it is {kind}, and kr explain says {said}')
     return text, kind, bool(walked), faults
 
 
-def explained(explainer, text):
-    """The word that kr_explain begins with."""
+def explained(program, text):
+    """The word that kr explain begins with."""
     with tempfile.NamedTemporaryFile('w', suffix='.toml') as file:
         file.write(text)
         file.flush()
-        return subprocess.run([explainer, file.name], capture_output=True, text=True).stdout.partition(':')[0]
+        return subprocess.run([program, 'explain', file.name], capture_output=True, text=True).stdout.partition(':')[0]
 
 
-def wrong_examples(explainer):
+def wrong_examples(program):
     """The bundled tables that aren't ordered, and those of examples/no-schedule that aren't as their heads say."""
     for path in sorted((corpus.TOP / 'tables').glob('*.toml')):
         table = Table(path.read_text())
@@ -187,18 +187,18 @@ def wrong_examples(explainer):
         table = Table(path.read_text())
         if is_ordered(table) or is_safe(table) or fixed(table) or wrong_run(random.Random(path.name), table, 10 * WALKS):
             yield f'{path.name}: it is ordered or safe, or a schedule goes wrong'
-        if explainer and (said := explained(explainer, path.read_text())) != OPEN:
-            yield f'{path.name}: kr_explain says {said}'
+        if program and (said := explained(program, path.read_text())) != OPEN:
+            yield f'{path.name}: kr explain says {said}'
 
 
-def main(count='200', explainer=None):
+def main(count='200', program=None):
     wrong = 0
-    for it in wrong_examples(explainer):
+    for it in wrong_examples(program):
         print(f'ordered: {it}')
         wrong += 1
     counts = collections.Counter()
     with concurrent.futures.ProcessPoolExecutor(os.cpu_count() or 1) as pool:
-        for text, kind, walked, faults in pool.map(decided, itertools.repeat(explainer), range(int(count)), chunksize=4):
+        for text, kind, walked, faults in pool.map(decided, itertools.repeat(program), range(int(count)), chunksize=4):
             counts[kind] += 1
             counts['rejected with a walk that goes wrong'] += kind == 'rejected' and walked
             wrong += bool(faults)

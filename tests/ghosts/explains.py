@@ -1,10 +1,10 @@
 #!/usr/bin/env python3
-"""Holds what kr_explain says of tables with ghosts against a second form of docs/GHOSTS.md (model.py): random tables, near the
+"""Holds what kr explain says of tables with ghosts against a second form of docs/GHOSTS.md (model.py): random tables, near the
 bundled ones and others, written as files of format 3. It has to call each accepted, safe or not as the second form does; of those
 that aren't safe it has to print the script of a schedule, under which `kr judge` has to find the table not serial, but for one in
 fifty, of which it may find none.
 
-    explains.py KR_EXPLAIN KR [SEED [TABLES]]
+    explains.py KR [SEED [TABLES]]
 
 Status 1 where something differs, and then the folder that is printed has the table."""
 
@@ -35,16 +35,16 @@ def ran(folder, *words):
     return subprocess.run([*map(str, words)], cwd=folder, capture_output=True, text=True)
 
 
-def differs(explainer, program, folder, table, counts):
+def differs(program, folder, table, counts):
     word, status = verdict(table)
-    told = ran(folder, explainer, 't.toml')
+    told = ran(folder, program, 'explain', 't.toml')
     if word == 'rejected' and told.returncode == 1 and told.stdout.startswith('not known to be safe:'):
         counts['without a schedule'] += 1
         return False
     if word and (told.returncode, told.stdout.split(':')[0]) != (status, word):
-        print(f'ghosts: {folder} has a table that is {word}, of which kr_explain prints: {told.stdout.splitlines()[:1]}')
+        print(f'ghosts: {folder} has a table that is {word}, of which kr explain prints: {told.stdout.splitlines()[:1]}')
         return True
-    script = ran(folder, explainer, 't.toml', '--script', 1)
+    script = ran(folder, program, 'explain', 't.toml', '--script', 1)
     if word != 'rejected':
         return word is not None and script.returncode != 2
     (folder / 's.json').write_text(script.stdout)
@@ -56,15 +56,15 @@ def differs(explainer, program, folder, table, counts):
 
 
 def main():
-    explainer, program = (pathlib.Path(it).resolve() for it in sys.argv[1:3])
-    seed, tables = (int(it) for it in [*sys.argv[3:], *('1', '100')[len(sys.argv) - 3 :]])
+    program = pathlib.Path(sys.argv[1]).resolve()
+    seed, tables = (int(it) for it in [*sys.argv[2:], *('1', '100')[len(sys.argv) - 2 :]])
     rng, counts, folder = random.Random(seed), collections.Counter(), pathlib.Path(tempfile.mkdtemp())
     for _ in range(tables):
         table = some_table(rng)
         table.updates = True  # format 3 always offers updates; the row may request nothing
         (folder / 't.toml').write_text(text_of(rng, table, names_of(rng, table.count)))
         counts[verdict(table)[0] or 'undecided'] += 1
-        if differs(explainer, program, folder, table, counts):
+        if differs(program, folder, table, counts):
             return 1
     print(f'ghosts: {tables} tables; ' + ', '.join(f'{n} {it}' for it, n in sorted(counts.items())))
     shutil.rmtree(folder)

@@ -1,8 +1,8 @@
 #!/usr/bin/env python3
-"""Holds what `kr_trace TABLE TRACE` prints under tables with ghosts against a second form of docs/TRACES.md and docs/GHOSTS.md, over
-the runs of model.py. The traces are those of random runs with the purges left out, and each second one has an answer changed.
+"""Holds what `kr trace TABLE TRACE` prints under tables with ghosts against a second form of docs/TRACES.md and docs/GHOSTS.md,
+over the runs of model.py. The traces are those of random runs with the purges left out, and each second one has an answer changed.
 
-    traces.py PROGRAM [SEED [TABLES [TRACES]]]     TRACES under each table
+    traces.py KR [SEED [TABLES [TRACES]]]     TRACES under each table
 
 Both have to print the same bytes and end with the same status, and each trace as it was run has to conform, unless states were left
 out, or a line is queued: who made the run doesn't queue. Status 1 where something differs, and then the folder that is printed has the table and the trace. Needs Python 3.11 or later."""
@@ -27,7 +27,7 @@ from runs import NUMBERS
 sys.path.append(str(pathlib.Path(__file__).resolve().parents[1] / 'engines'))
 
 from follower import fits
-from kr_trace import Part
+from second_trace import Part
 
 MOST = 64
 ENDS = ('commit', 'abort', 'back')
@@ -292,7 +292,7 @@ def main():
             counts.update([report['conforms'][0], *(['cut'] if 'cut' in report else []), *(['queued'] if report['queued'] else []), *(['several states'] if report['states'] > 1 else [])])
         text = ''.join(json.dumps(it, separators=(',', ':')) + '\n' for it in written)
         (folder / 't.trace').write_text(text)
-        ran = subprocess.run([program, 't.toml', 't.trace'], cwd=folder, capture_output=True, text=True)
+        ran = subprocess.run([program, 'trace', 't.toml', 't.trace'], cwd=folder, capture_output=True, text=True)
         second = ''.join(json.dumps(it, separators=(',', ':'), ensure_ascii=False) + '\n' for it in wanted)
         if (ran.stdout, ran.stderr, ran.returncode) != (second, '', 0 if is_well else 1):
             (folder / 'program').write_text(f'{ran.stdout}{ran.stderr}status {ran.returncode}\n')

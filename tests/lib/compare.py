@@ -1,13 +1,13 @@
 #!/usr/bin/env python3
-"""Compares libkr with kr, step by step, on random scripts under random tables; and with kr_explain, byte by byte.
+"""Compares libkr with kr, step by step, on random scripts under random tables; and explanations, byte by byte.
 
-    compare.py PROGRAM EXPLAINER COUNT NAME=DRIVER ..
+    compare.py KR COUNT NAME=DRIVER ..
 
-For each of COUNT scripts, PROGRAM, which is kr, runs it under its table. Each DRIVER then does the steps of all scripts through
-libkr, as driver.c says, and the module kr does them in this process. The replies, and at the end the index, the locks, the active
-transactions and the verdict, have to be those of the program's report. The explanation of each table of tables/, examples/rejected
-and examples/explained, and the script of each of its causes, have to be what EXPLAINER prints, which is kr_explain. Prints the number
-of steps and each NAME that differs, with the first line in which it does; status 1 where one does."""
+For each of COUNT scripts, kr runs it under its table. Each DRIVER then does the steps of all scripts through libkr, as driver.c
+says, and the module kr does them in this process. The replies, and at the end the index, the locks, the active transactions and the
+verdict, have to be those of the program's report. The explanation of each table of tables/, examples/rejected and
+examples/explained, and the script of each of its causes, have to be what kr explain prints. Prints the number of steps and each
+NAME that differs, with the first line in which it does; status 1 where one does."""
 import json
 import pathlib
 import random
@@ -94,18 +94,18 @@ class Sample:
 
 
 class Explained:
-    """A table in a file named `table`, with what kr_explain prints of it and of its causes, and of one cause more than it has."""
+    """A table in a file named `table`, with what kr explain prints of it and of its causes, and of one cause more than it has."""
 
-    def __init__(self, text, explainer, folder):
+    def __init__(self, text, program, folder):
         folder.mkdir()
         self.text, self.table = text, folder / 'table'
         self.table.write_text(text)
-        done = subprocess.run([explainer, 'table'], cwd=folder, stdout=subprocess.PIPE, check=False)
+        done = subprocess.run([program, 'explain', 'table'], cwd=folder, stdout=subprocess.PIPE, check=False)
         self.lines = self.told(done.returncode, done.stdout.decode())
         self.numbers = range(1, 2 + len(re.findall(r'^[0-9]+\. ', done.stdout.decode(), re.M)))
         self.scripts = 0
         for number in self.numbers:
-            done = subprocess.run([explainer, 'table', '--script', str(number)], cwd=folder, capture_output=True, check=False)
+            done = subprocess.run([program, 'explain', 'table', '--script', str(number)], cwd=folder, capture_output=True, check=False)
             self.scripts += done.returncode == 1
             self.lines += self.told(done.returncode - 1, done.stdout.decode()[:-1])
 
@@ -143,12 +143,12 @@ def differs(name, wanted, got):
     return False
 
 
-def main(program, explainer, count, *drivers):
+def main(program, count, *drivers):
     rng = random.Random(int(count))
     texts = texts_of('tables', 'examples/rejected')
     with tempfile.TemporaryDirectory() as name:
         samples = [Sample(rng, texts, program, pathlib.Path(name), number) for number in range(int(count))]
-        explained = [Explained(text, explainer, pathlib.Path(name) / f'explained{number}')
+        explained = [Explained(text, program, pathlib.Path(name) / f'explained{number}')
                      for number, text in enumerate(texts_of('tables', 'examples/rejected', 'examples/explained'))]
         asked = ''.join(f'{line}\n' for sample in [*samples, *explained] for line in sample.asked())
         wanted = [line for sample in [*samples, *explained] for line in sample.wanted()]

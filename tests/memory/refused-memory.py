@@ -1,16 +1,16 @@
 #!/usr/bin/env python3
-"""Refuses growths, reads and writes of the programs, one by one, and compares what they then do with what they do
-undisturbed: tests/memory/refused-memory.py [PROGRAM..], of kr, kr_view, kr_explain, kr_trace, kr_suite, kr_relax and kr_memory_tests, all where none
-is named. Needs a C compiler, `cc`, for refuse.c beside it. Build first: any run of ./kr, ./kr_view, ./kr_explain, ./kr_trace, ./kr_suite or ./kr_relax
-builds that program, and `rt test` in crates/kr_memory_tests its tests.
+"""Refuses growths, reads and writes of kr, one by one, and compares what it then does with what it does undisturbed:
+tests/memory/refused-memory.py [WHAT..], of plain, view, explain, trace, suite, relax and tests, all where none is named; plain is
+check, run, judge, threads, help and version, and tests is kr_memory_tests. Needs a C compiler, `cc`, for refuse.c beside it. Build
+first: `./build`, and `rt test` in crates/kr_memory_tests.
 
-The words are each form of a program's on the shipped tables and scripts; of those but kr, whose answers are long, a few. For
+The words are each form of the plain commands on the shipped tables and scripts, and a few of the others, whose answers are long. For
 each of them
 
   memory    the k-th growth is refused, and then again with all after it, for k counted up until a run meets no refusal;
-            beyond 400 by one in a hundred. Each run ends with the right answer, or with 'kr: out of memory', say, status 2
-            and nothing on standard output, or of kr_trace the lines of the parts that had ended; at a fault the help behind
-            its line may be cut, and may stand behind the line on memory
+            beyond 400 by one in a hundred. Each run ends with the right answer, or with 'kr: out of memory', status 2 and
+            nothing on standard output, or of trace the lines of the parts that had ended; at a fault the help behind its
+            line may be cut, and may stand behind the line on memory
   reads     the k-th read and all after it fail: a file that cannot be read, so told, or the fault that comes before it
   writes    the k-th write to standard output and all after it fail, or take nothing, and one byte moves at a time; standard
             output is full (/dev/full), a closed pipe, or closed. Right where all was taken; else a prefix of the
@@ -29,32 +29,28 @@ import tempfile
 from concurrent.futures import ThreadPoolExecutor
 
 TOP = os.path.dirname(os.path.dirname(os.path.dirname(os.path.abspath(__file__))))
-PROGRAMS = sys.argv[1:] or ["kr", "kr_view", "kr_explain", "kr_trace", "kr_suite", "kr_relax", "kr_memory_tests"]
+WHAT = sys.argv[1:] or ["plain", "view", "explain", "trace", "suite", "relax", "tests"]
+KR = f"{TOP}/crates/kr/out/kr"
 TESTS = f"{TOP}/crates/kr_memory_tests/out/kr_memory_tests_tests"
 AT_ONCE = 3
 READER, CLOSED_PIPE = os.pipe()
 os.close(READER)  # before any child is made, which would hold it for a moment
 
 
-def command(words):
-    """The program of these words, of which the first is its name, with the others."""
-    return [f"{TOP}/crates/{words[0]}/out/{words[0]}", *words[1:]]
-
-
-def fault(words, what):
-    """The line of a fault, as the program of these words tells it."""
-    return f"{words[0]}: {what}\n".encode()
+def fault(what):
+    """The line of a fault."""
+    return f"kr: {what}\n".encode()
 
 
 def is_unanswered(words, ended, right):
-    """Whether a run ended with a fault and printed nothing, or of kr_trace the lines of the first parts."""
-    begun = words[0] == "kr_trace" and right[1].startswith(ended[1]) and ended[1].endswith(b"\n")
+    """Whether a run ended with a fault and printed nothing, or of trace the lines of the first parts."""
+    begun = words[:1] == ["trace"] and right[1].startswith(ended[1]) and ended[1].endswith(b"\n")
     return ended[0] == 2 and (ended[1] == b"" or begun)
 
 
 def is_out_of_memory(words, ended, right):
     """Whether a run ended for want of memory, behind which stands at most the help at the fault of an undisturbed one."""
-    line, (_, _, helped) = fault(words, "out of memory"), right[2].partition(b"\n")
+    line, (_, _, helped) = fault("out of memory"), right[2].partition(b"\n")
     told, more = ended[2][: len(line)], ended[2][len(line) :]
     return is_unanswered(words, ended, right) and told == line and helped.startswith(more) and (not more or more.endswith(b"\n"))
 
@@ -65,10 +61,10 @@ def is_fault(ended, right):
 
 
 def all_words():
-    """The words with which the programs are run, each behind the program's name."""
-    forms = {"kr": words_of_kr, "kr_view": words_of_view, "kr_explain": words_of_explain, "kr_trace": words_of_trace,
-             "kr_suite": words_of_suite, "kr_relax": words_of_relax}
-    for name in (it for it in forms if it in PROGRAMS):
+    """The words with which kr is run."""
+    yield from plain_words() if "plain" in WHAT else []
+    forms = {"view": words_of_view, "explain": words_of_explain, "trace": words_of_trace, "suite": words_of_suite, "relax": words_of_relax}
+    for name in (it for it in forms if it in WHAT):
         yield from ([name, *words] for words in forms[name]())
 
 
@@ -107,11 +103,12 @@ def words_of_trace():
     yield from (["@kvl", "none.trace"], ["none.toml", traces[0]], ["@kvl", "examples/phantom.json"], ["@kvl"])
 
 
-def words_of_kr():
-    """Each form of the words, over the shipped tables and scripts."""
+def plain_words():
+    """Each form of the words of the other commands, over the shipped tables and scripts."""
     tables = ["@kvl", "@kvl-update", "@im", "@range-key"]
     files = sorted(glob.glob("tables/*.toml") + glob.glob("examples/**/*.toml", recursive=True))
     scripts = sorted(glob.glob("examples/**/*.json", recursive=True))
+    yield from (["help"], ["help", "explain"], ["help", "jump"], ["version"], ["version", "x"])
     yield from ([], ["jump"], ["run", "@kvl", "none.json"], ["check", "none.toml"], ["check", "tables"])
     yield from (["check", table] for table in tables + files)
     yield from (["run", tables[i % len(tables)], script] for i, script in enumerate(scripts))
@@ -165,7 +162,7 @@ def refuse_memory(part, shim, words, right):
     for kind in ["GROWTH", "GROWTHS"]:
         k = 1
         while True:
-            ended, was_refused = run(command(words), shim, **{kind: k})
+            ended, was_refused = run([KR, *words], shim, **{kind: k})
             is_wanting = is_out_of_memory(words, ended, right)
             is_right = ended == right or (was_refused and (is_wanting or is_fault(ended, right)))
             part.count(is_right, words, f"{kind}={k}", ended)
@@ -176,21 +173,21 @@ def refuse_memory(part, shim, words, right):
 
 
 def fail_reads(part, shim, words, right):
-    unread = [fault(words, f"{word}: cannot be read") for word in words[1:]]
+    unread = [fault(f"{word}: cannot be read") for word in words[1:]]
     for k in range(1, 100_000):
-        ended, was_refused = run(command(words), shim, READ=k)
+        ended, was_refused = run([KR, *words], shim, READ=k)
         is_unread = is_unanswered(words, ended, right) and any(ended[2].startswith(it) for it in unread)
         is_right = ended == right or (was_refused and (is_unread or is_fault(ended, right)))
         part.count(is_right, words, f"READ={k}", ended)
         if not was_refused:
             break
-    ended, _ = run(command(words), shim, ONE_BYTE=1)
+    ended, _ = run([KR, *words], shim, ONE_BYTE=1)
     part.count(ended == right, words, "ONE_BYTE=1", ended)
 
 
 def is_cut(words, ended, right):
     """Whether output failed after a beginning of the right answer."""
-    unwritten = fault(words, "output: cannot be written")
+    unwritten = fault("output: cannot be written")
     return ended[0] == 2 and right[1].startswith(ended[1]) and ended[1] != right[1] and ended[2] == unwritten
 
 
@@ -198,7 +195,7 @@ def fail_writes(part, shim, words, right):
     for kind in ["WRITE", "NO_WRITE"]:
         for one_byte in [0, 1]:
             for k in range(1, 100_000):
-                ended, was_refused = run(command(words), shim, ONE_BYTE=one_byte, **{kind: k})
+                ended, was_refused = run([KR, *words], shim, ONE_BYTE=one_byte, **{kind: k})
                 part.count(is_cut(words, ended, right) if was_refused else ended == right, words, f"{kind}={k}", ended)
                 if not was_refused:
                     break
@@ -208,15 +205,15 @@ def fail_writes(part, shim, words, right):
 
 
 def fail_outputs(part, words, right):
-    unwritten = fault(words, "output: cannot be written")
+    unwritten = fault("output: cannot be written")
     with open("/dev/full", "wb") as full:
-        ended, _ = run(command(words), out=full)
+        ended, _ = run([KR, *words], out=full)
         part.count(ended == (2, None, unwritten), words, "/dev/full", ended)
-    ended, _ = run(command(words), out=CLOSED_PIPE)
+    ended, _ = run([KR, *words], out=CLOSED_PIPE)
     part.count(ended == (2, None, unwritten), words, "a closed pipe", ended)
-    ended, _ = run(["sh", "-c", 'exec "$@" >&-', "sh", *command(words)])
+    ended, _ = run(["sh", "-c", 'exec "$@" >&-', "sh", KR, *words])
     part.count(ended == (2, b"", unwritten), words, "standard output closed", ended)
-    ended, _ = run(["sh", "-c", 'exec "$@" 2>&-', "sh", *command(words)])
+    ended, _ = run(["sh", "-c", 'exec "$@" 2>&-', "sh", KR, *words])
     part.count(ended == right, words, "standard error closed", ended)
 
 
@@ -247,14 +244,14 @@ def odd_files():
 
 
 def read_odd_files(part, folder):
-    for name, text, fault in odd_files():
+    for name, text, what in odd_files():
         with open(f"{folder}/{name}", "wb") as it:
             it.write(text)
         for task in ["check"] if name.endswith(".toml") else ["run", "judge", "threads"]:
-            words = ["kr", task, *([] if task == "check" else ["@kvl"]), f"{folder}/{name}"]
-            ended, _ = run(command(words))
-            told = (2, b"", f"kr: {words[-1]}: {fault}\n".encode())
-            part.count(ended == told if fault else (ended[0], ended[2]) == (0, b""), words, "odd bytes", ended)
+            words = [task, *([] if task == "check" else ["@kvl"]), f"{folder}/{name}"]
+            ended, _ = run([KR, *words])
+            told = (2, b"", fault(f"{words[-1]}: {what}"))
+            part.count(ended == told if what else (ended[0], ended[2]) == (0, b""), words, "odd bytes", ended)
 
 
 def tests_of():
@@ -270,12 +267,12 @@ def main():
         shim = f"{folder}/refuse.so"
         subprocess.run(["cc", "-shared", "-fPIC", "-O1", "-o", shim, f"{TOP}/tests/memory/refuse.c"], check=True)
         going = []
-        if "kr_memory_tests" in PROGRAMS:
+        if "tests" in WHAT:
             going += [pool.submit(refuse_tests, tests, shim, test) for test in tests_of()]
-        if "kr" in PROGRAMS:
+        if "plain" in WHAT:
             going.append(pool.submit(read_odd_files, files, folder))
         for words in all_words():
-            right, _ = run(command(words))
+            right, _ = run([KR, *words])
             going.append(pool.submit(refuse_memory, memory, shim, words, right))
             going.append(pool.submit(fail_reads, reads, shim, words, right))
             if right[1]:

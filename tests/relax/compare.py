@@ -1,6 +1,6 @@
 #!/usr/bin/env python3
-"""Holds what kr_relax prints to what tests/relax/relaxations.py finds by itself. KR_RELAX and KR in the environment are the programs, or
-else the built ones are taken.
+"""Holds what kr relax prints to what tests/relax/relaxations.py finds by itself. KR in the environment is the program, or else the
+built one is taken.
 
     compare.py TABLE..                  words of bundled tables, or files
     compare.py --random N [--seed N]    so many random tables, drafts of bundled ones with entries changed
@@ -40,7 +40,7 @@ TIGHT = 'tight: no single entry can be relaxed\n'
 
 
 def said_of(*words):
-    ran = subprocess.run([built('kr_relax'), *words], capture_output=True, text=True)
+    ran = subprocess.run([built(), 'relax', *words], capture_output=True, text=True)
     return ran.stdout, ran.stderr, ran.returncode
 
 
@@ -49,7 +49,7 @@ def report_of(text, script, folder):
     paths = [pathlib.Path(folder) / it for it in ('table.toml', 'script.json')]
     for path, it in zip(paths, (text, script)):
         path.write_text(it)
-    ran = subprocess.run([built('kr'), 'run', *map(str, paths)], capture_output=True, text=True)
+    ran = subprocess.run([built(), 'run', *map(str, paths)], capture_output=True, text=True)
     expect(ran.returncode in (0, 1), ran.stderr)
     return json.loads(ran.stdout)
 
@@ -118,7 +118,7 @@ def hold(word, rand, folder):
     table = Table(file_of(word).read_text())
     out, err, status = said_of(word)
     if not is_safe(table):
-        line = f'kr_relax: {word}: not safe; see kr_explain {word}\n'
+        line = f'kr: {word}: not safe; see kr explain {word}\n'
         expect((out, err, status) == ('', line, 2), f'not safe, and said: {status} {out}{err}')
         return f'{word}: not safe'
     count, shown = hold_list(table, out, folder)

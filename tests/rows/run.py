@@ -1,8 +1,8 @@
 #!/usr/bin/env python3
-"""Runs rows of input and output over the built programs: run.py [--write] [--by-rattle] [--where-built] FILE.rows ..
+"""Runs rows of input and output over kr as it is built: run.py [--write] [--by-rattle] [--where-built] FILE.rows ..
 
-A row is what calls of the programs print for some files. Each of its lines is a word, a colon and a text. First its name, then
-the files of the folder in which the programs run:
+A row is what calls of kr print for some files. Each of its lines is a word, a colon and a text. First its name, then the files of
+the folder in which kr runs:
 
     row     its name, which begins the row
     file    NAME = TEXT: a file, with the escapes of JSON strings; \\xHH is a byte
@@ -15,8 +15,8 @@ the files of the folder in which the programs run:
 More edits and cuts of the same NAME follow one another. Then calls, and below them what each of them prints. Further calls may
 follow, with what they print:
 
-    call    the program, kr, kr_explain, kr_view, kr_trace, kr_suite or kr_relax, and its words; WORDS < NAME reads standard input from a file. A
-            blank stands before each word, also before an empty one
+    call    kr and its words; WORDS < NAME has the bytes of a file come through a pipe, as standard input. A blank stands before each
+            word, also before an empty one
     status  the status
     out     a line of standard output, or `out: ..` for any text
     begins  what standard output begins with, with escapes; there is then no out
@@ -26,9 +26,9 @@ follow, with what they print:
     err     a line of standard error
 
 Lines that begin with # say something of the row below. An empty line ends a row. A call may take 20 seconds and 1 GB of memory.
---write puts what the programs print in the place of what was expected, but for begins, ends, has and times. --by-rattle takes each
-program as the kit's second compiler built it, NAME.by-rattle beside it, which the gate leaves there. --where-built leaves out, and
-tells, rows that call a program that isn't built, or of which the second compiler's is older. Status 1 where something differs.
+--write puts what kr prints in the place of what was expected, but for begins, ends, has and times. --by-rattle takes the program as
+the kit's second compiler built it, kr.by-rattle beside it, which the gate leaves there. --where-built runs none, and tells it, where
+that isn't built or is older than kr. Status 1 where something differs.
 """
 import os
 import re
@@ -40,7 +40,7 @@ import tempfile
 TOP = os.path.dirname(os.path.dirname(os.path.dirname(os.path.abspath(__file__))))
 MEMORY = 1 << 30
 BUILT = ".by-rattle" if "--by-rattle" in sys.argv else ""
-PROGRAMS = ("kr", "kr_explain", "kr_view", "kr_trace", "kr_suite", "kr_relax")
+KR = f"{TOP}/crates/kr/out/kr"
 FILES = ("file", "text", "long", "copy", "edit", "cut")
 PARTS = ("begins", "ends", "has", "times")
 EXPECTED = ("status", "out", "err") + PARTS
@@ -71,6 +71,8 @@ def blocks_of(path):
         text = text[1:] if text.startswith(" ") else text
         if word not in ("#", "row", "call") + FILES + EXPECTED:
             sys.exit(f"{path}:{number}: there is no word {word}")
+        if word == "call" and text.split(" ")[0] != "kr":
+            sys.exit(f"{path}:{number}: a call begins with kr")
         blocks[-1].append((number, word, text))
     return [it for it in blocks if it]
 
@@ -120,31 +122,20 @@ def put(folder, word, text):
         file.write(content)
 
 
-def file_of(program, built=BUILT):
-    return f"{TOP}/crates/{program}/out/{program}{built}"
-
-
-def is_built(program):
-    """Whether a program is built, and by the second compiler since then, where that is asked for."""
-    files = file_of(program, ""), file_of(program)
+def is_built():
+    """Whether the program is there, and no older than kr."""
+    files = KR, KR + BUILT
     return all(map(os.path.exists, files)) and os.path.getmtime(files[1]) >= os.path.getmtime(files[0])
-
-
-def not_built(row):
-    """The programs that a row calls and that aren't built."""
-    names = {text.split(" ")[0] for _, word, text in row if word == "call"}
-    return {it for it in names.intersection(PROGRAMS) if not is_built(it)}
 
 
 def call(folder, words):
     """What a call prints, and its status."""
     words, _, given = words.partition(" < ")
-    program, *words = words.split(" ")
-    words = [unescaped(it) for it in words]
+    words = [unescaped(it) for it in words.split(" ")[1:]]
     result = subprocess.run(
-        [file_of(program), *words],
+        [KR + BUILT, *words],
         cwd=folder,
-        stdin=open(os.path.join(folder, given), "rb") if given else subprocess.DEVNULL,
+        input=open(os.path.join(folder, given), "rb").read() if given else b"",
         capture_output=True,
         timeout=20,
         preexec_fn=lambda: resource.setrlimit(resource.RLIMIT_AS, (MEMORY, MEMORY)),
@@ -205,25 +196,21 @@ def hold(path, row):
 
 def main():
     files = [it for it in sys.argv[1:] if not it.startswith("--")]
-    if "--write" in sys.argv and "--where-built" in sys.argv:
-        sys.exit("--write writes all rows")
-    count = wrong = left_out = 0
+    if "--where-built" in sys.argv and not is_built():
+        print(f"rows{BUILT}: left out, since kr isn't built{' so' if BUILT else ''}")
+        return 0
+    count = wrong = 0
     for path in files:
         texts = []
         for row in blocks_of(path):
-            if "--where-built" in sys.argv and not_built(row):
-                left_out += 1
-                continue
             calls, differing, lines = hold(path, row)
             count, wrong = count + calls, wrong + differing
             texts.append("\n".join(lines))
         if "--write" in sys.argv:
             with open(path, "w", encoding="utf-8") as file:
                 file.write("\n\n".join(texts) + "\n")
-    if left_out:
-        print(f"rows{BUILT}: {left_out} rows are left out, since they call a program that isn't built{' so' if BUILT else ''}")
     print(f"rows{BUILT}: {count - wrong} of {count} calls are as expected")
-    sys.exit(1 if wrong else 0)
+    return 1 if wrong else 0
 
 
-main()
+sys.exit(main())

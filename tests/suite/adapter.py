@@ -2,7 +2,7 @@
 """Does the steps of a suite, which is read from standard input, on an engine of tests/engines/engine.py, and prints a trace with
 the engine's replies.
 
-    kr_suite @kvl-update | adapter.py WAY | kr_trace @kvl-update /dev/stdin     WAY is `right`, or one of those in engine.py
+    kr suite @kvl-update | adapter.py WAY | kr trace @kvl-update /dev/stdin     WAY is `right`, or one of those in engine.py
 
 The engine has no savepoints: parts with a step `back` are left out. Where it blocks a step, the part ends with that."""
 

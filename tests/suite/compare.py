@@ -1,6 +1,6 @@
 #!/usr/bin/env python3
 """Holds suites to what docs/SUITE.md says of them, with the machine of tests/second, which is written from docs/DEFINITIONS.md
-alone. KR_SUITE and KR in the environment are the programs, or else the built ones are taken.
+alone. KR in the environment is the program, or else the built one is taken.
 
     compare.py [--stored] [--scripts N] [--runs] TABLE..     words of bundled tables, or files
     compare.py --random N [--seed N] [--scripts N]          so many random tables, drafts of the bundled ones with entries changed
@@ -46,7 +46,7 @@ def said_of(word, is_stored):
     if is_stored:
         paths = [SUITES / f'{word[1:]}{end}' for end in ('.suite', '.left')]
         return *(it.read_text().splitlines() for it in paths), None
-    ran = [subprocess.run([built('kr_suite'), word, *it], capture_output=True, text=True) for it in ([], ['--left'])]
+    ran = [subprocess.run([built(), 'suite', word, *it], capture_output=True, text=True) for it in ([], ['--left'])]
     expect(all(it.returncode in (0, 1) and not it.stderr for it in ran), [it.stderr for it in ran])
     expect(ran[0].returncode == ran[1].returncode, 'two statuses')
     return *(it.stdout.splitlines() for it in ran), ran[0].returncode
@@ -112,7 +112,7 @@ class Held:
         with tempfile.NamedTemporaryFile('w', suffix='.json') as file:
             file.write(json.dumps(part.script))
             file.flush()
-            out = subprocess.run([built('kr'), 'run', word, file.name], capture_output=True, text=True).stdout
+            out = subprocess.run([built(), 'run', word, file.name], capture_output=True, text=True).stdout
         expect(out and json.loads(out)['replies'] == replies, f'kr run answers {part} otherwise under {word}')
 
     def hold_changed_run(self, change, part, replies):

@@ -30,7 +30,7 @@ def suite_of(name):
 
 
 def is_answered(part, replies):
-    """Whether an engine's replies are those of a part. Whom it names as blockers isn't compared: kr_trace lets it leave some out."""
+    """Whether an engine's replies are those of a part. Whom it names as blockers isn't compared: kr trace lets it leave some out."""
     given, wanted = [*replies], [reply for _, reply in part.lines]
     return len(given) == len(wanted) and all(one == it or one[0] == it[0] == 'blocked' for one, it in zip(given, wanted))
 

@@ -2,9 +2,6 @@
 use Rattle.std.specs.Prelude.{◌≡◌, ◌≢◌, ◌≤◌, ◌↔◌, ◌⊎◌, ℕ, List, [], Bool, true, false, Result, Ok, Err, IfOk, IfErr, OnOk, IsTrue, String, string_bytes, refl}
 use Rattle.std.proofs.Common.{Global, subst, ap, arith, inl, inr, ◌∙◌}
 use Rattle.kr_cli.specs.declared.endings.Ending.{Ending}
-use Rattle.kr_cli.specs.declared.endings.Ending.TheVariants.{Output}
-use Rattle.kr_cli.specs.declared.questions.Question.{Question}
-use Rattle.kr_cli.specs.Questions.{IsQuestion, IsNoQuestion}
 use Rattle.kr_cli.specs.Endings.{is_output}
 
 -- what holds of the answer holds of the one that it is
@@ -45,15 +42,6 @@ warned_at (Err e) n help Are Told are within well not_well warned =
 pub unhelped : (r : Result Bool Ending) (old new : String Global) → OnOk r (new ≡ old) → OnOk r (string_bytes new ≡ string_bytes old)
 unhelped (Ok well) old new same = ap (λ (h : String Global). string_bytes h) same
 unhelped (Err e) old new same = tt
-
--- what an answer tells isn't that it isn't well
-neither : (r : Result Bool Ending) (A B : Type 0) → ((r ≡ Ok true) × A) ⊎ ((r ≡ Err Output) × B) → r ≡ Ok false → ⊥
-neither r A B (inl (is, told)) other = absurd (cc)
-neither r A B (inr (is, failed)) other = absurd (cc)
-
--- words that ask a question are not answered so
-pub no_question : (words : List (List ℕ)) (r : Result Bool Ending) (A : Question → Type 0) (B : Type 0) → ((q : Question) → IsQuestion words q → ((r ≡ Ok true) × A q) ⊎ ((r ≡ Err Output) × B)) → r ≡ Ok false → IsNoQuestion words
-no_question words r A B answers other q asks = neither r (A q) B (answers q asks) other
 
 -- where nothing was added to no help
 unsaid : (r : Result Bool Ending) (Same : Type 0) (old new shown : List ℕ) → OnOk r (new ≡ old) → old ≡ [] → shown ≡ new → OnOk r (shown ≡ [] → Same) → OnOk r Same

@@ -1,6 +1,9 @@
 pub mod Begun
 pub mod Finished
 pub mod Fronts
+pub mod GhostFaults
+pub mod GhostOneLine
+pub mod GhostScriptFaults
 pub mod Numbers
 pub mod OneLine
 pub mod ScriptFaults

@@ -91,10 +91,10 @@ none_in_no_script may_give word line (inl (none, is)) = told_none word _ line is
 none_in_no_script may_give word line (inr (bytes, (had, (f, (is_fault, is))))) = told_none word _ line is
 
 -- the line of an ending whose text has none
-pub one_line : (name : List ℕ) (e : Ending) (old new : Option (List ℕ)) → HasNoLineFeed name → HasNoLineFeed (line_of e) → AppendsFront old new (ending_line name e) → TellsOneLine old new
-one_line name e old new in_name in_line front =
+pub one_line : (e : Ending) (old new : Option (List ℕ)) → HasNoLineFeed (line_of e) → AppendsFront old new (ending_line e) → TellsOneLine old new
+one_line e old new in_line front =
     let P : ℕ → Type 0 = λ b. b ≢ 10 in
-    let line : List ℕ = name ++ (codes ": " ++ line_of e) in
-    let none : HasNoLineFeed line = All-append P name (codes ": " ++ line_of e) in_name (All-append P (codes ": ") (line_of e) (none_above (codes ": ") refl) in_line) in
-    let same : ending_line name e ≡ line ++ 10 ∷ [] = rw (append_assoc, append_assoc) refl in
+    let line : List ℕ = codes "kr: " ++ line_of e in
+    let none : HasNoLineFeed line = All-append P (codes "kr: ") (line_of e) (none_above (codes "kr: ") refl) in_line in
+    let same : ending_line e ≡ line ++ 10 ∷ [] = sym (append_assoc (codes "kr: ") (line_of e) (10 ∷ [])) in
     (line, (none, subst (λ (text : List ℕ). AppendsFront old new text) same front))

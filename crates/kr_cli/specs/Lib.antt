@@ -1,9 +1,12 @@
 pub mod Endings
 pub mod Files
-pub mod Lines
-pub mod Manual
-pub mod Named
-pub mod Questions
-pub mod Tables
+pub mod GhostLawful
+pub mod GhostLines
+pub mod GhostScripts
+pub mod GhostTables
 pub mod Lawful
+pub mod Lines
+pub mod Named
+pub mod NamedTables
+pub mod Tables
 pub mod Words

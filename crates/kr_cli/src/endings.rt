@@ -1,5 +1,5 @@
 //! How a program ends.
-ghost use Rattle.std.specs.Prelude.{◌≡◌, ◌≤◌, ◌↔◌, true, false, Ok, OnOk, OnErr, IfErr};
+ghost use Rattle.std.specs.Prelude.{◌≡◌, ◌≤◌, ◌↔◌, true, false, Ok, OnOk, OnErr};
 ghost use Rattle.std.specs.Io.KnownBytes.{Appends};
 ghost use Rattle.kr_sink.specs.Puts.{AppendsFront, HasCause};
 ghost use Rattle.kr_cli.specs.Endings.{MemoryOrTold, is_output, line_of, ending_line};
@@ -82,30 +82,14 @@ pub(crate) fn status_of(done: &Result<bool, Ending>) -> u8
     }
 }
 
-/// Tells on `err` how the program of this name ended, and answers its status: 0 where all was well, 1 where it wasn't, and 2
-/// where it ended without its output, which is told on one line.
-pub fn finish<E: Sink>(name: &str, done: &Result<bool, Ending>, err: &mut E) -> u8
-    ensures within { result ≤ 2 }
-    ensures well { (result ≡ 0) ↔ (done.now ≡ Ok true) }
-    ensures not_well { (result ≡ 1) ↔ (done.now ≡ Ok false) }
-    ensures told { IfErr done.now (λ e. AppendsFront (E.taken err.old) (E.taken err.new) (ending_line name.now e)) }
-    ensures silent { OnOk done.now (err.new ≡ err.old) }
-{
-    if let Err(ending) = done {
-        let _ = tell(name, ending, err);
-    }
-    status_of(done)
-}
-
 /// Prints the line of an ending.
-pub(crate) fn tell<E: Sink>(name: &str, ending: &Ending, err: &mut E) -> Result<(), PrintFault>
-    ensures ok { OnOk result (Appends (E.taken err.old) (E.taken err.new) (ending_line name.now ending.now)) }
-    ensures front { AppendsFront (E.taken err.old) (E.taken err.new) (ending_line name.now ending.now) }
+pub(crate) fn tell<E: Sink>(ending: &Ending, err: &mut E) -> Result<(), PrintFault>
+    ensures ok { OnOk result (Appends (E.taken err.old) (E.taken err.new) (ending_line ending.now)) }
+    ensures front { AppendsFront (E.taken err.old) (E.taken err.new) (ending_line ending.now) }
     ensures count { OnOk result (E.failures err.new ≡ E.failures err.old) }
     ensures cause { OnErr result (HasCause (E.failures err.old) (E.failures err.new)) }
 {
-    put_all(err, name.as_bytes())?;
-    put_all(err, b": ")?;
+    put_all(err, b"kr: ")?;
     print(err, ending.line())?;
     Ok(())
 }

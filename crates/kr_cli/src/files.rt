@@ -57,37 +57,29 @@ pub trait Files {
 
     /// The bytes of the file that the word names, the whole of it, or its first `most` where it has more. They may be others
     /// at each call.
-    fn whole<R: std::rt::Files + AllocGlobal>(
-        &self,
-        rt: &R,
-        word: &str,
-        most: usize,
-    ) -> Result<Vec<u8>, FileFault>
+    fn whole(&self, alloc: Global, word: &str, most: usize) -> Result<Vec<u8>, FileFault>
         ensures found { IfOk result (λ bytes. MayBeRead most (may_give self.now) word.now bytes.items) }
         ensures none { IfErr result (λ e. (e ≢ file_fault.Memory) → may_give self.now word.now None) };
 }
 
-/// The files of the machine: a word is a path. No clause can say what the machine gives for it.
-pub struct Disk;
+/// The files of the machine, read by its runtime: a word is a path. No clause can say what the machine gives for it. What gets
+/// this as its `Files` can read files, and not write or remove them.
+#[derive(Drop)]
+pub struct Disk<'a, R>(pub &'a R);
 
-impl Files for Disk {
+impl<R: std::rt::Files> Files for Disk<'_, R> {
     ghost may_give = { λ _ _ _. Unit {0} };
 
-    fn whole<R: std::rt::Files + AllocGlobal>(
-        &self,
-        rt: &R,
-        word: &str,
-        most: usize,
-    ) -> Result<Vec<u8>, FileFault> {
-        let mut file = fs::open(rt, word)?;
-        Ok(first_bytes(rt.alloc(), &mut file, most)?)
+    fn whole(&self, alloc: Global, word: &str, most: usize) -> Result<Vec<u8>, FileFault> {
+        let mut file = fs::open(self.0, word)?;
+        Ok(first_bytes(alloc, &mut file, most)?)
     }
 }
 
 /// The bytes of the file that a word names, the whole of it, or its first `most` where it has more. A word that begins with
 /// `@` is never a file.
-pub fn read_file<R: std::rt::Files + AllocGlobal, F: Files>(
-    rt: &R,
+pub fn read_file<F: Files>(
+    alloc: Global,
     word: &str,
     files: &F,
     most: usize,
@@ -98,24 +90,19 @@ pub fn read_file<R: std::rt::Files + AllocGlobal, F: Files>(
     if is_no_file(word) {
         return Err(FileFault::Unreadable);
     }
-    files.whole(rt, word, most)
+    files.whole(alloc, word, most)
 }
 
 /// The bytes of the file that a word names, as `read_file` has them, or how the program ends.
-pub fn whole<R: std::rt::Files + AllocGlobal, F: Files>(
-    rt: &R,
-    word: &str,
-    files: &F,
-    most: usize,
-) -> Result<Vec<u8>, Ending>
+pub fn whole<F: Files>(alloc: Global, word: &str, files: &F, most: usize) -> Result<Vec<u8>, Ending>
     ensures bytes { IfOk result (λ bytes. MayBeHad most (F.may_give files.now) word.now (Some bytes.items)) }
     ensures fault { IfErr result (λ e. MemoryOrTold e (TellsUnreadable (F.may_give files.now) word.now)) }
     ensures other { IfErr result (λ e. is_output e ≡ false) }
 {
-    match read_file(rt, word, files, most) {
+    match read_file(alloc, word, files, most) {
         Ok(bytes) => Ok(bytes),
         Err(FileFault::Memory) => Err(Ending::Memory),
-        Err(_) => Err(unreadable(rt.alloc(), word)),
+        Err(_) => Err(unreadable(alloc, word)),
     }
 }
 
@@ -144,18 +131,14 @@ pub fn at_fault(alloc: Global, word: &str, fault: ScriptFault) -> Ending
 
 /// The script in the file that a word names, or how the program ends: its file can't be read, or its bytes are no script, and
 /// the first of their faults is told.
-pub fn script_at<R: std::rt::Files + AllocGlobal, F: Files>(
-    rt: &R,
-    word: &str,
-    files: &F,
-) -> Result<Script, Ending>
+pub fn script_at<F: Files>(alloc: Global, word: &str, files: &F) -> Result<Script, Ending>
     ensures script { IfOk result (NamesScript (F.may_give files.now) word.now) }
     ensures fault { IfErr result (λ e. MemoryOrTold e (TellsNoScript (F.may_give files.now) word.now)) }
     ensures other { IfErr result (λ e. is_output e ≡ false) }
 {
-    let bytes = whole(rt, word, files, SCRIPT_BYTES)?;
-    match read_script(rt.alloc(), bytes.as_slice()) {
+    let bytes = whole(alloc, word, files, SCRIPT_BYTES)?;
+    match read_script(alloc, bytes.as_slice()) {
         Ok(script) => Ok(script),
-        Err(fault) => Err(at_fault(rt.alloc(), word, fault)),
+        Err(fault) => Err(at_fault(alloc, word, fault)),
     }
 }

@@ -116,11 +116,7 @@ impl Protocol for AnyTable {
 
 /// The table that a word names, or how the program ends: the word is that of no bundled table, and its file can't be read, or
 /// its bytes are no table, and the first of their faults is told.
-pub fn table_at<R: std::rt::Files + AllocGlobal, F: Files>(
-    rt: &R,
-    word: &str,
-    files: &F,
-) -> Result<AnyTable, Ending>
+pub fn table_at<F: Files>(alloc: Global, word: &str, files: &F) -> Result<AnyTable, Ending>
     ensures table { IfOk result (NamesTable (F.may_give files.now) word.now) }
     ensures bundled { IsTrue (is_bundled word.now) → IsOk result }
     ensures fault { IfErr result (λ e. MemoryOrTold e (TellsNoTable (F.may_give files.now) word.now)) }
@@ -131,24 +127,20 @@ pub fn table_at<R: std::rt::Files + AllocGlobal, F: Files>(
         "@kvl-update" => Ok(AnyTable::KvlUpdate),
         "@im" => Ok(AnyTable::Im),
         "@range-key" => Ok(AnyTable::RangeKey),
-        _ => read_table(rt, word, files),
+        _ => read_table(alloc, word, files),
     }
 }
 
 /// The table in the file that a word names, or how the program ends.
-fn read_table<R: std::rt::Files + AllocGlobal, F: Files>(
-    rt: &R,
-    word: &str,
-    files: &F,
-) -> Result<AnyTable, Ending>
+fn read_table<F: Files>(alloc: Global, word: &str, files: &F) -> Result<AnyTable, Ending>
     ensures table { IfOk result (NamesTable (F.may_give files.now) word.now) }
     ensures fault { IfErr result (λ e. MemoryOrTold e (TellsNoTable (F.may_give files.now) word.now)) }
     ensures other { IfErr result (λ e. is_output e ≡ false) }
 {
-    let bytes = whole(rt, word, files, TABLE_BYTES)?;
-    match kr_table::read(rt.alloc(), bytes.as_slice()) {
+    let bytes = whole(alloc, word, files, TABLE_BYTES)?;
+    match kr_table::read(alloc, bytes.as_slice()) {
         Ok(table) => Ok(AnyTable::Read(table)),
-        Err(fault) => Err(at_table_fault(rt.alloc(), word, fault)),
+        Err(fault) => Err(at_table_fault(alloc, word, fault)),
     }
 }
 

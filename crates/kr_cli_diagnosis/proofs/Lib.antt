@@ -1,4 +1,3 @@
-pub mod Finished
 pub mod Heads
 pub mod Helped
 pub mod Unread

@@ -9,6 +9,7 @@ use Rattle.kr_cli.specs.Endings.{MemoryOrTold}
 use Rattle.kr_cli.specs.Files.{MayBeHad}
 use Rattle.kr_cli.specs.Lines.{unreadable_line}
 use Rattle.kr_cli.specs.Named.{TellsNoTable, TellsNoScript}
+use Rattle.kr_cli.specs.NamedTables.{TellsNone}
 
 -- why the word names no table
 pub no_table_file : (may_give : List ℕ → Option (List ℕ) → Type 0) (most : ℕ) (word : List ℕ) (f : FileFault) (e : Ending) → (f ≢ file.Memory → MayBeHad most may_give word None) → (f ≡ file.Memory → e ≡ Memory) → MemoryOrTold e (λ line. line ≡ unreadable_line word) → MemoryOrTold e (TellsNoTable may_give word)
@@ -25,3 +26,11 @@ no_script_file may_give most word f Memory none memory told = tt
 no_script_file may_give most word f Place none memory told = absurd told
 no_script_file may_give most word f Output none memory told = absurd told
 no_script_file may_give most word f (Told line) none memory told = inl (none (λ is. let k : Told line ≡ Memory = memory is in absurd (cc)), told)
+
+-- or no table, with ghosts or without
+pub no_named_file : (may_give : List ℕ → Option (List ℕ) → Type 0) (most : ℕ) (word : List ℕ) (f : FileFault) (e : Ending) → (f ≢ file.Memory → MayBeHad most may_give word None) → (f ≡ file.Memory → e ≡ Memory) → MemoryOrTold e (λ line. line ≡ unreadable_line word) → MemoryOrTold e (TellsNone may_give word)
+no_named_file may_give most word f NotUnderstood none memory told = absurd told
+no_named_file may_give most word f Memory none memory told = tt
+no_named_file may_give most word f Place none memory told = absurd told
+no_named_file may_give most word f Output none memory told = absurd told
+no_named_file may_give most word f (Told line) none memory told = inl (none (λ is. let k : Told line ≡ Memory = memory is in absurd (cc)), told)

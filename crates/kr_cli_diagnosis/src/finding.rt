@@ -23,7 +23,7 @@ use kr_script::{Script, read_script};
 use std::alloc::{AllocError, Global};
 
 /// Puts a text behind what helps, where memory allows.
-fn add(help: &mut String, more: Result<String, AllocError>)
+pub(crate) fn add(help: &mut String, more: Result<String, AllocError>)
     ensures ok { IfOk more (λ text. MayBePut (string_bytes help.old) (string_bytes help.new) (string_bytes text)) }
     ensures err { OnErr more (string_bytes help.new ≡ string_bytes help.old) }
 {
@@ -34,8 +34,8 @@ fn add(help: &mut String, more: Result<String, AllocError>)
 
 /// The table that a word names, as `kr_cli::table_at` finds it. Where it names none, what helps is put behind `help`, and
 /// else `help` stays as it is.
-pub fn table_at<R: std::rt::Files + AllocGlobal, F: Files>(
-    rt: &R,
+pub fn table_at<F: Files>(
+    alloc: Global,
     word: &str,
     files: &F,
     help: &mut String,
@@ -48,9 +48,8 @@ pub fn table_at<R: std::rt::Files + AllocGlobal, F: Files>(
     ensures help { AddsHelp word.now (string_bytes help.old) (string_bytes help.new) }
     ensures lines { AddsLines (string_bytes help.old) (string_bytes help.new) }
 {
-    let alloc = rt.alloc();
     if is_no_file(word) {
-        return match kr_cli::table_at(rt, word, files) {
+        return match kr_cli::table_at(alloc, word, files) {
             Ok(table) => Ok(table),
             Err(ending) => {
                 add(help, bundled_help(alloc, word));
@@ -58,12 +57,12 @@ pub fn table_at<R: std::rt::Files + AllocGlobal, F: Files>(
             }
         };
     }
-    table_in_file(rt, word, files, help)
+    table_in_file(alloc, word, files, help)
 }
 
 /// The table in the file that a word names.
-fn table_in_file<R: std::rt::Files + AllocGlobal, F: Files>(
-    rt: &R,
+fn table_in_file<F: Files>(
+    alloc: Global,
     word: &str,
     files: &F,
     help: &mut String,
@@ -74,8 +73,7 @@ fn table_in_file<R: std::rt::Files + AllocGlobal, F: Files>(
     ensures unhelped { OnOk result (help.new ≡ help.old) }
     ensures help { AddsHelp word.now (string_bytes help.old) (string_bytes help.new) }
 {
-    let alloc = rt.alloc();
-    let bytes = match read_file(rt, word, files, TABLE_BYTES) {
+    let bytes = match read_file(alloc, word, files, TABLE_BYTES) {
         Ok(bytes) => bytes,
         Err(fault) => return Err(no_file(alloc, word, Wanted::Table, fault, help)),
     };
@@ -90,13 +88,19 @@ fn table_in_file<R: std::rt::Files + AllocGlobal, F: Files>(
 
 /// What a word is to name.
 #[derive(Clone, Copy)]
-enum Wanted {
+pub(crate) enum Wanted {
     Table,
     Script,
 }
 
 /// How a program ends at a word whose file can't be read. What helps is put behind `help`.
-fn no_file(alloc: Global, word: &str, wanted: Wanted, fault: FileFault, help: &mut String) -> Ending
+pub(crate) fn no_file(
+    alloc: Global,
+    word: &str,
+    wanted: Wanted,
+    fault: FileFault,
+    help: &mut String,
+) -> Ending
     ensures line { MemoryOrTold result (λ line. line ≡ unreadable_line word.now) }
     ensures memory { fault ≡ file_fault.Memory → result ≡ ending.Memory }
     ensures other { is_output result ≡ false }
@@ -115,8 +119,8 @@ fn no_file(alloc: Global, word: &str, wanted: Wanted, fault: FileFault, help: &m
 
 /// The script that a word names, as `kr_cli::script_at` finds it. Where it names none, what helps is put behind `help`, and
 /// else a warning of each member that the script has twice: where none is twice, `help` says what it said.
-pub fn script_at<R: std::rt::Files + AllocGlobal, F: Files>(
-    rt: &R,
+pub fn script_at<F: Files>(
+    alloc: Global,
     word: &str,
     files: &F,
     help: &mut String,
@@ -129,8 +133,7 @@ pub fn script_at<R: std::rt::Files + AllocGlobal, F: Files>(
         → OnOk result (string_bytes help.new ≡ string_bytes help.old) }
     ensures lines { AddsLines (string_bytes help.old) (string_bytes help.new) }
 {
-    let alloc = rt.alloc();
-    let bytes = match read_file(rt, word, files, SCRIPT_BYTES) {
+    let bytes = match read_file(alloc, word, files, SCRIPT_BYTES) {
         Ok(bytes) => bytes,
         Err(fault) => return Err(no_file(alloc, word, Wanted::Script, fault, help)),
     };

@@ -1,16 +1,18 @@
-//! Faults of tables and scripts in words: where a fault stands, the line there with a caret, what was expected, and the
-//! nearest name.
+//! Tables and scripts that words name, and what helps where they name none: where a fault is, the line there with a caret, what
+//! was expected, and the nearest name.
 #![tactic(auto)]
 
 mod bundled;
 mod document;
 mod encoding;
 mod finding;
+mod ghost_scripts;
 mod help;
 mod json_faults;
 mod json_places;
 mod kinds;
 mod lines;
+mod named;
 mod names;
 mod nearest;
 mod place;
@@ -31,6 +33,8 @@ mod unreadable;
 
 pub use bundled::bundled_help;
 pub use finding::{script_at, table_at};
+pub use ghost_scripts::ghost_script_with_help;
+pub use named::named_with_help;
 pub use repeated::repeated_help;
 pub use scripts::script_help;
 pub use tables::table_help;

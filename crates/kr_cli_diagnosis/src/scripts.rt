@@ -1,5 +1,5 @@
 //! What helps at a fault of a script.
-ghost use Rattle.std.specs.Prelude.{◌≡◌, IfOk, string_bytes};
+ghost use Rattle.std.specs.Prelude.{IfOk, string_bytes};
 ghost use Rattle.kr_cli_diagnosis.specs.Help.{IsHelp};
 
 use crate::help::{Help, print_said};

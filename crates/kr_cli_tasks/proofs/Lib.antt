@@ -1,6 +1,13 @@
 pub mod Answered
 pub mod Covered
 pub mod Ended
+pub mod GhostEndings
+pub mod GhostJudged
+pub mod GhostSerials
+pub mod ProgramAnswered
+pub mod ProgramEnded
 pub mod Reported
 pub mod Serials
+pub mod TaskAnswered
+pub mod TaskEnded
 pub mod Unprinted

@@ -84,7 +84,7 @@ fn are_serial(verdicts: &[Verdict]) -> bool
 /// order; under a safe protocol they are, and so under a covered one. Where a name stands for no script, or a growth was
 /// refused, nothing is written; where printing fails, a prefix of the lines was.
 pub fn judge_over<P: Protocol + Sync, T: Texts + Sync, W: Sink>(
-    rt: &(impl Threads + Sync),
+    threads: &(impl Threads + Sync),
     alloc: Global,
     protocol: &P,
     texts: &T,
@@ -101,7 +101,7 @@ pub fn judge_over<P: Protocol + Sync, T: Texts + Sync, W: Sink>(
     ensures nothing { IfErr result (λ e. (e ≡ fault.Print) ⊎ (out.new ≡ out.old)) }
 {
     lemma_lawful(protocol);
-    let verdicts = judge_texts(rt, alloc, protocol, texts, names)?;
+    let verdicts = judge_texts(threads, alloc, protocol, texts, names)?;
     let text = lines_of(alloc, names, verdicts.as_slice())?;
     put_all(out, text.as_bytes())?;
     Ok(are_serial(verdicts.as_slice()))

@@ -38,8 +38,8 @@ impl From<OverFault> for Ending {
 }
 
 /// Runs the script in the file that a word names, writes its report, and answers whether the run is serializable.
-pub fn run_script<R: std::rt::Files + AllocGlobal, P: Protocol, F: Files, W: Sink>(
-    rt: &R,
+pub fn run_script<P: Protocol, F: Files, W: Sink>(
+    alloc: Global,
     protocol: &P,
     script: &str,
     files: &F,
@@ -53,8 +53,7 @@ pub fn run_script<R: std::rt::Files + AllocGlobal, P: Protocol, F: Files, W: Sin
     ensures nothing { IfErr result (λ e. IsTrue (is_output e) ⊎ (out.new ≡ out.old)) }
     ensures cause { IfErr result (λ e. IsTrue (is_output e) → HasCause (W.failures out.old) (W.failures out.new)) }
 {
-    let alloc = rt.alloc();
-    let bytes = whole(rt, script, files, SCRIPT_BYTES)?;
+    let bytes = whole(alloc, script, files, SCRIPT_BYTES)?;
     match run_over(alloc, protocol, bytes.as_slice(), out) {
         Ok(is_serial) => Ok(is_serial),
         Err(OverFault::Script(fault)) => Err(at_fault(alloc, script, fault)),
@@ -64,16 +63,15 @@ pub fn run_script<R: std::rt::Files + AllocGlobal, P: Protocol, F: Files, W: Sin
 
 /// The files that words name, as the texts of scripts.
 #[derive(Drop)]
-struct Scripts<'a, R, F> {
-    rt: &'a R,
+struct Scripts<'a, F> {
     files: &'a F,
 }
 
-impl<R: std::rt::Files + AllocGlobal, F: Files> Texts for Scripts<'_, R, F> {
+impl<F: Files> Texts for Scripts<'_, F> {
     ghost may_be = { λ s. MayBeScript (F.may_give s.files.now) };
 
-    fn text(&self, _alloc: Global, name: &str) -> Result<Vec<u8>, TextFault> {
-        match read_file(self.rt, name, self.files, SCRIPT_BYTES) {
+    fn text(&self, alloc: Global, name: &str) -> Result<Vec<u8>, TextFault> {
+        match read_file(alloc, name, self.files, SCRIPT_BYTES) {
             Ok(bytes) => Ok(bytes),
             Err(FileFault::Memory) => Err(TextFault::Memory),
             Err(_) => Err(TextFault::Unreadable),
@@ -81,14 +79,13 @@ impl<R: std::rt::Files + AllocGlobal, F: Files> Texts for Scripts<'_, R, F> {
     }
 }
 
-impl<R: std::rt::Files + AllocGlobal, F: Files> Scripts<'_, R, F> {
+impl<F: Files> Scripts<'_, F> {
     /// How the program ends at this fault of the first of the words that names no script.
-    fn ending_for(&self, words: &[&str], judge_fault: JudgeFault) -> Ending
+    fn ending_for(&self, alloc: Global, words: &[&str], judge_fault: JudgeFault) -> Ending
         requires { ExplainsNames (MayBeScript (F.may_give self.now.files.now)) (map (λ w. w.now) words.now) judge_fault }
         ensures ends { Unreported (TellsFirst (F.may_give self.now.files.now) (map (λ w. w.now) words.now)) result }
         ensures other { is_output result ≡ false }
     {
-        let alloc = self.rt.alloc();
         match judge_fault {
             JudgeFault::Unreadable(at) => unreadable(alloc, words[at]),
             JudgeFault::Script(at, fault) => at_fault(alloc, words[at], fault),
@@ -99,15 +96,14 @@ impl<R: std::rt::Files + AllocGlobal, F: Files> Scripts<'_, R, F> {
 
 /// Judges the scripts in the files that words name, writes the lines of their verdicts, and answers whether all are
 /// serializable. Each thread reads the files of its scripts; of several faults the first in the order of the words is told.
-pub fn judge_scripts<
-    R: std::rt::Files + AllocGlobal + Threads + Sync,
-    P: Protocol + Sync,
-    F: Files + Sync,
-    W: Sink,
->(rt: &R, protocol: &P, words: &[&str], files: &F, out: &mut W) -> Result<bool, Ending>
-where
-    R::File: Send + Sync,
-    R::Dir: Send + Sync,
+pub fn judge_scripts<T: Threads + Sync, P: Protocol + Sync, F: Files + Sync, W: Sink>(
+    threads: &T,
+    alloc: Global,
+    protocol: &P,
+    words: &[&str],
+    files: &F,
+    out: &mut W,
+) -> Result<bool, Ending>
     ensures reports { IfOk result (λ serial. (ss : List Script) × (AreNamed (MayBeScript (F.may_give files.now)) (map (λ w. w.now) words.now) ss
         × (Appends (W.taken out.old) (W.taken out.new) (judge_lines (P.table protocol.now) (map (λ w. w.now) words.now) ss)
         × (IsTrue serial ↔ All (IsSerialScript (P.table protocol.now)) ss)))) }
@@ -116,10 +112,10 @@ where
     ensures nothing { IfErr result (λ e. IsTrue (is_output e) ⊎ (out.new ≡ out.old)) }
     ensures cause { IfErr result (λ e. IsTrue (is_output e) → HasCause (W.failures out.old) (W.failures out.new)) }
 {
-    let scripts = Scripts { rt, files };
-    match judge_over(rt, rt.alloc(), protocol, &scripts, words, out) {
+    let scripts = Scripts { files };
+    match judge_over(threads, alloc, protocol, &scripts, words, out) {
         Ok(serial) => Ok(serial),
         Err(LinesFault::Print) => Err(Ending::Output),
-        Err(LinesFault::Judge(fault)) => Err(scripts.ending_for(words, fault)),
+        Err(LinesFault::Judge(fault)) => Err(scripts.ending_for(alloc, words, fault)),
     }
 }

@@ -3,10 +3,10 @@ use Rattle.std.specs.Prelude.{◌≡◌, ℕ, Bool, List, [], ◌∷◌, ◌++�
 use Rattle.std.specs.BTreeMap.{BTreeMap}
 use Rattle.kr_cli.specs.declared.endings.Ending.{Ending}
 use Rattle.kr_cli.specs.Lawful.{lawful_of}
-use Rattle.kr_cli_ghost.specs.Lawful.{lawful_ghosts_of}
-use Rattle.kr_cli_ghost.specs.Named.{Names}
-use Rattle.kr_cli_ghost.specs.declared.named.Named.{Named}
-use Rattle.kr_cli_ghost.specs.declared.named.Named.TheVariants.{Table, Ghosts}
+use Rattle.kr_cli.specs.GhostLawful.{lawful_ghosts_of}
+use Rattle.kr_cli.specs.NamedTables.{Names}
+use Rattle.kr_cli.specs.declared.named.Named.{Named}
+use Rattle.kr_cli.specs.declared.named.Named.TheVariants.{Table, Ghosts}
 use Rattle.kr_model.specs.declared.Event.{Event}
 use Rattle.kr_model.specs.Map.{Map}
 use Rattle.kr_ghost.specs.Protocol.{GhostProtocol}

@@ -8,7 +8,6 @@ use Rattle.kr_cli.specs.Named.{NamesTable}
 use Rattle.kr_cli.specs.Tables.{table_of}
 use Rattle.kr_cli.specs.declared.tables.AnyTable.{AnyTable}
 use Rattle.kr_model.specs.Protocol.{IsLawful}
-use Rattle.kr_cli.specs.Questions.{IsNoQuestion}
 use Rattle.kr_trace_parts.specs.Endings.{IsStopped, IsThrough, StopsSo, TellsFault}
 use Rattle.kr_trace_parts.specs.Parts.{Part}
 use Rattle.kr_trace_parts.proofs.Stopping.{stops_more, word_stops, stops_silent}
@@ -53,8 +52,8 @@ asked_answered may_give may_name words (Err e) a old new are asked h = tt
 
 -- Words of no form.
 pub no_form : (may_give : List ℕ → Option (List ℕ) → Type 0) (may_name : List ℕ → Option (List (List ℕ)) → Type 0) (words : List (List ℕ)) (old new : Option (List ℕ)) (e : Ending)
-    → e ≡ NotUnderstood → AskNoTrace words → IsNoQuestion words → Explains may_give may_name words old new e
-no_form may_give may_name words old new e is isnt own = let P : Ending → Type 0 = λ x. Explains may_give may_name words old new x in subst P (sym is) (own, isnt)
+    → e ≡ NotUnderstood → AskNoTrace words → Explains may_give may_name words old new e
+no_form may_give may_name words old new e is isnt = let P : Ending → Type 0 = λ x. Explains may_give may_name words old new x in subst P (sym is) isnt
 
 explained : (may_give : List ℕ → Option (List ℕ) → Type 0) (may_name : List ℕ → Option (List (List ℕ)) → Type 0) (words : List (List ℕ)) (a : Asked) (old new : Option (List ℕ)) (e : Ending)
     → words ≡ words_of a → IsAsked a → StopsSo (Tells may_give may_name a old new) e → Explains may_give may_name words old new e
@@ -66,6 +65,6 @@ explained may_give may_name words a old new (Told line) are asked ends = (a, (ar
 
 -- Why what is asked wasn't answered.
 pub asked_explained : (may_give : List ℕ → Option (List ℕ) → Type 0) (may_name : List ℕ → Option (List (List ℕ)) → Type 0) (words : List (List ℕ)) (r : Result Bool Ending) (a : Asked) (old new : Option (List ℕ))
-    → words ≡ words_of a → IsAsked a → IfErr r (StopsSo (Tells may_give may_name a old new)) → IfErr r (λ e. IsNoQuestion words → Explains may_give may_name words old new e)
+    → words ≡ words_of a → IsAsked a → IfErr r (StopsSo (Tells may_give may_name a old new)) → IfErr r (Explains may_give may_name words old new)
 asked_explained may_give may_name words (Ok well) a old new are asked ends = tt
-asked_explained may_give may_name words (Err e) a old new are asked ends = λ own. explained may_give may_name words a old new e are asked ends
+asked_explained may_give may_name words (Err e) a old new are asked ends = explained may_give may_name words a old new e are asked ends

@@ -4,9 +4,9 @@ use Rattle.std.specs.BTreeMap.{BTreeMap}
 use Rattle.kr_model.specs.Map.{Map}
 use Rattle.kr_model.specs.Protocol.{IsLawful}
 use Rattle.kr_cli.specs.Tables as plain
-use Rattle.kr_cli_ghost.specs.Tables as ghost
-use Rattle.kr_cli_ghost.specs.declared.named.Named.{Named}
-use Rattle.kr_cli_ghost.specs.declared.named.Named.TheVariants.{Table, Ghosts}
+use Rattle.kr_cli.specs.GhostTables as ghost
+use Rattle.kr_cli.specs.declared.named.Named.{Named}
+use Rattle.kr_cli.specs.declared.named.Named.TheVariants.{Table, Ghosts}
 use Rattle.kr_ghost.specs.Protocol.{GhostProtocol, IsLawfulGhost}
 use Rattle.kr_ghost_follow.specs.Stands.{Follows, HasFollowed}
 use Rattle.kr_trace_lines.specs.declared.deviation.Deviation.{Deviation}

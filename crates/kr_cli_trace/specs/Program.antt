@@ -7,14 +7,14 @@ use Rattle.kr_cli.specs.declared.tables.AnyTable.{AnyTable}
 use Rattle.kr_cli.specs.Lines.{told_line, unreadable_line}
 use Rattle.kr_cli.specs.Named.{NamesTable}
 use Rattle.kr_cli.specs.Tables.{names_of, table_of}
-use Rattle.kr_cli_ghost.specs.Named.{Names, NamesGhosts, TellsNone}
-use Rattle.kr_cli_ghost.specs.declared.named.Named.{Named}
-use Rattle.kr_cli_ghost.specs.declared.tables.AnyGhostTable.{AnyGhostTable}
+use Rattle.kr_cli.specs.NamedTables.{Names, NamesGhosts, TellsNone}
+use Rattle.kr_cli.specs.declared.named.Named.{Named}
+use Rattle.kr_cli.specs.declared.ghost_tables.AnyGhostTable.{AnyGhostTable}
 use Rattle.kr_trace_parts.specs.Endings.{IsStopped, IsThrough}
 use Rattle.kr_trace_parts.specs.Parts.{Part}
 use Rattle.kr_cli_trace.specs.Ghosts.{IsLawfulNamed, question_of, untold_text}
 use Rattle.kr_cli_trace.specs.Printed.{IsPrinted, in_commit_order, in_some_order, one_part}
-use Rattle.kr_cli_trace.specs.Words.{AskNothing, IsAsked, words_of}
+use Rattle.kr_cli_trace.specs.Words.{AskNoTrace, IsAsked, words_of}
 use Rattle.kr_cli_trace.specs.declared.words.Asked.{Asked}
 use Rattle.kr_cli_trace.specs.declared.words.Asked.TheVariants as asked
 
@@ -68,7 +68,7 @@ Tells may_give may_name (asked.SomeOrder trace) old new told = TellsTrace (IsPri
 
 -- Why the program ends before it is through.
 abbrev pub Explains : (List ℕ → Option (List ℕ) → Type 0) → (List ℕ → Option (List (List ℕ)) → Type 0) → List (List ℕ) → Option (List ℕ) → Option (List ℕ) → Ending → Type 0
-Explains may_give may_name words old new NotUnderstood = AskNothing words
+Explains may_give may_name words old new NotUnderstood = AskNoTrace words
 Explains may_give may_name words old new Memory = Unit {0}
 Explains may_give may_name words old new Place = ⊥
 Explains may_give may_name words old new Output = Unit {0}

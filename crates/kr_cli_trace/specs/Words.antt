@@ -1,6 +1,5 @@
 -- The words that the program is called with.
 use Rattle.std.specs.Prelude.{◌≡◌, ℕ, ◌<◌, ◌^◌, List, [], ◌∷◌, codes, decimal}
-use Rattle.kr_cli.specs.Questions.{IsNoQuestion}
 use Rattle.kr_cli.specs.Words.{IsPlain}
 use Rattle.kr_cli_trace.specs.declared.words.Asked.{Asked}
 use Rattle.kr_cli_trace.specs.declared.words.Asked.TheVariants.{Both, OnePart, Serial, SomeOrder}
@@ -22,7 +21,3 @@ IsAsked (SomeOrder trace) = IsPlain trace.now
 -- The words ask of no trace.
 abbrev pub AskNoTrace : List (List ℕ) → Type 0
 AskNoTrace words = (asked : Asked) → IsAsked asked → words ≡ words_of asked → ⊥
-
--- The words aren't understood: they ask nothing about the program, and of no trace.
-abbrev pub AskNothing : List (List ℕ) → Type 0
-AskNothing words = IsNoQuestion words × AskNoTrace words

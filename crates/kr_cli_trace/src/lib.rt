@@ -1,14 +1,10 @@
-//! The program that holds what an engine logged against a table: its words, a trace read line by line, what is printed of each
-//! part, and its status.
+//! `kr trace`: its words, and what is printed of each part of a trace that is read line by line.
 #![tactic(auto)]
 
 mod ghosts;
-mod manual;
 mod one_part;
 mod program;
 mod words;
 
-pub use kr_trace_parts::{LINE_BYTES, Lines, LinesFault, ReadLines, Traces};
-pub use manual::{MANUAL, NAME, USAGE, WORDS};
-pub use program::execute;
+pub use program::trace;
 pub use words::{Asked, read_words};

@@ -1,15 +1,11 @@
-//! The program over its words, files and streams.
-ghost use Rattle.std.specs.Prelude.{◌≡◌, ◌⊎◌, ◌≤◌, ◌++◌, ℕ, List, Option, Some, true, false, Ok, Err, IfOk, IfErr, OnOk, IsTrue, map, string_bytes};
-ghost use Rattle.std.specs.Io.KnownBytes.{Appends};
+//! `kr trace`: from words to what is printed of the trace that they name.
+ghost use Rattle.std.specs.Prelude.{◌≡◌, ◌≤◌, ℕ, false, Ok, Err, IfOk, IfErr, OnOk, IsTrue, map, string_bytes};
 ghost use Rattle.kr_sink.specs.Puts.{HasCause};
-ghost use Rattle.kr_cli_diagnosis.specs.Finding.{AreLines, AddsLines};
+ghost use Rattle.kr_cli_diagnosis.specs.Finding.{AddsLines};
 ghost use Rattle.kr_cli.specs.Endings.{MemoryOrTold, is_output};
 ghost use Rattle.kr_cli.specs.Lines.{told_line};
-ghost use Rattle.kr_cli.specs.Manual.{IsTold, answer_of, ending_text};
-ghost use Rattle.kr_cli.specs.Questions.{IsQuestion, IsNoQuestion};
 ghost use Rattle.kr_cli.specs.declared.endings.Ending.{Ending};
 ghost use Rattle.kr_cli.specs.declared.endings.Ending.TheVariants as ending;
-ghost use Rattle.kr_cli.specs.declared.questions.Question.{Question};
 ghost use Rattle.kr_cli.specs.Tables.{names_of, table_of};
 ghost use Rattle.kr_model.specs.Protocol.{IsLawful};
 ghost use Rattle.kr_trace_parts.specs.Endings.{StopsSo};
@@ -17,24 +13,21 @@ ghost use Rattle.kr_cli_trace.specs.Ghosts.{question_of};
 ghost use Rattle.kr_cli_trace.specs.Printed.{IsPrinted, one_part};
 ghost use Rattle.kr_cli_trace.specs.declared.words.Asked.TheVariants as asked;
 ghost use Rattle.kr_cli_trace.specs.Program.{Answers, AnswersAsked, Explains, Holds, Tells, TellsOnePart, TellsTrace, no_part_text};
-ghost use Rattle.kr_cli_trace.specs.Words.{AskNothing, AskNoTrace};
+ghost use Rattle.kr_cli_trace.specs.Words.{AskNoTrace};
 
 use crate::ghosts::AgainstGhosts;
-use crate::manual::{MANUAL, NAME, USAGE, WORDS};
 use crate::one_part::OnePart;
 use crate::words::{Asked, read_words};
-use kr_cli::{AnyTable, Ending, FileFault, Files, VERSION, lemma_lawful, question_in, unreadable};
-use kr_cli_finding::named_with_help;
-use kr_cli_ghost::Named;
-use kr_protocol::Protocol;
+use kr_cli::{AnyTable, Ending, FileFault, Files, Named, lemma_lawful, unreadable};
+use kr_cli_diagnosis::named_with_help;
 use kr_sink::Sink;
 use kr_trace_parts::{Against, Asks, InCommitOrder, InSomeOrder, Traces, read_trace};
 use std::alloc::Global;
 
 /// Reads the trace that a word names, prints of each part what is asked, and answers how many parts there are, and whether all
 /// is well with each.
-fn read_named<R: std::rt::Files + AllocGlobal, F: Traces<R>, A: Asks, W: Sink>(
-    rt: &R,
+fn read_named<F: Traces, A: Asks, W: Sink>(
+    alloc: Global,
     files: &F,
     word: &str,
     asks: &A,
@@ -44,17 +37,17 @@ fn read_named<R: std::rt::Files + AllocGlobal, F: Traces<R>, A: Asks, W: Sink>(
     ensures err { IfErr result (StopsSo (TellsTrace (A.is_printed asks.now) (F.may_name files.now) word.now (W.taken out.old) (W.taken out.new))) }
     ensures cause { IfErr result (λ e. IsTrue (is_output e) → HasCause (W.failures out.old) (W.failures out.new)) }
 {
-    let mut lines = match files.open(rt, word) {
+    let mut lines = match files.open(alloc, word) {
         Ok(lines) => lines,
         Err(FileFault::Memory) => return Err(Ending::Memory),
-        Err(_) => return Err(unreadable(rt.alloc(), word)),
+        Err(_) => return Err(unreadable(alloc, word)),
     };
-    read_trace(rt.alloc(), asks, word, &mut lines, out)
+    read_trace(alloc, asks, word, &mut lines, out)
 }
 
 /// Reads the trace that a word names, prints of each part what is asked, and answers whether all is well with each.
-fn read_all<R: std::rt::Files + AllocGlobal, F: Traces<R>, A: Asks, W: Sink>(
-    rt: &R,
+fn read_all<F: Traces, A: Asks, W: Sink>(
+    alloc: Global,
     files: &F,
     word: &str,
     asks: &A,
@@ -64,7 +57,7 @@ fn read_all<R: std::rt::Files + AllocGlobal, F: Traces<R>, A: Asks, W: Sink>(
     ensures err { IfErr result (StopsSo (TellsTrace (A.is_printed asks.now) (F.may_name files.now) word.now (W.taken out.old) (W.taken out.new))) }
     ensures cause { IfErr result (λ e. IsTrue (is_output e) → HasCause (W.failures out.old) (W.failures out.new)) }
 {
-    let (_, is_well) = read_named(rt, files, word, asks, out)?;
+    let (_, is_well) = read_named(alloc, files, word, asks, out)?;
     Ok(is_well)
 }
 
@@ -81,8 +74,8 @@ fn no_part(alloc: Global, word: &str, number: usize) -> Ending
 
 /// Reads the trace that a word names, prints of each part what is asked, and answers whether all is well with each, if there is
 /// a part of this number.
-fn read_one<R: std::rt::Files + AllocGlobal, F: Traces<R>, A: Asks, W: Sink>(
-    rt: &R,
+fn read_one<F: Traces, A: Asks, W: Sink>(
+    alloc: Global,
     files: &F,
     word: &str,
     number: usize,
@@ -93,17 +86,17 @@ fn read_one<R: std::rt::Files + AllocGlobal, F: Traces<R>, A: Asks, W: Sink>(
     ensures err { IfErr result (StopsSo (TellsOnePart (A.is_printed asks.now) (F.may_name files.now) word.now number (W.taken out.old) (W.taken out.new))) }
     ensures cause { IfErr result (λ e. IsTrue (is_output e) → HasCause (W.failures out.old) (W.failures out.new)) }
 {
-    let (parts, is_well) = read_named(rt, files, word, asks, out)?;
+    let (parts, is_well) = read_named(alloc, files, word, asks, out)?;
     if parts < number as u64 {
-        return Err(no_part(rt.alloc(), word, number));
+        return Err(no_part(alloc, word, number));
     }
     Ok(is_well)
 }
 
 /// Holds the trace that the second word names against the table that the first names. `help` gets what helps where the first
 /// names none.
-fn hold_against<R: std::rt::Files + AllocGlobal, F: Files + Traces<R>, W: Sink>(
-    rt: &R,
+fn hold_against<F: Files + Traces, W: Sink>(
+    alloc: Global,
     words: (&str, &str),
     files: &F,
     out: &mut W,
@@ -116,13 +109,13 @@ fn hold_against<R: std::rt::Files + AllocGlobal, F: Files + Traces<R>, W: Sink>(
     ensures unhelped { OnOk result (help.new ≡ help.old) }
 {
     let (word, trace) = words;
-    let table = named_with_help(rt, word, files, help)?;
-    hold_named(rt, &table, trace, files, out)
+    let table = named_with_help(alloc, word, files, help)?;
+    hold_named(alloc, &table, trace, files, out)
 }
 
 /// Holds the trace that a word names against a table, with ghosts or without.
-fn hold_named<R: std::rt::Files + AllocGlobal, F: Traces<R>, W: Sink>(
-    rt: &R,
+fn hold_named<F: Traces, W: Sink>(
+    alloc: Global,
     table: &Named,
     trace: &str,
     files: &F,
@@ -133,17 +126,17 @@ fn hold_named<R: std::rt::Files + AllocGlobal, F: Traces<R>, W: Sink>(
     ensures cause { IfErr result (λ e. IsTrue (is_output e) → HasCause (W.failures out.old) (W.failures out.new)) }
 {
     match table {
-        Named::Table(table) => { read_all(rt, files, trace, &Against { protocol: table }, out) }
+        Named::Table(table) => { read_all(alloc, files, trace, &Against { protocol: table }, out) }
         Named::Ghosts(table) => {
-            read_all(rt, files, trace, &AgainstGhosts { protocol: table }, out)
+            read_all(alloc, files, trace, &AgainstGhosts { protocol: table }, out)
         }
     }
 }
 
 /// Prints the part of this number as a text, of the trace that the second word names, held against the table that the first
 /// names. `help` gets what helps where the first names none.
-fn print_part<R: std::rt::Files + AllocGlobal, F: Files + Traces<R>, W: Sink>(
-    rt: &R,
+fn print_part<F: Files + Traces, W: Sink>(
+    alloc: Global,
     words: (&str, &str),
     number: usize,
     files: &F,
@@ -157,10 +150,10 @@ fn print_part<R: std::rt::Files + AllocGlobal, F: Files + Traces<R>, W: Sink>(
     ensures unhelped { OnOk result (help.new ≡ help.old) }
 {
     let (word, trace) = words;
-    let table = named_with_help(rt, word, files, help)?;
+    let table = named_with_help(alloc, word, files, help)?;
     match table {
-        Named::Table(table) => print_part_of(rt, &table, trace, number, files, out),
-        Named::Ghosts(_) => Err(Ending::told(rt.alloc(), word, UNTOLD)),
+        Named::Table(table) => print_part_of(alloc, &table, trace, number, files, out),
+        Named::Ghosts(_) => Err(Ending::told(alloc, word, UNTOLD)),
     }
 }
 
@@ -168,8 +161,8 @@ fn print_part<R: std::rt::Files + AllocGlobal, F: Files + Traces<R>, W: Sink>(
 const UNTOLD: &str = "--tell takes no table with ghosts yet";
 
 /// Prints the part of this number as a text, of the trace that a word names, held against a table without ghosts.
-fn print_part_of<R: std::rt::Files + AllocGlobal, F: Traces<R>, W: Sink>(
-    rt: &R,
+fn print_part_of<F: Traces, W: Sink>(
+    alloc: Global,
     table: &AnyTable,
     trace: &str,
     number: usize,
@@ -186,21 +179,20 @@ fn print_part_of<R: std::rt::Files + AllocGlobal, F: Traces<R>, W: Sink>(
         protocol: table,
         asked: number as u64,
     };
-    read_one(rt, files, trace, number, &asks, out)
+    read_one(alloc, files, trace, number, &asks, out)
 }
 
 /// Prints what the words ask of a trace, and answers whether all is well with each of its parts. `help` gets what helps where a
 /// word names no table.
-fn hold<R: std::rt::Files + AllocGlobal, F: Files + Traces<R>, W: Sink>(
-    rt: &R,
+pub fn trace<F: Files + Traces, W: Sink>(
+    alloc: Global,
     words: &[String],
     files: &F,
     out: &mut W,
     help: &mut String,
 ) -> Result<bool, Ending>
     ensures answers { IfOk result (AnswersAsked (F.may_give files.now) (F.may_name files.now) (map string_bytes words.now) (W.taken out.old) (W.taken out.new)) }
-    ensures err { IfErr result (λ e. IsNoQuestion (map string_bytes words.now)
-        → Explains (F.may_give files.now) (F.may_name files.now) (map string_bytes words.now) (W.taken out.old) (W.taken out.new) e) }
+    ensures err { IfErr result (Explains (F.may_give files.now) (F.may_name files.now) (map string_bytes words.now) (W.taken out.old) (W.taken out.new)) }
     ensures unknown { AskNoTrace (map string_bytes words.now)
         → (result ≡ Err ending.NotUnderstood) × ((out.new ≡ out.old) × (help.new ≡ help.old)) }
     ensures cause { IfErr result (λ e. IsTrue (is_output e) → HasCause (W.failures out.old) (W.failures out.new)) }
@@ -209,74 +201,11 @@ fn hold<R: std::rt::Files + AllocGlobal, F: Files + Traces<R>, W: Sink>(
 {
     let asked = read_words(words)?;
     match asked {
-        Asked::Both(table, trace) => hold_against(rt, (table, trace), files, out, help),
+        Asked::Both(table, trace) => hold_against(alloc, (table, trace), files, out, help),
         Asked::OnePart(table, trace, number) => {
-            print_part(rt, (table, trace), number, files, out, help)
+            print_part(alloc, (table, trace), number, files, out, help)
         }
-        Asked::Serial(trace) => read_all(rt, files, trace, &InCommitOrder, out),
-        Asked::SomeOrder(trace) => read_all(rt, files, trace, &InSomeOrder, out),
+        Asked::Serial(trace) => read_all(alloc, files, trace, &InCommitOrder, out),
+        Asked::SomeOrder(trace) => read_all(alloc, files, trace, &InSomeOrder, out),
     }
-}
-
-/// Does what the words ask, of the program or of a trace, and answers whether all is well. `help` gets what helps.
-fn answered<R: std::rt::Files + AllocGlobal, F: Files + Traces<R>, W: Sink>(
-    rt: &R,
-    words: &[String],
-    files: &F,
-    out: &mut W,
-    help: &mut String,
-) -> Result<bool, Ending>
-    ensures question { (q : Question) → IsQuestion (map string_bytes words.now) q
-        → ((result ≡ Ok true) × Appends (W.taken out.old) (W.taken out.new) (answer_of NAME.now USAGE.now WORDS.now VERSION.now q))
-        ⊎ ((result ≡ Err ending.Output) × HasCause (W.failures out.old) (W.failures out.new)) }
-    ensures answers { IsNoQuestion (map string_bytes words.now)
-        → IfOk result (AnswersAsked (F.may_give files.now) (F.may_name files.now) (map string_bytes words.now) (W.taken out.old) (W.taken out.new)) }
-    ensures err { IfErr result (Explains (F.may_give files.now) (F.may_name files.now) (map string_bytes words.now) (W.taken out.old) (W.taken out.new)) }
-    ensures unknown { AskNothing (map string_bytes words.now)
-        → (result ≡ Err ending.NotUnderstood) × ((out.new ≡ out.old) × (help.new ≡ help.old)) }
-    ensures cause { IfErr result (λ e. IsTrue (is_output e) → HasCause (W.failures out.old) (W.failures out.new)) }
-    ensures help { AddsLines (string_bytes help.old) (string_bytes help.new) }
-    ensures unhelped { OnOk result (string_bytes help.new ≡ string_bytes help.old) }
-{
-    match question_in(words) {
-        Some(question) => {
-            MANUAL.answer(question, out)?;
-            Ok(true)
-        }
-        None => hold(rt, words, files, out, help),
-    }
-}
-
-/// Runs the program on words without its own name, and answers its status: 0 where the trace that a word names has lines without
-/// a fault and all is well with each of their parts; 1 where it isn't with some; and 2 where it printed a fault on `err`, the first
-/// in the order of lines. At 0 and 1 a line is written on `out` for each part; at a fault of the trace, for each part that has
-/// ended before it. Where the words ask for one part, its text is written and nothing of the others, 0 and 1 are for that part
-/// alone, and 2 is also for a trace that has no part of this number. Words that ask for help or the version are answered on `out`
-/// with 0. Behind the line of words that aren't understood `err` has the usage.
-pub fn execute<R: std::rt::Files + AllocGlobal, F: Files + Traces<R>, W: Sink, E: Sink>(
-    rt: &R,
-    words: &[String],
-    files: &F,
-    out: &mut W,
-    err: &mut E,
-) -> u8
-    ensures within { result ≤ 2 }
-    ensures question { (q : Question) → IsQuestion (map string_bytes words.now) q
-        → ((result ≡ 0) × Appends (W.taken out.old) (W.taken out.new) (answer_of NAME.now USAGE.now WORDS.now VERSION.now q))
-        ⊎ ((result ≡ 2) × HasCause (W.failures out.old) (W.failures out.new)) }
-    ensures well { IsNoQuestion (map string_bytes words.now) → result ≡ 0
-        → AnswersAsked (F.may_give files.now) (F.may_name files.now) (map string_bytes words.now) (W.taken out.old) (W.taken out.new) true }
-    ensures not_well { result ≡ 1 → AnswersAsked (F.may_give files.now) (F.may_name files.now) (map string_bytes words.now) (W.taken out.old) (W.taken out.new) false }
-    ensures unknown { AskNothing (map string_bytes words.now) → (result ≡ 2) × ((out.new ≡ out.old)
-        × IsTold (E.taken err.old) (E.taken err.new) (E.failures err.old) (E.failures err.new)
-        (ending_text NAME.now USAGE.now ending.NotUnderstood)) }
-    ensures told { result ≡ 2 → (help : List ℕ) × (AreLines help × ((e : Ending)
-        × (Explains (F.may_give files.now) (F.may_name files.now) (map string_bytes words.now) (W.taken out.old) (W.taken out.new) e
-        × IsTold (E.taken err.old) (E.taken err.new) (E.failures err.old) (E.failures err.new)
-        (ending_text NAME.now USAGE.now e ++ help)))) }
-    ensures silent { (err.new ≡ err.old) ⊎ (result ≡ 2) }
-{
-    let mut help = String::new(rt.alloc());
-    let done = answered(rt, words, files, out, &mut help);
-    MANUAL.finish(&done, help.as_str(), err)
 }

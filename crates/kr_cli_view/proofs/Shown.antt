@@ -13,19 +13,18 @@ use Rattle.kr_cli.specs.declared.tables.AnyTable.{AnyTable}
 use Rattle.kr_cli.specs.Endings.{MemoryOrTold}
 use Rattle.kr_cli.specs.Files.{MayBeScript}
 use Rattle.kr_cli.specs.Named.{NamesScript}
-use Rattle.kr_cli.specs.Questions.{IsNoQuestion}
 use Rattle.kr_cli.specs.Tables.{names_of, table_of}
 use Rattle.kr_cli_diagnosis.specs.Repeated.{HasNoMemberTwice}
 use Rattle.kr_view_table.specs.Page.{IsTablePage}
 use Rattle.kr_cli_view.specs.Words.{AskNoPage, IsAsked, words_of}
 use Rattle.kr_cli_view.specs.declared.words.Asked.{Asked}
-use Rattle.kr_cli_ghost.specs.declared.tables.AnyGhostTable.{AnyGhostTable}
-use Rattle.kr_cli_ghost.specs.declared.named.Named.{Named}
-use Rattle.kr_cli_ghost.specs.Lawful.{lawful_ghosts_of}
-use Rattle.kr_cli_ghost.specs.Named.{Names}
-use Rattle.kr_cli_ghost.specs.Runs.{IsSerialGhosts, NamesGhostScript}
-use Rattle.kr_cli_ghost.specs.Tables.{ghosts_of}
-use Rattle.kr_cli_ghost.specs.Tables as ghost
+use Rattle.kr_cli.specs.declared.ghost_tables.AnyGhostTable.{AnyGhostTable}
+use Rattle.kr_cli.specs.declared.named.Named.{Named}
+use Rattle.kr_cli.specs.GhostLawful.{lawful_ghosts_of}
+use Rattle.kr_cli.specs.NamedTables.{Names}
+use Rattle.kr_cli.specs.GhostScripts.{IsSerialGhosts, NamesGhostScript}
+use Rattle.kr_cli.specs.GhostTables.{ghosts_of}
+use Rattle.kr_cli.specs.GhostTables as ghost
 use Rattle.kr_ghost.specs.Protocol.{GhostProtocol}
 use Rattle.kr_ghost_view_table.specs.Page.{IsGhostTablePage}
 use Rattle.kr_ghost_script.specs.Script.{GhostScript}
@@ -82,8 +81,8 @@ page_fault Tells (Err e) (inl memory) = let P : Ending → Type 0 = λ x. EndsSo
 page_fault Tells (Err e) (inr output) = let P : Ending → Type 0 = λ x. EndsSo Tells x in subst P (sym output) tt
 
 -- words of no form
-pub no_form : (may_give : List ℕ → Option (List ℕ) → Type 0) (words : List (List ℕ)) (e : Ending) → e ≡ NotUnderstood → AskNoPage words → IsNoQuestion words → Explains may_give words e
-no_form may_give words e is isnt own = let P : Ending → Type 0 = λ x. Explains may_give words x in subst P (sym is) (own, isnt)
+pub no_form : (may_give : List ℕ → Option (List ℕ) → Type 0) (words : List (List ℕ)) (e : Ending) → e ≡ NotUnderstood → AskNoPage words → Explains may_give words e
+no_form may_give words e is isnt = let P : Ending → Type 0 = λ x. Explains may_give words x in subst P (sym is) isnt
 
 -- what a line tells that is told of a word
 pub word_fault : (Tells More : List ℕ → Type 0) (e : Ending) → ((line : List ℕ) → Tells line → More line) → MemoryOrTold e Tells → EndsSo More e
@@ -101,9 +100,9 @@ ends_at may_give words a Place are asked ends = absurd ends
 ends_at may_give words a Output are asked ends = tt
 ends_at may_give words a (Told line) are asked ends = (a, (are, (asked, ends)))
 
-pub asked_ends : (may_give : List ℕ → Option (List ℕ) → Type 0) (words : List (List ℕ)) (r : Result Bool Ending) (a : Asked) → words ≡ words_of a → IsAsked a → IfErr r (EndsSo (TellsAsked may_give a)) → IfErr r (λ e. IsNoQuestion words → Explains may_give words e)
+pub asked_ends : (may_give : List ℕ → Option (List ℕ) → Type 0) (words : List (List ℕ)) (r : Result Bool Ending) (a : Asked) → words ≡ words_of a → IsAsked a → IfErr r (EndsSo (TellsAsked may_give a)) → IfErr r (Explains may_give words)
 asked_ends may_give words (Ok well) a are asked ends = tt
-asked_ends may_give words (Err e) a are asked ends = λ own. ends_at may_give words a e are asked ends
+asked_ends may_give words (Err e) a are asked ends = ends_at may_give words a e are asked ends
 
 -- a text that was written is a page where its bytes are
 pub written : (bytes page table : List ℕ) (steps : List NumberedStep) (serial : Bool) (old new : Option (List ℕ)) → bytes ≡ page → IsPage table steps serial page → Appends old new bytes → (p : List ℕ) × (IsPage table steps serial p × Appends old new p)

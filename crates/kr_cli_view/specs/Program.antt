@@ -13,13 +13,13 @@ use Rattle.kr_cli.specs.declared.tables.AnyTable.{AnyTable}
 use Rattle.kr_cli.specs.Files.{MayBeScript}
 use Rattle.kr_cli.specs.Named.{NamesScript, TellsNoScript}
 use Rattle.kr_cli.specs.Tables.{names_of, table_of}
-use Rattle.kr_cli_ghost.specs.declared.tables.AnyGhostTable.{AnyGhostTable}
-use Rattle.kr_cli_ghost.specs.declared.named.Named.{Named}
-use Rattle.kr_cli_ghost.specs.declared.named.Named.TheVariants.{Table, Ghosts}
-use Rattle.kr_cli_ghost.specs.Named.{Names, TellsNone}
-use Rattle.kr_cli_ghost.specs.Runs.{IsSerialGhosts, NamesGhostScript, TellsNoGhostScript}
-use Rattle.kr_cli_ghost.specs.Tables.{ghosts_of}
-use Rattle.kr_cli_ghost.specs.Tables as ghost
+use Rattle.kr_cli.specs.declared.ghost_tables.AnyGhostTable.{AnyGhostTable}
+use Rattle.kr_cli.specs.declared.named.Named.{Named}
+use Rattle.kr_cli.specs.declared.named.Named.TheVariants.{Table, Ghosts}
+use Rattle.kr_cli.specs.NamedTables.{Names, TellsNone}
+use Rattle.kr_cli.specs.GhostScripts.{IsSerialGhosts, NamesGhostScript, TellsNoGhostScript}
+use Rattle.kr_cli.specs.GhostTables.{ghosts_of}
+use Rattle.kr_cli.specs.GhostTables as ghost
 use Rattle.kr_ghost_view_table.specs.Page.{IsGhostTablePage}
 use Rattle.kr_ghost.specs.Protocol.{GhostProtocol, IsLawfulGhost}
 use Rattle.kr_ghost_script.specs.Script.{GhostScript}
@@ -28,7 +28,7 @@ use Rattle.kr_cli_diagnosis.specs.Repeated.{HasNoMemberTwice}
 use Rattle.kr_view_scenes.specs.Scenes.{NumberedStep, drawn_steps}
 use Rattle.kr_view_run.specs.Page.{IsPage}
 use Rattle.kr_view_table.specs.Page.{IsTablePage}
-use Rattle.kr_cli_view.specs.Words.{AskNothing, IsAsked, words_of}
+use Rattle.kr_cli_view.specs.Words.{AskNoPage, IsAsked, words_of}
 use Rattle.kr_cli_view.specs.declared.words.Asked.{Asked}
 use Rattle.kr_cli_view.specs.declared.words.Asked.TheVariants as asked
 
@@ -143,7 +143,7 @@ TellsAsked may_give (asked.Run table script) line = TellsWord may_give table.now
 
 -- Why the program ends without a page, or with a prefix of it.
 abbrev pub Explains : (List ℕ → Option (List ℕ) → Type 0) → List (List ℕ) → Ending → Type 0
-Explains may_give words NotUnderstood = AskNothing words
+Explains may_give words NotUnderstood = AskNoPage words
 Explains may_give words Memory = Unit {0}
 Explains may_give words Place = ⊥
 Explains may_give words Output = Unit {0}

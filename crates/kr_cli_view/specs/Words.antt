@@ -1,6 +1,5 @@
 -- The words that the program is called with.
 use Rattle.std.specs.Prelude.{◌≡◌, ℕ, List, [], ◌∷◌}
-use Rattle.kr_cli.specs.Questions.{IsNoQuestion}
 use Rattle.kr_cli.specs.Words.{IsPlain}
 use Rattle.kr_cli_view.specs.declared.words.Asked.{Asked}
 use Rattle.kr_cli_view.specs.declared.words.Asked.TheVariants.{Table, Run}
@@ -18,7 +17,3 @@ IsAsked (Run table script) = IsPlain table.now × IsPlain script.now
 -- The words ask for no page.
 abbrev pub AskNoPage : List (List ℕ) → Type 0
 AskNoPage words = (asked : Asked) → IsAsked asked → words ≡ words_of asked → ⊥
-
--- The words aren't understood: they ask nothing about the program, and for no page.
-abbrev pub AskNothing : List (List ℕ) → Type 0
-AskNothing words = IsNoQuestion words × AskNoPage words

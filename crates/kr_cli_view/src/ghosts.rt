@@ -7,15 +7,13 @@ ghost use Rattle.kr_sink.specs.Puts.{HasCause};
 ghost use Rattle.kr_cli.specs.Endings.{is_output};
 ghost use Rattle.kr_cli.specs.declared.endings.Ending.TheVariants as ending;
 ghost use Rattle.kr_cli_diagnosis.specs.Finding.{AddsLines};
-ghost use Rattle.kr_cli_ghost.specs.Runs.{IsSerialGhosts, TellsNoGhostScript};
-ghost use Rattle.kr_cli_ghost.specs.Tables.{ghosts_of};
+ghost use Rattle.kr_cli.specs.GhostScripts.{IsSerialGhosts, TellsNoGhostScript};
 ghost use Rattle.kr_ghost_view_table.specs.Page.{IsGhostTablePage};
 ghost use Rattle.kr_view_run.specs.Page.{IsPage};
 ghost use Rattle.kr_cli_view.specs.Program.{EndsSo, NamesNoMemberTwice, ShowsGhostScript, drawn_of_ghosts};
 
-use kr_cli::{Ending, Files};
-use kr_cli_finding::ghost_script_with_help;
-use kr_cli_ghost::AnyGhostTable;
+use kr_cli::{AnyGhostTable, Ending, Files};
+use kr_cli_diagnosis::ghost_script_with_help;
 use kr_ghost_protocol::GhostProtocol;
 use kr_ghost_script::GhostScript;
 use kr_ghost_view::ghost_picture;
@@ -71,8 +69,8 @@ pub fn write_ghost_table_page<P: GhostProtocol, W: Sink>(
 
 /// Writes the page of the run of the script that the second word names under a table with ghosts, which the first names, and
 /// answers whether the run is serializable. `help` gets a warning of each member that the script has twice.
-pub(crate) fn view_ghosts<R: std::rt::Files + AllocGlobal, F: Files, W: Sink>(
-    rt: &R,
+pub(crate) fn view_ghosts<F: Files, W: Sink>(
+    alloc: Global,
     table: &AnyGhostTable,
     words: (&str, &str),
     files: &F,
@@ -88,6 +86,6 @@ pub(crate) fn view_ghosts<R: std::rt::Files + AllocGlobal, F: Files, W: Sink>(
         → OnOk result (string_bytes help.new ≡ string_bytes help.old) }
 {
     let (word, script) = words;
-    let script = ghost_script_with_help(rt, script, files, help)?;
-    write_ghost_page(rt.alloc(), table, word, &script, out)
+    let script = ghost_script_with_help(alloc, script, files, help)?;
+    write_ghost_page(alloc, table, word, &script, out)
 }

@@ -1,30 +1,24 @@
-//! The program over its words, files and streams.
-ghost use Rattle.std.specs.Prelude.{◌≡◌, ◌⊎◌, ◌↔◌, ◌≤◌, ◌++◌, ℕ, List, true, false, Ok, Err, IfOk, IfErr, OnOk, IsTrue, map, string_bytes};
+//! `kr view`: from words to the page of the table, or of the run, that they name.
+ghost use Rattle.std.specs.Prelude.{◌≡◌, ◌⊎◌, ◌↔◌, ℕ, List, Ok, Err, IfOk, IfErr, OnOk, IsTrue, map, string_bytes};
 ghost use Rattle.std.specs.Io.KnownBytes.{Appends};
 ghost use Rattle.kr_model.specs.Covers.{IsCovered};
 ghost use Rattle.kr_model.specs.Safe.{IsSafe};
 ghost use Rattle.kr_sink.specs.Puts.{HasCause};
-ghost use Rattle.kr_cli_diagnosis.specs.Finding.{AreLines, AddsLines};
+ghost use Rattle.kr_cli_diagnosis.specs.Finding.{AddsLines};
 ghost use Rattle.kr_cli.specs.Endings.{is_output};
-ghost use Rattle.kr_cli.specs.Manual.{IsTold, answer_of, ending_text};
 ghost use Rattle.kr_cli.specs.Named.{TellsNoScript};
-ghost use Rattle.kr_cli_ghost.specs.Named.{TellsNone};
-ghost use Rattle.kr_cli.specs.Questions.{IsQuestion, IsNoQuestion};
+ghost use Rattle.kr_cli.specs.NamedTables.{TellsNone};
 ghost use Rattle.kr_cli.specs.declared.endings.Ending.{Ending};
 ghost use Rattle.kr_cli.specs.declared.endings.Ending.TheVariants as ending;
-ghost use Rattle.kr_cli.specs.declared.questions.Question.{Question};
 ghost use Rattle.kr_view_run.specs.Page.{IsPage};
 ghost use Rattle.kr_view_table.specs.Page.{IsTablePage};
-ghost use Rattle.kr_cli_view.specs.Words.{AskNothing, AskNoPage};
+ghost use Rattle.kr_cli_view.specs.Words.{AskNoPage};
 ghost use Rattle.kr_cli_view.specs.Program.{EndsSo, Explains, IsSerialScript, NameNoMemberTwice, NamesNoMemberTwice, Shows, ShowsAsked, ShowsNamed, ShowsScript, ShowsTable, ShowsUnder, TellsNoScriptFor, TellsWord, drawn_of_script};
 
 use crate::ghosts::{view_ghosts, write_ghost_table_page};
-use crate::manual::{MANUAL, NAME, USAGE, WORDS};
 use crate::words::{Asked, read_words};
-use kr_cli::{AnyTable, Ending, Files, VERSION, lemma_lawful, question_in};
-use kr_cli_diagnosis::script_at;
-use kr_cli_finding::named_with_help;
-use kr_cli_ghost::Named;
+use kr_cli::{AnyTable, Ending, Files, Named, lemma_lawful};
+use kr_cli_diagnosis::{named_with_help, script_at};
 use kr_protocol::Protocol;
 use kr_script::Script;
 use kr_sink::{Sink, put_all};
@@ -80,8 +74,8 @@ pub fn write_table_page<P: Protocol, W: Sink>(
 
 /// Writes the page of the table that a word names, and answers whether the table is safe. Where the word names none, `help`
 /// gets what helps.
-fn view_table<R: std::rt::Files + AllocGlobal, F: Files, W: Sink>(
-    rt: &R,
+fn view_table<F: Files, W: Sink>(
+    alloc: Global,
     word: &str,
     files: &F,
     out: &mut W,
@@ -94,8 +88,8 @@ fn view_table<R: std::rt::Files + AllocGlobal, F: Files, W: Sink>(
     ensures help { AddsLines (string_bytes help.old) (string_bytes help.new) }
     ensures unhelped { OnOk result (help.new ≡ help.old) }
 {
-    let named = named_with_help(rt, word, files, help)?;
-    view_named(rt.alloc(), &named, word, out)
+    let named = named_with_help(alloc, word, files, help)?;
+    view_named(alloc, &named, word, out)
 }
 
 /// Writes the page of a table, with ghosts or without, that the word names, and answers whether the table is safe.
@@ -122,8 +116,8 @@ fn view_named<W: Sink>(
 /// Writes the page of the run of the script that the second word names under a table without ghosts, which the first names, and
 /// answers whether the run is serializable. `help` gets what helps where the second names no script, and a warning of each member
 /// that the script has twice.
-fn view_script<R: std::rt::Files + AllocGlobal, F: Files, W: Sink>(
-    rt: &R,
+fn view_script<F: Files, W: Sink>(
+    alloc: Global,
     table: &AnyTable,
     words: (&str, &str),
     files: &F,
@@ -139,16 +133,16 @@ fn view_script<R: std::rt::Files + AllocGlobal, F: Files, W: Sink>(
         → OnOk result (string_bytes help.new ≡ string_bytes help.old) }
 {
     let (word, script) = words;
-    let script = script_at(rt, script, files, help)?;
+    let script = script_at(alloc, script, files, help)?;
     lemma_lawful(table);
-    write_page(rt.alloc(), table, word, &script, out)
+    write_page(alloc, table, word, &script, out)
 }
 
 /// Writes the page of the run of the script that a word names under the table that another names, and answers whether the run
 /// is serializable. `help` gets what helps where they name no table or no script, and a warning of each member that the script
 /// has twice.
-fn view_run<R: std::rt::Files + AllocGlobal, F: Files, W: Sink>(
-    rt: &R,
+fn view_run<F: Files, W: Sink>(
+    alloc: Global,
     words: (&str, &str),
     files: &F,
     out: &mut W,
@@ -162,13 +156,13 @@ fn view_run<R: std::rt::Files + AllocGlobal, F: Files, W: Sink>(
     ensures unwarned { NamesNoMemberTwice (F.may_give files.now) words.entry.1.now
         → OnOk result (string_bytes help.new ≡ string_bytes help.old) }
 {
-    let named = named_with_help(rt, words.0, files, help)?;
-    view_under(rt, &named, words, files, out, help)
+    let named = named_with_help(alloc, words.0, files, help)?;
+    view_under(alloc, &named, words, files, out, help)
 }
 
 /// The same under a table that the first word names.
-fn view_under<R: std::rt::Files + AllocGlobal, F: Files, W: Sink>(
-    rt: &R,
+fn view_under<F: Files, W: Sink>(
+    alloc: Global,
     named: &Named,
     words: (&str, &str),
     files: &F,
@@ -184,23 +178,22 @@ fn view_under<R: std::rt::Files + AllocGlobal, F: Files, W: Sink>(
         → OnOk result (string_bytes help.new ≡ string_bytes help.old) }
 {
     match named {
-        Named::Table(table) => view_script(rt, table, words, files, out, help),
-        Named::Ghosts(table) => view_ghosts(rt, table, words, files, out, help),
+        Named::Table(table) => view_script(alloc, table, words, files, out, help),
+        Named::Ghosts(table) => view_ghosts(alloc, table, words, files, out, help),
     }
 }
 
 /// Writes the page that the words ask for, and answers whether the table is safe that they name, or the run serializable. `help`
 /// gets what helps where a word names no table or no script, and a warning of each member that the script has twice.
-fn view<R: std::rt::Files + AllocGlobal, F: Files, W: Sink>(
-    rt: &R,
+pub fn view<F: Files, W: Sink>(
+    alloc: Global,
     words: &[String],
     files: &F,
     out: &mut W,
     help: &mut String,
 ) -> Result<bool, Ending>
     ensures shows { IfOk result (ShowsAsked (F.may_give files.now) (map string_bytes words.now) (W.taken out.old) (W.taken out.new)) }
-    ensures err { IfErr result (λ e. IsNoQuestion (map string_bytes words.now)
-        → Explains (F.may_give files.now) (map string_bytes words.now) e) }
+    ensures err { IfErr result (Explains (F.may_give files.now) (map string_bytes words.now)) }
     ensures unknown { AskNoPage (map string_bytes words.now)
         → (result ≡ Err ending.NotUnderstood) × ((out.new ≡ out.old) × (help.new ≡ help.old)) }
     ensures cause { IfErr result (λ e. IsTrue (is_output e) → HasCause (W.failures out.old) (W.failures out.new)) }
@@ -211,78 +204,7 @@ fn view<R: std::rt::Files + AllocGlobal, F: Files, W: Sink>(
 {
     let asked = read_words(words)?;
     match asked {
-        Asked::Table(table) => view_table(rt, table, files, out, help),
-        Asked::Run(table, script) => view_run(rt, (table, script), files, out, help),
+        Asked::Table(table) => view_table(alloc, table, files, out, help),
+        Asked::Run(table, script) => view_run(alloc, (table, script), files, out, help),
     }
-}
-
-/// Does what the words ask, of the program, of a table or of a run, and answers whether the table that they name is safe, or
-/// the run serializable. `help` gets what helps, and warnings.
-fn answered<R: std::rt::Files + AllocGlobal, F: Files, W: Sink>(
-    rt: &R,
-    words: &[String],
-    files: &F,
-    out: &mut W,
-    help: &mut String,
-) -> Result<bool, Ending>
-    ensures question { (q : Question) → IsQuestion (map string_bytes words.now) q
-        → ((result ≡ Ok true) × Appends (W.taken out.old) (W.taken out.new) (answer_of NAME.now USAGE.now WORDS.now VERSION.now q))
-        ⊎ ((result ≡ Err ending.Output) × HasCause (W.failures out.old) (W.failures out.new)) }
-    ensures shows { IsNoQuestion (map string_bytes words.now)
-        → IfOk result (ShowsAsked (F.may_give files.now) (map string_bytes words.now) (W.taken out.old) (W.taken out.new)) }
-    ensures err { IfErr result (Explains (F.may_give files.now) (map string_bytes words.now)) }
-    ensures unknown { AskNothing (map string_bytes words.now)
-        → (result ≡ Err ending.NotUnderstood) × ((out.new ≡ out.old) × (help.new ≡ help.old)) }
-    ensures cause { IfErr result (λ e. IsTrue (is_output e) → HasCause (W.failures out.old) (W.failures out.new)) }
-    ensures nothing { IfErr result (λ e. IsTrue (is_output e) ⊎ (out.new ≡ out.old)) }
-    ensures help { AddsLines (string_bytes help.old) (string_bytes help.new) }
-    ensures unwarned { NameNoMemberTwice (F.may_give files.now) (map string_bytes words.now)
-        → OnOk result (string_bytes help.new ≡ string_bytes help.old) }
-{
-    match question_in(words) {
-        Some(question) => {
-            MANUAL.answer(question, out)?;
-            Ok(true)
-        }
-        None => view(rt, words, files, out, help),
-    }
-}
-
-/// Runs the program on words without its own name, and answers its status: 0 where the table that the only word names is safe,
-/// accepted or not, or the run is serializable; 1 where it isn't; and 2 where it told a fault on `err`. At 0 and 1 the whole
-/// page is written on `out`, of that table, or of the run of the script that the second word names under the table that the
-/// first names, and on `err` at most a warning of each member that the script has
-/// twice, and nothing where none is twice; at a fault of words, files, tables, scripts or memory nothing is written on `out`.
-/// Words that ask for help or the version are answered on `out` with 0. Behind the line of words that aren't understood `err`
-/// has the usage.
-pub fn execute<R: std::rt::Files + AllocGlobal, F: Files, W: Sink, E: Sink>(
-    rt: &R,
-    words: &[String],
-    files: &F,
-    out: &mut W,
-    err: &mut E,
-) -> u8
-    ensures within { result ≤ 2 }
-    ensures question { (q : Question) → IsQuestion (map string_bytes words.now) q
-        → ((result ≡ 0) × Appends (W.taken out.old) (W.taken out.new) (answer_of NAME.now USAGE.now WORDS.now VERSION.now q))
-        ⊎ ((result ≡ 2) × HasCause (W.failures out.old) (W.failures out.new)) }
-    ensures well { IsNoQuestion (map string_bytes words.now) → result ≡ 0
-        → ShowsAsked (F.may_give files.now) (map string_bytes words.now) (W.taken out.old) (W.taken out.new) true }
-    ensures not_well { result ≡ 1 → ShowsAsked (F.may_give files.now) (map string_bytes words.now) (W.taken out.old) (W.taken out.new) false }
-    ensures unknown { AskNothing (map string_bytes words.now) → (result ≡ 2) × ((out.new ≡ out.old)
-        × IsTold (E.taken err.old) (E.taken err.new) (E.failures err.old) (E.failures err.new)
-        (ending_text NAME.now USAGE.now ending.NotUnderstood)) }
-    ensures told { result ≡ 2 → (help : List ℕ) × (AreLines help × ((e : Ending)
-        × (Explains (F.may_give files.now) (map string_bytes words.now) e
-        × IsTold (E.taken err.old) (E.taken err.new) (E.failures err.old) (E.failures err.new)
-        (ending_text NAME.now USAGE.now e ++ help)))) }
-    ensures warned { (result ≡ 2) ⊎ ((help : List ℕ) × (AreLines help
-        × IsTold (E.taken err.old) (E.taken err.new) (E.failures err.old) (E.failures err.new) help)) }
-    ensures silent { NameNoMemberTwice (F.may_give files.now) (map string_bytes words.now)
-        → (err.new ≡ err.old) ⊎ (result ≡ 2) }
-    ensures fault { result ≡ 2 → HasCause (W.failures out.old) (W.failures out.new) ⊎ (out.new ≡ out.old) }
-{
-    let mut help = String::new(rt.alloc());
-    let done = answered(rt, words, files, out, &mut help);
-    MANUAL.finish(&done, help.as_str(), err)
 }

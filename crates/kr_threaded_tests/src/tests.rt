@@ -1,12 +1,15 @@
+mod calls;
 mod cycles;
 mod diagnosis;
 mod engine;
 mod explain_program;
 mod explanation;
 mod ghosts;
+mod help_program;
 mod picture;
 mod places;
 mod program;
+mod read_once;
 mod relax_program;
 mod shell;
 mod suite_program;

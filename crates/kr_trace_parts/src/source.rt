@@ -59,7 +59,7 @@ pub trait Lines {
 }
 
 /// Where words name traces.
-pub trait Traces<R: std::rt::Files + AllocGlobal> {
+pub trait Traces {
     /// A trace.
     type Lines: Lines + Drop;
 
@@ -67,18 +67,18 @@ pub trait Traces<R: std::rt::Files + AllocGlobal> {
     ghost may_name: { Self → List ℕ → Option (List (List ℕ)) → Type 0 };
 
     /// The trace that the word names, of which nothing is read so far.
-    fn open(&self, rt: &R, word: &str) -> Result<Self::Lines, FileFault>
+    fn open(&self, alloc: Global, word: &str) -> Result<Self::Lines, FileFault>
         ensures found { IfOk result (λ trace. (lines : List (List ℕ)) → Self.Lines.may_give trace lines → may_name self.now word.now (Some lines)) }
         ensures none { IfErr result (λ e. (e ≢ file_fault.Memory) → may_name self.now word.now None) };
 }
 
-impl<R: std::rt::Files + AllocGlobal> Traces<R> for Disk {
+impl<R: std::rt::Files> Traces for Disk<'_, R> {
     type Lines = ReadLines<R::File>;
 
     ghost may_name = { λ _ _ _. Unit {0} };
 
-    fn open(&self, rt: &R, word: &str) -> Result<Self::Lines, FileFault> {
-        let file = fs::open(rt, word)?;
-        Ok(ReadLines::new(rt.alloc(), file))
+    fn open(&self, alloc: Global, word: &str) -> Result<Self::Lines, FileFault> {
+        let file = fs::open(self.0, word)?;
+        Ok(ReadLines::new(alloc, file))
     }
 }

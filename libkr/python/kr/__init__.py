@@ -150,7 +150,7 @@ class Table:
         return _tell(_lib.kr_decide, self._text, len(self._text)).is_yes
 
     def explain(self) -> Told:
-        """Whether it is safe, accepted or not, and the text that `kr_explain` prints of a file named `table`."""
+        """Whether it is safe, accepted or not, and the text that `kr explain` prints of a file named `table`."""
         return _tell(_lib.kr_explain, self._text, len(self._text))
 
     def script(self, cause: int) -> Optional[str]:

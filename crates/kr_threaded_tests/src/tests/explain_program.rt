@@ -1,10 +1,10 @@
-//! Calls of the program, each kind once, with what it leaves on its two streams; `tests/rows` has all that it prints.
-use kr_cli_explain::execute;
-use kr_cli_test_support::{Full, Left, Shelf, owned};
-use kr_sink::Io;
-use std::alloc::AllocError;
+//! Calls of `kr explain`, each kind once, with what it leaves on its two streams; `tests/rows` has all that it prints.
+use super::calls::{left_by, output_fails};
+use kr_cli_test_support::Shelf;
 use std::process::Abort;
+use std::sync::Wait;
 use std::test::Fail;
+use std::thread::Threads;
 
 /// A scan gives up the lock on each key that it finds: the table is rejected, by one cause.
 const SHORT_SCAN: &str = r#"format = 1
@@ -21,23 +21,9 @@ insert = { current = [{ mode = "X", span = "commit" }], next = [{ mode = "X", sp
 delete = { current = [{ mode = "X", span = "instant" }], next = [{ mode = "X", span = "commit" }] }
 "#;
 
-/// What the program leaves, called with these words.
-fn left_by<R: std::rt::Files + AllocGlobal>(
-    rt: &R,
-    words: &[&str],
-    shelf: &Shelf<'_>,
-) -> Result<Left, AllocError> {
-    let alloc = rt.alloc();
-    let words = owned(alloc, words)?;
-    let mut out = Io::new(Vec::new(alloc));
-    let mut err = Io::new(Vec::new(alloc));
-    let status = execute(rt, words.as_slice(), shelf, &mut out, &mut err);
-    Left::on(alloc, status, &out, &err)
-}
-
 /// Compares what the program leaves where this table is named `table`: its status, and what it prints on its two streams. At
 /// status 2 what helps may stand behind what is expected on the stream of errors.
-fn leaves<R: std::rt::Files + AllocGlobal + Abort>(
+fn leaves<R: AllocGlobal + Threads + Wait + Sync + Abort>(
     rt: &R,
     words: &[&str],
     table: &str,
@@ -64,17 +50,17 @@ const SHORT_SCAN_SCRIPT: &str =
 /// Words where the short scan is named `table`, with the status and what is printed.
 const ANSWERS: &[(&[&str], u8, &str)] = &[
     (
-        &["@im"],
+        &["explain", "@im"],
         0,
         "accepted: all 61 cases hold. Every run under this table is serializable in commit order.\n",
     ),
     (
-        &["@next-key-ghost"],
+        &["explain", "@next-key-ghost"],
         0,
         "accepted: all 135 cases hold. Every run under this table is serializable in commit order.\n",
     ),
-    (&["table", "--script", "1"], 1, SHORT_SCAN_SCRIPT),
-    (&["--version"], 0, "kr_explain 0.9.0\n"),
+    (&["explain", "table", "--script", "1"], 1, SHORT_SCAN_SCRIPT),
+    (&["explain", "--version"], 0, "kr 0.9.0\n"),
 ];
 
 #[test]
@@ -89,20 +75,24 @@ fn what_is_asked_for_is_printed(rt: HostRuntime) -> Result<(), Fail> {
 /// than there is.
 const FAULTS: &[(&[&str], &str, &str)] = &[
     (
-        &[],
+        &["explain"],
         SHORT_SCAN,
-        "words not understood\nusage: kr_explain TABLE [--script N]",
+        "words not understood\nusage: kr explain TABLE [--script N]",
     ),
-    (&["none"], SHORT_SCAN, "none: cannot be read"),
-    (&["big"], SHORT_SCAN, "out of memory"),
-    (&["big", "--script", "1"], SHORT_SCAN, "out of memory"),
+    (&["explain", "none"], SHORT_SCAN, "none: cannot be read"),
+    (&["explain", "big"], SHORT_SCAN, "out of memory"),
     (
-        &["table", "--script", "2"],
+        &["explain", "big", "--script", "1"],
+        SHORT_SCAN,
+        "out of memory",
+    ),
+    (
+        &["explain", "table", "--script", "2"],
         SHORT_SCAN,
         "table: no script 2",
     ),
     (
-        &["table", "--script", "1"],
+        &["explain", "table", "--script", "1"],
         "format = 4",
         "table: fault 3 Format",
     ),
@@ -111,7 +101,7 @@ const FAULTS: &[(&[&str], &str, &str)] = &[
 #[test]
 fn faults_are_told(rt: HostRuntime) -> Result<(), Fail> {
     for (words, table, told) in FAULTS {
-        let line = format!(in rt.alloc(); "kr_explain: {told}\n")?;
+        let line = format!(in rt.alloc(); "kr: {told}\n")?;
         leaves(&rt, *words, *table, 2, "", line.as_str())?;
     }
     Ok(())
@@ -123,21 +113,12 @@ const SHELF: Shelf = Shelf(&[("table", SHORT_SCAN)]);
 #[test]
 fn output_that_fails(rt: HostRuntime) -> Result<(), Fail> {
     for words in [
-        ["@kvl"].as_slice(),
-        ["table", "--script", "1"].as_slice(),
-        ["--help"].as_slice(),
-        ["--version"].as_slice(),
+        ["explain", "@kvl"].as_slice(),
+        ["explain", "table", "--script", "1"].as_slice(),
+        ["explain", "--help"].as_slice(),
+        ["explain", "--version"].as_slice(),
     ] {
-        let words = owned(rt.alloc(), words)?;
-        let mut err = Io::new(Vec::new(rt.alloc()));
-        let status = execute(&rt, words.as_slice(), &SHELF, &mut Full, &mut err);
-        assert_eq!(rt; status, 2);
-        assert_eq!(rt;
-            err.writer().as_slice(),
-            b"kr_explain: output: cannot be written\n".as_slice()
-        );
-        let told_nowhere = execute(&rt, words.as_slice(), &SHELF, &mut Full, &mut Full);
-        assert_eq!(rt; told_nowhere, 2);
+        output_fails(&rt, words, &SHELF)?;
     }
     Ok(())
 }

@@ -54,7 +54,7 @@ This table is ordered, so the verdict is exact: safe if and only if every run is
    Fix: in [rules.insert], current: request X for commit duration. The table is then accepted.
 
 To replay the schedule of cause N:
-    kr_explain no-insert.toml --script N >schedule.json
+    kr explain no-insert.toml --script N >schedule.json
     kr run no-insert.toml schedule.json
 "#;
 

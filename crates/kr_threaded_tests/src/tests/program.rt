@@ -1,8 +1,7 @@
-//! Calls of the program, each kind once, with what it leaves on its two streams; `tests/rows` has all that it prints.
-use kr_cli::{FileFault, Files, first_bytes};
-use kr_cli_kr::execute;
-use kr_cli_test_support::{Left, owned};
-use kr_sink::Io;
+//! Calls of `kr check`, `run`, `judge` and `threads`, each kind once, with what it leaves on its two streams; `tests/rows` has all
+//! that they print.
+use super::calls::{ASKS_NOTHING as PLAIN, left_by, output_fails};
+use kr_cli_test_support::{Left, Shelf};
 use std::alloc::{AllocError, Global};
 use std::process::Abort;
 use std::sync::Wait;
@@ -19,34 +18,14 @@ mod threads;
 mod verdicts;
 mod words;
 
-/// A table named `table`, a script named `s`, and two scripts that are always there.
-#[derive(Drop)]
-struct Texts<'a> {
-    table: &'a str,
-    script: &'a str,
-}
-
-impl Files for Texts<'_> {
-    ghost may_give = { λ _ _ _. Unit {0} };
-
-    fn whole<R: std::rt::Files + AllocGlobal>(
-        &self,
-        rt: &R,
-        word: &str,
-        most: usize,
-    ) -> Result<Vec<u8>, FileFault> {
-        if word == "big" {
-            return Err(FileFault::Memory);
-        }
-        let text = match word {
-            "table" => self.table,
-            "s" => self.script,
-            "a.json" => PHANTOM,
-            "b.json" => SPLIT,
-            _ => return Err(FileFault::Unreadable),
-        };
-        Ok(first_bytes(rt.alloc(), &mut text.as_bytes(), most)?)
-    }
+/// The files of a call: a table named `table`, a script named `s`, and two scripts that are always there.
+fn files_of<'a>(table: &'a str, script: &'a str) -> [(&'a str, &'a str); 4] {
+    [
+        ("table", table),
+        ("s", script),
+        ("a.json", PHANTOM),
+        ("b.json", SPLIT),
+    ]
 }
 
 /// A script that reads a gap and then inserts into it, by two transactions.
@@ -56,10 +35,6 @@ const PHANTOM: &str =
 /// A script whose first transaction reads a gap and splits it, and whose second inserts into the part that was read.
 const SPLIT: &str =
     r#"{"format":1,"opening":[[10,1],[20,2],[30,3]],"steps":[[1,"fetch",12],[1,"insert",15,5],[2,"insert",12,7],[2,"commit"],[1,"commit"]]}"#;
-
-/// A table of one mode that requests nothing.
-const PLAIN: &str =
-    "format = 1\nmodes = [\"A\"]\ncompatible = { A = [] }\nconvert = { A = { A = \"A\" } }\nrules = {}\n";
 
 /// A run of the program: its words, its files, its status, and the lines that it leaves on its two streams, without the line
 /// feed that ends the last of them.
@@ -85,24 +60,6 @@ const RUN: Row = Row {
     err: "",
 };
 
-/// What the program leaves, called with these words.
-fn run_program<R: std::rt::Files + AllocGlobal + Threads + Wait + Sync>(
-    rt: &R,
-    words: &[&str],
-    files: &Texts,
-) -> Result<Left, AllocError>
-where
-    R::File: Send + Sync,
-    R::Dir: Send + Sync,
-{
-    let alloc = rt.alloc();
-    let words = owned(alloc, words)?;
-    let mut out = Io::new(Vec::new(alloc));
-    let mut err = Io::new(Vec::new(alloc));
-    let status = execute(rt, words.as_slice(), files, &mut out, &mut err);
-    Left::on(alloc, status, &out, &err)
-}
-
 /// These lines, each with the line feed that ends it.
 fn with_line_feed(alloc: Global, lines: &str) -> Result<String, AllocError> {
     let mut text = String::from_str(alloc, lines)?;
@@ -125,30 +82,17 @@ fn compare<R: AllocGlobal + Abort>(rt: &R, row: &Row, ran: &Left) -> Result<(), 
 }
 
 /// Runs the program as a row says, and compares what it leaves.
-fn leaves<R: std::rt::Files + AllocGlobal + Threads + Wait + Sync + Abort>(
-    rt: &R,
-    row: &Row,
-) -> Result<(), Fail>
-where
-    R::File: Send + Sync,
-    R::Dir: Send + Sync,
-{
-    let files = Texts {
-        table: row.table,
-        script: row.script,
-    };
-    compare(rt, row, &run_program(rt, row.words, &files)?)
+fn leaves<R: AllocGlobal + Threads + Wait + Sync + Abort>(rt: &R, row: &Row) -> Result<(), Fail> {
+    let files = files_of(row.table, row.script);
+    let left = left_by(rt, row.words, &Shelf(files.as_slice()))?;
+    compare(rt, row, &left)
 }
 
 /// Runs the program as each row says.
-fn each_leaves<R: std::rt::Files + AllocGlobal + Threads + Wait + Sync + Abort>(
+fn each_leaves<R: AllocGlobal + Threads + Wait + Sync + Abort>(
     rt: &R,
     rows: &[Row],
-) -> Result<(), Fail>
-where
-    R::File: Send + Sync,
-    R::Dir: Send + Sync,
-{
+) -> Result<(), Fail> {
     for row in rows {
         leaves(rt, row)?;
     }

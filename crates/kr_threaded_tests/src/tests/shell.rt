@@ -20,18 +20,18 @@ const TABLE: &str =
 /// A script of one step.
 const SCRIPT: &str = r#"{"format":1,"opening":[[10,1]],"steps":[[1,"fetch",10]]}"#;
 
-/// The line on which a program of the name `p` tells an ending, whose status is 2.
+/// The line on which the program tells an ending, whose status is 2.
 fn line_of(rt: &impl Abort, alloc: Global, ending: Ending) -> Result<Vec<u8>, AllocError> {
     let mut err = Io::new(Vec::new(alloc));
-    let status = finish("p", &Err(ending), &mut err);
+    let status = finish(&Err(ending), "", "", &mut err);
     assert_eq!(rt; status, 2);
     err.writer().to_vec(alloc)
 }
 
-/// Compares the line on which an ending is told, behind the name `p`.
+/// Compares the line on which an ending is told, behind the program's name.
 fn tells(rt: &impl Abort, alloc: Global, ending: Ending, told: &str) -> Result<(), AllocError> {
     let line = line_of(rt, alloc, ending)?;
-    let expected = format!(in alloc; "p: {told}\n")?;
+    let expected = format!(in alloc; "kr: {told}\n")?;
     assert_eq!(rt; line.as_slice(), expected.as_bytes(), "{told}");
     Ok(())
 }

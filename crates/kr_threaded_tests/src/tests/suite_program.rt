@@ -1,27 +1,12 @@
-//! Calls of the program, each kind once, with what it leaves on its two streams; `tests/rows` has all that it prints, and
+//! Calls of `kr suite`, each kind once, with what it leaves on its two streams; `tests/rows` has all that it prints, and
 //! `examples/suites` whole suites.
-use kr_cli_suite::{Asked, Wanted, execute, read_words};
-use kr_cli_test_support::{Full, Left, Shelf, owned};
-use kr_sink::Io;
-use std::alloc::AllocError;
+use super::calls::{ASKS_NOTHING, left_by, output_fails};
+use kr_cli_tables::{SuiteAsked, SuiteWanted, read_suite_words};
+use kr_cli_test_support::{Shelf, owned};
 use std::test::Fail;
-
-/// A table of one mode in which no row requests anything.
-const ASKS_NOTHING: &str =
-    "format = 1\nmodes = [\"A\"]\ncompatible = { A = [] }\nconvert = { A = { A = \"A\" } }\nrules = {}\n";
 
 /// A table that is named `nothing`, and a text that is none.
 const SHELF: Shelf = Shelf(&[("nothing", ASKS_NOTHING), ("bad", "format = 3")]);
-
-/// What the program leaves, called with these words.
-fn left_by<R: std::rt::Files + AllocGlobal>(rt: &R, words: &[&str]) -> Result<Left, AllocError> {
-    let alloc = rt.alloc();
-    let words = owned(alloc, words)?;
-    let mut out = Io::new(Vec::new(alloc));
-    let mut err = Io::new(Vec::new(alloc));
-    let status = execute(rt, words.as_slice(), &SHELF, &mut out, &mut err);
-    Left::on(alloc, status, &out, &err)
-}
 
 /// The first part of the suite of the table that requests nothing.
 const FIRST_PART: &str =
@@ -43,7 +28,7 @@ const LAST_PART: &str =
 
 #[test]
 fn a_suite_is_printed(rt: HostRuntime) -> Result<(), Fail> {
-    let left = left_by(&rt, ["nothing"].as_slice())?;
+    let left = left_by(&rt, ["suite", "nothing"].as_slice(), &SHELF)?;
     assert!(rt; left.out.starts_with(FIRST_PART.as_bytes()));
     assert!(rt; left.out.ends_with(LAST_PART.as_bytes()));
     assert!(rt; left.err.is_empty());
@@ -52,19 +37,29 @@ fn a_suite_is_printed(rt: HostRuntime) -> Result<(), Fail> {
 }
 
 /// Words that aren't understood.
-const NOT_UNDERSTOOD: &str = "kr_suite: words not understood\nusage: kr_suite TABLE [--left]\n";
+const NOT_UNDERSTOOD: &str = "kr: words not understood\nusage: kr suite TABLE [--left]\n";
 
 /// Words, with the status and what is left on the two streams; of faults the first line.
 const CALLS: [(&[&str], u8, &str, &str); 9] = [
-    (&["nothing", "--left"], 0, LEFT_OF_NOTHING, ""),
-    (&["--version"], 0, "kr_suite 0.9.0\n", ""),
-    (&[], 2, "", NOT_UNDERSTOOD),
-    (&["--left"], 2, "", NOT_UNDERSTOOD),
-    (&["@im", "--lefts"], 2, "", NOT_UNDERSTOOD),
-    (&["@im", "@kvl"], 2, "", NOT_UNDERSTOOD),
-    (&["missing"], 2, "", "kr_suite: missing: cannot be read\n"),
-    (&["bad", "--left"], 2, "", "kr_suite: bad: fault 3 Format\n"),
-    (&["big"], 2, "", "kr_suite: out of memory\n"),
+    (&["suite", "nothing", "--left"], 0, LEFT_OF_NOTHING, ""),
+    (&["suite", "--version"], 0, "kr 0.9.0\n", ""),
+    (&["suite"], 2, "", NOT_UNDERSTOOD),
+    (&["suite", "--left"], 2, "", NOT_UNDERSTOOD),
+    (&["suite", "@im", "--lefts"], 2, "", NOT_UNDERSTOOD),
+    (&["suite", "@im", "@kvl"], 2, "", NOT_UNDERSTOOD),
+    (
+        &["suite", "missing"],
+        2,
+        "",
+        "kr: missing: cannot be read\n",
+    ),
+    (
+        &["suite", "bad", "--left"],
+        2,
+        "",
+        "kr: bad: fault 3 Format\n",
+    ),
+    (&["suite", "big"], 2, "", "kr: out of memory\n"),
 ];
 
 /// Who requests nothing holds nothing: a request makes a difference where it is held to commit, by one who holds nothing before.
@@ -91,7 +86,7 @@ alike: delete next own A: A commit. No reply differs.
 #[test]
 fn each_call_leaves_its_lines(rt: HostRuntime) -> Result<(), Fail> {
     for (words, status, out, err) in CALLS {
-        let left = left_by(&rt, words)?;
+        let left = left_by(&rt, words, &SHELF)?;
         assert_eq!(rt; left.out.as_slice(), out.as_bytes(), "{words:?}");
         assert!(rt;
             left.err.as_slice().starts_with(err.as_bytes()),
@@ -106,32 +101,22 @@ fn each_call_leaves_its_lines(rt: HostRuntime) -> Result<(), Fail> {
 #[test]
 fn output_that_fails(rt: HostRuntime) -> Result<(), Fail> {
     for words in [
-        ["nothing"].as_slice(),
-        ["--help"].as_slice(),
-        ["--version"].as_slice(),
+        ["suite", "nothing"].as_slice(),
+        ["suite", "--help"].as_slice(),
+        ["suite", "--version"].as_slice(),
     ] {
-        let words = owned(rt.alloc(), words)?;
-        let mut err = Io::new(Vec::new(rt.alloc()));
-        let status = execute(&rt, words.as_slice(), &SHELF, &mut Full, &mut err);
-        assert_eq!(rt; status, 2);
-        assert_eq!(rt;
-            err.writer().as_slice(),
-            b"kr_suite: output: cannot be written\n".as_slice()
-        );
+        output_fails(&rt, words, &SHELF)?;
     }
-    let words = owned(rt.alloc(), ["--help"].as_slice())?;
-    let told_nowhere = execute(&rt, words.as_slice(), &SHELF, &mut Full, &mut Full);
-    assert_eq!(rt; told_nowhere, 2);
     Ok(())
 }
 
 #[test]
 fn words_are_read(rt: HostRuntime) -> Result<(), Fail> {
     let words = owned(rt.alloc(), ["t", "--left"].as_slice())?;
-    let asked = Asked {
+    let asked = SuiteAsked {
         table: "t",
-        wanted: Wanted::Left,
+        wanted: SuiteWanted::Left,
     };
-    assert!(rt; read_words(words.as_slice()).is_ok_and(|it| it == asked));
+    assert!(rt; read_suite_words(words.as_slice()).is_ok_and(|it| it == asked));
     Ok(())
 }

@@ -1,8 +1,8 @@
-//! Calls of the program, each kind once, with what it leaves on its two streams.
-use kr_cli_test_support::{Full, Left, Shelf, owned};
-use kr_cli_trace::{Asked, Lines, LinesFault, ReadLines, execute, read_words};
-use kr_sink::Io;
-use std::alloc::AllocError;
+//! Calls of `kr trace`, each kind once, with what it leaves on its two streams.
+use super::calls::{left_by, output_fails};
+use kr_cli_test_support::{Shelf, owned};
+use kr_cli_trace::{Asked, read_words};
+use kr_trace_parts::{Lines, LinesFault, ReadLines};
 use std::io::{Error, ErrorKind, Read};
 use std::test::Fail;
 
@@ -30,72 +30,62 @@ const BROKEN: &str = "{\"format\":1,\"opening\":[]}\n[[1,\"fetch\",5],[\"no";
 
 const SHELF: Shelf = Shelf(&[("t", PARTS), ("faulty", FAULTY), ("broken", BROKEN)]);
 
-/// What the program leaves, called with these words.
-fn left_by<R: std::rt::Files + AllocGlobal>(rt: &R, words: &[&str]) -> Result<Left, AllocError> {
-    let alloc = rt.alloc();
-    let words = owned(alloc, words)?;
-    let mut out = Io::new(Vec::new(alloc));
-    let mut err = Io::new(Vec::new(alloc));
-    let status = execute(rt, words.as_slice(), &SHELF, &mut out, &mut err);
-    Left::on(alloc, status, &out, &err)
-}
-
 /// Words, with the status and what is left on the two streams.
 const CALLS: [(&[&str], u8, &str, &str); 8] = [
     (
-        &["--serial", "t"],
+        &["trace", "--serial", "t"],
         1,
         "{\"part\":1,\"verdict\":[\"not-serial\",1,1,[\"none\"],[\"found\",5]]}\n{\"part\":2,\"verdict\":[\"serial\"]}\n",
         "",
     ),
     (
-        &["--some-order", "t"],
+        &["trace", "--some-order", "t"],
         0,
         "{\"part\":1,\"verdict\":[\"serial\",[1,2]]}\n{\"part\":2,\"verdict\":[\"serial\",[1]]}\n",
         "",
     ),
     (
-        &["--serial", "faulty"],
+        &["trace", "--serial", "faulty"],
         2,
         "{\"part\":1,\"verdict\":[\"serial\"]}\n",
-        "kr_trace: faulty: fault 6 Step at 3\n",
+        "kr: faulty: fault 6 Step at 3\n",
     ),
     (
-        &["--serial", "broken"],
+        &["trace", "--serial", "broken"],
         2,
         "",
-        "kr_trace: broken: fault 2 NotJson at 2\n",
+        "kr: broken: fault 2 NotJson at 2\n",
     ),
     (
-        &["--serial", "missing"],
+        &["trace", "--serial", "missing"],
         2,
         "",
-        "kr_trace: missing: cannot be read\n",
+        "kr: missing: cannot be read\n",
     ),
-    (&["--serial", "big"], 2, "", "kr_trace: out of memory\n"),
+    (&["trace", "--serial", "big"], 2, "", "kr: out of memory\n"),
     (
-        &["t"],
+        &["trace", "t"],
         2,
         "",
-        "kr_trace: words not understood\nusage: kr_trace TABLE TRACE [--tell N] | --serial TRACE | --some-order TRACE\n",
+        "kr: words not understood\nusage: kr trace TABLE TRACE [--tell N] | --serial TRACE | --some-order TRACE\n",
     ),
-    (&["--version"], 0, "kr_trace 0.9.0\n", ""),
+    (&["trace", "--version"], 0, "kr 0.9.0\n", ""),
 ];
 
 #[test]
 fn each_call_leaves_its_lines(rt: HostRuntime) -> Result<(), Fail> {
     for (words, status, out, err) in CALLS {
-        let left = left_by(&rt, words)?;
-        assert_eq!(rt; left.out.as_slice(), out.as_bytes());
-        assert_eq!(rt; left.err.as_slice(), err.as_bytes());
-        assert_eq!(rt; left.status, status);
+        let left = left_by(&rt, words, &SHELF)?;
+        assert_eq!(rt; left.out.as_slice(), out.as_bytes(), "{words:?}");
+        assert_eq!(rt; left.err.as_slice(), err.as_bytes(), "{words:?}");
+        assert_eq!(rt; left.status, status, "{words:?}");
     }
     Ok(())
 }
 
 #[test]
 fn a_table_is_held_against(rt: HostRuntime) -> Result<(), Fail> {
-    let left = left_by(&rt, ["@kvl", "t"].as_slice())?;
+    let left = left_by(&rt, ["trace", "@kvl", "t"].as_slice(), &SHELF)?;
     let first = b"{\"conforms\":[\"granted\",3,[\"blocked\",[1]],[[20,1,\"S\",".as_slice();
     let last =
         b"{\"conforms\":[\"yes\"],\"part\":2,\"queued\":0,\"verdict\":[\"serial\"]}\n".as_slice();
@@ -118,26 +108,20 @@ Serializable in commit order.
 
 #[test]
 fn one_part_is_printed(rt: HostRuntime) -> Result<(), Fail> {
-    let left = left_by(&rt, ["@kvl", "t", "--tell", "2"].as_slice())?;
+    let words = ["trace", "@kvl", "t", "--tell", "2"];
+    let left = left_by(&rt, words.as_slice(), &SHELF)?;
     assert_eq!(rt; left.out.as_slice(), SECOND.as_bytes());
     assert_eq!(rt; left.status, 0);
-    let left = left_by(&rt, ["@kvl", "t", "--tell", "3"].as_slice())?;
-    assert_eq!(rt; left.err.as_slice(), b"kr_trace: t: no part 3\n".as_slice());
+    let words = ["trace", "@kvl", "t", "--tell", "3"];
+    let left = left_by(&rt, words.as_slice(), &SHELF)?;
+    assert_eq!(rt; left.err.as_slice(), b"kr: t: no part 3\n".as_slice());
     assert_eq!(rt; left.status, 2);
     Ok(())
 }
 
 #[test]
 fn output_that_is_refused_is_told(rt: HostRuntime) -> Result<(), Fail> {
-    let words = owned(rt.alloc(), ["--serial", "t"].as_slice())?;
-    let mut err = Io::new(Vec::new(rt.alloc()));
-    let status = execute(&rt, words.as_slice(), &SHELF, &mut Full, &mut err);
-    assert_eq!(rt;
-        err.writer().as_slice(),
-        b"kr_trace: output: cannot be written\n".as_slice()
-    );
-    assert_eq!(rt; status, 2);
-    Ok(())
+    output_fails(&rt, ["trace", "--serial", "t"].as_slice(), &SHELF)
 }
 
 #[test]

@@ -18,46 +18,34 @@ pub returns-in_err-put_all-clause-front : goal.returns-in_err-put_all-clause-fro
 returns-in_err-put_all-clause-front g c =
     let a = g.E.Sink.taken c.args.err.now in
     let b = g.E.Sink.taken c.put_all.new.out in
-    let rest = codes ": " ++ (line_of c.args.ending.now ++ 10 ∷ []) in
-    front_of_more a b c.args.name.now rest (front_along a b c.as_bytes.result.now c.args.name.now c.as_bytes.ensures.value c.in_err-put_all.ensures.err)
-
-pub returns-in_err-put_all-2-clause-front : goal.returns-in_err-put_all-2-clause-front
-returns-in_err-put_all-2-clause-front g c =
-    let a = g.E.Sink.taken c.args.err.now in
-    let b = g.E.Sink.taken c.put_all.new.out in
-    let d = g.E.Sink.taken c.put_all-2.new.out in
-    let rest = line_of c.args.ending.now ++ 10 ∷ [] in
-    front_behind a b d c.args.name.now (codes ": " ++ rest) (whole_along a b c.as_bytes.result.now c.args.name.now c.as_bytes.ensures.value c.in_ok-put_all.ensures.ok) (front_of_more b d (codes ": ") rest c.in_err-put_all-2.ensures.err)
+    front_of_more a b (codes "kr: ") (line_of c.args.ending.now ++ 10 ∷ []) c.in_err-put_all.ensures.err
 
 pub returns-in_err-print-clause-front : goal.returns-in_err-print-clause-front
 returns-in_err-print-clause-front g c =
     let a = g.E.Sink.taken c.args.err.now in
     let b = g.E.Sink.taken c.put_all.new.out in
-    let d = g.E.Sink.taken c.put_all-2.new.out in
-    let e = g.E.Sink.taken c.print.new.out in
+    let d = g.E.Sink.taken c.print.new.out in
     let printed = c.line.result.now ++ 10 ∷ [] in
     let rest = line_of c.args.ending.now ++ 10 ∷ [] in
     let same : printed ≡ rest = ap (λ (l : List ℕ). l ++ 10 ∷ []) c.line.ensures in
-    front_behind a b e c.args.name.now (codes ": " ++ rest) (whole_along a b c.as_bytes.result.now c.args.name.now c.as_bytes.ensures.value c.in_ok-put_all.ensures.ok) (front_behind b d e (codes ": ") rest c.in_ok-put_all-2.ensures.ok (front_along d e printed rest same c.in_err-print.ensures.err))
+    front_behind a b d (codes "kr: ") rest c.in_ok-put_all.ensures.ok (front_along b d printed rest same c.in_err-print.ensures.err)
 
 pub returns-clause-front : goal.returns-clause-front
 returns-clause-front g c =
     let a = g.E.Sink.taken c.args.err.now in
     let b = g.E.Sink.taken c.put_all.new.out in
-    let d = g.E.Sink.taken c.put_all-2.new.out in
-    let e = g.E.Sink.taken c.print.new.out in
+    let d = g.E.Sink.taken c.print.new.out in
     let printed = c.line.result.now ++ 10 ∷ [] in
     let rest = line_of c.args.ending.now ++ 10 ∷ [] in
     let same : printed ≡ rest = ap (λ (l : List ℕ). l ++ 10 ∷ []) c.line.ensures in
-    front_behind a b e c.args.name.now (codes ": " ++ rest) (whole_along a b c.as_bytes.result.now c.args.name.now c.as_bytes.ensures.value c.in_ok-put_all.ensures.ok) (front_behind b d e (codes ": ") rest c.in_ok-put_all-2.ensures.ok (front_along d e printed rest same (front_whole d e printed c.in_ok-print.ensures.ok)))
+    front_behind a b d (codes "kr: ") rest c.in_ok-put_all.ensures.ok (front_along b d printed rest same (front_whole b d printed c.in_ok-print.ensures.ok))
 
 pub returns-clause-ok : goal.returns-clause-ok
 returns-clause-ok g c =
     let a = g.E.Sink.taken c.args.err.now in
     let b = g.E.Sink.taken c.put_all.new.out in
-    let d = g.E.Sink.taken c.put_all-2.new.out in
-    let e = g.E.Sink.taken c.print.new.out in
+    let d = g.E.Sink.taken c.print.new.out in
     let printed = c.line.result.now ++ 10 ∷ [] in
     let rest = line_of c.args.ending.now ++ 10 ∷ [] in
     let same : printed ≡ rest = ap (λ (l : List ℕ). l ++ 10 ∷ []) c.line.ensures in
-    appends_more a b e c.args.name.now (codes ": " ++ rest) (whole_along a b c.as_bytes.result.now c.args.name.now c.as_bytes.ensures.value c.in_ok-put_all.ensures.ok) (appends_more b d e (codes ": ") rest c.in_ok-put_all-2.ensures.ok (whole_along d e printed rest same c.in_ok-print.ensures.ok))
+    appends_more a b d (codes "kr: ") rest c.in_ok-put_all.ensures.ok (whole_along b d printed rest same c.in_ok-print.ensures.ok)

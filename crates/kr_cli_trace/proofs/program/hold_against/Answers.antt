@@ -1,7 +1,7 @@
 use Rattle.std.specs.Prelude.{ℕ, Bool, refl}
 use Rattle.std.proofs.Common.{inl, inr, rules}
-use Rattle.kr_cli_ghost.specs.Named.{TellsNone}
-use Rattle.kr_cli_ghost.specs.declared.named.Named.{Named}
+use Rattle.kr_cli.specs.NamedTables.{TellsNone}
+use Rattle.kr_cli.specs.declared.named.Named.{Named}
 use Rattle.kr_cli_trace.specs.Ghosts.{question_of}
 use Rattle.kr_cli_trace.specs.Printed.{IsPrinted}
 use Rattle.kr_cli_trace.specs.Program.{Holds, Tells, TellsTrace}

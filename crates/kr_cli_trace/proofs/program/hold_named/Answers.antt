@@ -1,5 +1,5 @@
 use Rattle.std.proofs.Common.{ℕ, IfOk, IfErr, sym, subst}
-use Rattle.kr_cli_ghost.specs.declared.named.Named.{Named}
+use Rattle.kr_cli.specs.declared.named.Named.{Named}
 use Rattle.kr_trace_parts.specs.Endings.{StopsSo}
 use Rattle.kr_cli_trace.specs.Ghosts.{question_of}
 use Rattle.kr_cli_trace.specs.Printed.{IsPrinted}

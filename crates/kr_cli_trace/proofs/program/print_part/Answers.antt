@@ -3,8 +3,8 @@ use Rattle.std.proofs.Common.{inl, inr, rules, subst}
 use Rattle.kr_cli.specs.Lines.{told_line}
 use Rattle.kr_cli.specs.Tables.{names_of, table_of}
 use Rattle.kr_cli.specs.declared.tables.AnyTable.{AnyTable}
-use Rattle.kr_cli_ghost.specs.Named.{Names, NamesGhosts, TellsNone}
-use Rattle.kr_cli_ghost.specs.declared.named.Named.{Named}
+use Rattle.kr_cli.specs.NamedTables.{Names, NamesGhosts, TellsNone}
+use Rattle.kr_cli.specs.declared.named.Named.{Named}
 use Rattle.kr_cli_trace.specs.Ghosts.{untold_text}
 use Rattle.kr_cli_trace.specs.Printed.{IsPrinted, one_part}
 use Rattle.kr_cli_trace.specs.Program.{Holds, Tells, TellsOnePart}

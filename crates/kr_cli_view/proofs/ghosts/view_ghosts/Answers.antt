@@ -1,5 +1,5 @@
 use Rattle.std.proofs.Common.{rules}
-use Rattle.kr_cli_ghost.specs.Runs.{TellsNoGhostScript}
+use Rattle.kr_cli.specs.GhostScripts.{TellsNoGhostScript}
 use Rattle.kr_cli_view.proofs.Shown.{ghosts_shown, page_fault, word_fault}
 use Rattle.kr_cli_view.proofs.ghosts.view_ghosts.Goals as goal
 

@@ -1,6 +1,6 @@
 use Rattle.std.specs.Prelude.{IfOk}
 use Rattle.std.proofs.Common.{subst, sym}
-use Rattle.kr_cli_ghost.specs.declared.named.Named.{Named}
+use Rattle.kr_cli.specs.declared.named.Named.{Named}
 use Rattle.kr_cli_view.specs.Program.{ShowsNamed}
 use Rattle.kr_cli_view.proofs.Shown.{ghost_table_shown, table_shown}
 use Rattle.kr_cli_view.proofs.program.view_named.Goals as goal

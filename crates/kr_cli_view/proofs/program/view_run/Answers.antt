@@ -1,5 +1,5 @@
 use Rattle.std.proofs.Common.{rules, inl, inr}
-use Rattle.kr_cli_ghost.specs.Named.{TellsNone}
+use Rattle.kr_cli.specs.NamedTables.{TellsNone}
 use Rattle.kr_cli_view.specs.Program.{TellsNoScriptFor, TellsWord}
 use Rattle.kr_cli_view.proofs.Shown.{shown_under, ends_more, word_fault}
 use Rattle.kr_cli_view.proofs.program.view_run.Goals as goal

@@ -1,5 +1,5 @@
 use Rattle.std.proofs.Common.{rules}
-use Rattle.kr_cli_ghost.specs.Named.{TellsNone}
+use Rattle.kr_cli.specs.NamedTables.{TellsNone}
 use Rattle.kr_cli_view.proofs.Shown.{named_shown, page_fault, word_fault}
 use Rattle.kr_cli_view.proofs.program.view_table.Goals as goal
 

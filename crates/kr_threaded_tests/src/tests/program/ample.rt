@@ -69,15 +69,11 @@ const ROWS: &[Row] = &[
 ];
 
 /// Runs the program as a row says, with the numbers in the place of the letters.
-fn leaves_at<R: std::rt::Files + AllocGlobal + Threads + Wait + Sync + Abort>(
+fn leaves_at<R: AllocGlobal + Threads + Wait + Sync + Abort>(
     rt: &R,
     row: &Row,
     numbers: Numbers,
-) -> Result<(), Fail>
-where
-    R::File: Send + Sync,
-    R::Dir: Send + Sync,
-{
+) -> Result<(), Fail> {
     let alloc = rt.alloc();
     let script = numbered(alloc, row.script, numbers)?;
     let out = numbered(alloc, row.out, numbers)?;
@@ -90,15 +86,11 @@ where
 }
 
 /// Runs each row at a key with a value, by each transaction.
-fn each_leaves_at<R: std::rt::Files + AllocGlobal + Threads + Wait + Sync + Abort>(
+fn each_leaves_at<R: AllocGlobal + Threads + Wait + Sync + Abort>(
     rt: &R,
     key: u64,
     value: u64,
-) -> Result<(), Fail>
-where
-    R::File: Send + Sync,
-    R::Dir: Send + Sync,
-{
+) -> Result<(), Fail> {
     for txn in TXNS {
         let numbers = Numbers {
             key,

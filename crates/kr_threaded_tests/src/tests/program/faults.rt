@@ -1,8 +1,5 @@
 //! Faults of tables, scripts and output, memory that is refused, and the lines that tell them.
-use super::{PHANTOM, RUN, Row, Texts, each_leaves, leaves};
-use kr_cli_kr::execute;
-use kr_cli_test_support::{Full, owned};
-use kr_sink::Io;
+use super::{PHANTOM, RUN, Row, Shelf, each_leaves, files_of, leaves, output_fails};
 use std::process::Abort;
 use std::sync::Wait;
 use std::test::Fail;
@@ -33,14 +30,10 @@ fn faults_are_told(rt: HostRuntime) -> Result<(), Fail> {
 }
 
 /// Runs a text that has a fault as a script, and compares what is told of it.
-fn not_json<'a, R: std::rt::Files + AllocGlobal + Threads + Wait + Sync + Abort>(
+fn not_json<'a, R: AllocGlobal + Threads + Wait + Sync + Abort>(
     rt: &R,
     script: &'a str,
-) -> Result<(), Fail>
-where
-    R::File: Send + Sync,
-    R::Dir: Send + Sync,
-{
+) -> Result<(), Fail> {
     let row = Row {
         name: script,
         script,
@@ -61,16 +54,7 @@ fn fronts_of_a_script(rt: HostRuntime) -> Result<(), Fail> {
 
 #[test]
 fn output_that_fails(rt: HostRuntime) -> Result<(), Fail> {
-    let alloc = rt.alloc();
-    let words = owned(alloc, ["run", "@kvl", "s"].as_slice())?;
-    let mut err = Io::new(Vec::new(alloc));
-    let script = "{\"format\":1,\"opening\":[],\"steps\":[]}";
-    let files = Texts { table: "", script };
-    let ended = execute(&rt, words.as_slice(), &files, &mut Full, &mut err);
-    assert_eq!(rt; ended, 2);
-    assert_eq!(rt;
-        err.writer().as_slice(),
-        b"kr: output: cannot be written\n".as_slice()
-    );
-    Ok(())
+    let texts = files_of("", "{\"format\":1,\"opening\":[],\"steps\":[]}");
+    let files = Shelf(texts.as_slice());
+    output_fails(&rt, ["run", "@kvl", "s"].as_slice(), &files)
 }

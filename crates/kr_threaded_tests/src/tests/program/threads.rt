@@ -1,6 +1,6 @@
 //! Runs of scripts by several threads.
 use super::checks::{DELETE_INSTANT, REJECTED};
-use super::{RUN, Row, Texts, each_leaves, run_program};
+use super::{RUN, Row, Shelf, each_leaves, files_of, left_by};
 use kr_table::bundled::KVL_UPDATE;
 use std::alloc::{AllocError, Global};
 use std::process::Abort;
@@ -53,21 +53,14 @@ fn updates_of_forty(alloc: Global) -> Result<String, AllocError> {
 }
 
 /// Runs a script of updates by so many workers: the run is serializable and nobody is left unfinished.
-fn leaves_nobody<R: std::rt::Files + AllocGlobal + Threads + Wait + Sync + Abort>(
+fn leaves_nobody<R: AllocGlobal + Threads + Wait + Sync + Abort>(
     rt: &R,
     script: &str,
     workers: &str,
-) -> Result<(), Fail>
-where
-    R::File: Send + Sync,
-    R::Dir: Send + Sync,
-{
-    let files = Texts {
-        table: KVL_UPDATE,
-        script,
-    };
+) -> Result<(), Fail> {
+    let files = files_of(KVL_UPDATE, script);
     let words = ["threads", "table", "s", "--workers", workers];
-    let ran = run_program(rt, words.as_slice(), &files)?;
+    let ran = left_by(rt, words.as_slice(), &Shelf(files.as_slice()))?;
     assert_eq!(rt; ran.status, 0, "{workers} workers");
     assert!(rt; ran.err.is_empty(), "{workers} workers");
     let report = String::from_utf8(ran.out).map_err(|_| "no text")?;

@@ -1,7 +1,7 @@
 //! Words that are not read, and words of no form.
-use super::{RUN, Row, Texts, compare, each_leaves};
+use super::{RUN, Row, Shelf, compare, each_leaves, files_of};
 use kr_cli::finish;
-use kr_cli_kr::{NAME, read_words, task_at};
+use kr_cli_tasks::{read_words, task_at};
 use kr_cli_test_support::{Left, owned};
 use kr_sink::Io;
 use std::test::Fail;
@@ -25,10 +25,8 @@ fn words_that_ask_for_nothing(rt: HostRuntime) -> Result<(), Fail> {
 /// The call that does the tasks without threads takes none by several threads.
 #[test]
 fn threads_are_not_understood_without_them(rt: HostRuntime) -> Result<(), Fail> {
-    let files = Texts {
-        table: "",
-        script: super::PHANTOM,
-    };
+    let texts = files_of("", super::PHANTOM);
+    let files = Shelf(texts.as_slice());
     let row = Row {
         err: "kr: words not understood",
         ..FAULT
@@ -38,9 +36,9 @@ fn threads_are_not_understood_without_them(rt: HostRuntime) -> Result<(), Fail> 
     let mut out = Io::new(Vec::new(alloc));
     let mut err = Io::new(Vec::new(alloc));
     let done = match read_words(alloc, words.as_slice()) {
-        Ok(asked) => task_at(&rt, &asked, &files, &mut out),
+        Ok(asked) => task_at(&rt, alloc, &asked, &files, &mut out),
         Err(fault) => Err(fault),
     };
-    let status = finish(NAME, &done, &mut err);
+    let status = finish(&done, "", "", &mut err);
     compare(&rt, &row, &Left::on(alloc, status, &out, &err)?)
 }

@@ -24,11 +24,11 @@ const EMPTY: Shelf = Shelf(&[("file", "")]);
 fn nothing_is_had(rt: HostRuntime) -> Result<(), Fail> {
     let alloc = rt.alloc();
     for (word, told) in WORDS {
-        let bytes = whole(&rt, *word, &EMPTY, 1).err().ok_or("bytes")?;
+        let bytes = whole(alloc, *word, &EMPTY, 1).err().ok_or("bytes")?;
         tells(&rt, alloc, bytes, *told)?;
-        let table = table_at(&rt, *word, &EMPTY).err().ok_or("a table")?;
+        let table = table_at(alloc, *word, &EMPTY).err().ok_or("a table")?;
         tells(&rt, alloc, table, *told)?;
-        let script = script_at(&rt, *word, &EMPTY).err().ok_or("a script")?;
+        let script = script_at(alloc, *word, &EMPTY).err().ok_or("a script")?;
         tells(&rt, alloc, script, *told)?;
     }
     tells(&rt, alloc, unreadable(alloc, "w"), "w: cannot be read")?;
@@ -60,7 +60,7 @@ fn no_table(rt: HostRuntime) -> Result<(), Fail> {
     let alloc = rt.alloc();
     let (text, told) = NO_TABLE;
     let files = [("file", text)];
-    let ending = table_at(&rt, "file", &Shelf(files.as_slice()))
+    let ending = table_at(alloc, "file", &Shelf(files.as_slice()))
         .err()
         .ok_or("a table")?;
     let line = format!(in alloc; "file: {told}")?;
@@ -83,7 +83,7 @@ fn no_script(rt: HostRuntime) -> Result<(), Fail> {
     let alloc = rt.alloc();
     let (text, told) = NO_SCRIPT;
     let files = [("file", text)];
-    let ending = script_at(&rt, "file", &Shelf(files.as_slice()))
+    let ending = script_at(alloc, "file", &Shelf(files.as_slice()))
         .err()
         .ok_or("a script")?;
     let line = format!(in alloc; "file: {told}")?;
@@ -108,7 +108,7 @@ fn faults_of_long_texts(rt: HostRuntime) -> Result<(), Fail> {
     )?;
     let long = " ".repeat(alloc, 65_537)?;
     let files = [("file", long.as_str())];
-    let ending = table_at(&rt, "file", &Shelf(files.as_slice()))
+    let ending = table_at(alloc, "file", &Shelf(files.as_slice()))
         .err()
         .ok_or("a table")?;
     tells(&rt, alloc, ending, "file: fault 1 TooLong")?;

@@ -13,17 +13,18 @@ const LETTERS: Shelf = Shelf(&[("file", "abc")]);
 
 #[test]
 fn bytes(rt: HostRuntime) -> Result<(), Fail> {
-    let read = read_file(&rt, "file", &LETTERS, 4).map_err(|_| "not read")?;
+    let alloc = rt.alloc();
+    let read = read_file(alloc, "file", &LETTERS, 4).map_err(|_| "not read")?;
     assert_eq!(rt; read.as_slice(), b"abc".as_slice());
-    let had = whole(&rt, "file", &LETTERS, 4).map_err(|_| "not had")?;
+    let had = whole(alloc, "file", &LETTERS, 4).map_err(|_| "not had")?;
     assert_eq!(rt; had.as_slice(), b"abc".as_slice());
     assert_eq!(rt;
-        read_file(&rt, "big", &LETTERS, 4).err(),
+        read_file(alloc, "big", &LETTERS, 4).err(),
         Some(FileFault::Memory)
     );
     for word in ["@file", "@", "other", ""] {
         assert_eq!(rt;
-            read_file(&rt, word, &LETTERS, 4).err(),
+            read_file(alloc, word, &LETTERS, 4).err(),
             Some(FileFault::Unreadable),
             "{word}"
         );
@@ -34,7 +35,7 @@ fn bytes(rt: HostRuntime) -> Result<(), Fail> {
 #[test]
 fn no_more_than_is_wanted(rt: HostRuntime) -> Result<(), Fail> {
     for (most, read) in [(0, ""), (1, "a"), (2, "ab"), (3, "abc"), (4, "abc")] {
-        let had = whole(&rt, "file", &LETTERS, most).map_err(|_| "not had")?;
+        let had = whole(rt.alloc(), "file", &LETTERS, most).map_err(|_| "not had")?;
         assert_eq!(rt; had.as_slice(), read.as_bytes());
     }
     Ok(())
@@ -65,7 +66,7 @@ const TABLE_FILE: Shelf = Shelf(&[("file", TABLE)]);
 #[test]
 fn tables(rt: HostRuntime) -> Result<(), Fail> {
     for (word, first, count) in TABLES {
-        let table = table_at(&rt, *word, &TABLE_FILE).map_err(|_| "no table")?;
+        let table = table_at(rt.alloc(), *word, &TABLE_FILE).map_err(|_| "no table")?;
         assert_eq!(rt; table.count(), *count, "{word}");
         assert_eq!(rt; table.name(1), *first, "{word}");
         assert_eq!(rt;
@@ -83,7 +84,7 @@ const SCRIPT_FILE: Shelf = Shelf(&[("file", SCRIPT)]);
 
 #[test]
 fn scripts(rt: HostRuntime) -> Result<(), Fail> {
-    let script = script_at(&rt, "file", &SCRIPT_FILE).map_err(|_| "no script")?;
+    let script = script_at(rt.alloc(), "file", &SCRIPT_FILE).map_err(|_| "no script")?;
     let read = read_script(rt.alloc(), SCRIPT.as_bytes()).map_err(|_| "not read")?;
     assert_eq!(rt; script.opening(), read.opening());
     assert_eq!(rt; script.steps(), read.steps());

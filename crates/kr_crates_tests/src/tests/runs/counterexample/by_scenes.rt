@@ -1,4 +1,4 @@
-//! The scripts that scenes give of tables of which `kr_explain` finds none from their failed cases within its effort.
+//! The scripts that scenes give of tables of which `kr explain` finds none from their failed cases within its effort.
 
 use super::tables::{Table, failed, table_of};
 use kr_explain_runs::{Counterexample, Fit, Scenes};

@@ -1,4 +1,0 @@
-pub mod Ended
-pub mod Written
-pub mod GhostWritten
-pub mod Caused

@@ -1,7 +1,0 @@
-use Rattle.std.specs.Prelude.{IsTrue}
-use Rattle.kr_cli.specs.Endings.{is_output}
-use Rattle.kr_cli_explain.proofs.Caused.{caused}
-use Rattle.kr_cli_explain.proofs.ghosts.write_ghost_explanation.Goals as goal
-
-pub returns-in_err-put_all-clause-cause : goal.returns-in_err-put_all-clause-cause
-returns-in_err-put_all-clause-cause g c = caused c.from_residual-in_err-put_all.result (λ e. IsTrue (is_output e)) _ c.in_err-put_all.ensures.cause

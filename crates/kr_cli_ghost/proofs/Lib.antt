@@ -1,6 +1,0 @@
-pub mod OneLine
-mod Faults
-mod ScriptFaults
-mod Judged
-mod Serials
-mod Endings

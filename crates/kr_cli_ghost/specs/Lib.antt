@@ -1,5 +1,0 @@
-pub mod Tables
-pub mod Lines
-pub mod Named
-pub mod Lawful
-pub mod Runs

@@ -1,4 +1,0 @@
-pub mod TaskAnswered
-pub mod TaskEnded
-pub mod Answered
-pub mod Ended

@@ -1,4 +1,0 @@
-pub mod Caused
-pub mod Ended
-pub mod Made
-pub mod Taken

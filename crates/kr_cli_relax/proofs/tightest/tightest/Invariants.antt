@@ -1,6 +1,0 @@
--- what relaxations made of the protocol so far
-use Rattle.kr_cli_relax.specs.Tightest.{RelaxedFrom}
-use Rattle.kr_cli_relax.proofs.tightest.tightest.Given as goal
-
-abbrev pub invariant-loop : goal.invariant-loop
-invariant-loop g l = RelaxedFrom (g.P.Protocol.table l.protocol) (g.P.Protocol.names l.protocol) l.table

@@ -1,6 +1,0 @@
-use Rattle.kr_cli_suite.proofs.Made.{left_told}
-use Rattle.kr_cli_suite.proofs.writing.surveyed_text.Goals as goal
-
-pub returns : goal.returns
-returns g c =
-    left_told (g.P.Protocol.table c.args.protocol.now) (g.P.Protocol.names c.args.protocol.now) c.args.suite.now c.in_ok-survey.survey c.left_text.result c.in_ok-survey.ensures c.left_text.ensures

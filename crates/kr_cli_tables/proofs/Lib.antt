@@ -1,0 +1,9 @@
+pub mod Caused
+pub mod ExplainEnded
+pub mod ExplainWritten
+pub mod GhostWritten
+pub mod RelaxEnded
+pub mod RelaxMade
+pub mod RelaxTaken
+pub mod SuiteEnded
+pub mod SuiteMade

@@ -1,0 +1,24 @@
+-- What is known of the report of a task without threads that was written.
+use Rattle.std.specs.Prelude.{ℕ, List, Bool, Option, Result, Ok, Err, IfOk}
+use Rattle.std.proofs.Common.{inl, inr}
+use Rattle.kr_cli.specs.declared.endings.Ending.{Ending}
+use Rattle.kr_cli.specs.declared.tables.AnyTable.{AnyTable}
+use Rattle.kr_cli.specs.Lawful.{lawful_of}
+use Rattle.kr_cli.specs.Named.{NamesTable}
+use Rattle.kr_cli.specs.Tables.{table_of, names_of}
+use Rattle.kr_cli.specs.declared.ghost_tables.AnyGhostTable.{AnyGhostTable}
+use Rattle.kr_cli.specs.GhostLawful.{lawful_ghosts_of}
+use Rattle.kr_cli.specs.NamedTables.{NamesGhosts}
+use Rattle.kr_cli.specs.GhostTables as ghost
+use Rattle.kr_cli_tasks.specs.Tasks.{Reports, ReportsGhosts, DoesTask}
+use Rattle.kr_cli_tasks.specs.declared.asked.Task.{Task}
+
+-- it is under the table that a word names, which is lawful
+pub done : (may_give : List ℕ → Option (List ℕ) → Type 0) (r : Result Bool Ending) (table : List ℕ) (task : Task) (t : AnyTable) (old new : Option (List ℕ)) → NamesTable may_give table t → IfOk r (Reports may_give (table_of t) (names_of t) task old new) → IfOk r (DoesTask may_give table task old new)
+done may_give (Ok well) table task t old new names reports = inl (t, (names, (lawful_of t, reports)))
+done may_give (Err e) table task t old new names reports = tt
+
+-- or under the table with ghosts that a word names, which is lawful too
+pub done_with_ghosts : (may_give : List ℕ → Option (List ℕ) → Type 0) (r : Result Bool Ending) (table : List ℕ) (task : Task) (t : AnyGhostTable) (old new : Option (List ℕ)) → NamesGhosts may_give table t → IfOk r (ReportsGhosts may_give (ghost.ghosts_of t) (ghost.names_of t) task old new) → IfOk r (DoesTask may_give table task old new)
+done_with_ghosts may_give (Ok well) table task t old new names reports = inr (t, (names, (lawful_ghosts_of t, reports)))
+done_with_ghosts may_give (Err e) table task t old new names reports = tt

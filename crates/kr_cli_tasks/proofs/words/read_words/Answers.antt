@@ -1,0 +1,56 @@
+use Rattle.std.proofs.lemmas.Grind.{common_steps}
+use Rattle.std.proofs.Common.{◌≡◌, ℕ, List, [], ◌∷◌, ◌++◌, Some, All, map, get_or, string_bytes, suc, ap, subst, sym, inl, inr, arith}
+use Rattle.std.specs.Prelude.{codes, slice_get}
+use Rattle.std.specs.Fmt.{decimal}
+use Rattle.std.proofs.lemmas.List.Elements.{All-map}
+use Rattle.kr_cli.specs.Words.{IsPlain}
+use Rattle.kr_cli_tasks.specs.Words.{AreLeft, AskThreads, HasWorkers, HaveForm, LeavesWords, count_of, scripts_of}
+use Rattle.kr_cli_tasks.specs.declared.asked.Task.{Task}
+use Rattle.kr_cli_tasks.specs.declared.asked.Task.TheVariants.{Check, Run, Judge, Threads}
+use Rattle.kr_cli_tasks.specs.declared.asked.Workers.{Workers}
+use Rattle.kr_cli_tasks.proofs.words.read_words.Goals as goal
+
+-- where the first word has another first letter, it isn't `threads`
+no_threads : (left : List (List ℕ)) (first : List ℕ) (rest : List (List ℕ)) → left ≡ first ∷ rest → slice_get left 0 ≡ Some (codes "threads") → get_or first 0 0 ≡ 116
+no_threads left first rest is threads =
+    let same : first ≡ codes "threads" = cc in
+    ap (λ (bs : List ℕ). get_or bs 0 0) same
+
+-- the words have the form of what was asked by those that were left
+form_of_left : (words left : List (List ℕ)) (workers : Workers) (table : List ℕ) (task : Task) → LeavesWords words left (count_of workers) → HasWorkers workers task → AreLeft left table task → HaveForm words table task
+form_of_left words left workers table Check (inl (split, threads)) has is = absurd (omega (arith, no_threads left _ _ is threads))
+form_of_left words left workers table Check (inr (same, four)) has is = cc
+form_of_left words left workers table (Run script) (inl (split, threads)) has is = absurd (omega (arith, no_threads left _ _ is threads))
+form_of_left words left workers table (Run script) (inr (same, four)) has is = cc
+form_of_left words left workers table (Judge scripts) (inl (split, threads)) has is = absurd (omega (arith, no_threads left _ _ is.0 threads))
+form_of_left words left workers table (Judge scripts) (inr (same, four)) has is = (cc, is.1)
+form_of_left words left workers table (Threads script given) (inl (split, threads)) has is =
+    let P : List (List ℕ) → Type 0 = λ ws. words ≡ ws ++ codes "--workers" ∷ decimal (count_of workers) ∷ [] in
+    subst (λ (w : Workers). AskThreads words table script.now (count_of w)) (sym has) (inl (subst P is split))
+form_of_left words left workers table (Threads script given) (inr (same, four)) has is =
+    subst (λ (w : Workers). AskThreads words table script.now (count_of w)) (sym has) (inr (cc, four))
+
+-- so do those behind the first
+plain_behind : (left : List (List ℕ)) (first : List ℕ) (rest : List (List ℕ)) → All IsPlain left → left ≡ first ∷ rest → All IsPlain rest
+plain_behind left first rest plain is =
+    let all : All IsPlain (first ∷ rest) = subst (All IsPlain) is plain in
+    λ k d within. all (suc k) d (omega (arith, within))
+
+-- no word that names a table or a script begins with a hyphen
+plain_of_left : (left : List (List ℕ)) (table : List ℕ) (task : Task) → All IsPlain left → AreLeft left table task → All IsPlain (table ∷ scripts_of task)
+plain_of_left left table Check plain is = plain_behind left _ _ plain is
+plain_of_left left table (Run script) plain is = plain_behind left _ _ plain is
+plain_of_left left table (Judge scripts) plain is = plain_behind left _ _ plain is.0
+plain_of_left left table (Threads script workers) plain is = plain_behind left _ _ plain is
+
+pub returns-clause-words : goal.returns-clause-words
+returns-clause-words c =
+    let left = map string_bytes c.in-Some.left.now in
+    let table = c.in_ok-asked.asked.table.now in
+    let task = c.in_ok-asked.asked.task in
+    let is : AreLeft left table task = c.is_of.ensures c.if-not-is_of.false in
+    let plain : All IsPlain left = All-map IsPlain string_bytes c.in-Some.left.now (c.are_plain.ensures c.if-not-are_plain.false) in
+    (form_of_left _ left c.in-Some.workers table task c.in-Some.ensures c.in_ok-asked.ensures.workers is, plain_of_left left table task plain is)
+
+pub returns-then-not-are_plain-clause-err : goal.returns-then-not-are_plain-clause-err
+returns-then-not-are_plain-clause-err c = grind (arith, common_steps)

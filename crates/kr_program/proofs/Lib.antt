@@ -1,0 +1,4 @@
+pub mod Answered
+pub mod Serial
+pub mod Told
+pub mod Words
