@@ -3,19 +3,19 @@ use Rattle.std.specs.Prelude.{◌≡◌, ◌≢◌, ◌⊎◌, ◌≤◌, ◌↔
 use Rattle.std.proofs.Common.{Global, arith, ap, append-nil, inl, inr, sym, subst, ◌∙◌}
 use Rattle.kr_sink.specs.Puts.{HasCause}
 use Rattle.kr_cli.specs.declared.endings.Ending.{Ending}
-use Rattle.kr_cli.specs.declared.endings.Ending.TheVariants.{NotUnderstood}
+use Rattle.kr_cli.specs.declared.endings.Ending.TheVariants.{NotUnderstood, Output}
 use Rattle.kr_cli.specs.Endings.{ending_line, ending_text, is_output}
 use Rattle.kr_cli_diagnosis.specs.Finding.{AddsLines, AreLines}
 use Rattle.kr_cli_tasks.specs.Program as tasks
 use Rattle.kr_cli_tables.specs.Explain as explain
 use Rattle.kr_cli_view.specs.Program.{NameNoMemberTwice}
 use Rattle.kr_program.specs.declared.commands.Command.{Command}
-use Rattle.kr_program.specs.declared.commands.Command.TheVariants.{Check, Run, Judge, Threads, Explain, View, Trace}
+use Rattle.kr_program.specs.declared.commands.Command.TheVariants.{Check, Run, Judge, Threads, Explain, View, Trace, Suite, Relax, Help, Version}
 use Rattle.kr_program.specs.declared.questions.Question.{Question}
-use Rattle.kr_program.specs.Answers.{Answers, Does, Ends, Files, IsAnswered, IsAskable, IsQuiet, IsSilent, IsTask, IsUnasked, IsUnwritten, Stream, Tells, Traces, Writes, done, ended, unknown}
+use Rattle.kr_program.specs.Answers.{Answers, AskNothing, Does, Ends, Files, IsAnswered, IsAskable, IsQuiet, IsSilent, IsTask, IsUnasked, IsUnwritten, Stream, Tells, Traces, Writes, done, ended, unknown}
 use Rattle.kr_program.specs.Commands.{word_of}
 use Rattle.kr_program.specs.Manual.{usage_told}
-use Rattle.kr_program.specs.Questions.{IsNoQuestion}
+use Rattle.kr_program.specs.Questions.{IsNoQuestion, IsQuestion}
 use Rattle.kr_program.proofs.Serial.{checks, explains, judges, runs, threads}
 
 -- What is written --
@@ -58,6 +58,31 @@ wrote_explain g n c rest old new (Err e) is answers = tt
 pub unasked : (c : Command) (rest : List (List ℕ)) (r : Result Bool Ending) → (IsAskable c → IsNoQuestion rest) → IfErr r (IsUnasked c rest)
 unasked c rest (Ok well) none = tt
 unasked c rest (Err e) none = λ words askable. none askable
+
+-- a question isn't of no form
+pub asked_nothing : (c : Command) (rest : List (List ℕ)) (q : Question) → IsAskable c → IsQuestion rest q → AskNothing c rest → ⊥
+asked_nothing Check rest q askable asks nothing = absurd askable
+asked_nothing Run rest q askable asks nothing = absurd askable
+asked_nothing Judge rest q askable asks nothing = absurd askable
+asked_nothing Threads rest q askable asks nothing = absurd askable
+asked_nothing Explain rest q askable asks nothing = nothing.0 q asks
+asked_nothing View rest q askable asks nothing = nothing.0 q asks
+asked_nothing Trace rest q askable asks nothing = nothing.0 q asks
+asked_nothing Suite rest q askable asks nothing = nothing.0 q asks
+asked_nothing Relax rest q askable asks nothing = nothing.0 q asks
+asked_nothing Help rest q askable asks nothing = absurd askable
+asked_nothing Version rest q askable asks nothing = absurd askable
+
+-- a command that no question is asked of
+pub nothing_as : (c d : Command) (rest : List (List ℕ)) → c ≡ d → AskNothing c rest → AskNothing d rest
+nothing_as c d rest is nothing = subst (λ (x : Command). AskNothing x rest) is nothing
+
+-- what a function says of words of no form, of its help as a text
+pub unknown_kept : (r : Result Bool Ending) (Same : Type 0) (old new : String Global) → (r ≡ Err NotUnderstood) × (Same × (new ≡ old)) → (r ≡ Err NotUnderstood) × (Same × (string_bytes new ≡ string_bytes old))
+unknown_kept r Same old new (is, (same, kept)) = (is, (same, ap (λ (h : String Global). string_bytes h) kept))
+
+pub unknown_untouched : (r : Result Bool Ending) (Same : Type 0) (help : String Global) → (r ≡ Err NotUnderstood) × Same → (r ≡ Err NotUnderstood) × (Same × (string_bytes help ≡ string_bytes help))
+unknown_untouched r Same help (is, same) = (is, (same, refl))
 
 -- What helps --
 
@@ -122,6 +147,23 @@ pub silent_or_two : (c : Command) (Single : Type 0) (status : ℕ) (r : Result B
 silent_or_two c Single status (Ok well) shown Same within zero one unhelped unwarned quiet (inl is) names = inl (quiet (unwarned (names is)))
 silent_or_two c Single status (Ok well) shown Same within zero one unhelped unwarned quiet (inr other) names = inl (quiet (unhelped other))
 silent_or_two c Single status (Err e) shown Same within zero one unhelped unwarned quiet which names = inr (two e status within zero one)
+
+-- the status of an answered question
+pub question_status : (n : ℕ) (r : Result Bool Ending) (A B : Type 0) → n ≤ 2 → ((n ≡ 0) ↔ (r ≡ Ok true)) → ((n ≡ 1) ↔ (r ≡ Ok false)) → ((r ≡ Ok true) × A) ⊎ ((r ≡ Err Output) × B) → ((n ≡ 0) × A) ⊎ ((n ≡ 2) × B)
+question_status n r A B within well not_well (inl (is, a)) = inl (well.1 is, a)
+question_status n (Ok b) A B within well not_well (inr (is, b')) = absurd (cc)
+question_status n (Err e) A B within well not_well (inr (is, b')) = inr (two e n within well not_well, b')
+
+-- and of words of no form
+pub unknown_status : (n : ℕ) (r : Result Bool Ending) (Same : Type 0) (usage shown begun help : List ℕ) (Told : List ℕ → Type 0) → n ≤ 2 → ((n ≡ 0) ↔ (r ≡ Ok true)) → ((n ≡ 1) ↔ (r ≡ Ok false))
+    → begun ≡ [] → shown ≡ help → IfErr r (λ e. Told (ending_text usage e ++ shown)) → (r ≡ Err NotUnderstood) × (Same × (help ≡ begun)) → (n ≡ 2) × (Same × Told (ending_text usage NotUnderstood))
+unknown_status n (Ok b) Same usage shown begun help Told within well not_well none is_help told (is, (same, kept)) = absurd (cc)
+unknown_status n (Err e) Same usage shown begun help Told within well not_well none is_help told (is, (same, kept)) =
+    let other : e ≡ NotUnderstood = cc in
+    let empty : shown ≡ [] = is_help ∙ (kept ∙ none) in
+    let here : Told (ending_text usage NotUnderstood ++ shown) = subst (λ (x : Ending). Told (ending_text usage x ++ shown)) other told in
+    let text = ending_text usage NotUnderstood in
+    (two e n within well not_well, (same, subst Told (ap (λ (h : List ℕ). text ++ h) empty ∙ append-nil text) here))
 
 -- Words that begin with no command aren't understood.
 pub unknown_answers : (g : Files) (n : Traces) (all : List (List ℕ)) (out err : Stream) (status : ℕ) (r : Result Bool Ending)

@@ -45,7 +45,7 @@ pub rest_of : (a b : List ℕ) (xs bs : List (List ℕ)) → a ∷ xs ≡ b ∷ 
 rest_of a b xs bs e = cc
 
 -- a word isn't another
-pub other : (a b : List ℕ) → bytes_eq a a ≡ true → bytes_eq b a ≡ false → a ≡ b → ⊥
+other : (a b : List ℕ) → bytes_eq a a ≡ true → bytes_eq b a ≡ false → a ≡ b → ⊥
 other a b same differs e = let k : bytes_eq a a ≡ bytes_eq b a = ap (λ w. bytes_eq w a) e in let t : true ≡ false = cc in absurd (cc)
 
 not_first : (a b : List ℕ) (xs bs : List (List ℕ)) → bytes_eq a a ≡ true → bytes_eq b a ≡ false → a ∷ xs ≡ b ∷ bs → ⊥

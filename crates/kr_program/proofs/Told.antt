@@ -19,7 +19,7 @@ use Rattle.kr_program.specs.Questions.{IsNoQuestion}
 use Rattle.kr_program.specs.Serial.{AreSerialUnder, NamesSerial}
 use Rattle.kr_program.proofs.Serial as serial
 use Rattle.kr_program.proofs.Serial.{first, rest_of}
-use Rattle.kr_program.proofs.Words.{is_check, is_run, is_judge, is_threads, is_explain}
+use Rattle.kr_program.proofs.Words.{same_command}
 
 at_most_two : (well : Bool) → status_of well ≤ 2
 at_most_two true = omega arith
@@ -41,36 +41,36 @@ unquestioned g n c rest old new well not (inl answered) = absurd (not answered)
 unquestioned g n c rest old new well not (inr does) = does
 
 -- words that begin with a command's word, and end with 0, got what that command does
-pub did : (g : Files) (n : Traces) (d : Command) (words behind : List (List ℕ)) (out err : Stream) (status : ℕ) → ((c : Command) → word_of c ≡ word_of d → c ≡ d) → words ≡ word_of d ∷ behind → status ≡ 0
+pub did : (g : Files) (n : Traces) (d : Command) (words behind : List (List ℕ)) (out err : Stream) (status : ℕ) → words ≡ word_of d ∷ behind → status ≡ 0
     → (IsAnswered d behind out.old out.new true → ⊥) → Answers g n words out err status → Does g n d behind out.old out.new true
-did g n d words behind out err status only begin zero not (done c rest well are is writes quiet) =
-    let same : c ≡ d = only c (first _ _ _ _ (sym are ∙ begin)) in
+did g n d words behind out err status begin zero not (done c rest well are is writes quiet) =
+    let same : c ≡ d = same_command c d (first _ _ _ _ (sym are ∙ begin)) in
     let all : rest ≡ behind = rest_of _ _ _ _ (sym are ∙ begin) in
     let here : Writes g n c rest out.old out.new true = well_done g n c rest out.old out.new well status is zero writes in
     let there : Writes g n d rest out.old out.new true = subst (λ (x : Command). Writes g n x rest out.old out.new true) same here in
     unquestioned g n d behind out.old out.new true not (subst (λ (ws : List (List ℕ)). Writes g n d ws out.old out.new true) all there)
-did g n d words behind out err status only begin zero not (ended c rest e help are is ends asked unwritten lines tells) = absurd (omega (arith, is, zero))
-did g n d words behind out err status only begin zero not (unknown none is silent tells) = absurd (omega (arith, is, zero))
+did g n d words behind out err status begin zero not (ended c rest e help are is ends asked unwritten lines tells) = absurd (omega (arith, is, zero))
+did g n d words behind out err status begin zero not (unknown none is silent tells) = absurd (omega (arith, is, zero))
 
 pub check_is_serial : (g : Files) (n : Traces) (words : List (List ℕ)) (out err : Stream) (status : ℕ) (table : List ℕ) → Answers g n words out err status → words ≡ codes "check" ∷ table ∷ [] → status ≡ 0 → NamesSerial g table
 check_is_serial g n words out err status table answers are zero =
-    serial.check_is_serial g (table ∷ []) table out.old out.new refl (did g n Check words (table ∷ []) out err status is_check are zero (λ a. a.0) answers)
+    serial.check_is_serial g (table ∷ []) table out.old out.new refl (did g n Check words (table ∷ []) out err status are zero (λ a. a.0) answers)
 
 pub run_is_serial : (g : Files) (n : Traces) (words : List (List ℕ)) (out err : Stream) (status : ℕ) (table script : List ℕ) → Answers g n words out err status → words ≡ codes "run" ∷ table ∷ script ∷ [] → status ≡ 0 → AreSerialUnder g table (script ∷ [])
 run_is_serial g n words out err status table script answers are zero =
-    serial.run_is_serial g (table ∷ script ∷ []) table script out.old out.new refl (did g n Run words (table ∷ script ∷ []) out err status is_run are zero (λ a. a.0) answers)
+    serial.run_is_serial g (table ∷ script ∷ []) table script out.old out.new refl (did g n Run words (table ∷ script ∷ []) out err status are zero (λ a. a.0) answers)
 
 pub judge_is_serial : (g : Files) (n : Traces) (words : List (List ℕ)) (out err : Stream) (status : ℕ) (table : List ℕ) (scripts : List (List ℕ)) → Answers g n words out err status → words ≡ codes "judge" ∷ table ∷ scripts → status ≡ 0 → AreSerialUnder g table scripts
 judge_is_serial g n words out err status table scripts answers are zero =
-    serial.judge_is_serial g (table ∷ scripts) table scripts out.old out.new refl (did g n Judge words (table ∷ scripts) out err status is_judge are zero (λ a. a.0) answers)
+    serial.judge_is_serial g (table ∷ scripts) table scripts out.old out.new refl (did g n Judge words (table ∷ scripts) out err status are zero (λ a. a.0) answers)
 
 pub threads_are_serial : (g : Files) (n : Traces) (words : List (List ℕ)) (out err : Stream) (status : ℕ) (table : List ℕ) (rest : List (List ℕ)) → Answers g n words out err status → words ≡ codes "threads" ∷ table ∷ rest → status ≡ 0 → NamesSerial g table
 threads_are_serial g n words out err status table rest answers are zero =
-    serial.threads_are_serial g (table ∷ rest) table rest out.old out.new refl (did g n Threads words (table ∷ rest) out err status is_threads are zero (λ a. a.0) answers)
+    serial.threads_are_serial g (table ∷ rest) table rest out.old out.new refl (did g n Threads words (table ∷ rest) out err status are zero (λ a. a.0) answers)
 
 pub explained_is_serial : (g : Files) (n : Traces) (words : List (List ℕ)) (out err : Stream) (status : ℕ) (table : List ℕ) (rest : List (List ℕ)) → Answers g n words out err status → words ≡ codes "explain" ∷ table ∷ rest → IsNoQuestion (table ∷ rest) → status ≡ 0 → NamesSerial g table
 explained_is_serial g n words out err status table rest answers are none zero =
-    serial.explained_is_serial g (table ∷ rest) table rest out.old out.new refl (did g n Explain words (table ∷ rest) out err status is_explain are zero (λ a. none a.1.0 a.1.1.0) answers)
+    serial.explained_is_serial g (table ∷ rest) table rest out.old out.new refl (did g n Explain words (table ∷ rest) out err status are zero (λ a. none a.1.0 a.1.1.0) answers)
 
 -- One line --
 
@@ -113,10 +113,10 @@ task_line g n c rest old new err e help (inr (inr (inr is))) ends none tells = l
 which : (c : Command) (words rest behind : List (List ℕ)) → words ≡ word_of c ∷ rest
     → (words ≡ codes "check" ∷ behind) ⊎ ((words ≡ codes "run" ∷ behind) ⊎ ((words ≡ codes "judge" ∷ behind) ⊎ (words ≡ codes "threads" ∷ behind)))
     → (c ≡ Check) ⊎ ((c ≡ Run) ⊎ ((c ≡ Judge) ⊎ (c ≡ Threads)))
-which c words rest behind are (inl begin) = inl (is_check c (first _ _ _ _ (sym are ∙ begin)))
-which c words rest behind are (inr (inl begin)) = inr (inl (is_run c (first _ _ _ _ (sym are ∙ begin))))
-which c words rest behind are (inr (inr (inl begin))) = inr (inr (inl (is_judge c (first _ _ _ _ (sym are ∙ begin)))))
-which c words rest behind are (inr (inr (inr begin))) = inr (inr (inr (is_threads c (first _ _ _ _ (sym are ∙ begin)))))
+which c words rest behind are (inl begin) = inl (same_command c Check (first _ _ _ _ (sym are ∙ begin)))
+which c words rest behind are (inr (inl begin)) = inr (inl (same_command c Run (first _ _ _ _ (sym are ∙ begin))))
+which c words rest behind are (inr (inr (inl begin))) = inr (inr (inl (same_command c Judge (first _ _ _ _ (sym are ∙ begin)))))
+which c words rest behind are (inr (inr (inr begin))) = inr (inr (inr (same_command c Threads (first _ _ _ _ (sym are ∙ begin)))))
 
 -- that begins with the word of a command
 begins : (words behind : List (List ℕ)) → (words ≡ codes "check" ∷ behind) ⊎ ((words ≡ codes "run" ∷ behind) ⊎ ((words ≡ codes "judge" ∷ behind) ⊎ (words ≡ codes "threads" ∷ behind))) → (c : Command) × (words ≡ word_of c ∷ behind)

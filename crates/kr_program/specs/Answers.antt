@@ -28,10 +28,15 @@ use Rattle.kr_cli_tasks.specs.Program.{DoesThreads}
 use Rattle.kr_cli_tasks.specs.Runs.{IsSerialScript, report_line}
 use Rattle.kr_cli_tables.specs.Explain as explain
 use Rattle.kr_cli_tables.specs.Explain.{IsLawfulTable}
+use Rattle.kr_cli_tables.specs.ExplainWords as explain_words
 use Rattle.kr_cli_tables.specs.Suite as suite
+use Rattle.kr_cli_tables.specs.SuiteWords as suite_words
 use Rattle.kr_cli_tables.specs.Relax as relax
+use Rattle.kr_cli_tables.specs.RelaxWords as relax_words
 use Rattle.kr_cli_view.specs.Program as view
+use Rattle.kr_cli_view.specs.Words.{AskNoPage}
 use Rattle.kr_cli_trace.specs.Program as trace
+use Rattle.kr_cli_trace.specs.Words.{AskNoTrace}
 use Rattle.kr_program.specs.declared.commands.Command.{Command}
 use Rattle.kr_program.specs.declared.commands.Command.TheVariants.{Check, Run, Judge, Threads, Explain, View, Trace, Suite, Relax, Help, Version}
 use Rattle.kr_program.specs.declared.manual.TheConstants.{LISTING}
@@ -218,6 +223,20 @@ Ends may_give may_name Suite rest old new e = suite.Ends may_give rest e
 Ends may_give may_name Relax rest old new e = relax.Ends may_give rest e
 Ends may_give may_name Help rest old new e = EndsHelp rest e
 Ends may_give may_name Version rest old new e = EndsVersion rest e
+
+-- Words of no form, which ask nothing about the command: for these a fault is that they aren't understood, and no other. Of the four it isn't known.
+abbrev pub AskNothing : Command → List (List ℕ) → Type 0
+AskNothing Check rest = ⊥
+AskNothing Run rest = ⊥
+AskNothing Judge rest = ⊥
+AskNothing Threads rest = ⊥
+AskNothing Explain rest = IsNoQuestion rest × explain_words.AskNothingOfTables rest
+AskNothing View rest = IsNoQuestion rest × AskNoPage rest
+AskNothing Trace rest = IsNoQuestion rest × AskNoTrace rest
+AskNothing Suite rest = IsNoQuestion rest × suite_words.AskNothingOfTables rest
+AskNothing Relax rest = IsNoQuestion rest × relax_words.AskNothingOfTables rest
+AskNothing Help rest = (rest ≢ []) × ((c : Command) → rest ≢ word_of c ∷ [])
+AskNothing Version rest = rest ≢ []
 
 -- Words that aren't understood ask nothing about the command.
 abbrev pub IsUnasked : Command → List (List ℕ) → Ending → Type 0

@@ -1,16 +1,17 @@
 //! What one command answers.
-ghost use Rattle.std.specs.Prelude.{◌≡◌, ◌≢◌, ◌⊎◌, ◌∷◌, [], false, Err, IfErr, IfNone, IfOk, IfSome, IsTrue, OnErr, OnOk, map, string_bytes};
+ghost use Rattle.std.specs.Prelude.{◌≡◌, ◌≢◌, ◌⊎◌, ◌∷◌, [], true, false, Ok, Err, IfErr, IfNone, IfOk, IfSome, IsTrue, OnErr, OnOk, map, string_bytes};
 ghost use Rattle.std.specs.Io.KnownBytes.{Appends};
 ghost use Rattle.kr_sink.specs.Puts.{HasCause};
 ghost use Rattle.kr_cli.specs.declared.endings.Ending.TheVariants as ending;
 ghost use Rattle.kr_cli.specs.Endings.{is_output};
 ghost use Rattle.kr_cli_diagnosis.specs.Finding.{AddsLines};
 ghost use Rattle.kr_cli_view.specs.Program.{NameNoMemberTwice};
-ghost use Rattle.kr_program.specs.Answers.{Ends, EndsHelp, EndsVersion, Helps, IsAskable, IsTask, IsUnasked, Writes, answer_of};
+ghost use Rattle.kr_program.specs.Answers.{AskNothing, Ends, EndsHelp, EndsVersion, Helps, IsAskable, IsTask, IsUnasked, Writes, answer_of};
 ghost use Rattle.kr_program.specs.Commands.{word_of};
 ghost use Rattle.kr_program.specs.Manual.{version_text};
 ghost use Rattle.kr_program.specs.Questions.{IsNoQuestion, IsQuestion};
-ghost use Rattle.kr_program.specs.declared.commands.Command.TheVariants.{Trace, View};
+ghost use Rattle.kr_program.specs.declared.questions.Question.{Question};
+ghost use Rattle.kr_program.specs.declared.commands.Command.TheVariants.{Help, Trace, Version, View};
 
 use crate::commands::Command;
 use crate::manual::{LISTING, print_page, print_version};
@@ -57,6 +58,7 @@ fn answer<W: Sink>(command: Command, question: Question, out: &mut W) -> Result<
 fn help_on<W: Sink>(rest: &[String], out: &mut W) -> Result<bool, Ending>
     ensures helps { IfOk result (λ well. IsTrue well × Helps (map string_bytes rest.now) (W.taken out.old) (W.taken out.new)) }
     ensures err { IfErr result (EndsHelp (map string_bytes rest.now)) }
+    ensures unknown { AskNothing Help (map string_bytes rest.now) → (result ≡ Err ending.NotUnderstood) × (out.new ≡ out.old) }
     ensures nothing { IfErr result (λ e. IsTrue (is_output e) ⊎ (out.new ≡ out.old)) }
     ensures cause { IfErr result (λ e. IsTrue (is_output e) → HasCause (W.failures out.old) (W.failures out.new)) }
 {
@@ -75,6 +77,7 @@ fn help_on<W: Sink>(rest: &[String], out: &mut W) -> Result<bool, Ending>
 fn version<W: Sink>(rest: &[String], out: &mut W) -> Result<bool, Ending>
     ensures tells { IfOk result (λ well. IsTrue well × ((map string_bytes rest.now ≡ []) × Appends (W.taken out.old) (W.taken out.new) version_text)) }
     ensures err { IfErr result (EndsVersion (map string_bytes rest.now)) }
+    ensures unknown { AskNothing Version (map string_bytes rest.now) → (result ≡ Err ending.NotUnderstood) × (out.new ≡ out.old) }
     ensures nothing { IfErr result (λ e. IsTrue (is_output e) ⊎ (out.new ≡ out.old)) }
     ensures cause { IfErr result (λ e. IsTrue (is_output e) → HasCause (W.failures out.old) (W.failures out.new)) }
 {
@@ -99,6 +102,11 @@ pub(crate) fn answered<T: Threads + Wait + Sync, F: Files + Traces + Sync, W: Si
     requires begins { map string_bytes words.0.now ≡ word_of command ∷ map string_bytes words.1.now }
     ensures writes { IfOk result (Writes (F.may_give files.now) (F.may_name files.now) command (map string_bytes words.entry.1.now) (W.taken out.old) (W.taken out.new)) }
     ensures ends { IfErr result (Ends (F.may_give files.now) (F.may_name files.now) command (map string_bytes words.entry.1.now) (W.taken out.old) (W.taken out.new)) }
+    ensures question { (q : Question) → IsAskable command → IsQuestion (map string_bytes words.entry.1.now) q
+        → ((result ≡ Ok true) × Appends (W.taken out.old) (W.taken out.new) (answer_of command q))
+        ⊎ ((result ≡ Err ending.Output) × HasCause (W.failures out.old) (W.failures out.new)) }
+    ensures unknown { AskNothing command (map string_bytes words.entry.1.now)
+        → (result ≡ Err ending.NotUnderstood) × ((out.new ≡ out.old) × (string_bytes help.new ≡ string_bytes help.old)) }
     ensures unasked { IfErr result (IsUnasked command (map string_bytes words.entry.1.now)) }
     ensures nothing { IfErr result (λ e. (command ≡ Trace) ⊎ (IsTrue (is_output e) ⊎ (out.new ≡ out.old))) }
     ensures cause { IfErr result (λ e. IsTrue (is_output e) → HasCause (W.failures out.old) (W.failures out.new)) }

@@ -8,7 +8,8 @@ use Rattle.kr_cli_view.specs.Program.{NameNoMemberTwice}
 use Rattle.kr_program.specs.declared.commands.Command.TheVariants.{View}
 use Rattle.kr_program.specs.Answers.{IsTask, stream}
 use Rattle.kr_program.specs.Commands.{word_of}
-use Rattle.kr_program.proofs.Answered.{command_answers, fault_or_trace, shown_nothing, shown_nothing_where, silent_or_two}
+use Rattle.kr_program.specs.Manual.{usage_told}
+use Rattle.kr_program.proofs.Answered.{command_answers, fault_or_trace, question_status, shown_nothing, shown_nothing_where, silent_or_two, unknown_status}
 use Rattle.kr_program.proofs.Words.{view_or_not}
 use Rattle.kr_program.proofs.program.run_command.Goals as goal
 
@@ -46,3 +47,16 @@ returns-clause-silent g c names =
     (shown_nothing _ (string_bytes c.new-help.result) (string_bytes c.answered-done.new.help) shown r c.new-help.ensures.bytes c.as_str.ensures.value c.answered-done.ensures.unhelped)
     (λ single. shown_nothing_where (string_bytes c.new-help.result) (string_bytes c.answered-done.new.help) shown r c.new-help.ensures.bytes c.as_str.ensures.value (c.answered-done.ensures.unwarned single))
     c.finish.ensures.silent (view_or_not c.args.command) names
+
+pub returns-clause-question : goal.returns-clause-question
+returns-clause-question g c q askable asks = question_status c.finish.result c.answered-done.result _ _ c.finish.ensures.within c.finish.ensures.well c.finish.ensures.not_well (c.answered-done.ensures.question q askable asks)
+
+pub returns-clause-unknown : goal.returns-clause-unknown
+returns-clause-unknown g c nothing =
+    let told = g.E.Sink.taken in
+    let r = c.answered-done.result in
+    let shown = c.as_str.result.now in
+    let Told : List ℕ → Type 0 = λ text. IsTold (told c.args.err.now) (told c.finish.new.err) (g.E.Sink.failures c.args.err.now) (g.E.Sink.failures c.finish.new.err) text in
+    let Q : List ℕ → Type 0 = λ usage. IfErr r (λ x. Told (ending_text usage x ++ shown)) in
+    unknown_status c.finish.result r _ (usage_told c.args.command) shown (string_bytes c.new-help.result) (string_bytes c.answered-done.new.help) Told c.finish.ensures.within c.finish.ensures.well c.finish.ensures.not_well
+    c.new-help.ensures.bytes c.as_str.ensures.value (subst Q c.usage_told.ensures c.finish.ensures.told) (c.answered-done.ensures.unknown nothing)
