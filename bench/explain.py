@@ -1,5 +1,5 @@
 #!/usr/bin/env python3
-"""Measures `kr explain` on changed tables and on tables of fifteen modes, and prints what bench/README.md tells:
+"""Measures `kr explain` on changed tables and on tables of fifteen modes, and prints what bench/README.md has:
 bench/explain.py [SEED [TABLES]], 1 and 60 if none are given. Build first, by `./build`.
 
 For each bundled table so many tables are made that differ from it in one entry, and as many of fifteen modes that are drawn

@@ -1,5 +1,5 @@
 #!/usr/bin/env python3
-"""Measures `kr run @kvl` on the scripts of bench/scripts.py, and prints the table of bench/README.md:
+"""Measures `kr run @kvl` on the scripts of bench/scripts.py, and prints a table, of which bench/README.md has a part:
 bench/growth.py [KIND..], all kinds where none is named. Build first, by `./build`.
 
 A row has the processor time (user and system) of the whole process at 10,000 and at 100,000 steps, the least of seven

@@ -1,6 +1,6 @@
 #!/usr/bin/env python3
-"""Runs `kr threads @kvl` on scripts of 25,000 transactions of four steps, by 1, 4, 16 and 64 workers, and prints the table
-of bench/README.md: bench/threads.py [KIND..], all kinds where none is named. Build first, by `./build`.
+"""Runs `kr threads @kvl` on scripts of 25,000 transactions of four steps, by 1, 4, 16 and 64 workers, and prints a
+table: bench/threads.py [KIND..], all kinds where none is named. Build first, by `./build`.
 
 KIND is one of
   disjoint   three operations at keys that no other transaction touches, and a commit
