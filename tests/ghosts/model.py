@@ -1,5 +1,6 @@
-"""A second form of the model with ghosts, by docs/GHOSTS.md and docs/DEFINITIONS.md: the steps and purges of a
-run, the cases, and which tables are safe. Modes are numbers, 0 for none; a request is a mode and whether it is kept to commit."""
+"""A second form of the model with ghosts, by docs/GHOSTS.md and docs/DEFINITIONS.md, and where these are short by the definitions,
+crates/kr_ghost/specs/Safe.antt: the steps and purges of a run, the cases, and which tables are safe. Modes are numbers, 0 for none; a
+request is a mode and whether it is kept to commit."""
 
 END = float('inf')
 READS = ('fetch-hit', 'fetch-miss', 'scan-key', 'scan-stop')
