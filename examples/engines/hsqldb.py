@@ -44,8 +44,12 @@ class HSQLDB(Connection):
 
     def waits(self, ids):
         """By WAITING_FOR_THIS, turned round: THIS_WAITING_FOR is empty."""
-        rows = self.query('SELECT SESSION_ID, WAITING_FOR_THIS FROM INFORMATION_SCHEMA.SYSTEM_SESSIONS')
-        self.commit()
+        try:
+            rows = self.query('SELECT SESSION_ID, WAITING_FOR_THIS FROM INFORMATION_SCHEMA.SYSTEM_SESSIONS')
+        except jdbc.Fault:
+            return None  # a general error, where sessions begin or end meanwhile: the driver asks again
+        finally:
+            self.commit()
         self.blocking = {}
         for by, waiting in rows:
             for it in waiting.split(','):

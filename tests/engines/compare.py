@@ -70,7 +70,7 @@ class Samples:
     def __init__(self, rand):
         self.rand = rand
         files = sorted([*(TOP / 'tables').glob('*.toml'), *(TOP / 'examples').glob('**/*.toml')])
-        self.texts = [it.read_text() for it in files if 'ghosts' not in it.parts]
+        self.texts = [it for it in map(pathlib.Path.read_text, files) if Draft.of_text(it).format < 3]  # those without ghosts
 
     def may(self, chance):
         return self.rand.random() < chance
