@@ -170,7 +170,8 @@ int main(int, char** words) {
   env->set_flags(env, DB_TXN_NOSYNC, 1);
   env->log_set_config(env, DB_LOG_IN_MEMORY, 1);
   env->set_lg_bsize(env, 64 << 20);
-  int code = env->open(env, words[1], DB_CREATE | DB_INIT_TXN | DB_INIT_LOCK | DB_INIT_LOG | DB_INIT_MPOOL | DB_THREAD | DB_PRIVATE, 0);
+  u_int32_t flags = DB_CREATE | DB_INIT_TXN | DB_INIT_LOCK | DB_INIT_LOG | DB_INIT_MPOOL | DB_THREAD | DB_PRIVATE;
+  int code = env->open(env, words[1], flags, 0);
   if (code) {
     std::cerr << db_strerror(code) << std::endl;
     return 2;
