@@ -1,7 +1,7 @@
 #!/usr/bin/env python3
 """Which wrong engines the stored suites of examples/suites notice.
 
-    planted.py [--table]     with --table as docs/TRACES.md has it
+    planted.py [--table]     with --table how many parts each fails, as bench/README.md counts them
 
 Each engine of wrong.py, which has the habit of a part beside the entries, answers that part otherwise under some bundled table, and
 else only what the machine answers. Of the engines of tests/engines/engine.py, which follow @kvl-update but for one fault each, the
