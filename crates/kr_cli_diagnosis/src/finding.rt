@@ -10,7 +10,7 @@ ghost use Rattle.kr_cli.specs.Words.{is_bundled};
 ghost use Rattle.kr_cli_diagnosis.specs.Finding.{MayBePut, AddsHelp, AddsHelps, AddsLines};
 ghost use Rattle.kr_cli_diagnosis.specs.Repeated.{HasNoMemberTwice};
 
-use crate::bundled::bundled_help;
+use crate::bundled::{Bundled, bundled_help};
 use crate::repeated::repeated_help;
 use crate::scripts::script_help;
 use crate::tables::table_help;
@@ -52,7 +52,7 @@ pub fn table_at<F: Files>(
         return match kr_cli::table_at(alloc, word, files) {
             Ok(table) => Ok(table),
             Err(ending) => {
-                add(help, bundled_help(alloc, word));
+                add(help, bundled_help(alloc, word, Bundled::WithoutGhosts));
                 Err(ending)
             }
         };
@@ -75,7 +75,10 @@ fn table_in_file<F: Files>(
 {
     let bytes = match read_file(alloc, word, files, TABLE_BYTES) {
         Ok(bytes) => bytes,
-        Err(fault) => return Err(no_file(alloc, word, Wanted::Table, fault, help)),
+        Err(fault) => {
+            let wanted = Wanted::Table(Bundled::WithoutGhosts);
+            return Err(no_file(alloc, word, wanted, fault, help));
+        }
     };
     match kr_table::read(alloc, bytes.as_slice()) {
         Ok(table) => Ok(AnyTable::Read(table)),
@@ -89,7 +92,8 @@ fn table_in_file<F: Files>(
 /// What a word is to name.
 #[derive(Clone, Copy)]
 pub(crate) enum Wanted {
-    Table,
+    /// A table: a file, or one of these bundled ones.
+    Table(Bundled),
     Script,
 }
 
@@ -110,7 +114,7 @@ pub(crate) fn no_file(
         return Ending::Memory;
     }
     let more = match wanted {
-        Wanted::Table => file_help(alloc, word, fault),
+        Wanted::Table(tables) => file_help(alloc, word, fault, tables),
         Wanted::Script => script_file_help(alloc, word, fault),
     };
     add(help, more);

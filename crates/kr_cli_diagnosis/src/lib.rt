@@ -31,7 +31,7 @@ mod toml_places;
 mod toml_tokens;
 mod unreadable;
 
-pub use bundled::bundled_help;
+pub use bundled::{Bundled, bundled_help};
 pub use finding::{script_at, table_at};
 pub use ghost_scripts::ghost_script_with_help;
 pub use named::named_with_help;

@@ -4,7 +4,7 @@ ghost use Rattle.kr_cli.specs.Endings.{MemoryOrTold, is_output};
 ghost use Rattle.kr_cli.specs.NamedTables.{Names, TellsNone};
 ghost use Rattle.kr_cli_diagnosis.specs.Finding.{AddsHelp, AddsLines};
 
-use crate::bundled::bundled_help;
+use crate::bundled::{Bundled, bundled_help};
 use crate::finding::{Wanted, add, no_file};
 use crate::tables::table_help;
 use kr_cli::{
@@ -33,7 +33,7 @@ pub fn named_with_help<F: Files>(
         return match named_at(alloc, word, files) {
             Ok(table) => Ok(table),
             Err(ending) => {
-                add(help, bundled_help(alloc, word));
+                add(help, bundled_help(alloc, word, Bundled::All));
                 Err(ending)
             }
         };
@@ -56,7 +56,10 @@ fn named_in_file<F: Files>(
 {
     let bytes = match read_file(alloc, word, files, TABLE_BYTES) {
         Ok(bytes) => bytes,
-        Err(fault) => return Err(no_file(alloc, word, Wanted::Table, fault, help)),
+        Err(fault) => {
+            let wanted = Wanted::Table(Bundled::All);
+            return Err(no_file(alloc, word, wanted, fault, help));
+        }
     };
     if has_ghosts(alloc, bytes.as_slice())? {
         match kr_ghost_table::read(alloc, bytes.as_slice()) {

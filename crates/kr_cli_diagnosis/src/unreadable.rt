@@ -2,7 +2,7 @@
 ghost use Rattle.std.specs.Prelude.{[], IfOk, string_bytes};
 ghost use Rattle.kr_cli_diagnosis.specs.Help.{IsHelp};
 
-use crate::bundled::{is_bundled, near_help};
+use crate::bundled::{Bundled, is_bundled, is_bundled_with_ghosts, near_help};
 use crate::help::Help;
 use kr_cli::FileFault;
 use std::alloc::{AllocError, Global};
@@ -18,18 +18,23 @@ fn said(fault: FileFault) -> &'static str {
     }
 }
 
-/// What helps at a word whose file can't be read: why, and the bundled table whose name is near.
-pub fn file_help(alloc: Global, word: &str, fault: FileFault) -> Result<String, AllocError>
+/// What helps at a word whose file can't be read: why, and the one of these bundled tables whose name is near.
+pub fn file_help(
+    alloc: Global,
+    word: &str,
+    fault: FileFault,
+    tables: Bundled,
+) -> Result<String, AllocError>
     ensures help { IfOk result (λ text. IsHelp word.now [] (string_bytes text)) }
 {
-    near_help(alloc, word, said(fault))
+    near_help(alloc, word, said(fault), tables)
 }
 
 /// What helps at a word whose script can't be read: why, or that the word is that of a bundled table.
 pub fn script_file_help(alloc: Global, word: &str, fault: FileFault) -> Result<String, AllocError>
     ensures help { IfOk result (λ text. IsHelp word.now [] (string_bytes text)) }
 {
-    let what = if is_bundled(word) {
+    let what = if is_bundled(word) || is_bundled_with_ghosts(word) {
         "this is a bundled table, and a script is expected here"
     } else {
         said(fault)

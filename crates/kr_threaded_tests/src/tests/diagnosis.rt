@@ -1,6 +1,8 @@
 //! What helps at a fault, each call once; `tests/rows` has all faults.
 use kr_cli::FileFault;
-use kr_cli_diagnosis::{bundled_help, file_help, repeated_help, script_help, table_help};
+use kr_cli_diagnosis::{
+    Bundled, bundled_help, file_help, repeated_help, script_help, table_help,
+};
 use kr_script::ScriptFault;
 use kr_table::TableFault;
 use std::test::Fail;
@@ -51,15 +53,23 @@ fn of_a_member_that_stands_twice(rt: HostRuntime) -> Result<(), Fail> {
 
 #[test]
 fn at_a_word(rt: HostRuntime) -> Result<(), Fail> {
-    let bundled = bundled_help(rt.alloc(), "@kvll")?;
+    let some = bundled_help(rt.alloc(), "@kvll", Bundled::WithoutGhosts)?;
     assert_eq!(rt;
-        bundled.as_str(),
+        some.as_str(),
         concat!(
-            "@kvll: the bundled tables are @kvl, @kvl-update, @im and @range-key\n",
+            "@kvll: the bundled tables without ghosts are @kvl, @kvl-update, @im and @range-key\n",
             "did you mean \"@kvl\"?\n",
         )
     );
-    let missing = file_help(rt.alloc(), "none.toml", FileFault::Missing)?;
+    let all = bundled_help(rt.alloc(), "@record-gaps", Bundled::All)?;
+    assert_eq!(rt;
+        all.as_str(),
+        concat!(
+            "@record-gaps: the bundled tables are @kvl, @kvl-update, @im, @range-key, @record-gap, @range-ghost and @next-key-ghost\n",
+            "did you mean \"@record-gap\"?\n",
+        )
+    );
+    let missing = file_help(rt.alloc(), "none.toml", FileFault::Missing, Bundled::All)?;
     assert_eq!(rt; missing.as_str(), "none.toml: there is no such file\n");
     Ok(())
 }
