@@ -46,7 +46,8 @@ pub fn bundled_help(alloc: Global, word: &str, tables: Bundled) -> Result<String
     ensures { IfOk result (λ text. IsHelp word.now [] (string_bytes text)) }
 {
     let what = match tables {
-        Bundled::WithoutGhosts => "the bundled tables without ghosts are @kvl, @kvl-update, @im and @range-key",
+        Bundled::WithoutGhosts =>
+            "the bundled tables without ghosts are @kvl, @kvl-update, @im and @range-key",
         Bundled::All => {
             "the bundled tables are @kvl, @kvl-update, @im, @range-key, @record-gap, @range-ghost and @next-key-ghost"
         }
