@@ -1,8 +1,6 @@
 //! What helps at a fault, each call once; `tests/rows` has all faults.
 use kr_cli::FileFault;
-use kr_cli_diagnosis::{
-    Bundled, bundled_help, file_help, repeated_help, script_help, table_help,
-};
+use kr_cli_diagnosis::{Bundled, bundled_help, file_help, repeated_help, script_help, table_help};
 use kr_script::ScriptFault;
 use kr_table::TableFault;
 use std::test::Fail;
