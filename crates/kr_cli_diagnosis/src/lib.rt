@@ -1,5 +1,6 @@
 //! Tables and scripts that words name, and what helps where they name none: where a fault is, the line there with a caret, what
-//! was expected, and the nearest name.
+//! was expected, and the nearest name. `toml` and `serde_json` say where they couldn't go on, and keep no places of what they read:
+//! so a small walk over the text finds the place of a fault. Where it finds none, or memory is refused, no place is printed.
 #![tactic(auto)]
 
 mod bundled;
