@@ -15,19 +15,11 @@ LEVEL = [*sys.argv[1:], 'SERIALIZABLE'][0]
 URL = 'jdbc:h2:mem:kr;LOCK_TIMEOUT=100000;DB_CLOSE_DELAY=-1'
 
 
-class Connection(jdbc.Connection):
+class Connection(jdbc.Numbered):
+    ENDED = ('40001', '90131')  # the victim of a deadlock, and a row that another has changed
+
     def __init__(self, java, level=LEVEL):
         super().__init__(java, URL, 'sa', level)
-        self.id = int(self.query('CALL SESSION_ID()')[0][0])
-        self.db.commit()
-
-    def failed(self, fault):
-        state = fault.args[0]
-        if state == '23505':
-            return ['duplicate']
-        if state in ('40001', '90131'):  # the victim of a deadlock, and a row that another has changed
-            return self.abort()
-        raise fault
 
 
 class H2(Connection):

@@ -16,19 +16,9 @@ import jdbc
 LEVEL, CONTROL = [*sys.argv[1:], *['SERIALIZABLE', 'LOCKS'][len(sys.argv) - 1:]]
 
 
-class Connection(jdbc.Connection):
+class Connection(jdbc.Numbered):
     def __init__(self, java, level=LEVEL):
         super().__init__(java, 'jdbc:hsqldb:mem:kr', 'SA', level)
-        self.id = int(self.query('CALL SESSION_ID()')[0][0])
-        self.db.commit()
-
-    def failed(self, fault):
-        state = fault.args[0]
-        if state == '23505':
-            return ['duplicate']
-        if state == '40001':  # a conflict, or the victim of a deadlock
-            return self.abort()
-        raise fault
 
 
 class HSQLDB(Connection):

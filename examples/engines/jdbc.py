@@ -89,3 +89,22 @@ class Connection(driver.Connection):
         for key, value in pairs:
             self.query('INSERT INTO T VALUES (?, ?)', key, value)
         self.commit()
+
+
+class Numbered(Connection):
+    """A transaction of an engine that numbers its sessions and says by the numbers who waits, as H2 and HSQLDB do."""
+
+    ENDED = ('40001',)  # states of a fault at which the transaction can only be rolled back
+
+    def __init__(self, java, url, user, level):
+        super().__init__(java, url, user, level)
+        self.id = int(self.query('CALL SESSION_ID()')[0][0])
+        self.db.commit()
+
+    def failed(self, fault):
+        state = fault.args[0]
+        if state == '23505':
+            return ['duplicate']
+        if state in self.ENDED:
+            return self.abort()
+        raise fault
