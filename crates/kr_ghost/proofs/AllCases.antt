@@ -9,14 +9,14 @@ use Rattle.kr_model.specs.declared.Span.TheVariants.{Instant, Commit}
 use Rattle.kr_model.specs.Protocol.{IsMode}
 use Rattle.kr_model.specs.Covers.{mode_after}
 use Rattle.kr_model.proofs.Keep.{kept_mode}
-use Rattle.kr_ghost.specs.Protocol.{GhostProtocol, IsLawfulGhost, Purges, Inherit, IsLawfulPurge}
+use Rattle.kr_ghost.specs.Protocol.{GhostProtocol, AsksMode, IsLawfulGhost, Purges, Inherit, IsLawfulPurge}
 use Rattle.kr_ghost.specs.Run.{GhostRunsAreSerial}
 use Rattle.kr_ghost.specs.declared.cases.Cover.{Cover}
 use Rattle.kr_ghost.specs.declared.cases.Cover.TheVariants.{ReadKey, ReadGap, ChangedKey}
 use Rattle.kr_ghost.specs.Covers.{serves, IsCoveredGhost}
-use Rattle.kr_ghost.specs.Safe.{KeyUse, Free, Read, Inserted, Updated, Deleted, Several, Hold, free, is_changed, is_read, Ask, FetchHit, FetchMiss, ScanName, ScanStop, Insert, Delete, Update, Revive, asked, keeps_out, MayAsk, is_blocked, and_read, after, on_new_key, rolled, Undone, insert, update, delete, to_insert, to_update, to_delete, to_several, Quiet, commit, leave, roll, undo, inherits, Beside, start, turn, ask, quiet, third_asks, third_undoes, new, purge, IsSafeGhost}
-use Rattle.kr_ghost.proofs.Serving.{Serves, Covered, Inherits, covered, weaken as serves_read, no_delete, no_revive, no_update, no_insert, no_fetch, no_scan}
-use Rattle.kr_ghost.proofs.Grants.{AsksMode, open_none}
+use Rattle.kr_ghost.specs.Safe.{KeyUse, Free, Read, Inserted, Updated, Deleted, Several, Hold, free, is_changed, is_read, Ask, FetchHit, FetchMiss, ScanName, ScanStop, Insert, Delete, Update, Revive, InsertHit, DeleteMiss, UpdateMiss, ReviveNext, asked, keeps_out, MayAsk, is_blocked, and_read, after, on_new_key, rolled, Undone, insert, update, delete, to_insert, to_update, to_delete, to_several, Quiet, commit, leave, roll, undo, inherits, Beside, start, turn, ask, quiet, third_asks, third_undoes, new, purge, IsSafeGhost}
+use Rattle.kr_ghost.proofs.Serving.{Serves, Covered, Inherits, covered, weaken as serves_read, no_delete, no_revive, no_update, no_insert, no_fetch, no_scan, no_insert_hit}
+use Rattle.kr_ghost.proofs.Grants.{open_none}
 use Rattle.kr_ghost.proofs.Holding.{Protects, changed_read}
 use Rattle.kr_ghost.proofs.Locking.{row_mode, ask_mode}
 use Rattle.kr_ghost.proofs.Purged.{inheriting}
@@ -111,6 +111,18 @@ module _ (p : GhostProtocol) (laws : IsLawfulGhost p) (cov : Covered p) where
   from_case Revive b x io may ReadKey h = inr (serves_read p (mode_after p.table x.mode (asked p Revive x.mode)) (cov.revive x.mode io))
   from_case Revive b x io may ReadGap h = inl h
   from_case Revive b x io may ChangedKey h = inr (cov.revive x.mode io)
+  from_case InsertHit b x io may ReadKey h = inr (cov.insert_hit x.mode io)
+  from_case InsertHit b x io may ReadGap h = inl h
+  from_case InsertHit b x io may ChangedKey h = inl (read_back x.key h)
+  from_case DeleteMiss b x io may ReadKey h = inl h
+  from_case DeleteMiss b x io may ReadGap h = inr (cov.delete_miss x.mode io)
+  from_case DeleteMiss b x io may ChangedKey h = inl h
+  from_case UpdateMiss b x io may ReadKey h = inl h
+  from_case UpdateMiss b x io may ReadGap h = inr (cov.update_miss may.1 x.mode io)
+  from_case UpdateMiss b x io may ChangedKey h = inl h
+  from_case ReviveNext b x io may ReadKey h = inl h
+  from_case ReviveNext b x io may ReadGap h = inl h
+  from_case ReviveNext b x io may ChangedKey h = inl h
 
   good_after : (a : Ask) (b : Bool) (x : Hold) → MayAsk p b x a → Good p x → Good p (after p b x a)
   good_after a b x may g =
@@ -258,6 +270,10 @@ module _ (p : GhostProtocol) (laws : IsLawfulGhost p) (cov : Covered p) where
   blocks Update b x y gx gy may h = no_update p y.mode x.mode gx.within may.1 (gy.serving ReadKey (if_either b y.key (or_left (if b then is_read y.key else is_changed y.key) h)))
   blocks Revive b x y gx gy may h =
       no_revive p y.mode x.mode gx.within (gy.serving ReadKey (ap (λ c. if c then is_changed y.key else is_read y.key) (sym may.1) ∙ or_left (if b then is_changed y.key else is_read y.key) h))
+  blocks InsertHit b x y gx gy may h = no_insert_hit p y.mode x.mode gx.within (gy.serving ChangedKey (or_left (is_changed y.key) h))
+  blocks DeleteMiss b x y gx gy may h = absurd (true≢false (sym h))
+  blocks UpdateMiss b x y gx gy may h = absurd (true≢false (sym h))
+  blocks ReviveNext b x y gx gy may h = absurd (true≢false (sym h))
 
 -- A lawful protocol of which all cases hold is safe.
 pub covered_is_safe : (p : GhostProtocol) → IsLawfulGhost p → IsCoveredGhost p → IsSafeGhost p

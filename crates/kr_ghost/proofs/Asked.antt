@@ -11,10 +11,10 @@ use Rattle.kr_model.proofs.LockLaws.{name_or_not}
 use Rattle.kr_theorem.proofs.gaps.Gaps.{has}
 use Rattle.kr_theorem.proofs.safe.Kept.{here, elsewhere}
 use Rattle.kr_theorem.proofs.step.Parts.{Part, Parts, with_part, by_part}
-use Rattle.kr_ghost.specs.Protocol.{GhostProtocol, IsLawfulGhost}
+use Rattle.kr_ghost.specs.Protocol.{GhostProtocol, AsksMode, IsLawfulGhost}
 use Rattle.kr_ghost.specs.Step.{on}
 use Rattle.kr_ghost.specs.Safe.{Hold, idle, Ask, asked, MayAsk, keeps_out, is_blocked, present_after, key_after, after, Beside, ask, third_asks, IsSafeGhost}
-use Rattle.kr_ghost.proofs.Grants.{Free, AsksMode, open_none}
+use Rattle.kr_ghost.proofs.Grants.{Free, open_none}
 use Rattle.kr_ghost.proofs.Guarded.{Taken}
 use Rattle.kr_ghost.proofs.Holding.{Holds, Protects, after_protects, with_hold, hold_here, hold_apart, olds_at, Fits}
 use Rattle.kr_ghost.proofs.Sim.{status, Sim, Peer, alone_after, beside_after}

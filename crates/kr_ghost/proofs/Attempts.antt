@@ -1,6 +1,6 @@
 -- A fetch, an insert, a delete and an update keep what is known of the run.
-use Rattle.std.specs.Prelude.{◌≡◌, ℕ, Bool, true, false, ◌||◌, if◌then◌else◌, List, [], ◌∷◌, Option, Some, None, refl, is_some}
-use Rattle.std.proofs.Common.{sym, ◌∙◌, ap, ◌≢◌}
+use Rattle.std.specs.Prelude.{◌≡◌, ℕ, suc, Bool, true, false, ◌||◌, if◌then◌else◌, List, [], ◌∷◌, Option, Some, None, refl, is_some}
+use Rattle.std.proofs.Common.{sym, ◌∙◌, ap}
 use Rattle.kr_model.specs.declared.Name.{Name}
 use Rattle.kr_model.specs.declared.Name.TheVariants.{Key}
 use Rattle.kr_model.specs.declared.Row.TheVariants as row
@@ -18,7 +18,7 @@ use Rattle.kr_ghost.specs.Protocol.{GhostProtocol}
 use Rattle.kr_ghost.specs.State.{GhostState, named, among, stand_by, stand, ghosts_with}
 use Rattle.kr_ghost.specs.Step.{keyed_requests, insert_requests, granted_or_blocked, performed}
 use Rattle.kr_ghost.specs.declared.cases.Cover.TheVariants.{ReadKey}
-use Rattle.kr_ghost.specs.Safe.{KeyUse, Inserted, Updated, Deleted, Hold, is_read, is_changed, FetchHit, FetchMiss, ScanStop, Insert, Delete, Update, Revive, keeps_out, and_read, and_changed}
+use Rattle.kr_ghost.specs.Safe.{KeyUse, Updated, Deleted, Hold, is_read, is_changed, FetchHit, FetchMiss, Delete, Update, Revive, InsertHit, DeleteMiss, UpdateMiss, keeps_out, and_read, and_changed}
 use Rattle.kr_ghost.proofs.Names.{has-named, present_named, ghost_named, written_names, updated_names, or_first}
 use Rattle.kr_ghost.proofs.Holding.{Protects}
 use Rattle.kr_ghost.proofs.Sim.{Sim}
@@ -26,34 +26,7 @@ use Rattle.kr_ghost.proofs.Known.{Known, KnownAfter, stays, not_rolling}
 use Rattle.kr_ghost.proofs.Turn.{Turn}
 use Rattle.kr_ghost.proofs.Reading.{hit, miss}
 use Rattle.kr_ghost.proofs.Writing.{change, new_key}
-
--- Requests of a key are none of the gap.
-fetch_miss : FetchHit ≢ FetchMiss
-fetch_miss is = cc
-
-fetch_stop : FetchHit ≢ ScanStop
-fetch_stop is = cc
-
-fetch_insert : FetchHit ≢ Insert
-fetch_insert is = cc
-
-delete_miss : Delete ≢ FetchMiss
-delete_miss is = cc
-
-delete_stop : Delete ≢ ScanStop
-delete_stop is = cc
-
-delete_insert : Delete ≢ Insert
-delete_insert is = cc
-
-update_miss : Update ≢ FetchMiss
-update_miss is = cc
-
-update_stop : Update ≢ ScanStop
-update_stop is = cc
-
-update_insert : Update ≢ Insert
-update_insert is = cc
+use Rattle.kr_ghost.proofs.Revived.{revive}
 
 module _ (p : GhostProtocol) (opening : Map) (h : List Entry) (s : GhostState) (g : Known p opening h s) (t : ℕ) (turn : Turn p opening h s g t) where
   abbrev m : Map
@@ -102,26 +75,25 @@ module _ (p : GhostProtocol) (opening : Map) (h : List Entry) (s : GhostState) (
       → KnownAfter p opening h t (op.Fetch k) (granted_or_blocked p s t (keyed_requests p row.FetchHit k (at e k) (stand_by v ghost)) (fetched m (standing s.state t) v) s.ghosts bs)
   fetch_decided k v ghost (u ∷ us) is out b = stays p opening h s g t (op.Fetch k) (reply.Blocked (u ∷ us)) refl refl
   fetch_decided k (Some w) ghost [] is out b =
-      hit p opening h s g t turn (op.Fetch k) (reply.Found w) k FetchHit (present k w is) (unrolled (Key k)) refl refl fetch_miss fetch_stop fetch_insert refl
+      hit p opening h s g t turn (op.Fetch k) (reply.Found w) k FetchHit (present k w is) (unrolled (Key k)) refl refl refl refl
       (sym (ap found_or_none is)) (λ y z. z) refl (λ f. refl) refl b
   fetch_decided k None true [] is out b =
-      hit p opening h s g t turn (op.Fetch k) reply.None k FetchHit (is_ghost_name k out) (unrolled (Key k)) refl refl fetch_miss fetch_stop fetch_insert refl
+      hit p opening h s g t turn (op.Fetch k) reply.None k FetchHit (is_ghost_name k out) (unrolled (Key k)) refl refl refl refl
       (sym (ap found_or_none is)) (λ y z. z) refl (λ f. refl) refl b
-  fetch_decided k None false [] is out b = miss p opening h s g t turn (op.Fetch k) reply.None k (no_name k is out) refl (sym (ap found_or_none is)) (λ y z. z) refl (λ f. refl) refl b
+  fetch_decided k None false [] is out b =
+      miss p opening h s g t turn (op.Fetch k) reply.None k FetchMiss (no_name k is out) (λ b x unrolled. unrolled) (λ b. refl) (λ b u. refl) (λ b. refl) refl (sym (ap found_or_none is)) (λ y z. z) refl (λ f. refl) refl b
 
   insert_decided : (k v : ℕ) (w : Option ℕ) (ghost : Bool) (bs : List ℕ) → get m k ≡ w → among s.ghosts k ≡ ghost
-      → blockers p.table l t (insert_requests p k (at e k) (own l t (at e k)) (stand_by w ghost)) ≡ bs
+      → blockers p.table l t (insert_requests p k (at e k) (own l t (at e k)) (at e (suc k)) (stand_by w ghost)) ≡ bs
       → KnownAfter p opening h t (op.Insert k v)
-      (granted_or_blocked p s t (insert_requests p k (at e k) (own l t (at e k)) (stand_by w ghost))
+      (granted_or_blocked p s t (insert_requests p k (at e k) (own l t (at e k)) (at e (suc k)) (stand_by w ghost))
       (inserted m (standing s.state t) k v w) (if is_some w then s.ghosts else ghosts_with s.ghosts k (Some v)) bs)
   insert_decided k v w ghost (u ∷ us) is out b = stays p opening h s g t (op.Insert k v) (reply.Blocked (u ∷ us)) refl refl
   insert_decided k v (Some w) ghost [] is out b =
-      hit p opening h s g t turn (op.Insert k v) reply.Duplicate k FetchHit (present k w is) (unrolled (Key k)) refl refl fetch_miss fetch_stop fetch_insert
+      hit p opening h s g t turn (op.Insert k v) reply.Duplicate k InsertHit (present k w is) (unrolled (Key k), has_some m k w is) refl refl refl
       (ap (λ o. (whole_insert m k v o).1) is) (sym (ap (λ o. (whole_insert m k v o).0) is)) (λ y z. z) refl (λ f. refl) refl b
   insert_decided k v None true [] is out b =
-      change p opening h s g t turn (op.Insert k v) reply.Done k None (Some v) (ghosts_with s.ghosts k (Some v)) Revive Inserted (is_ghost_name k out)
-      (unrolled (Key k), has_none m k is) refl refl refl tt (λ x reads. revive_keeps (has m k) (has_none m k is) x reads) is
-      (ap (λ o. (whole_insert m k v o).1) is) (sym (ap (λ o. (whole_insert m k v o).0) is)) (λ y z. z) (λ y z. z) (written_names m s.ghosts k (Some v) (is_ghost_name k out)) refl (λ f. refl) refl b
+      revive p opening h s g t turn k v is (is_ghost_name k out) (written_names m s.ghosts k (Some v) (is_ghost_name k out)) (λ x reads. revive_keeps (has m k) (has_none m k is) x reads) b
   insert_decided k v None false [] is out b = new_key p opening h s g t turn k v is (no_name k is out) b
 
   delete_decided : (k : ℕ) (w : Option ℕ) (ghost : Bool) (bs : List ℕ) → get m k ≡ w → among s.ghosts k ≡ ghost
@@ -136,10 +108,11 @@ module _ (p : GhostProtocol) (opening : Map) (h : List Entry) (s : GhostState) (
       (ap (λ o. (whole_delete m k o).1) is) (sym (ap (λ o. (whole_delete m k o).0) is)) (λ y z. z) (λ y z. z) (written_names m s.ghosts k None (present k w is)) refl (λ f. refl) refl b
   delete_decided k None true [] is out b =
       hit p opening h s g t turn (op.Delete k) reply.Absent k Delete (is_ghost_name k out) (unrolled (Key k)) (sym (has_none m k is))
-      (ghost_key Deleted (has m k) (has_none m k is) (g.hold t (Key k)).key) delete_miss delete_stop delete_insert
+      (ghost_key Deleted (has m k) (has_none m k is) (g.hold t (Key k)).key) refl
       (ap (λ o. (whole_delete m k o).1) is) (sym (ap (λ o. (whole_delete m k o).0) is)) (λ y z. z) refl (λ f. refl) refl b
   delete_decided k None false [] is out b =
-      miss p opening h s g t turn (op.Delete k) reply.Absent k (no_name k is out) (ap (λ o. (whole_delete m k o).1) is) (sym (ap (λ o. (whole_delete m k o).0) is)) (λ y z. z) refl (λ f. refl) refl b
+      miss p opening h s g t turn (op.Delete k) reply.Absent k DeleteMiss (no_name k is out) (λ b x unrolled. unrolled) (λ b. refl) (λ b u. refl) (λ b. refl)
+      (ap (λ o. (whole_delete m k o).1) is) (sym (ap (λ o. (whole_delete m k o).0) is)) (λ y z. z) refl (λ f. refl) refl b
 
   update_decided : (k v : ℕ) (w : Option ℕ) (ghost : Bool) (bs : List ℕ) → p.table.updates ≡ true → get m k ≡ w → among s.ghosts k ≡ ghost
       → blockers p.table l t (keyed_requests p row.Update k (at e k) (stand_by w ghost)) ≡ bs
@@ -151,10 +124,11 @@ module _ (p : GhostProtocol) (opening : Map) (h : List Entry) (s : GhostState) (
       (ap (λ o. (whole_update m k v o).1) is) (sym (ap (λ o. (whole_update m k v o).0) is)) (λ y z. z) (λ y z. z) (updated_names m s.ghosts k v (has_some m k w is)) refl (λ f. refl) refl b
   update_decided k v None true [] up is out b =
       hit p opening h s g t turn (op.Update k v) reply.Absent k Update (is_ghost_name k out) (unrolled (Key k), up) refl
-      (ghost_key Updated (has m k) (has_none m k is) (g.hold t (Key k)).key) update_miss update_stop update_insert
+      (ghost_key Updated (has m k) (has_none m k is) (g.hold t (Key k)).key) refl
       (ap (λ o. (whole_update m k v o).1) is) (sym (ap (λ o. (whole_update m k v o).0) is)) (λ y z. z) refl (λ f. refl) refl b
   update_decided k v None false [] up is out b =
-      miss p opening h s g t turn (op.Update k v) reply.Absent k (no_name k is out) (ap (λ o. (whole_update m k v o).1) is) (sym (ap (λ o. (whole_update m k v o).0) is))
+      miss p opening h s g t turn (op.Update k v) reply.Absent k UpdateMiss (no_name k is out) (λ b x unrolled. (unrolled, up)) (λ b. refl) (λ b u. refl) (λ b. refl)
+      (ap (λ o. (whole_update m k v o).1) is) (sym (ap (λ o. (whole_update m k v o).0) is))
       (λ y z. z) refl (λ f. refl) refl b
 
   -- A fetch, an insert, a delete and an update, granted or blocked.
@@ -162,7 +136,7 @@ module _ (p : GhostProtocol) (opening : Map) (h : List Entry) (s : GhostState) (
   fetches k = fetch_decided k (get m k) (among s.ghosts k) (blockers p.table l t (keyed_requests p row.FetchHit k (at e k) (stand s k))) refl refl refl
 
   pub inserts : (k v : ℕ) → KnownAfter p opening h t (op.Insert k v) (performed p s t (op.Insert k v))
-  inserts k v = insert_decided k v (get m k) (among s.ghosts k) (blockers p.table l t (insert_requests p k (at e k) (own l t (at e k)) (stand s k))) refl refl refl
+  inserts k v = insert_decided k v (get m k) (among s.ghosts k) (blockers p.table l t (insert_requests p k (at e k) (own l t (at e k)) (at e (suc k)) (stand s k))) refl refl refl
 
   pub deletes : (k : ℕ) → KnownAfter p opening h t (op.Delete k) (performed p s t (op.Delete k))
   deletes k = delete_decided k (get m k) (among s.ghosts k) (blockers p.table l t (keyed_requests p row.Delete k (at e k) (stand s k))) refl refl refl

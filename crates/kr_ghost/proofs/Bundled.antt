@@ -1,11 +1,12 @@
 -- The three tables keep the laws, and all their cases hold.
-use Rattle.std.specs.Prelude.{◌≡◌, ℕ, ◌≤◌, Bool, true, false, ◌==◌, if◌then◌else◌, length, Option, Some, refl, unwrap_or}
+use Rattle.std.specs.Prelude.{◌≡◌, ℕ, ◌≤◌, Bool, true, false, ◌==◌, if◌then◌else◌, length, Option, Some, None, refl, unwrap_or}
 use Rattle.std.proofs.Common.{ap, subst, arith}
 use Rattle.kr_model.specs.declared.Span.{Span}
 use Rattle.kr_model.specs.declared.Span.TheVariants.{Commit}
 use Rattle.kr_model.specs.Protocol.{Protocol, IsMode}
 use Rattle.kr_model.proofs.Tested.{lawful_by_test}
-use Rattle.kr_ghost.specs.Protocol.{IsLawfulGhost}
+use Rattle.kr_ghost.specs.declared.vain.Vain.{Vain}
+use Rattle.kr_ghost.specs.Protocol.{AsksMode, IsLawfulGhost}
 use Rattle.kr_ghost.specs.Run.{GhostRunsAreSerial}
 use Rattle.kr_ghost.specs.Covers.{cases, IsCoveredGhost}
 use Rattle.kr_ghost.specs.Safe.{IsSafeGhost}
@@ -19,6 +20,13 @@ requested_is p m span is q kept e = subst (IsMode p) (ap (λ (o : Option (ℕ ×
 pub mode_is : (p : Protocol) (m : ℕ) → IsMode p m → (q : ℕ) (span : Span) → ◌≡◌ {A = Option (ℕ × Span)} (Some (m, Commit)) (Some (q, span)) → IsMode p q
 mode_is p m is q span e = requested_is p m Commit is q span e
 
+-- Nor does one that requests nothing, or has no row for vain steps, request anything else.
+pub asks_nothing : (p : Protocol) (q : ℕ) (span : Span) → ◌≡◌ {A = Option (ℕ × Span)} None (Some (q, span)) → IsMode p q
+asks_nothing p q span e = absurd (cc)
+
+pub no_rows : (p : Protocol) (v : Vain) (asked : Option (ℕ × Span)) → ◌≡◌ {A = Option (Option (ℕ × Span))} None (Some asked) → AsksMode p asked
+no_rows p v asked e = absurd (cc)
+
 to_gap_within : (h : ℕ) → h ≤ 11 → to_gap h ≤ 11
 to_gap_within h le = by (h == 0)
   where
@@ -31,6 +39,8 @@ pub record_gap_lawful : IsLawfulGhost record_gap
 record_gap_lawful = record {
   table = lawful_by_test record_gap.table refl;
   revive = mode_is record_gap.table 2 (record { some = omega arith; in_range = omega arith });
+  revive_next = asks_nothing record_gap.table;
+  vain = no_rows record_gap.table;
   purges = (refl, to_gap_within);
 }
 
@@ -38,6 +48,8 @@ pub range_ghost_lawful : IsLawfulGhost range_ghost
 range_ghost_lawful = record {
   table = lawful_by_test range_ghost.table refl;
   revive = mode_is range_ghost.table 2 (record { some = omega arith; in_range = omega arith });
+  revive_next = asks_nothing range_ghost.table;
+  vain = no_rows range_ghost.table;
   purges = tt;
 }
 
@@ -45,6 +57,8 @@ pub next_key_ghost_lawful : IsLawfulGhost next_key_ghost
 next_key_ghost_lawful = record {
   table = lawful_by_test next_key_ghost.table refl;
   revive = mode_is next_key_ghost.table 5 (record { some = omega arith; in_range = omega arith });
+  revive_next = asks_nothing next_key_ghost.table;
+  vain = no_rows next_key_ghost.table;
   purges = tt;
 }
 

@@ -21,11 +21,10 @@ use Rattle.kr_theorem.proofs.gaps.Gaps.{has}
 use Rattle.kr_theorem.proofs.gaps.Moves.{has_apart, has_here}
 use Rattle.kr_theorem.proofs.gaps.Undo.{ChangedIn}
 use Rattle.kr_theorem.proofs.safe.Kept.{elsewhere}
-use Rattle.kr_ghost.specs.Protocol.{GhostProtocol, IsLawfulGhost}
+use Rattle.kr_ghost.specs.Protocol.{GhostProtocol, AsksMode, IsLawfulGhost}
 use Rattle.kr_ghost.specs.State.{GhostState, named, among, ghosts_with, ghosts_restored}
 use Rattle.kr_ghost.specs.Step.{on, granted_or_blocked}
 use Rattle.kr_ghost.proofs.Names.{IsMap-named, among_others, among_none, among_with, written_here, written_apart}
-use Rattle.kr_ghost.proofs.Grants.{AsksMode}
 use Rattle.kr_ghost.proofs.Locking.{asks_one, not_key}
 
 -- The same, by which keys are names.

@@ -27,11 +27,12 @@ use Rattle.kr_theorem.proofs.gaps.Maps.{has_none, has_some}
 use Rattle.kr_theorem.proofs.gaps.Moves.{has_apart}
 use Rattle.kr_theorem.proofs.gaps.Undo.{ChangedIn}
 use Rattle.kr_theorem.proofs.safe.Kept.{kept_append, elsewhere}
+use Rattle.kr_ghost.specs.declared.vain.Vain.TheVariants.{InsertHit}
 use Rattle.kr_ghost.specs.Protocol.{GhostProtocol, IsLawfulGhost}
 use Rattle.kr_ghost.specs.State.{GhostState, named, among, stand_by, stand, ghosts_with, ghosts_restored}
-use Rattle.kr_ghost.specs.Step.{on, current, next, keyed_requests, insert_requests, look_requests, granted_or_blocked, rows_with, name_read, looked, attempted_scan, one_taken_back, performed, unless_refused}
+use Rattle.kr_ghost.specs.Step.{on, current, next, vain, missed, keyed_requests, insert_requests, look_requests, granted_or_blocked, rows_with, name_read, looked, attempted_scan, one_taken_back, performed, unless_refused}
 use Rattle.kr_ghost.proofs.Names.{key_is, IsMap-named, has-named, present_named, ghost_named, written_here, written_apart, written_names, updated_names, restored_names}
-use Rattle.kr_ghost.proofs.Locking.{row_mode, asks_one, not_key, not_at}
+use Rattle.kr_ghost.proofs.Locking.{row_mode, vain_mode, missed_mode, asks_one, not_key, not_at}
 use Rattle.kr_ghost.proofs.Ends.{own_released}
 use Rattle.kr_ghost.proofs.Formed.{Formed, attempt_keeps, read_keeps, change_keeps, put_changed, rising_with, absent_with, all_rising, all_absent, names_grow}
 
@@ -65,7 +66,7 @@ module _ (p : GhostProtocol) (laws : IsLawfulGhost p) (s : GhostState) (f : Form
   keyed_keeps : (k : ℕ) (w : Option ℕ) (g : Bool) (r : Row) → get m k ≡ w → among s.ghosts k ≡ g → (x : Effect) → x.map ≡ m → x.standing.changes ≡ a.changes → (us : List ℕ) → Formed p (granted_or_blocked p s t (keyed_requests p r k (at e k) (stand_by w g)) x s.ghosts us).1
   keyed_keeps k (Some w) g r is out x same changes us = read_keeps p laws s f t (Key k) (current p r) (row_mode p laws r Current 0 (omega arith)) (λ y none. not_key e k y (present k w is) none) x same changes us
   keyed_keeps k None true r is out x same changes us = read_keeps p laws s f t (Key k) (current p r) (row_mode p laws r Current 0 (omega arith)) (λ y none. not_key e k y (ghost_named m s.ghosts k out) none) x same changes us
-  keyed_keeps k None false r is out x same changes us = read_keeps p laws s f t (at e k) (next p row.FetchMiss) (row_mode p laws row.FetchMiss Next 0 (omega arith)) (λ y none. not_at e he k y none) x same changes us
+  keyed_keeps k None false r is out x same changes us = read_keeps p laws s f t (at e k) (missed p r) (missed_mode p laws r) (λ y none. not_at e he k y none) x same changes us
 
   fetch_keeps : (k : ℕ) (w : Option ℕ) → get m k ≡ w → (us : List ℕ) → Formed p (granted_or_blocked p s t (keyed_requests p row.FetchHit k (at e k) (stand_by w (among s.ghosts k))) (fetched m a w) s.ghosts us).1
   fetch_keeps k (Some v) is us = keyed_keeps k (Some v) (among s.ghosts k) row.FetchHit is refl (fetched m a (Some v)) refl refl us
@@ -111,12 +112,30 @@ module _ (p : GhostProtocol) (laws : IsLawfulGhost p) (s : GhostState) (f : Form
       (λ same. ap (has e') same ∙ written_here m s.ghosts k (Some v))
       (λ older. names_grow m s.ghosts k (Some v) y (f.changed t y older)) c)
 
+  -- A ghost that is inserted.
+  revive_keeps : (k v : ℕ) → get m k ≡ None → has e k ≡ true → (us : List ℕ)
+      → Formed p (granted_or_blocked p s t (on (Key k) p.revive ++ on (at e (suc k)) p.revive_next) (inserted m a k v None) (ghosts_with s.ghosts k (Some v)) us).1
+  revive_keeps k v none there us =
+      let n = at e (suc k) in
+      let e' = named (set m k v) (ghosts_with s.ghosts k (Some v)) in
+      let names : (y : ℕ) → has e' y ≡ has e y = written_names m s.ghosts k (Some v) there in
+      attempt_keeps p laws s f t (on (Key k) p.revive ++ on n p.revive_next) (inserted m a k v None) (ghosts_with s.ghosts k (Some v)) us
+      (asks_both p.table (on (Key k) p.revive) (on n p.revive_next) (asks_one p laws (Key k) p.revive laws.revive) (asks_one p laws n p.revive_next laws.revive_next))
+      (IsMap-restore m k (Some v) f.is_map) (rising_with s.ghosts k (Some v) f.rising) (absent_with m s.ghosts k (Some v) f.absent)
+      (λ y was. names y ∙ was)
+      (λ u y out.
+      let gone : has e y ≡ false = sym (names y) ∙ out in
+      ap (λ z. own z u (Key y)) (kept_append p.table l t (on (Key k) p.revive) (on n p.revive_next))
+      ∙ elsewhere p.table (kept p.table l t (on (Key k) p.revive)) t n p.revive_next u (Key y) (λ both. not_at e he (suc k) y gone both.1)
+      ∙ elsewhere p.table l t (Key k) p.revive u (Key y) (λ both. not_key e k y there gone both.1) ∙ f.locked u y gone)
+      (λ y c. ⊎_elim
+      (λ same. ap (has e') same ∙ names k ∙ there)
+      (λ older. names y ∙ f.changed t y older) c)
+
   insert_keeps : (k v : ℕ) (w : Option ℕ) (g : Bool) → get m k ≡ w → among s.ghosts k ≡ g → (us : List ℕ)
-      → Formed p (granted_or_blocked p s t (insert_requests p k (at e k) (own l t (at e k)) (stand_by w g)) (inserted m a k v w) (if is_some w then s.ghosts else ghosts_with s.ghosts k (Some v)) us).1
-  insert_keeps k v (Some w) g is out us = read_keeps p laws s f t (Key k) (current p row.FetchHit) (row_mode p laws row.FetchHit Current 0 (omega arith)) (λ y none. not_key e k y (present k w is) none) (inserted m a k v (Some w)) refl refl us
-  insert_keeps k v None true is out us =
-      change_keeps p laws s f t k None (Some v) p.revive laws.revive (ghost_named m s.ghosts k out) (inserted m a k v None) refl refl (ghosts_with s.ghosts k (Some v))
-      (rising_with s.ghosts k (Some v) f.rising) (absent_with m s.ghosts k (Some v) f.absent) (written_names m s.ghosts k (Some v) (ghost_named m s.ghosts k out)) us
+      → Formed p (granted_or_blocked p s t (insert_requests p k (at e k) (own l t (at e k)) (at e (suc k)) (stand_by w g)) (inserted m a k v w) (if is_some w then s.ghosts else ghosts_with s.ghosts k (Some v)) us).1
+  insert_keeps k v (Some w) g is out us = read_keeps p laws s f t (Key k) (vain p InsertHit) (vain_mode p laws InsertHit) (λ y none. not_key e k y (present k w is) none) (inserted m a k v (Some w)) refl refl us
+  insert_keeps k v None true is out us = revive_keeps k v is (ghost_named m s.ghosts k out) us
   insert_keeps k v None false is out us = new_keeps k v is (no_name k is out) us
 
   -- A step of a scan.
@@ -186,7 +205,7 @@ module _ (p : GhostProtocol) (laws : IsLawfulGhost p) (s : GhostState) (f : Form
   performed_keeps (op.Fetch k) = fetch_keeps k (get m k) refl (blockers p.table l t (keyed_requests p row.FetchHit k (at e k) (stand s k)))
   performed_keeps (op.Scan lo hi) = scan_keeps (Some (record { lo = lo; hi = hi; rows = [] }))
   performed_keeps op.Go = scan_keeps a.scan
-  performed_keeps (op.Insert k v) = insert_keeps k v (get m k) (among s.ghosts k) refl refl (blockers p.table l t (insert_requests p k (at e k) (own l t (at e k)) (stand s k)))
+  performed_keeps (op.Insert k v) = insert_keeps k v (get m k) (among s.ghosts k) refl refl (blockers p.table l t (insert_requests p k (at e k) (own l t (at e k)) (at e (suc k)) (stand s k)))
   performed_keeps (op.Delete k) = delete_keeps k (get m k) refl (blockers p.table l t (keyed_requests p row.Delete k (at e k) (stand s k)))
   performed_keeps (op.Update k v) = update_keeps k v (get m k) refl (blockers p.table l t (keyed_requests p row.Update k (at e k) (stand s k)))
   performed_keeps op.Commit = end_keeps m s.ghosts f.is_map f.rising f.absent (λ k. refl)

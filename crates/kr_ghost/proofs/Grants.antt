@@ -5,7 +5,7 @@ use Rattle.std.proofs.Common.{sym, ◌∙◌, ap, inl, inr, ⊎_elim, ◌≢◌}
 use Rattle.std.proofs.lemmas.Bool.{cases_eq}
 use Rattle.kr_model.specs.declared.Name.{Name}
 use Rattle.kr_model.specs.declared.Span.{Span}
-use Rattle.kr_model.specs.Protocol.{Protocol, IsLawful, IsMode}
+use Rattle.kr_model.specs.Protocol.{Protocol, IsLawful}
 use Rattle.kr_model.specs.Covers.{conflicts_with}
 use Rattle.kr_model.specs.Locks.{Locks, Request, AreWithin, own, lockers, blockers, conflicts}
 use Rattle.kr_model.proofs.Guarantees.{In}
@@ -13,16 +13,13 @@ use Rattle.kr_model.proofs.Actives.{untied}
 use Rattle.kr_model.proofs.Keep.{kept_mode}
 use Rattle.kr_model.proofs.Requests.{request_at}
 use Rattle.kr_model.proofs.RisingNumbers.{has, has-filter, has-lockers}
+use Rattle.kr_ghost.specs.Protocol.{AsksMode}
 use Rattle.kr_theorem.proofs.run.Actives.{or_left, or_right}
 use Rattle.kr_theorem.proofs.step.Covers.{Modes}
 
 -- No other's lock on the name conflicts with what t requests there.
 abbrev pub Free : Protocol → Modes → ℕ → Name → Option (ℕ × Span) → Type 0
 Free p own t name asked = (u : ℕ) → u ≢ t → conflicts_with p (own u name) (own t name) asked ≡ false
-
--- What is requested is a mode.
-abbrev pub AsksMode : Protocol → Option (ℕ × Span) → Type 0
-AsksMode p asked = (q : ℕ) (span : Span) → asked ≡ Some (q, span) → IsMode p q
 
 second_false : (a b : Bool) → a ≡ true → (a && b) ≡ false → b ≡ false
 second_false true b e h = h

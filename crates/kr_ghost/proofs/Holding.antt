@@ -1,6 +1,6 @@
 -- The lock states of a run: what each transaction has on each name, and what that protects.
 use Rattle.std.specs.Prelude.{◌≡◌, ℕ, Bool, true, false, ◌==◌, cond, if◌then◌else◌, List, [], ◌∷◌, Option, Some, None, refl}
-use Rattle.std.proofs.Common.{sym, ◌∙◌, ap, inl, inr, ◌≢◌, true≢false}
+use Rattle.std.proofs.Common.{sym, ◌∙◌, ap, inl, inr, true≢false}
 use Rattle.kr_model.specs.declared.Name.{Name}
 use Rattle.kr_model.specs.declared.Name.TheVariants.{Key, End}
 use Rattle.kr_model.specs.Map.{Changes}
@@ -10,7 +10,7 @@ use Rattle.kr_theorem.proofs.gaps.Undo.{ChangedIn}
 use Rattle.kr_ghost.specs.Protocol.{GhostProtocol}
 use Rattle.kr_ghost.specs.declared.cases.Cover.{Cover}
 use Rattle.kr_ghost.specs.declared.cases.Cover.TheVariants.{ReadKey, ReadGap, ChangedKey}
-use Rattle.kr_ghost.specs.Safe.{KeyUse, Free, Read, Inserted, Updated, Deleted, Several, Hold, is_changed, is_read, Ask, FetchHit, FetchMiss, ScanName, ScanStop, Insert, Delete, Update, Revive, keeps_out, by_key, and_read, and_changed, key_after, gap_after, after}
+use Rattle.kr_ghost.specs.Safe.{KeyUse, Free, Read, Inserted, Updated, Deleted, Several, Hold, is_changed, is_read, Ask, FetchHit, FetchMiss, ScanName, ScanStop, Insert, Delete, Update, Revive, InsertHit, DeleteMiss, UpdateMiss, ReviveNext, keeps_out, by_key, and_read, and_changed, key_after, gap_after, after}
 use Rattle.kr_ghost.proofs.Names.{or_first}
 
 -- The lock state of each transaction on each name.
@@ -98,6 +98,10 @@ key_reads present k Insert h = h
 key_reads present k Delete h = read_if present Deleted k refl
 key_reads present k Update h = read_if present Updated k refl
 key_reads present k Revive h = changed_read (and_changed Inserted k) (changed_changes Inserted k refl)
+key_reads present k InsertHit h = read_reads k
+key_reads present k DeleteMiss h = h
+key_reads present k UpdateMiss h = h
+key_reads present k ReviveNext h = h
 
 key_changes : (present : Bool) (k : KeyUse) (a : Ask) → is_changed k ≡ true → is_changed (key_after present k a) ≡ true
 key_changes present k FetchHit h = read_keeps k h
@@ -108,6 +112,10 @@ key_changes present k Insert h = h
 key_changes present k Delete h = changed_if present Deleted k refl h
 key_changes present k Update h = changed_if present Updated k refl h
 key_changes present k Revive h = changed_changes Inserted k refl
+key_changes present k InsertHit h = read_keeps k h
+key_changes present k DeleteMiss h = h
+key_changes present k UpdateMiss h = h
+key_changes present k ReviveNext h = h
 
 gap_stays : (gap : Bool) (a : Ask) → gap ≡ true → gap_after gap a ≡ true
 gap_stays gap FetchHit h = h
@@ -118,6 +126,10 @@ gap_stays gap Insert h = h
 gap_stays gap Delete h = h
 gap_stays gap Update h = h
 gap_stays gap Revive h = h
+gap_stays gap InsertHit h = h
+gap_stays gap DeleteMiss h = refl
+gap_stays gap UpdateMiss h = refl
+gap_stays gap ReviveNext h = h
 
 -- So what was protected before a request is protected after it.
 pub after_protects : (p : GhostProtocol) (present : Bool) (x : Hold) (a : Ask) (c : Cover) → Protects c x → Protects c (after p present x a)
@@ -135,16 +147,30 @@ if_false : (present : Bool) (k : KeyUse) → is_changed k ≡ true → (if prese
 if_false true k h = h
 if_false false k h = changed_read k h
 
+-- Whether a request is of the key of its name, and not of the gap below it or of the lock alone.
+abbrev pub is_of_key : Ask → Bool
+is_of_key FetchHit = true
+is_of_key ScanName = true
+is_of_key Delete = true
+is_of_key Update = true
+is_of_key Revive = true
+is_of_key InsertHit = true
+is_of_key _ = false
+
 -- Who has changed a key keeps out all who read or change it.
-pub changed_keeps_out : (present : Bool) (x : Hold) (a : Ask) → a ≢ FetchMiss → a ≢ ScanStop → a ≢ Insert → Protects ChangedKey x → keeps_out present x a ≡ true
-changed_keeps_out present x FetchHit f s i h = or_first (is_changed x.key) false h
-changed_keeps_out present x FetchMiss f s i h = absurd (f refl)
-changed_keeps_out present x ScanName f s i h = or_first (is_changed x.key) false h
-changed_keeps_out present x ScanStop f s i h = absurd (s refl)
-changed_keeps_out present x Insert f s i h = absurd (i refl)
-changed_keeps_out present x Delete f s i h = or_first (by_key present x.key Delete) false (if_true present x.key h)
-changed_keeps_out present x Update f s i h = or_first (by_key present x.key Update) false (if_true present x.key h)
-changed_keeps_out present x Revive f s i h = or_first (by_key present x.key Revive) false (if_false present x.key h)
+pub changed_keeps_out : (present : Bool) (x : Hold) (a : Ask) → is_of_key a ≡ true → Protects ChangedKey x → keeps_out present x a ≡ true
+changed_keeps_out present x FetchHit of_key h = or_first (is_changed x.key) false h
+changed_keeps_out present x FetchMiss of_key h = absurd (true≢false (sym of_key))
+changed_keeps_out present x ScanName of_key h = or_first (is_changed x.key) false h
+changed_keeps_out present x ScanStop of_key h = absurd (true≢false (sym of_key))
+changed_keeps_out present x Insert of_key h = absurd (true≢false (sym of_key))
+changed_keeps_out present x Delete of_key h = or_first (by_key present x.key Delete) false (if_true present x.key h)
+changed_keeps_out present x Update of_key h = or_first (by_key present x.key Update) false (if_true present x.key h)
+changed_keeps_out present x Revive of_key h = or_first (by_key present x.key Revive) false (if_false present x.key h)
+changed_keeps_out present x InsertHit of_key h = or_first (is_changed x.key) false h
+changed_keeps_out present x DeleteMiss of_key h = absurd (true≢false (sym of_key))
+changed_keeps_out present x UpdateMiss of_key h = absurd (true≢false (sym of_key))
+changed_keeps_out present x ReviveNext of_key h = absurd (true≢false (sym of_key))
 
 -- Changes of a key --
 

@@ -17,6 +17,7 @@ pub mod Known
 pub mod Turn
 pub mod Reading
 pub mod Writing
+pub mod Revived
 pub mod Attempts
 pub mod Looks
 pub mod Ends

@@ -30,7 +30,7 @@ use Rattle.kr_ghost.specs.Protocol.{GhostProtocol, IsLawfulGhost}
 use Rattle.kr_ghost.specs.State.{GhostState, named, among}
 use Rattle.kr_ghost.specs.Step.{on, current, next, look_requests, granted_or_blocked, after_effect, rows_with, name_read, looked, attempted_scan}
 use Rattle.kr_ghost.specs.declared.cases.Cover.TheVariants.{ReadKey, ReadGap}
-use Rattle.kr_ghost.specs.Safe.{Hold, Ask, FetchMiss, ScanName, ScanStop, Insert, asked, MayAsk, present_after, key_after, after, IsSafeGhost}
+use Rattle.kr_ghost.specs.Safe.{Hold, Ask, ScanName, ScanStop, asked, MayAsk, present_after, key_after, after, IsSafeGhost}
 use Rattle.kr_ghost.proofs.Names.{has-named, key_is, same_of}
 use Rattle.kr_ghost.proofs.Grants.{Free}
 use Rattle.kr_ghost.proofs.Holding.{Holds, Protects, with_hold, hold_here, read_reads, changed_keeps_out, olds_at, Fits, fits_read}
@@ -54,15 +54,6 @@ below_of q k le h = grind (arith, nat_tests)
 
 end_not_key : (x : ℕ) → End ≡ Key x → ⊥
 end_not_key x e = cc
-
-scan_miss : ScanName ≢ FetchMiss
-scan_miss is = cc
-
-scan_stop : ScanName ≢ ScanStop
-scan_stop is = cc
-
-scan_insert : ScanName ≢ Insert
-scan_insert is = cc
 
 module _ (p : GhostProtocol) (laws : IsLawfulGhost p) (safe : IsSafeGhost p) (opening : Map) (h : List Entry) (s : GhostState) (g : Known p opening h s) (t : ℕ)
     (live : has_ended s.state t ≡ false) (unrolled : (g.part t).rolling ≡ false)
@@ -221,7 +212,7 @@ module _ (p : GhostProtocol) (laws : IsLawfulGhost p) (safe : IsSafeGhost p) (op
         (λ ge.
         let is : y ≡ x = omega (arith, b, ge) in
         clash p safe m e l g.part g.hold g.sim t (Key x) ScanName (not_rolling p opening h s g t unrolled (Key x)) grant_x u ne
-        (changed_keeps_out (has m x) (g.hold u (Key x)) ScanName scan_miss scan_stop scan_insert (w.change u x (subst (λ z. Changed (g.part u) z) is changed))))
+        (changed_keeps_out (has m x) (g.hold u (Key x)) ScanName refl (w.change u x (subst (λ z. Changed (g.part u) z) is changed))))
         (cases_lt y x)
 
     none_below : (y : ℕ) → c.lo ≤ y → y < x → get m y ≡ None

@@ -1,9 +1,9 @@
 -- Each rule is needed: a table that fails its cases alone, and a run under it that isn't serializable.
-use Rattle.std.specs.Prelude.{◌≡◌, ℕ, zero, suc, ◌≤◌, Bool, true, false, List, [], ◌∷◌, Option, Some, None, All, map, refl, ◌==◌, if◌then◌else◌}
+use Rattle.std.specs.Prelude.{◌≡◌, ℕ, zero, suc, ◌≤◌, Bool, true, false, List, [], ◌∷◌, Option, Some, None, All, map, refl, ◌==◌, if◌then◌else◌, unwrap_or}
 use Rattle.std.specs.List.{AllByRecursion}
 use Rattle.std.proofs.Math.ListN.{replicate}
 use Rattle.std.proofs.lemmas.List.Elements.{All-from_recursion}
-use Rattle.std.proofs.Common.{arith}
+use Rattle.std.proofs.Common.{ap, subst, arith}
 use Rattle.kr_model.specs.declared.Row.{Row}
 use Rattle.kr_model.specs.declared.Row.TheVariants as row
 use Rattle.kr_model.specs.declared.Side.{Side}
@@ -18,18 +18,20 @@ use Rattle.kr_model.specs.Kvl.{kvl, IS, IX, S, SIX, X}
 use Rattle.kr_model.specs.Run.{programs}
 use Rattle.kr_model.specs.Difference.{Difference, first_difference}
 use Rattle.kr_model.proofs.Tested.{lawful_by_test}
-use Rattle.kr_ghost.specs.Protocol.{GhostProtocol, IsLawfulGhost, Inherit}
+use Rattle.kr_ghost.specs.declared.vain.Vain.{Vain}
+use Rattle.kr_ghost.specs.declared.vain.Vain.TheVariants as vain
+use Rattle.kr_ghost.specs.Protocol.{GhostProtocol, AsksMode, IsLawfulGhost, Inherit}
 use Rattle.kr_ghost.specs.State.{opened}
 use Rattle.kr_ghost.specs.declared.moves.Move.{Move}
 use Rattle.kr_ghost.specs.declared.moves.Move.TheVariants.{Purge}
 use Rattle.kr_ghost.specs.Run.{run}
 use Rattle.kr_ghost.specs.declared.cases.Rule.{Rule}
-use Rattle.kr_ghost.specs.declared.cases.Rule.TheVariants.{Conversion, FetchHit, FetchMiss, ScanName, ScanStop, Insert, Split, Delete, Update, Revive, Heir}
+use Rattle.kr_ghost.specs.declared.cases.Rule.TheVariants.{Conversion, FetchHit, FetchMiss, ScanName, ScanStop, Insert, Split, Delete, Update, Revive, Heir, InsertHit, DeleteMiss, UpdateMiss}
 use Rattle.kr_ghost.specs.declared.cases.FailedCase.{FailedCase}
 use Rattle.kr_ghost.specs.Covers.{failed_cases}
 use Rattle.kr_ghost.specs.Needed.{IsNeeded}
 use Rattle.kr_ghost.specs.Worked.{three, by, after_delete, dropped}
-use Rattle.kr_ghost.proofs.Bundled.{requested_is, mode_is}
+use Rattle.kr_ghost.proofs.Bundled.{requested_is, mode_is, asks_nothing, no_rows}
 use Rattle.kr_ghost.proofs.Wrong.{then_commit, differ, wrong}
 
 -- From the rules of all failed cases, one after another.
@@ -78,7 +80,7 @@ abbrev table_asking : (Row → Side → ℕ → Option (ℕ × Span)) → Protoc
 table_asking ask = record kvl { ask = ask; updates = true }
 
 abbrev asking : (Row → Side → ℕ → Option (ℕ × Span)) → GhostProtocol
-asking ask = record { table = table_asking ask; revive = for_commit X; purges = Inherit shared_heir }
+asking ask = record { table = table_asking ask; revive = for_commit X; revive_next = None; vain = λ v. None; purges = Inherit shared_heir }
 
 -- A table of which no case but n of the rule fails, and a run of it with a difference.
 needed : (p : GhostProtocol) (r : Rule) (n : ℕ) (moves : List Move) (d : Difference) → IsLawfulGhost p → map (λ f. f.case) (failed_cases p) ≡ replicate n r
@@ -87,7 +89,13 @@ needed p r n moves d laws all differs = (p, laws, only p r n all, wrong p moves 
 
 -- Whatever it asks, where it asks for modes.
 asking_lawful : (ask : Row → Side → ℕ → Option (ℕ × Span)) → IsLawful (table_asking ask) → IsLawfulGhost (asking ask)
-asking_lawful ask laws = record { table = laws; revive = mode_is (table_asking ask) X (record { some = omega arith; in_range = omega arith }); purges = (refl, shared_within) }
+asking_lawful ask laws = record {
+  table = laws;
+  revive = mode_is (table_asking ask) X (record { some = omega arith; in_range = omega arith });
+  revive_next = asks_nothing (table_asking ask);
+  vain = no_rows (table_asking ask);
+  purges = (refl, shared_within);
+}
 
 -- S and IX convert to IX, and an insert keeps its IX on the next name. Transaction 1 finds no 17 and inserts 15, so its S on 20 becomes IX, and another inserts 17.
 abbrev keeps_next_ask : Row → Side → ℕ → Option (ℕ × Span)
@@ -100,13 +108,15 @@ forgets_shared_table = record (table_asking keeps_next_ask) {
 }
 
 abbrev forgets_shared : GhostProtocol
-forgets_shared = record { table = forgets_shared_table; revive = for_commit X; purges = Inherit shared_heir }
+forgets_shared = record { table = forgets_shared_table; revive = for_commit X; revive_next = None; vain = λ v. None; purges = Inherit shared_heir }
 
 conversion_needed : IsNeeded Conversion
 conversion_needed = needed forgets_shared Conversion 1 (by 1 (op.Fetch 17) ∷ by 1 (op.Insert 15 5) ∷ by 2 (op.Insert 17 7) ∷ then_commit (2 ∷ 1 ∷ [])) (differ 1 1 reply.None (reply.Found 7))
     (record {
       table = lawful_by_test forgets_shared_table refl;
       revive = mode_is forgets_shared_table X (record { some = omega arith; in_range = omega arith });
+      revive_next = asks_nothing forgets_shared_table;
+      vain = no_rows forgets_shared_table;
       purges = (refl, shared_within);
     }) refl refl
 
@@ -200,6 +210,8 @@ revive_needed = needed revives_at_once Revive 3 (after_delete (by 2 (op.Insert 2
     (record {
       table = lawful_by_test (table_asking key_ask) refl;
       revive = requested_is (table_asking key_ask) X Instant (record { some = omega arith; in_range = omega arith });
+      revive_next = asks_nothing (table_asking key_ask);
+      vain = no_rows (table_asking key_ask);
       purges = (refl, shared_within);
     }) refl refl
 
@@ -212,8 +224,64 @@ heir_needed = needed drops Heir 15 (after_delete (by 2 (op.Fetch 20) ∷ Purge 2
     (record {
       table = lawful_by_test (table_asking key_ask) refl;
       revive = mode_is (table_asking key_ask) X (record { some = omega arith; in_range = omega arith });
+      revive_next = asks_nothing (table_asking key_ask);
+      vain = no_rows (table_asking key_ask);
       purges = (refl, λ h le. omega arith);
     }) refl refl
+
+-- A vain step that doesn't keep its lock --
+
+-- Only this vain step has a row, and it takes S at once.
+abbrev only_row : Vain → Vain → Option (Option (ℕ × Span))
+only_row vain.InsertHit vain.InsertHit = Some (at_once S)
+only_row vain.DeleteMiss vain.DeleteMiss = Some (at_once S)
+only_row vain.UpdateMiss vain.UpdateMiss = Some (at_once S)
+only_row _ _ = None
+
+abbrev passing : Vain → GhostProtocol
+passing v = record (asking key_ask) { vain = only_row v }
+
+at_once_is : (asked : Option (ℕ × Span)) → ◌≡◌ {A = Option (Option (ℕ × Span))} (Some (at_once S)) (Some asked) → AsksMode (table_asking key_ask) asked
+at_once_is asked e =
+    subst (AsksMode (table_asking key_ask)) (ap (λ (x : Option (Option (ℕ × Span))). unwrap_or x None) e)
+    (requested_is (table_asking key_ask) S Instant (record { some = omega arith; in_range = omega arith }))
+
+row_asks : (w v : Vain) (asked : Option (ℕ × Span)) → only_row w v ≡ Some asked → AsksMode (table_asking key_ask) asked
+row_asks vain.InsertHit vain.InsertHit asked e = at_once_is asked e
+row_asks vain.InsertHit vain.DeleteMiss asked e = no_rows (table_asking key_ask) vain.DeleteMiss asked e
+row_asks vain.InsertHit vain.UpdateMiss asked e = no_rows (table_asking key_ask) vain.UpdateMiss asked e
+row_asks vain.DeleteMiss vain.InsertHit asked e = no_rows (table_asking key_ask) vain.InsertHit asked e
+row_asks vain.DeleteMiss vain.DeleteMiss asked e = at_once_is asked e
+row_asks vain.DeleteMiss vain.UpdateMiss asked e = no_rows (table_asking key_ask) vain.UpdateMiss asked e
+row_asks vain.UpdateMiss vain.InsertHit asked e = no_rows (table_asking key_ask) vain.InsertHit asked e
+row_asks vain.UpdateMiss vain.DeleteMiss asked e = no_rows (table_asking key_ask) vain.DeleteMiss asked e
+row_asks vain.UpdateMiss vain.UpdateMiss asked e = at_once_is asked e
+
+passing_lawful : (w : Vain) → IsLawfulGhost (passing w)
+passing_lawful w = record {
+  table = lawful_by_test (table_asking key_ask) refl;
+  revive = mode_is (table_asking key_ask) X (record { some = omega arith; in_range = omega arith });
+  revive_next = asks_nothing (table_asking key_ask);
+  vain = row_asks w;
+  purges = (refl, shared_within);
+}
+
+-- The key that an insert found is deleted by one who commits first.
+insert_hit_needed : IsNeeded InsertHit
+insert_hit_needed =
+    needed (passing vain.InsertHit) InsertHit 1 (by 1 (op.Insert 20 9) ∷ by 2 (op.Delete 20) ∷ then_commit (2 ∷ 1 ∷ [])) (differ 1 1 reply.Duplicate reply.Done)
+    (passing_lawful vain.InsertHit) refl refl
+
+-- The key that a delete or an update didn't find is inserted by one who commits first.
+delete_miss_needed : IsNeeded DeleteMiss
+delete_miss_needed =
+    needed (passing vain.DeleteMiss) DeleteMiss 3 (by 1 (op.Delete 15) ∷ by 2 (op.Insert 15 7) ∷ then_commit (2 ∷ 1 ∷ [])) (differ 1 1 reply.Absent (reply.Deleted 7))
+    (passing_lawful vain.DeleteMiss) refl refl
+
+update_miss_needed : IsNeeded UpdateMiss
+update_miss_needed =
+    needed (passing vain.UpdateMiss) UpdateMiss 3 (by 1 (op.Update 15 9) ∷ by 2 (op.Insert 15 7) ∷ then_commit (2 ∷ 1 ∷ [])) (differ 1 1 reply.Absent (reply.Updated 7))
+    (passing_lawful vain.UpdateMiss) refl refl
 
 -- Each rule of the table is needed.
 pub each_rule_is_needed : (rule : Rule) → IsNeeded rule
@@ -228,3 +296,6 @@ each_rule_is_needed Delete = delete_needed
 each_rule_is_needed Update = update_needed
 each_rule_is_needed Revive = revive_needed
 each_rule_is_needed Heir = heir_needed
+each_rule_is_needed InsertHit = insert_hit_needed
+each_rule_is_needed DeleteMiss = delete_miss_needed
+each_rule_is_needed UpdateMiss = update_miss_needed

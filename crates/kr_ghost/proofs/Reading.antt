@@ -1,5 +1,5 @@
 -- A granted read of one key keeps what is known of the run: of a key that is a name, or of one in a gap.
-use Rattle.std.specs.Prelude.{◌≡◌, ℕ, true, false, ◌&&◌, List, [], None, refl}
+use Rattle.std.specs.Prelude.{◌≡◌, ℕ, Bool, true, false, ◌&&◌, List, [], None, refl}
 use Rattle.std.specs.Ordering.{nat_cmp}
 use Rattle.std.specs.FinMap.{put}
 use Rattle.std.proofs.Common.{sym, ◌∙◌, ap, subst, inl, inr, ⊎_elim, ◌≢◌, true≢false}
@@ -21,9 +21,9 @@ use Rattle.kr_ghost.specs.Protocol.{GhostProtocol}
 use Rattle.kr_ghost.specs.State.{GhostState, named}
 use Rattle.kr_ghost.specs.Step.{on}
 use Rattle.kr_ghost.specs.declared.cases.Cover.TheVariants.{ReadKey, ReadGap}
-use Rattle.kr_ghost.specs.Safe.{Hold, free, is_read, Ask, FetchMiss, ScanStop, Insert, asked, MayAsk, present_after, and_read, key_after, after}
+use Rattle.kr_ghost.specs.Safe.{KeyUse, Hold, is_read, Ask, asked, MayAsk, present_after, and_read, key_after, gap_after, after}
 use Rattle.kr_ghost.proofs.Grants.{Free}
-use Rattle.kr_ghost.proofs.Holding.{Holds, Protects, with_hold, hold_here, read_reads, changed_keeps_out, olds, olds_at, Fits, fits_read}
+use Rattle.kr_ghost.proofs.Holding.{Holds, Protects, with_hold, hold_here, read_reads, is_of_key, changed_keeps_out, olds, olds_at, Fits, fits_read}
 use Rattle.kr_ghost.proofs.Guarded.{read_cover, Guarded, Taken, covered_name, covered_gap, read_step}
 use Rattle.kr_ghost.proofs.Invariant.{Invariant, read_keeps, reading_touches}
 use Rattle.kr_ghost.proofs.Locking.{ask_mode, one_locks, not_key, not_at}
@@ -86,12 +86,12 @@ module _ (p : GhostProtocol) (opening : Map) (h : List Entry) (s : GhostState) (
   -- A key that is a name is read.
   pub hit : (o : Op) (a : Reply) (k : ℕ) (r : Ask) → has e k ≡ true → MayAsk p (has m k) (g.hold t (Key k)) r → present_after (has m k) r ≡ has m k
       → key_after (has m k) (g.hold t (Key k)).key r ≡ and_read (g.hold t (Key k)).key
-      → r ≢ FetchMiss → r ≢ ScanStop → r ≢ Insert
+      → is_of_key r ≡ true
       → after_op m o ≡ m → a ≡ answer m o → ((y : ℕ) → Points o y → y ≡ k)
       → (is_operation o && is_granted a) ≡ true → ((f : List Entry) → answer_of t o a f ≡ a) → is_committed a ≡ false
       → blockers p.table l t (on (Key k) (asked p r (own l t (Key k)))) ≡ []
       → KnownAfter p opening h t o (a, record { state = state_after s.state m (locks_after p s t (Key k) r) (put nat_cmp t (standing s.state t) s.state.active); ghosts = s.ghosts })
-  hit o a k r there may stays_so reads nm ns ni still a_is points granted same no_commit free =
+  hit o a k r there may stays_so reads of_key still a_is points granted same no_commit free =
       let w = guards p opening h s g in
       let grant = free_one p opening h s g turn.laws t (Key k) r free in
       let state : Hold = after p (has m k) (g.hold t (Key k)) r in
@@ -99,19 +99,22 @@ module _ (p : GhostProtocol) (opening : Map) (h : List Entry) (s : GhostState) (
       read o a (Key k) r k may stays_so (subst (λ x. Fits (olds (g.part t).changes k) x) (sym reads) (fits_read (olds (g.part t).changes k) (g.hold t (Key k)).key (z.fits t (Key k)))) grant
       still a_is points granted same no_commit (λ y none. not_key e k y there none)
       (covered_name e (with_hold g.hold t (Key k) state) he t k there (subst (λ x. Protects ReadKey x) (sym (hold_here g.hold t (Key k) state)) self))
-      (λ u ne changed. kept_out p opening h s g t turn (Key k) r may grant u ne (changed_keeps_out (has m k) (g.hold u (Key k)) r nm ns ni (w.change u k changed)))
+      (λ u ne changed. kept_out p opening h s g t turn (Key k) r may grant u ne (changed_keeps_out (has m k) (g.hold u (Key k)) r of_key (w.change u k changed)))
 
   -- A key that is no name is looked for.
-  pub miss : (o : Op) (a : Reply) (k : ℕ) → has e k ≡ false
+  pub miss : (o : Op) (a : Reply) (k : ℕ) (r : Ask) → has e k ≡ false → ((b : Bool) (x : Hold) → x.rolling ≡ false → MayAsk p b x r)
+      → ((b : Bool) → present_after b r ≡ b) → ((b : Bool) (u : KeyUse) → key_after b u r ≡ u) → ((b : Bool) → gap_after b r ≡ true)
       → after_op m o ≡ m → a ≡ answer m o → ((y : ℕ) → Points o y → y ≡ k)
       → (is_operation o && is_granted a) ≡ true → ((f : List Entry) → answer_of t o a f ≡ a) → is_committed a ≡ false
-      → blockers p.table l t (on (at e k) (asked p FetchMiss 0)) ≡ []
-      → KnownAfter p opening h t o (a, record { state = state_after s.state m (locks_after p s t (at e k) FetchMiss) (put nat_cmp t (standing s.state t) s.state.active); ghosts = s.ghosts })
-  miss o a k absent still a_is points granted same no_commit free =
+      → blockers p.table l t (on (at e k) (asked p r (own l t (at e k)))) ≡ []
+      → KnownAfter p opening h t o (a, record { state = state_after s.state m (locks_after p s t (at e k) r) (put nat_cmp t (standing s.state t) s.state.active); ghosts = s.ghosts })
+  miss o a k r absent may stays_so untouched reads still a_is points granted same no_commit free =
       let w = guards p opening h s g in
       let n = at e k in
-      let state : Hold = after p (status m n) (g.hold t n) FetchMiss in
-      read o a n FetchMiss k (not_rolling p opening h s g t turn.unrolled n) refl (z.fits t n)
-      (free_one p opening h s g turn.laws t n FetchMiss free) still a_is points granted same no_commit (λ y none. not_at e he k y none)
-      (covered_gap e (with_hold g.hold t n state) t k n absent refl (subst (λ x. Protects ReadGap x) (sym (hold_here g.hold t n state)) refl))
+      let x : Hold = g.hold t n in
+      let state : Hold = after p (status m n) x r in
+      read o a n r k (may (status m n) x (not_rolling p opening h s g t turn.unrolled n)) (stays_so (status m n))
+      (subst (λ u. Fits (olds_at (g.part t).changes n) u) (sym (untouched (status m n) x.key)) (z.fits t n))
+      (free_one p opening h s g turn.laws t n r free) still a_is points granted same no_commit (λ y none. not_at e he k y none)
+      (covered_gap e (with_hold g.hold t n state) t k n absent refl (subst (λ x. Protects ReadGap x) (sym (hold_here g.hold t n state)) (reads x.gap)))
       (λ u ne changed. true≢false (sym (w.named u k changed) ∙ absent))

@@ -1,5 +1,5 @@
 -- What a lock that serves a cover keeps all others from, and what the cases say of the mode after each request.
-use Rattle.std.specs.Prelude.{◌≡◌, ℕ, ◌≤◌, Bool, true, false, not, ◌||◌, if◌then◌else◌, cond, List, [], ◌∷◌, ◌++◌, Option, None, map, filter, refl}
+use Rattle.std.specs.Prelude.{◌≡◌, ℕ, ◌≤◌, Bool, true, false, not, ◌||◌, if◌then◌else◌, cond, List, [], ◌∷◌, ◌++◌, Option, Some, None, map, filter, refl, is_some, unwrap_or}
 use Rattle.std.specs.List.{flat_map}
 use Rattle.std.proofs.Common.{sym, ap, subst, inl, inr, true≢false}
 use Rattle.kr_model.specs.declared.Row.TheVariants as row
@@ -9,16 +9,19 @@ use Rattle.kr_model.specs.declared.Origin.TheVariants as origin
 use Rattle.kr_model.specs.Protocol.{IsMode}
 use Rattle.kr_model.specs.Covers.{modes, modes_or_none, conflicts_with, mode_after, is_empty}
 use Rattle.kr_model.proofs.Guarantees.{In, in_left, in_right, in_map, in_flat_map, in_modes, in_modes_or_none, none_passes, each_none, in_updating}
+use Rattle.kr_ghost.specs.declared.vain.Vain.{Vain}
+use Rattle.kr_ghost.specs.declared.vain.Vain.TheVariants as vain
 use Rattle.kr_ghost.specs.Protocol.{GhostProtocol, Purges, Unlocked, Inherit}
-use Rattle.kr_ghost.specs.Step.{current, next}
+use Rattle.kr_ghost.specs.Step as step
+use Rattle.kr_ghost.specs.Step.{current, next, as_fetch}
 use Rattle.kr_ghost.specs.declared.cases.Cover.{Cover}
 use Rattle.kr_ghost.specs.declared.cases.Cover.TheVariants.{ReadKey, ReadGap, ChangedKey}
 use Rattle.kr_ghost.specs.declared.cases.Rule.{Rule}
-use Rattle.kr_ghost.specs.declared.cases.Rule.TheVariants.{Conversion, FetchHit, FetchMiss, ScanName, ScanStop, Insert, Split, Delete, Update, Revive, Heir}
+use Rattle.kr_ghost.specs.declared.cases.Rule.TheVariants.{Conversion, FetchHit, FetchMiss, ScanName, ScanStop, Insert, Split, Delete, Update, Revive, Heir, InsertHit, DeleteMiss, UpdateMiss}
 use Rattle.kr_ghost.specs.declared.cases.Access.{Access}
 use Rattle.kr_ghost.specs.declared.cases.Access.TheVariants as access
 use Rattle.kr_ghost.specs.declared.cases.Requester.{Requester}
-use Rattle.kr_ghost.specs.Covers.{accesses, asked, requester, requesters, is_open, open_requesters, serves, Case, case, conversions, covers, mode_on_new, mode_inherited, heirs, all_covers, cases_of, all_rules, cases, failed_at, failure, IsCoveredGhost}
+use Rattle.kr_ghost.specs.Covers.{has_row, if_row, accesses, asked, requester, requesters, is_open, open_requesters, serves, Case, case, conversions, covers, mode_on_new, mode_inherited, heirs, all_covers, cases_of, all_rules, cases, failed_at, failure, IsCoveredGhost}
 
 -- The mode serves the cover.
 abbrev pub Serves : GhostProtocol → Cover → ℕ → Type 0
@@ -48,9 +51,17 @@ rest_empty test (x ∷ xs) ys h = by (test x) h (rest_empty test xs ys)
 module _ (p : GhostProtocol) (h : ℕ) where
   -- A changed key is protected as one that was read.
   pub weaken : Serves p ChangedKey h → Serves p ReadKey h
-  weaken s =
-      rest_empty (is_open p h) (requesters p access.Scan) (flat_map (requesters p) (accesses p ReadKey))
-      (rest_empty (is_open p h) (requesters p access.Fetch) (requesters p access.Scan ++ flat_map (requesters p) (accesses p ReadKey)) s)
+  weaken s = by (has_row p vain.InsertHit) (without access.Scan (inserts ++ accesses p ReadKey) (without access.Fetch (access.Scan ∷ inserts ++ accesses p ReadKey) s))
+    where
+      inserts : List Access
+      inserts = if_row p vain.InsertHit (access.InsertHit ∷ [])
+
+      without : (a : Access) (bs : List Access) → is_empty (filter (is_open p h) (flat_map (requesters p) (a ∷ bs))) ≡ true → is_empty (filter (is_open p h) (flat_map (requesters p) bs)) ≡ true
+      without a bs none = rest_empty (is_open p h) (requesters p a) (flat_map (requesters p) bs) none
+
+      by : (b : Bool) → is_empty (filter (is_open p h) (flat_map (requesters p) ((if b then access.InsertHit ∷ [] else []) ++ accesses p ReadKey))) ≡ true → Serves p ReadKey h
+      by true none = without access.InsertHit (accesses p ReadKey) none
+      by false none = none
 
   module _ (o : ℕ) (io : o ≤ p.table.count) where
     -- A lock that serves a cover conflicts with each access that it must conflict with.
@@ -81,6 +92,16 @@ module _ (p : GhostProtocol) (h : ℕ) where
     pub no_scan : Serves p ChangedKey h → conflicts_with p.table h o (current p row.ScanKey) ≡ true
     no_scan s = kept_out ChangedKey access.Scan (inr (inl refl)) s
 
+    pub no_insert_hit : Serves p ChangedKey h → conflicts_with p.table h o (step.vain p vain.InsertHit) ≡ true
+    no_insert_hit s = by (p.vain vain.InsertHit) refl
+      where
+        by : (asked : Option (Option (ℕ × Span))) → p.vain vain.InsertHit ≡ asked → conflicts_with p.table h o (unwrap_or asked (as_fetch p vain.InsertHit)) ≡ true
+        by None is = no_fetch s
+        by (Some r) is =
+            subst (λ x. conflicts_with p.table h o (unwrap_or x (as_fetch p vain.InsertHit)) ≡ true) is
+            (kept_out ChangedKey access.InsertHit (inr (inr
+            (subst (λ x. In access.InsertHit ((if is_some x then access.InsertHit ∷ [] else []) ++ accesses p ReadKey)) (sym is) (inl refl)))) s)
+
 -- The cases --
 
 in_two : {A B C : Type 0} (f : A → B → C) (a : A) (b : B) (xs : List A) (ys : List B) → In a xs → In b ys → In (f a b) (flat_map (λ x. map (λ y. f x y) ys) xs)
@@ -98,6 +119,9 @@ in_rules Delete = inr (inr (inr (inr (inr (inr (inr (inl refl)))))))
 in_rules Update = inr (inr (inr (inr (inr (inr (inr (inr (inl refl))))))))
 in_rules Revive = inr (inr (inr (inr (inr (inr (inr (inr (inr (inl refl)))))))))
 in_rules Heir = inr (inr (inr (inr (inr (inr (inr (inr (inr (inr (inl refl))))))))))
+in_rules InsertHit = inr (inr (inr (inr (inr (inr (inr (inr (inr (inr (inr (inl refl)))))))))))
+in_rules DeleteMiss = inr (inr (inr (inr (inr (inr (inr (inr (inr (inr (inr (inr (inl refl))))))))))))
+in_rules UpdateMiss = inr (inr (inr (inr (inr (inr (inr (inr (inr (inr (inr (inr (inr (inl refl)))))))))))))
 
 none_open : (c : Case) (due : Bool) (rs : List Requester) → (if due then failed_at c rs else None) ≡ None → due ≡ true → is_empty rs ≡ true
 none_open c true [] h e = refl
@@ -136,6 +160,9 @@ pub record Covered (p : GhostProtocol) : Type 0 where
   pub update : p.table.updates ≡ true → (o : ℕ) → o ≤ p.table.count → Serves p ChangedKey (mode_after p.table o (current p row.Update))
   pub revive : (o : ℕ) → o ≤ p.table.count → Serves p ChangedKey (mode_after p.table o p.revive)
   pub inherits : Inherits p p.purges
+  pub insert_hit : (o : ℕ) → o ≤ p.table.count → Serves p ReadKey (mode_after p.table o (step.vain p vain.InsertHit))
+  pub delete_miss : (o : ℕ) → o ≤ p.table.count → Serves p ReadGap (mode_after p.table o (step.vain p vain.DeleteMiss))
+  pub update_miss : p.table.updates ≡ true → (o : ℕ) → o ≤ p.table.count → Serves p ReadGap (mode_after p.table o (step.vain p vain.UpdateMiss))
 
 module _ (p : GhostProtocol) (cov : IsCoveredGhost p) where
   converted : (c : Cover) (h q : ℕ) → IsMode p.table h → IsMode p.table q → Serves p c h → Serves p c (p.table.convert h q)
@@ -173,14 +200,40 @@ module _ (p : GhostProtocol) (cov : IsCoveredGhost p) where
       (modes_or_none p.table) (in_modes p.table h ih) (in_modes_or_none p.table n io)))
       s
 
+  after_hit : (o : ℕ) → o ≤ p.table.count → Serves p ReadKey (mode_after p.table o (current p row.FetchHit))
+  after_hit o io = case_holds p cov FetchHit (case FetchHit ReadKey (origin.Own o) true (mode_after p.table o (current p row.FetchHit))) (in_covers p FetchHit ReadKey (current p row.FetchHit) o io) refl
+
+  after_miss : (o : ℕ) → o ≤ p.table.count → Serves p ReadGap (mode_after p.table o (next p row.FetchMiss))
+  after_miss o io = case_holds p cov FetchMiss (case FetchMiss ReadGap (origin.Own o) true (mode_after p.table o (next p row.FetchMiss))) (in_covers p FetchMiss ReadGap (next p row.FetchMiss) o io) refl
+
+  -- A vain step leaves what a fetch does, or what the case of its row says.
+  after_vain : (v : Vain) (r : Rule) (c : Cover) (o : ℕ) → Serves p c (mode_after p.table o (as_fetch p v))
+      → ((asked : Option (ℕ × Span)) → p.vain v ≡ Some asked → In (case r c (origin.Own o) true (mode_after p.table o (step.vain p v))) (cases_of p r))
+      → Serves p c (mode_after p.table o (step.vain p v))
+  after_vain v r c o fetch case_of = by (p.vain v) refl
+    where
+      by : (asked : Option (Option (ℕ × Span))) → p.vain v ≡ asked → Serves p c (mode_after p.table o (step.vain p v))
+      by None is = subst (λ x. Serves p c (mode_after p.table o (unwrap_or x (as_fetch p v)))) (sym is) fetch
+      by (Some asked) is = case_holds p cov r (case r c (origin.Own o) true (mode_after p.table o (step.vain p v))) (case_of asked is) refl
+
+  -- Where the table has the row, its cases are cases.
+  in_row : (v : Vain) (r : Rule) (c : Cover) (o : ℕ) → o ≤ p.table.count → (asked : Option (ℕ × Span)) → p.vain v ≡ Some asked
+      → In (case r c (origin.Own o) true (mode_after p.table o (step.vain p v))) (if_row p v (covers p r c (step.vain p v)))
+  in_row v r c o io asked is =
+      subst (λ x. In (case r c (origin.Own o) true (mode_after p.table o (step.vain p v))) (if is_some x then covers p r c (step.vain p v) else [])) (sym is) (in_covers p r c (step.vain p v) o io)
+
+  update_missed : p.table.updates ≡ true → (o : ℕ) → o ≤ p.table.count → Serves p ReadGap (mode_after p.table o (step.vain p vain.UpdateMiss))
+  update_missed up o io =
+      let k = case UpdateMiss ReadGap (origin.Own o) true (mode_after p.table o (step.vain p vain.UpdateMiss)) in
+      after_vain vain.UpdateMiss UpdateMiss ReadGap o (after_miss o io)
+      (λ asked is. subst (λ b. In k (if b then if_row p vain.UpdateMiss (covers p UpdateMiss ReadGap (step.vain p vain.UpdateMiss)) else [])) (sym up) (in_row vain.UpdateMiss UpdateMiss ReadGap o io asked is))
+
   -- A table of which all cases hold has all these modes.
   pub covered : Covered p
   covered = record {
     convert = converted;
-    hit =
-        λ o io. case_holds p cov FetchHit (case FetchHit ReadKey (origin.Own o) true (mode_after p.table o (current p row.FetchHit))) (in_covers p FetchHit ReadKey (current p row.FetchHit) o io) refl;
-    miss =
-        λ o io. case_holds p cov FetchMiss (case FetchMiss ReadGap (origin.Own o) true (mode_after p.table o (next p row.FetchMiss))) (in_covers p FetchMiss ReadGap (next p row.FetchMiss) o io) refl;
+    hit = after_hit;
+    miss = after_miss;
     look_key = looked_key;
     look_gap = looked_gap;
     stop = λ o io. case_holds p cov ScanStop (case ScanStop ReadGap (origin.Own o) true (mode_after p.table o (next p row.ScanStop))) (in_covers p ScanStop ReadGap (next p row.ScanStop) o io) refl;
@@ -195,4 +248,7 @@ module _ (p : GhostProtocol) (cov : IsCoveredGhost p) where
     update = updated;
     revive = λ o io. case_holds p cov Revive (case Revive ChangedKey (origin.Own o) true (mode_after p.table o p.revive)) (in_covers p Revive ChangedKey p.revive o io) refl;
     inherits = inherited p.purges refl;
+    insert_hit = λ o io. after_vain vain.InsertHit InsertHit ReadKey o (after_hit o io) (in_row vain.InsertHit InsertHit ReadKey o io);
+    delete_miss = λ o io. after_vain vain.DeleteMiss DeleteMiss ReadGap o (after_miss o io) (in_row vain.DeleteMiss DeleteMiss ReadGap o io);
+    update_miss = update_missed;
   }

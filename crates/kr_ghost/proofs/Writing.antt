@@ -72,20 +72,19 @@ module _ (p : GhostProtocol) (opening : Map) (h : List Entry) (s : GhostState) (
   unrolled n = not_rolling p opening h s g t turn.unrolled n
 
   -- A key that is a name is changed, by a request that none who has read it lets in.
-  pub change : (o : Op) (a : Reply) (k : ℕ) (old b : Option ℕ) (ghosts : List ℕ) (r : Ask) (by : KeyUse) → has e k ≡ true → MayAsk p (has m k) (g.hold t (Key k)) r
+  pub change_granted : (o : Op) (a : Reply) (k : ℕ) (old b : Option ℕ) (ghosts : List ℕ) (r : Ask) (by : KeyUse) → has e k ≡ true → MayAsk p (has m k) (g.hold t (Key k)) r
       → is_some b ≡ present_after (has m k) r
       → key_after (has m k) (g.hold t (Key k)).key r ≡ and_changed by (g.hold t (Key k)).key → is_changed by ≡ true → Fits (old ∷ []) by
       → ((x : Hold) → Protects ReadKey x → keeps_out (has m k) x r ≡ true)
       → get m k ≡ old → after_op m o ≡ restore m k b → a ≡ answer m o → ((y : ℕ) → Points o y → y ≡ k) → ((y : ℕ) → y ≡ k → Points o y)
       → ((y : ℕ) → has (named (restore m k b) ghosts) y ≡ has e y)
       → (is_operation o && is_granted a) ≡ true → ((f : List Entry) → answer_of t o a f ≡ a) → is_committed a ≡ false
-      → blockers p.table l t (on (Key k) (asked p r (own l t (Key k)))) ≡ []
+      → Free p.table (own l) t (Key k) (asked p r (own l t (Key k)))
       → KnownAfter p opening h t o (a, record { state = state_after s.state (restore m k b) (locks_after p s t (Key k) r) (put nat_cmp t (changed (standing s.state t) k old) s.state.active); ghosts = ghosts })
-  change o a k old b ghosts r by there may now kind changes fits_by keeps was is_after a_is point_is is_point names granted same no_commit nobody =
+  change_granted o a k old b ghosts r by there may now kind changes fits_by keeps was is_after a_is point_is is_point names granted same no_commit grant =
       let i = g.inv in
       let m' : Map = restore m k b in
       let e' : Map = named m' ghosts in
-      let grant = free_one p opening h s g turn.laws t (Key k) r nobody in
       let modes = ask_mode p turn.laws r (own l t (Key k)) (range p opening h s g t (Key k)) in
       let state : Hold = after p (has m k) (g.hold t (Key k)) r in
       let hold' : Holds = with_hold g.hold t (Key k) state in
@@ -118,6 +117,20 @@ module _ (p : GhostProtocol) (opening : Map) (h : List Entry) (s : GhostState) (
         changes = ap (λ z. (k, old) ∷ z) (same_changes p opening h s g t turn.live);
         rolling = same_rolling p opening h s g t turn.live;
       })
+
+  -- Granted where nobody blocks it.
+  pub change : (o : Op) (a : Reply) (k : ℕ) (old b : Option ℕ) (ghosts : List ℕ) (r : Ask) (by : KeyUse) → has e k ≡ true → MayAsk p (has m k) (g.hold t (Key k)) r
+      → is_some b ≡ present_after (has m k) r
+      → key_after (has m k) (g.hold t (Key k)).key r ≡ and_changed by (g.hold t (Key k)).key → is_changed by ≡ true → Fits (old ∷ []) by
+      → ((x : Hold) → Protects ReadKey x → keeps_out (has m k) x r ≡ true)
+      → get m k ≡ old → after_op m o ≡ restore m k b → a ≡ answer m o → ((y : ℕ) → Points o y → y ≡ k) → ((y : ℕ) → y ≡ k → Points o y)
+      → ((y : ℕ) → has (named (restore m k b) ghosts) y ≡ has e y)
+      → (is_operation o && is_granted a) ≡ true → ((f : List Entry) → answer_of t o a f ≡ a) → is_committed a ≡ false
+      → blockers p.table l t (on (Key k) (asked p r (own l t (Key k)))) ≡ []
+      → KnownAfter p opening h t o (a, record { state = state_after s.state (restore m k b) (locks_after p s t (Key k) r) (put nat_cmp t (changed (standing s.state t) k old) s.state.active); ghosts = ghosts })
+  change o a k old b ghosts r by there may now kind changes fits_by keeps was is_after a_is point_is is_point names granted same no_commit nobody =
+      change_granted o a k old b ghosts r by there may now kind changes fits_by keeps was is_after a_is point_is is_point names granted same no_commit
+      (free_one p opening h s g turn.laws t (Key k) r nobody)
 
   -- A key that is no name is inserted.
   module _ (k v : ℕ) (none : get m k ≡ None) (absent : has e k ≡ false)

@@ -1,11 +1,9 @@
 -- Tables that go wrong by one entry, each with a run.
 use Rattle.std.specs.Prelude.{◌≡◌, ℕ, List, [], ◌∷◌, Option, Some, None, refl, ◌≤◌, Bool, true, false, if◌then◌else◌}
 use Rattle.std.proofs.Common.{sym, ◌∙◌, arith}
-use Rattle.kr_model.specs.declared.Span.{Span}
 use Rattle.kr_model.specs.declared.Op.TheVariants as op
 use Rattle.kr_model.specs.declared.Reply.{Reply}
 use Rattle.kr_model.specs.declared.Reply.TheVariants as reply
-use Rattle.kr_model.specs.Protocol.{IsMode}
 use Rattle.kr_model.specs.Run.{programs}
 use Rattle.kr_model.specs.Difference.{Difference, first_difference}
 use Rattle.kr_model.proofs.SerialLaws.{none_if_serial}
@@ -19,7 +17,7 @@ use Rattle.kr_ghost.specs.Safe.{IsSafeGhost}
 use Rattle.kr_ghost.specs.Needed.{GoesWrong}
 use Rattle.kr_ghost.specs.Worked.{three, by, after_delete, only_gaps, drops_locks, inherits_only_gaps, inserts_plainly, revives_freely, purges_locked, range_inserts_plainly, next_inserts_plainly}
 use Rattle.kr_ghost.specs.Tables.{record_gap, range_ghost, locks_gap}
-use Rattle.kr_ghost.proofs.Bundled.{mode_is, record_gap_lawful}
+use Rattle.kr_ghost.proofs.Bundled.{mode_is, record_gap_lawful, asks_nothing, no_rows}
 use Rattle.kr_ghost.proofs.Runs.{safe_runs_are_serial}
 
 -- Commits, in this order.
@@ -79,6 +77,8 @@ drops_locks-unsafe =
     unsafe drops_locks (record {
       table = lawful_by_test record_gap.table refl;
       revive = mode_is record_gap.table 2 (record { some = omega arith; in_range = omega arith });
+      revive_next = asks_nothing record_gap.table;
+      vain = no_rows record_gap.table;
       purges = (refl, λ h le. omega arith);
     }) drops_locks-wrong
 
@@ -94,6 +94,8 @@ inherits_only_gaps-unsafe =
     unsafe inherits_only_gaps (record {
       table = lawful_by_test record_gap.table refl;
       revive = mode_is record_gap.table 2 (record { some = omega arith; in_range = omega arith });
+      revive_next = asks_nothing record_gap.table;
+      vain = no_rows record_gap.table;
       purges = (refl, only_gaps_within);
     }) inherits_only_gaps-wrong
 
@@ -102,20 +104,28 @@ inserts_plainly-unsafe =
     unsafe inserts_plainly (record {
       table = lawful_by_test inserts_plainly.table refl;
       revive = mode_is inserts_plainly.table 2 (record { some = omega arith; in_range = omega arith });
+      revive_next = asks_nothing inserts_plainly.table;
+      vain = no_rows inserts_plainly.table;
       purges = (let w = record_gap_lawful in w.purges);
     }) inserts_plainly-wrong
 
-none_asked : (q : ℕ) (span : Span) → ◌≡◌ {A = Option (ℕ × Span)} None (Some (q, span)) → IsMode record_gap.table q
-none_asked q span e = absurd (cc)
-
 pub revives_freely-unsafe : GoesWrong revives_freely × (IsSafeGhost revives_freely → ⊥)
-revives_freely-unsafe = unsafe revives_freely (record { table = lawful_by_test record_gap.table refl; revive = none_asked; purges = (let w = record_gap_lawful in w.purges) }) revives_freely-wrong
+revives_freely-unsafe =
+    unsafe revives_freely (record {
+      table = lawful_by_test record_gap.table refl;
+      revive = asks_nothing record_gap.table;
+      revive_next = asks_nothing record_gap.table;
+      vain = no_rows record_gap.table;
+      purges = (let w = record_gap_lawful in w.purges);
+    }) revives_freely-wrong
 
 pub purges_locked-unsafe : GoesWrong purges_locked × (IsSafeGhost purges_locked → ⊥)
 purges_locked-unsafe =
     unsafe purges_locked (record {
       table = lawful_by_test range_ghost.table refl;
       revive = mode_is range_ghost.table 2 (record { some = omega arith; in_range = omega arith });
+      revive_next = asks_nothing range_ghost.table;
+      vain = no_rows range_ghost.table;
       purges = (refl, λ h le. omega arith);
     }) purges_locked-wrong
 
@@ -124,6 +134,8 @@ range_inserts_plainly-unsafe =
     unsafe range_inserts_plainly (record {
       table = lawful_by_test range_inserts_plainly.table refl;
       revive = mode_is range_inserts_plainly.table 2 (record { some = omega arith; in_range = omega arith });
+      revive_next = asks_nothing range_inserts_plainly.table;
+      vain = no_rows range_inserts_plainly.table;
       purges = tt;
     }) range_inserts_plainly-wrong
 
@@ -132,5 +144,7 @@ next_inserts_plainly-unsafe =
     unsafe next_inserts_plainly (record {
       table = lawful_by_test next_inserts_plainly.table refl;
       revive = mode_is next_inserts_plainly.table 5 (record { some = omega arith; in_range = omega arith });
+      revive_next = asks_nothing next_inserts_plainly.table;
+      vain = no_rows next_inserts_plainly.table;
       purges = tt;
     }) next_inserts_plainly-wrong

@@ -1,5 +1,5 @@
 -- What a lock has to protect where deletes leave ghosts, and the cases that a covered protocol meets. No case names a key, a map or a run.
-use Rattle.std.specs.Prelude.{◌≡◌, ℕ, Bool, true, not, ◌||◌, List, [], ◌∷◌, ◌++◌, Option, Some, None, map, filter, if◌then◌else◌}
+use Rattle.std.specs.Prelude.{◌≡◌, ℕ, Bool, true, not, ◌||◌, List, [], ◌∷◌, ◌++◌, Option, Some, None, map, filter, if◌then◌else◌, is_some}
 use Rattle.std.specs.List.{flat_map, filter_map}
 use Rattle.kr_model.specs.declared.Row.TheVariants as row
 use Rattle.kr_model.specs.declared.Side.TheVariants.{Current, Next}
@@ -15,16 +15,26 @@ use Rattle.kr_ghost.specs.declared.cases.Access.{Access}
 use Rattle.kr_ghost.specs.declared.cases.Access.TheVariants as access
 use Rattle.kr_ghost.specs.declared.cases.Requester.{Requester}
 use Rattle.kr_ghost.specs.declared.cases.FailedCase.{FailedCase}
+use Rattle.kr_ghost.specs.declared.vain.Vain.{Vain}
+use Rattle.kr_ghost.specs.declared.vain.Vain.TheVariants.{InsertHit, DeleteMiss, UpdateMiss}
 use Rattle.kr_ghost.specs.Protocol.{GhostProtocol, Purges, Unlocked, Inherit}
-use Rattle.kr_ghost.specs.Step.{current, next}
+use Rattle.kr_ghost.specs.Step.{current, next, vain}
 
 -- Covers --
+
+-- Whether the table has a row for the vain step; else the step goes by the row of a fetch.
+abbrev pub has_row : GhostProtocol → Vain → Bool
+has_row p v = is_some (p.vain v)
+
+-- These, where the table has that row.
+abbrev pub if_row : {A : Type 0} → GhostProtocol → Vain → List A → List A
+if_row p v xs = if has_row p v then xs else []
 
 -- What a lock that has the cover must conflict with, in order: no other transaction may be granted it.
 abbrev pub accesses : GhostProtocol → Cover → List Access
 accesses p ReadKey = access.Delete ∷ access.Revive ∷ if_updating p.table (access.Update ∷ [])
 accesses p ReadGap = access.Insert ∷ []
-accesses p ChangedKey = access.Fetch ∷ access.Scan ∷ access.Delete ∷ access.Revive ∷ if_updating p.table (access.Update ∷ [])
+accesses p ChangedKey = access.Fetch ∷ access.Scan ∷ if_row p InsertHit (access.InsertHit ∷ []) ++ access.Delete ∷ access.Revive ∷ if_updating p.table (access.Update ∷ [])
 
 -- What the access requests on the name, of one who has the own mode o there.
 abbrev pub asked : GhostProtocol → Access → ℕ → Option (ℕ × Span)
@@ -34,6 +44,7 @@ asked p access.Delete o = current p row.Delete
 asked p access.Update o = current p row.Update
 asked p access.Revive o = p.revive
 asked p access.Insert o = p.table.ask row.Insert Next o
+asked p access.InsertHit o = vain p InsertHit
 
 -- One who requests the access, with the own mode o.
 abbrev pub requester : Access → ℕ → Requester
@@ -118,10 +129,14 @@ cases_of p rule.Delete = covers p rule.Delete ChangedKey (current p row.Delete)
 cases_of p rule.Update = if p.table.updates then covers p rule.Update ChangedKey (current p row.Update) else []
 cases_of p rule.Revive = covers p rule.Revive ChangedKey p.revive
 cases_of p rule.Heir = heirs p p.purges
+-- What a vain step of a row of its own has read is covered.
+cases_of p rule.InsertHit = if_row p InsertHit (covers p rule.InsertHit ReadKey (vain p InsertHit))
+cases_of p rule.DeleteMiss = if_row p DeleteMiss (covers p rule.DeleteMiss ReadGap (vain p DeleteMiss))
+cases_of p rule.UpdateMiss = if p.table.updates then if_row p UpdateMiss (covers p rule.UpdateMiss ReadGap (vain p UpdateMiss)) else []
 
 -- The rules that p has to keep, in order.
 abbrev pub all_rules : List Rule
-all_rules = rule.Conversion ∷ rule.FetchHit ∷ rule.FetchMiss ∷ rule.ScanName ∷ rule.ScanStop ∷ rule.Insert ∷ rule.Split ∷ rule.Delete ∷ rule.Update ∷ rule.Revive ∷ rule.Heir ∷ []
+all_rules = rule.Conversion ∷ rule.FetchHit ∷ rule.FetchMiss ∷ rule.ScanName ∷ rule.ScanStop ∷ rule.Insert ∷ rule.Split ∷ rule.Delete ∷ rule.Update ∷ rule.Revive ∷ rule.Heir ∷ rule.InsertHit ∷ rule.DeleteMiss ∷ rule.UpdateMiss ∷ []
 
 -- All cases of a protocol, in order.
 abbrev pub cases : GhostProtocol → List Case

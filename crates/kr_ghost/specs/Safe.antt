@@ -4,7 +4,9 @@ use Rattle.kr_model.specs.declared.Row.TheVariants as row
 use Rattle.kr_model.specs.declared.Side.TheVariants.{Current, Next}
 use Rattle.kr_model.specs.declared.Span.{Span}
 use Rattle.kr_model.specs.Covers.{conflicts_with, mode_after}
+use Rattle.kr_ghost.specs.declared.vain.Vain.TheVariants as vain
 use Rattle.kr_ghost.specs.Protocol.{GhostProtocol, Inherit}
+use Rattle.kr_ghost.specs.Step as step
 use Rattle.kr_ghost.specs.Step.{current, next}
 
 -- Lock states --
@@ -43,7 +45,7 @@ is_read _ = true
 
 -- Requests --
 
--- What is requested of a name; an insert requests its lock on the next name here, and a revive is an insert of a ghost.
+-- What is requested of a name; an insert requests its lock on the next name here. A revive is an insert of a ghost, with a request on the next name too; and an insert of a present key, and a delete or an update of one that is no name, change nothing.
 pub data Ask : Type 0 where
   FetchHit : Ask
   FetchMiss : Ask
@@ -53,6 +55,10 @@ pub data Ask : Type 0 where
   Delete : Ask
   Update : Ask
   Revive : Ask
+  InsertHit : Ask
+  DeleteMiss : Ask
+  UpdateMiss : Ask
+  ReviveNext : Ask
 
 -- The mode and span requested by one whose own mode there is o.
 abbrev pub asked : GhostProtocol → Ask → ℕ → Option (ℕ × Span)
@@ -64,13 +70,21 @@ asked p Insert o = p.table.ask row.Insert Next o
 asked p Delete o = current p row.Delete
 asked p Update o = current p row.Update
 asked p Revive o = p.revive
+asked p InsertHit o = step.vain p vain.InsertHit
+asked p DeleteMiss o = step.vain p vain.DeleteMiss
+asked p UpdateMiss o = step.vain p vain.UpdateMiss
+asked p ReviveNext o = p.revive_next
 
 -- Whom a lock state has to keep out for the sake of the key, by whether the key is present: who has changed it keeps out all who read or change it; who has read it keeps out all who change it, a present key by a delete or an update, and a ghost by an insert.
 abbrev pub by_key : Bool → KeyUse → Ask → Bool
 by_key present k FetchMiss = false
 by_key present k ScanStop = false
 by_key present k Insert = false
+by_key present k DeleteMiss = false
+by_key present k UpdateMiss = false
+by_key present k ReviveNext = false
 by_key present k FetchHit = is_changed k
+by_key present k InsertHit = is_changed k
 by_key present k ScanName = is_changed k
 by_key present k Delete = if present then is_read k else is_changed k
 by_key present k Update = if present then is_read k else is_changed k
@@ -85,10 +99,12 @@ by_gap gap _ = false
 abbrev pub keeps_out : Bool → Hold → Ask → Bool
 keeps_out present x a = by_key present x.key a || by_gap x.gap a
 
--- A transaction may come to request this of a name: it doesn't roll back; only a ghost is revived, and an update is offered.
+-- A transaction may come to request this of a name: it doesn't roll back; only a ghost is revived, an insert finds only a present key, and an update is offered.
 abbrev pub MayAsk : GhostProtocol → Bool → Hold → Ask → Type 0
 MayAsk p present x Revive = (x.rolling ≡ false) × (present ≡ false)
+MayAsk p present x InsertHit = (x.rolling ≡ false) × (present ≡ true)
 MayAsk p present x Update = (x.rolling ≡ false) × (p.table.updates ≡ true)
+MayAsk p present x UpdateMiss = (x.rolling ≡ false) × (p.table.updates ≡ true)
 MayAsk p present x _ = x.rolling ≡ false
 
 -- Whether the lock of one with the lock state y blocks the request of one with the lock state x.
@@ -117,6 +133,7 @@ and_changed by _ = Several
 abbrev pub key_after : Bool → KeyUse → Ask → KeyUse
 key_after present k FetchHit = and_read k
 key_after present k ScanName = and_read k
+key_after present k InsertHit = and_read k
 key_after present k Delete = if present then and_changed Deleted k else and_read k
 key_after present k Update = if present then and_changed Updated k else and_read k
 key_after present k Revive = and_changed Inserted k
@@ -125,6 +142,8 @@ key_after present k _ = k
 -- Whether the gap has been read after it.
 abbrev pub gap_after : Bool → Ask → Bool
 gap_after gap FetchMiss = true
+gap_after gap DeleteMiss = true
+gap_after gap UpdateMiss = true
 gap_after gap ScanName = true
 gap_after gap ScanStop = true
 gap_after gap _ = gap

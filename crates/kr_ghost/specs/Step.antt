@@ -1,5 +1,5 @@
 -- What one attempt of a transaction does in an index with ghosts, and what a purge does.
-use Rattle.std.specs.Prelude.{ℕ, suc, Bool, true, not, ◌&&◌, ◌==◌, nat_le, List, [], ◌∷◌, ◌++◌, Option, Some, None, length, filter, if◌then◌else◌, is_some}
+use Rattle.std.specs.Prelude.{ℕ, suc, Bool, true, not, ◌&&◌, ◌==◌, nat_le, List, [], ◌∷◌, ◌++◌, Option, Some, None, length, filter, if◌then◌else◌, is_some, unwrap_or}
 use Rattle.std.specs.Ordering.{nat_cmp}
 use Rattle.std.specs.FinMap.{find, put}
 use Rattle.std.specs.List.{list_any}
@@ -22,6 +22,8 @@ use Rattle.kr_model.specs.Plan.{side_request}
 use Rattle.kr_model.specs.Locks.{Locks, Request, own, forget, keep_or_drop, lockers, blockers, kept}
 use Rattle.kr_model.specs.State.{Scan, Active, State, standing, is_rolling}
 use Rattle.kr_model.specs.Step.{Effect, effect, fetched, inserted, deleted, updated, scan_ended, ended_with, refusal_of}
+use Rattle.kr_ghost.specs.declared.vain.Vain.{Vain}
+use Rattle.kr_ghost.specs.declared.vain.Vain.TheVariants.{InsertHit, DeleteMiss, UpdateMiss}
 use Rattle.kr_ghost.specs.Protocol.{Purges, Unlocked, Inherit, GhostProtocol}
 use Rattle.kr_ghost.specs.State.{GhostState, named, is_ghost, name_from, Stand, Present, Ghost, Absent, stand, ghosts_with, ghosts_restored}
 
@@ -39,17 +41,33 @@ current p r = p.table.ask r Current 0
 abbrev pub next : GhostProtocol → Row → Option (ℕ × Span)
 next p r = p.table.ask r Next 0
 
--- A fetch, a delete or an update of k requests its row's lock on a key that is a name, present or not, and else that of fetch miss on the next name.
+-- What a fetch does that finds what a vain step finds.
+abbrev pub as_fetch : GhostProtocol → Vain → Option (ℕ × Span)
+as_fetch p InsertHit = current p row.FetchHit
+as_fetch p DeleteMiss = next p row.FetchMiss
+as_fetch p UpdateMiss = next p row.FetchMiss
+
+-- What a vain step requests: what its row says, and without one what a fetch does.
+abbrev pub vain : GhostProtocol → Vain → Option (ℕ × Span)
+vain p v = unwrap_or (p.vain v) (as_fetch p v)
+
+-- What a fetch, a delete or an update of a key that is no name requests on the next name.
+abbrev pub missed : GhostProtocol → Row → Option (ℕ × Span)
+missed p row.Delete = vain p DeleteMiss
+missed p row.Update = vain p UpdateMiss
+missed p _ = next p row.FetchMiss
+
+-- A fetch, a delete or an update of k requests its row's lock on a key that is a name, present or not, and else one on the next name.
 abbrev pub keyed_requests : GhostProtocol → Row → ℕ → Name → Stand → List Request
 keyed_requests p r k n Present = on (Key k) (current p r)
 keyed_requests p r k n Ghost = on (Key k) (current p r)
-keyed_requests p r k n Absent = on n (next p row.FetchMiss)
+keyed_requests p r k n Absent = on n (missed p r)
 
--- An insert of k by one whose own mode on the next name n is o: of a present key it goes by fetch hit, of a ghost by revive.
-abbrev pub insert_requests : GhostProtocol → ℕ → Name → ℕ → Stand → List Request
-insert_requests p k n o Present = on (Key k) (current p row.FetchHit)
-insert_requests p k n o Ghost = on (Key k) p.revive
-insert_requests p k n o Absent = on (Key k) (p.table.ask row.Insert Current o) ++ on n (p.table.ask row.Insert Next o)
+-- An insert of k, where n is the least name not below k, on which its own mode is o, and above the least name above k.
+abbrev pub insert_requests : GhostProtocol → ℕ → Name → ℕ → Name → Stand → List Request
+insert_requests p k n o above Present = on (Key k) (vain p InsertHit)
+insert_requests p k n o above Ghost = on (Key k) p.revive ++ on above p.revive_next
+insert_requests p k n o above Absent = on (Key k) (p.table.ask row.Insert Current o) ++ on n (p.table.ask row.Insert Next o)
 
 -- A scan's step on the name n: a name within the range is looked at, whether it is present or a ghost, and any other stops the scan.
 abbrev pub look_requests : GhostProtocol → Name → ℕ → List Request
@@ -116,7 +134,7 @@ performed p s t (op.Fetch k) =
 performed p s t (op.Scan lo hi) = attempted_scan p s t (Some (record { lo = lo; hi = hi; rows = [] }))
 performed p s t op.Go = attempted_scan p s t (standing s.state t).scan
 performed p s t (op.Insert k v) =
-    attempted p s t (insert_requests p k (name_from s k) (own s.state.locks t (name_from s k)) (stand s k))
+    attempted p s t (insert_requests p k (name_from s k) (own s.state.locks t (name_from s k)) (name_from s (suc k)) (stand s k))
     (inserted s.state.map (standing s.state t) k v (get s.state.map k)) (if is_some (get s.state.map k) then s.ghosts else ghosts_with s.ghosts k (Some v))
 performed p s t (op.Delete k) =
     attempted p s t (keyed_requests p row.Delete k (name_from s k) (stand s k))

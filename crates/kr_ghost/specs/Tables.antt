@@ -74,6 +74,8 @@ abbrev pub record_gap : GhostProtocol
 record_gap = record {
   table = record { count = 11; ok = record_gap_ok; convert = record_gap_convert; ask = record_gap_ask; updates = true };
   revive = for_commit N-X;
+  revive_next = None;
+  vain = λ v. None;
   purges = Inherit to_gap;
 }
 
@@ -100,6 +102,8 @@ abbrev pub range_ghost : GhostProtocol
 range_ghost = record {
   table = record { count = 11; ok = range_key_ok; convert = range_key_convert; ask = range_ghost_ask; updates = true };
   revive = for_commit N-X;
+  revive_next = None;
+  vain = λ v. None;
   purges = Unlocked;
 }
 
@@ -147,5 +151,7 @@ abbrev pub next_key_ghost : GhostProtocol
 next_key_ghost = record {
   table = record { count = 5; ok = next_key_ok; convert = next_key_convert; ask = next_key_ask; updates = true };
   revive = for_commit KX;
+  revive_next = None;
+  vain = λ v. None;
   purges = Unlocked;
 }

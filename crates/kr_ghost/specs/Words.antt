@@ -20,6 +20,9 @@ rule_code rule.Delete = codes "G8"
 rule_code rule.Update = codes "G9"
 rule_code rule.Revive = codes "G10"
 rule_code rule.Heir = codes "G11"
+rule_code rule.InsertHit = codes "G12"
+rule_code rule.DeleteMiss = codes "G13"
+rule_code rule.UpdateMiss = codes "G14"
 
 -- The code of a cover.
 abbrev pub cover_code : Cover → List ℕ
@@ -35,3 +38,4 @@ access_words access.Delete = (codes "delete", codes "current")
 access_words access.Update = (codes "update", codes "current")
 access_words access.Revive = (codes "revive", codes "current")
 access_words access.Insert = (codes "insert", codes "next")
+access_words access.InsertHit = (codes "insert-hit", codes "current")

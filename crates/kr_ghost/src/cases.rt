@@ -40,6 +40,12 @@ pub enum Rule {
     Revive,
     /// What was read on a ghost is covered on the next name once the ghost is purged. Only where locks are inherited.
     Heir,
+    /// An insert of a present key covers it. Only where the table has a row for that.
+    InsertHit,
+    /// A delete of a key that is no name covers the gap. Only where the table has a row for that.
+    DeleteMiss,
+    /// An update of a key that is no name covers the gap. Only where the table has a row for that.
+    UpdateMiss,
 }
 
 /// What another transaction requests on a name.
@@ -57,6 +63,8 @@ pub enum Access {
     Revive,
     /// An insert of a new key into the gap below the name.
     Insert,
+    /// An insert of the key where it is present. Only where the table has a row for that.
+    InsertHit,
 }
 
 /// Another transaction with the mode that it has on the name, 0 for none, and what it requests there.
@@ -97,6 +105,9 @@ pub fn rule_code(rule: Rule) -> &'static str
         Rule::Update => "G9",
         Rule::Revive => "G10",
         Rule::Heir => "G11",
+        Rule::InsertHit => "G12",
+        Rule::DeleteMiss => "G13",
+        Rule::UpdateMiss => "G14",
     }
 }
 
@@ -123,5 +134,6 @@ pub fn access_words(access: Access) -> (&'static str, &'static str)
         Access::Update => ("update", "current"),
         Access::Revive => ("revive", "current"),
         Access::Insert => ("insert", "next"),
+        Access::InsertHit => ("insert-hit", "current"),
     }
 }

@@ -6,6 +6,7 @@
 
 mod cases;
 mod moves;
+mod vain;
 
 ghost use Rattle.std.specs.Prelude.{◌≡◌, ℕ, List, [], ◌∷◌, length};
 ghost use Rattle.kr_model.specs.declared.Name.TheVariants.{Key};
@@ -27,6 +28,7 @@ ghost use Rattle.kr_ghost.specs.Worked.{by, shown, after_delete, drops_locks, in
 
 pub use cases::{Access, Cover, FailedCase, Requester, Rule, access_words, cover_code, rule_code};
 pub use moves::Move;
+pub use vain::Vain;
 
 /// The main theorem for indexes with ghosts: every run under a lawful and safe protocol is serializable in commit order. For
 /// every list of moves, which are steps that transactions attempt on any keys and purges of any keys at any time, with blocked
@@ -79,7 +81,7 @@ pub fn tables_go_wrong()
     ensures next_inserts_plainly { GoesWrong next_inserts_plainly × (IsSafeGhost next_inserts_plainly → ⊥) }
 {}
 
-/// None of the eleven rules can be left out: a lawful protocol that fails no case but those of the rule has a run that
+/// None of the fourteen rules can be left out: a lawful protocol that fails no case but those of the rule has a run that
 /// isn't serializable in commit order.
 pub fn each_rule_is_needed()
     ensures { (rule : Rule) → IsNeeded rule }

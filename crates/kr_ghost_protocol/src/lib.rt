@@ -8,8 +8,9 @@ mod protocol;
 mod range_ghost;
 mod record_gap;
 
+pub use kr_ghost::Vain;
 pub use kr_protocol::{Mode, Protocol, Row, Side, Span};
 pub use next_key_ghost::NextKeyGhost;
-pub use protocol::GhostProtocol;
+pub use protocol::{GhostProtocol, vain_request};
 pub use range_ghost::RangeGhost;
 pub use record_gap::RecordGap;

@@ -6,6 +6,7 @@ ghost use Rattle.kr_ghost.proofs.Bundled.{next_key_ghost_lawful};
 ghost use Rattle.kr_ghost_protocol.specs.Names.{next_key_ghost_names};
 
 use crate::protocol::GhostProtocol;
+use kr_ghost::Vain;
 use kr_protocol::{Mode, Protocol, Row, Side, Span};
 
 const NONE: Mode = 0;
@@ -161,6 +162,14 @@ impl GhostProtocol for NextKeyGhost {
 
     fn revive(&self) -> Option<(Mode, Span)> {
         Some((KX, Span::Commit))
+    }
+
+    fn revive_next(&self) -> Option<(Mode, Span)> {
+        None
+    }
+
+    fn vain(&self, _vain: Vain) -> Option<Option<(Mode, Span)>> {
+        None
     }
 
     fn inherits(&self) -> bool {

@@ -6,6 +6,7 @@ ghost use Rattle.kr_ghost.specs.Tables.{range_ghost};
 ghost use Rattle.kr_ghost.proofs.Bundled.{range_ghost_lawful};
 
 use crate::protocol::GhostProtocol;
+use kr_ghost::Vain;
 use kr_protocol::{Mode, Protocol, RangeKey, Row, Side, Span};
 
 // A mode is named by its range part and its key part.
@@ -107,6 +108,14 @@ impl GhostProtocol for RangeGhost {
 
     fn revive(&self) -> Option<(Mode, Span)> {
         Some((N_X, Span::Commit))
+    }
+
+    fn revive_next(&self) -> Option<(Mode, Span)> {
+        None
+    }
+
+    fn vain(&self, _vain: Vain) -> Option<Option<(Mode, Span)>> {
+        None
     }
 
     fn inherits(&self) -> bool {

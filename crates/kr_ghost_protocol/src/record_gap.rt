@@ -8,6 +8,7 @@ ghost use Rattle.kr_ghost_protocol.specs.Parts.{has_gap, has_insert, record_numb
 
 use crate::parts::{GapPart, RecordPart};
 use crate::protocol::GhostProtocol;
+use kr_ghost::Vain;
 use kr_protocol::{Mode, Protocol, Row, Side, Span};
 
 // A mode is named by its part for the gap and its part for the key.
@@ -220,6 +221,14 @@ impl GhostProtocol for RecordGap {
 
     fn revive(&self) -> Option<(Mode, Span)> {
         Some((N_X, Span::Commit))
+    }
+
+    fn revive_next(&self) -> Option<(Mode, Span)> {
+        None
+    }
+
+    fn vain(&self, _vain: Vain) -> Option<Option<(Mode, Span)>> {
+        None
     }
 
     fn inherits(&self) -> bool {
