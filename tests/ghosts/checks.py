@@ -25,7 +25,7 @@ except ImportError:
 sys.dont_write_bytecode = True
 
 from compare import next_key_ghost, range_ghost, record_gap, some_table
-from model import ROWS, RULES, Table, check_report, is_safe
+from model import ROWS, RULES, VAIN, Table, check_report, is_safe
 
 BUNDLED = {'@record-gap': record_gap, '@range-ghost': range_ghost, '@next-key-ghost': next_key_ghost}
 TOP = pathlib.Path(__file__).resolve().parents[2]
@@ -57,6 +57,10 @@ def insert_clauses(rng, requests, names):
     return [clause(it, names, own) for it, own in groups if it]
 
 
+def side_of(row):
+    return 'next' if row in ('fetch-miss', 'scan-stop', 'delete-miss', 'update-miss') else 'current'
+
+
 def text_of(rng, table, names):
     """The table as a file of format 3."""
     modes, listed = range(1, table.count + 1), lambda items: f'[{", ".join(items)}]'
@@ -67,10 +71,12 @@ def text_of(rng, table, names):
     lines += ['[convert]'] + [f'{quoted(names[h])} = {{ {", ".join(pair(h, q) for q in modes)} }}' for h in modes]
     lines += ['[purge]'] + [f'{quoted(names[h])} = {quoted(names[table.heir[h]])}' for h in modes] if table.heir else []
     rows = {row: [clause(it, names)] if it else [] for row, it in table.rows.items() if row not in ('insert', 'insert-next')}
+    next_of_revive = rows.pop('revive-next')
     for row, clauses in rows.items():
-        if clauses or rng.random() < 0.5:
-            side = 'next' if row in ('fetch-miss', 'scan-stop') else 'current'
-            lines += [f'[rules.{row}]', f'{side} = {listed(clauses)}']
+        also = row == 'revive' and (next_of_revive or rng.random() < 0.3)
+        if clauses or also or row in VAIN or rng.random() < 0.5:
+            sides = [f'{side_of(row)} = {listed(clauses)}'] if clauses or rng.random() < 0.7 else []
+            lines += [f'[rules.{row}]', *sides] + [f'next = {listed(next_of_revive)}'] * bool(also)
     lines += ['[rules.insert]'] + [
         f'{side} = {listed(insert_clauses(rng, table.rows[row], names))}' for side, row in (('current', 'insert'), ('next', 'insert-next'))
     ]
@@ -89,7 +95,8 @@ def read(file):
         fits = (it for it in document['rules'].get(row, {}).get(side, []) if names[own] in it.get('own', names))
         return next(((number[it['mode']], it['span'] == 'commit') for it in fits), None)
 
-    rows = {row: asked(row, 'next' if row in ('fetch-miss', 'scan-stop') else 'current') for row in ROWS if 'insert' not in row}
+    rows = {row: asked(row, side_of(row)) for row in ROWS if 'insert' not in row} | {'revive-next': asked('revive', 'next')}
+    rows |= {row: asked(row, side_of(row)) for row in VAIN if row in document['rules']}
     rows |= {row: [asked('insert', side, own) for own in every] for row, side in (('insert', 'current'), ('insert-next', 'next'))}
     purge = document['purge']
     return Table(ok, convert, rows, None if purge == 'unlocked' else [0, *(number[purge[it]] for it in names[1:])], True)

@@ -19,12 +19,12 @@ import tempfile
 
 sys.dont_write_bytecode = True
 
-from model import END, READS, Run, Table, failed_cases, is_safe
+from model import END, READS, VAIN, Run, Table, failed_cases, is_safe
 
 TOP = pathlib.Path(__file__).resolve().parents[2]
 OPENING = [(10, 1), (20, 2), (30, 3)]
 KEYS = (10, 12, 15, 20, 25, 30, 35)
-ACCESSES = {'fetch-hit': 'Fetch', 'scan-key': 'Scan', 'delete': 'Delete', 'update': 'Update', 'revive': 'Revive', 'insert-next': 'Insert'}
+ACCESSES = {'fetch-hit': 'Fetch', 'scan-key': 'Scan', 'delete': 'Delete', 'update': 'Update', 'revive': 'Revive', 'insert-next': 'Insert', 'insert-hit': 'InsertHit'}
 OPS = {'fetch': 4, 'insert': 5, 'delete': 5, 'update': 2, 'scan': 3, 'go': 5, 'commit': 2, 'abort': 1, 'back': 2}
 HEAD = """-- Random tables and runs.
 use Rattle.std.specs.Prelude.{◌≡◌, ℕ, ◌==◌, true, false, [], ◌∷◌, List, Option, Some, None, length, map, refl, slice_index_or}
@@ -38,6 +38,8 @@ use Rattle.kr_model.specs.declared.Side.{Side}
 use Rattle.kr_model.specs.declared.Side.TheVariants.{Current, Next}
 use Rattle.kr_model.specs.declared.Span.{Span}
 use Rattle.kr_model.specs.Matrices.{ok_by, convert_by, for_commit, at_once}
+use Rattle.kr_ghost.specs.declared.vain.Vain.{Vain}
+use Rattle.kr_ghost.specs.declared.vain.Vain.TheVariants as vain
 use Rattle.kr_ghost.specs.Protocol.{GhostProtocol, Unlocked, Inherit}
 use Rattle.kr_ghost.specs.declared.moves.Move.TheVariants.{Purge}
 use Rattle.kr_ghost.specs.declared.cases.Rule.{Rule}
@@ -61,6 +63,11 @@ rows a b c d e f g h row.Delete Current own = g
 rows a b c d e f g h row.Update Current own = h
 rows a b c d e f g h _ _ own = None
 
+abbrev vains : Option Asked → Option Asked → Option Asked → Vain → Option Asked
+vains a b c vain.InsertHit = a
+vains a b c vain.DeleteMiss = b
+vains a b c vain.UpdateMiss = c
+
 abbrev heirs : List ℕ → ℕ → ℕ
 heirs list m = slice_index_or list m 0
 """
@@ -71,7 +78,7 @@ heirs list m = slice_index_or list m 0
 
 def drawn(beside, convert, rows, heir):
     """A table of `names`: modes from 1, with rows of a mode, `!` for instant, or of such by the own mode."""
-    return Table(beside, convert, rows, heir, True)
+    return Table(beside, convert, {**rows, 'revive-next': None}, heir, True)
 
 
 def parts_table(gaps, keys, gap_beside, gap_convert, key_of):
@@ -152,6 +159,11 @@ def some_table(rng):
         table = rng.choice([record_gap, range_ghost, next_key_ghost])()
         for _ in range(rng.choice((0, 1, 1, 2, 3))):
             changed(rng, table)
+    mode = lambda: rng.randint(1, table.count)
+    for row in (*VAIN, 'revive-next'):
+        if rng.random() < 0.2:
+            like = table.rows.get(VAIN.get(row), (mode(), True))
+            table.rows[row] = like if rng.random() < 0.5 else rng.choice([None, (mode(), True), (mode(), False)])
     if rng.random() < 0.3:
         table.updates, table.rows['update'] = False, None
     return table
@@ -205,12 +217,15 @@ def table_text(name, table):
     convert = listed(f'({listed(table.convert[h][q] for q in modes)})' for h in modes)
     rows = table.rows
     asked = [request(rows[it]) for it in READS] + [f'({listed(map(request, rows[it]))})' for it in ('insert', 'insert-next')] + [request(rows[it]) for it in ('delete', 'update')]
+    vain = ' '.join(f'(Some {request(rows[it])})' if it in rows else 'None' for it in VAIN)
     purges = 'Unlocked' if table.heir is None else f'Inherit (heirs ({listed(table.heir)}))'
     return f"""
 abbrev {name} : GhostProtocol
 {name} = record {{
   table = record {{ count = {table.count}; ok = ok_by ({ok}); convert = convert_by ({convert}); ask = rows {' '.join(asked)}; updates = {str(table.updates).lower()} }};
   revive = {request(rows['revive'])};
+  revive_next = {request(rows['revive-next'])};
+  vain = vains {vain};
   purges = {purges};
 }}
 """

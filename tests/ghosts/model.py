@@ -4,7 +4,8 @@ request is a mode and whether it is kept to commit."""
 
 END = float('inf')
 READS = ('fetch-hit', 'fetch-miss', 'scan-key', 'scan-stop')
-ROWS = (*READS, 'insert', 'insert-next', 'delete', 'update', 'revive')
+ROWS = (*READS, 'insert', 'insert-next', 'delete', 'update', 'revive', 'revive-next')
+VAIN = {'insert-hit': 'fetch-hit', 'delete-miss': 'fetch-miss', 'update-miss': 'fetch-miss'}  # rows that a table may lack, and which then count
 
 
 class Table:
@@ -16,6 +17,7 @@ class Table:
         self.count = len(ok) - 1
 
     def ask(self, row, own=0):
+        row = row if row in self.rows else VAIN[row]
         return self.rows[row][own] if row in ('insert', 'insert-next') else self.rows[row]
 
     def conflicts(self, request, own, held):
@@ -61,13 +63,15 @@ class Run:
 
     def requests(self, txn, op, key):
         ask, name = self.table.ask, self.name_from(key)
-        if op == 'insert' and key not in self.index:
-            if key in self.ghosts:
-                return [(key, ask('revive'))]
+        if op == 'insert' and key in self.index:
+            return [(key, ask('insert-hit'))]
+        if op == 'insert' and key in self.ghosts:
+            return [(key, ask('revive')), (self.name_from(key + 1), ask('revive-next'))]
+        if op == 'insert':
             return [(key, ask('insert', self.own(txn, name))), (name, ask('insert-next', self.own(txn, name)))]
         if key == name:
-            return [(key, ask({'fetch': 'fetch-hit', 'insert': 'fetch-hit'}.get(op, op)))]
-        return [(name, ask('fetch-miss'))]
+            return [(key, ask('fetch-hit' if op == 'fetch' else op))]
+        return [(name, ask(f'{op}-miss'))]
 
     def refusal(self, txn, op):
         now = self.active.get(txn, Active())
@@ -220,14 +224,14 @@ def whole(index, op):
 ACCESSES = {  # what a lock with the cover has to conflict with: rows, and the places of the report
     'ReadKey': ('delete', 'revive', 'update'),
     'ReadGap': ('insert-next',),
-    'ChangedKey': ('fetch-hit', 'scan-key', 'delete', 'revive', 'update'),
+    'ChangedKey': ('fetch-hit', 'scan-key', 'insert-hit', 'delete', 'revive', 'update'),
 }
 
 
 def first_open(table, cover, held):
     """The first requester that a lock in this mode lets through, of those that the cover must conflict with: its row, and its mode."""
     for row in ACCESSES[cover]:
-        if row != 'update' or table.updates:
+        if row in table.rows and (row != 'update' or table.updates):
             for own in range(table.count + 1):
                 if not table.conflicts(table.ask(row, own if row == 'insert-next' else 0), own, held):
                     return row, own
@@ -251,11 +255,13 @@ def failed_cases(table):
     if table.heir:
         heir = lambda h, n: table.convert[n][table.heir[h]]
         cases += [('Heir', 'ReadGap', (n, h), serves['ReadKey', h] or serves['ReadGap', h], heir(h, n)) for h in modes for n in or_none]
+    rules = (('InsertHit', 'ReadKey', 'insert-hit'), ('DeleteMiss', 'ReadGap', 'delete-miss'), ('UpdateMiss', 'ReadGap', 'update-miss'))
+    cases += [it for args in rules if args[2] in table.rows and (args[2] != 'update-miss' or table.updates) for it in row(*args)]
     failed = [(rule, cover, from_, mode, open_[cover, mode]) for rule, cover, from_, due, mode in cases if due and not serves[cover, mode]]
     return failed, len(cases)
 
 
-RULES = ('Conversion', 'FetchHit', 'FetchMiss', 'ScanName', 'ScanStop', 'Insert', 'Split', 'Delete', 'Update', 'Revive', 'Heir')
+RULES = ('Conversion', 'FetchHit', 'FetchMiss', 'ScanName', 'ScanStop', 'Insert', 'Split', 'Delete', 'Update', 'Revive', 'Heir', 'InsertHit', 'DeleteMiss', 'UpdateMiss')
 COVERS = {'ReadKey': 'RK', 'ReadGap': 'RG', 'ChangedKey': 'CK'}
 
 
@@ -288,8 +294,9 @@ def requests(table, present, x):
     read, changed = max(key, READ), lambda by: by if key <= READ else SEVERAL
     does = [('fetch-hit', present, read, gap), ('fetch-miss', present, key, True), ('scan-key', present, read, True), ('scan-stop', present, key, True), ('insert-next', present, key, gap)]
     does += [('delete', False, changed(DELETED) if present else read, gap)]
-    does += [('update', present, changed(UPDATED) if present else read, gap)] if table.updates else []
-    does += [] if present else [('revive', True, changed(INSERTED), gap)]
+    does += [('update', present, changed(UPDATED) if present else read, gap), ('update-miss', present, key, True)] if table.updates else []
+    does += [('insert-hit', True, read, gap) if present else ('revive', True, changed(INSERTED), gap)]
+    does += [('delete-miss', present, key, True), ('revive-next', present, key, gap)]
     for row, then, k, g in does:
         asked = table.ask(row, mode)
         yield row, asked, then, (table.after(mode, asked), k, g, False)
@@ -297,11 +304,11 @@ def requests(table, present, x):
 
 def keeps_out(present, x, row):
     key, gap = x[1], x[2]
-    if row in ('fetch-miss', 'scan-stop'):
+    if row in ('fetch-miss', 'scan-stop', 'delete-miss', 'update-miss', 'revive-next'):
         return False
     if row == 'insert-next':
         return gap
-    if row in ('fetch-hit', 'scan-key') or present == (row == 'revive'):
+    if row in ('fetch-hit', 'scan-key', 'insert-hit') or present == (row == 'revive'):
         return key > READ
     return key >= READ
 
