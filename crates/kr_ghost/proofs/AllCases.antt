@@ -14,7 +14,7 @@ use Rattle.kr_ghost.specs.Run.{GhostRunsAreSerial}
 use Rattle.kr_ghost.specs.declared.cases.Cover.{Cover}
 use Rattle.kr_ghost.specs.declared.cases.Cover.TheVariants.{ReadKey, ReadGap, ChangedKey}
 use Rattle.kr_ghost.specs.Covers.{serves, IsCoveredGhost}
-use Rattle.kr_ghost.specs.Safe.{KeyUse, Free, Read, Inserted, Updated, Deleted, Several, Hold, free, is_changed, is_read, Ask, FetchHit, FetchMiss, ScanName, ScanStop, Insert, Delete, Update, Revive, InsertHit, DeleteMiss, UpdateMiss, ReviveNext, asked, keeps_out, MayAsk, is_blocked, and_read, after, on_new_key, rolled, Undone, insert, update, delete, to_insert, to_update, to_delete, to_several, Quiet, commit, leave, roll, undo, inherits, Beside, start, turn, ask, quiet, third_asks, third_undoes, new, purge, IsSafeGhost}
+use Rattle.kr_ghost.specs.Safe.{KeyUse, Free, Read, Inserted, Updated, Deleted, Several, Hold, free, is_changed, is_read, Ask, FetchHit, FetchMiss, ScanName, ScanStop, Insert, Delete, Update, Revive, InsertHit, DeleteMiss, UpdateMiss, ReviveNext, InsertHitNext, asked, keeps_out, MayAsk, is_blocked, and_read, after, on_new_key, rolled, Undone, insert, update, delete, to_insert, to_update, to_delete, to_several, Quiet, commit, leave, roll, undo, inherits, Beside, start, turn, ask, quiet, third_asks, third_undoes, new, purge, IsSafeGhost}
 use Rattle.kr_ghost.proofs.Serving.{Serves, Covered, Inherits, covered, weaken as serves_read, no_delete, no_revive, no_update, no_insert, no_fetch, no_scan, no_insert_hit}
 use Rattle.kr_ghost.proofs.Grants.{open_none}
 use Rattle.kr_ghost.proofs.Holding.{Protects, changed_read}
@@ -123,6 +123,9 @@ module _ (p : GhostProtocol) (laws : IsLawfulGhost p) (cov : Covered p) where
   from_case ReviveNext b x io may ReadKey h = inl h
   from_case ReviveNext b x io may ReadGap h = inl h
   from_case ReviveNext b x io may ChangedKey h = inl h
+  from_case InsertHitNext b x io may ReadKey h = inl h
+  from_case InsertHitNext b x io may ReadGap h = inl h
+  from_case InsertHitNext b x io may ChangedKey h = inl h
 
   good_after : (a : Ask) (b : Bool) (x : Hold) → MayAsk p b x a → Good p x → Good p (after p b x a)
   good_after a b x may g =
@@ -274,6 +277,7 @@ module _ (p : GhostProtocol) (laws : IsLawfulGhost p) (cov : Covered p) where
   blocks DeleteMiss b x y gx gy may h = absurd (true≢false (sym h))
   blocks UpdateMiss b x y gx gy may h = absurd (true≢false (sym h))
   blocks ReviveNext b x y gx gy may h = absurd (true≢false (sym h))
+  blocks InsertHitNext b x y gx gy may h = absurd (true≢false (sym h))
 
 -- A lawful protocol of which all cases hold is safe.
 pub covered_is_safe : (p : GhostProtocol) → IsLawfulGhost p → IsCoveredGhost p → IsSafeGhost p

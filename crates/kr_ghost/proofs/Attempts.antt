@@ -11,14 +11,14 @@ use Rattle.kr_model.specs.Map.{Map, get, at}
 use Rattle.kr_model.specs.State.{standing}
 use Rattle.kr_model.specs.Step.{fetched, inserted, deleted, updated}
 use Rattle.kr_model.specs.Run.{Entry}
-use Rattle.kr_model.specs.Serial.{whole_insert, whole_delete, whole_update, found_or_none}
+use Rattle.kr_model.specs.Serial.{whole_delete, whole_update, found_or_none}
 use Rattle.kr_theorem.proofs.gaps.Gaps.{has}
 use Rattle.kr_theorem.proofs.gaps.Maps.{has_none, has_some}
 use Rattle.kr_ghost.specs.Protocol.{GhostProtocol}
 use Rattle.kr_ghost.specs.State.{GhostState, named, among, stand_by, stand, ghosts_with}
 use Rattle.kr_ghost.specs.Step.{keyed_requests, insert_requests, granted_or_blocked, performed}
 use Rattle.kr_ghost.specs.declared.cases.Cover.TheVariants.{ReadKey}
-use Rattle.kr_ghost.specs.Safe.{KeyUse, Updated, Deleted, Hold, is_read, is_changed, FetchHit, FetchMiss, Delete, Update, Revive, InsertHit, DeleteMiss, UpdateMiss, keeps_out, and_read, and_changed}
+use Rattle.kr_ghost.specs.Safe.{KeyUse, Updated, Deleted, Hold, is_read, is_changed, FetchHit, FetchMiss, Delete, Update, Revive, DeleteMiss, UpdateMiss, keeps_out, and_read, and_changed}
 use Rattle.kr_ghost.proofs.Names.{has-named, present_named, ghost_named, written_names, updated_names, or_first}
 use Rattle.kr_ghost.proofs.Holding.{Protects}
 use Rattle.kr_ghost.proofs.Sim.{Sim}
@@ -26,7 +26,7 @@ use Rattle.kr_ghost.proofs.Known.{Known, KnownAfter, stays, not_rolling}
 use Rattle.kr_ghost.proofs.Turn.{Turn}
 use Rattle.kr_ghost.proofs.Reading.{hit, miss}
 use Rattle.kr_ghost.proofs.Writing.{change, new_key}
-use Rattle.kr_ghost.proofs.Revived.{revive}
+use Rattle.kr_ghost.proofs.Inserted.{found_key, revive}
 
 module _ (p : GhostProtocol) (opening : Map) (h : List Entry) (s : GhostState) (g : Known p opening h s) (t : ℕ) (turn : Turn p opening h s g t) where
   abbrev m : Map
@@ -89,9 +89,7 @@ module _ (p : GhostProtocol) (opening : Map) (h : List Entry) (s : GhostState) (
       (granted_or_blocked p s t (insert_requests p k (at e k) (own l t (at e k)) (at e (suc k)) (stand_by w ghost))
       (inserted m (standing s.state t) k v w) (if is_some w then s.ghosts else ghosts_with s.ghosts k (Some v)) bs)
   insert_decided k v w ghost (u ∷ us) is out b = stays p opening h s g t (op.Insert k v) (reply.Blocked (u ∷ us)) refl refl
-  insert_decided k v (Some w) ghost [] is out b =
-      hit p opening h s g t turn (op.Insert k v) reply.Duplicate k InsertHit (present k w is) (unrolled (Key k), has_some m k w is) refl refl refl
-      (ap (λ o. (whole_insert m k v o).1) is) (sym (ap (λ o. (whole_insert m k v o).0) is)) (λ y z. z) refl (λ f. refl) refl b
+  insert_decided k v (Some w) ghost [] is out b = found_key p opening h s g t turn k v w is (present k w is) b
   insert_decided k v None true [] is out b =
       revive p opening h s g t turn k v is (is_ghost_name k out) (written_names m s.ghosts k (Some v) (is_ghost_name k out)) (λ x reads. revive_keeps (has m k) (has_none m k is) x reads) b
   insert_decided k v None false [] is out b = new_key p opening h s g t turn k v is (no_name k is out) b

@@ -41,6 +41,7 @@ record_gap_lawful = record {
   revive = mode_is record_gap.table 2 (record { some = omega arith; in_range = omega arith });
   revive_next = asks_nothing record_gap.table;
   vain = no_rows record_gap.table;
+  insert_hit_next = asks_nothing record_gap.table;
   purges = (refl, to_gap_within);
 }
 
@@ -50,6 +51,7 @@ range_ghost_lawful = record {
   revive = mode_is range_ghost.table 2 (record { some = omega arith; in_range = omega arith });
   revive_next = asks_nothing range_ghost.table;
   vain = no_rows range_ghost.table;
+  insert_hit_next = asks_nothing range_ghost.table;
   purges = tt;
 }
 
@@ -59,6 +61,7 @@ next_key_ghost_lawful = record {
   revive = mode_is next_key_ghost.table 5 (record { some = omega arith; in_range = omega arith });
   revive_next = asks_nothing next_key_ghost.table;
   vain = no_rows next_key_ghost.table;
+  insert_hit_next = asks_nothing next_key_ghost.table;
   purges = tt;
 }
 

@@ -132,9 +132,24 @@ module _ (p : GhostProtocol) (laws : IsLawfulGhost p) (s : GhostState) (f : Form
       (λ same. ap (has e') same ∙ names k ∙ there)
       (λ older. names y ∙ f.changed t y older) c)
 
+  -- A present key that is inserted.
+  found_keeps : (k v w : ℕ) → get m k ≡ Some w → (us : List ℕ)
+      → Formed p (granted_or_blocked p s t (on (Key k) (vain p InsertHit) ++ on (at e (suc k)) p.insert_hit_next) (inserted m a k v (Some w)) s.ghosts us).1
+  found_keeps k v w is us =
+      let n = at e (suc k) in
+      let one = vain p InsertHit in
+      attempt_keeps p laws s f t (on (Key k) one ++ on n p.insert_hit_next) (inserted m a k v (Some w)) s.ghosts us
+      (asks_both p.table (on (Key k) one) (on n p.insert_hit_next) (asks_one p laws (Key k) one (vain_mode p laws InsertHit)) (asks_one p laws n p.insert_hit_next laws.insert_hit_next))
+      f.is_map f.rising f.absent (λ y there. there)
+      (λ u y gone.
+      ap (λ z. own z u (Key y)) (kept_append p.table l t (on (Key k) one) (on n p.insert_hit_next))
+      ∙ elsewhere p.table (kept p.table l t (on (Key k) one)) t n p.insert_hit_next u (Key y) (λ both. not_at e he (suc k) y gone both.1)
+      ∙ elsewhere p.table l t (Key k) one u (Key y) (λ both. not_key e k y (present k w is) gone both.1) ∙ f.locked u y gone)
+      (λ y c. f.changed t y c)
+
   insert_keeps : (k v : ℕ) (w : Option ℕ) (g : Bool) → get m k ≡ w → among s.ghosts k ≡ g → (us : List ℕ)
       → Formed p (granted_or_blocked p s t (insert_requests p k (at e k) (own l t (at e k)) (at e (suc k)) (stand_by w g)) (inserted m a k v w) (if is_some w then s.ghosts else ghosts_with s.ghosts k (Some v)) us).1
-  insert_keeps k v (Some w) g is out us = read_keeps p laws s f t (Key k) (vain p InsertHit) (vain_mode p laws InsertHit) (λ y none. not_key e k y (present k w is) none) (inserted m a k v (Some w)) refl refl us
+  insert_keeps k v (Some w) g is out us = found_keeps k v w is us
   insert_keeps k v None true is out us = revive_keeps k v is (ghost_named m s.ghosts k out) us
   insert_keeps k v None false is out us = new_keeps k v is (no_name k is out) us
 

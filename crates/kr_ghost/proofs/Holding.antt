@@ -10,7 +10,7 @@ use Rattle.kr_theorem.proofs.gaps.Undo.{ChangedIn}
 use Rattle.kr_ghost.specs.Protocol.{GhostProtocol}
 use Rattle.kr_ghost.specs.declared.cases.Cover.{Cover}
 use Rattle.kr_ghost.specs.declared.cases.Cover.TheVariants.{ReadKey, ReadGap, ChangedKey}
-use Rattle.kr_ghost.specs.Safe.{KeyUse, Free, Read, Inserted, Updated, Deleted, Several, Hold, is_changed, is_read, Ask, FetchHit, FetchMiss, ScanName, ScanStop, Insert, Delete, Update, Revive, InsertHit, DeleteMiss, UpdateMiss, ReviveNext, keeps_out, by_key, and_read, and_changed, key_after, gap_after, after}
+use Rattle.kr_ghost.specs.Safe.{KeyUse, Free, Read, Inserted, Updated, Deleted, Several, Hold, is_changed, is_read, Ask, FetchHit, FetchMiss, ScanName, ScanStop, Insert, Delete, Update, Revive, InsertHit, DeleteMiss, UpdateMiss, ReviveNext, InsertHitNext, keeps_out, by_key, and_read, and_changed, key_after, gap_after, after}
 use Rattle.kr_ghost.proofs.Names.{or_first}
 
 -- The lock state of each transaction on each name.
@@ -102,6 +102,7 @@ key_reads present k InsertHit h = read_reads k
 key_reads present k DeleteMiss h = h
 key_reads present k UpdateMiss h = h
 key_reads present k ReviveNext h = h
+key_reads present k InsertHitNext h = h
 
 key_changes : (present : Bool) (k : KeyUse) (a : Ask) → is_changed k ≡ true → is_changed (key_after present k a) ≡ true
 key_changes present k FetchHit h = read_keeps k h
@@ -116,6 +117,7 @@ key_changes present k InsertHit h = read_keeps k h
 key_changes present k DeleteMiss h = h
 key_changes present k UpdateMiss h = h
 key_changes present k ReviveNext h = h
+key_changes present k InsertHitNext h = h
 
 gap_stays : (gap : Bool) (a : Ask) → gap ≡ true → gap_after gap a ≡ true
 gap_stays gap FetchHit h = h
@@ -130,6 +132,7 @@ gap_stays gap InsertHit h = h
 gap_stays gap DeleteMiss h = refl
 gap_stays gap UpdateMiss h = refl
 gap_stays gap ReviveNext h = h
+gap_stays gap InsertHitNext h = h
 
 -- So what was protected before a request is protected after it.
 pub after_protects : (p : GhostProtocol) (present : Bool) (x : Hold) (a : Ask) (c : Cover) → Protects c x → Protects c (after p present x a)
@@ -171,6 +174,7 @@ changed_keeps_out present x InsertHit of_key h = or_first (is_changed x.key) fal
 changed_keeps_out present x DeleteMiss of_key h = absurd (true≢false (sym of_key))
 changed_keeps_out present x UpdateMiss of_key h = absurd (true≢false (sym of_key))
 changed_keeps_out present x ReviveNext of_key h = absurd (true≢false (sym of_key))
+changed_keeps_out present x InsertHitNext of_key h = absurd (true≢false (sym of_key))
 
 -- Changes of a key --
 

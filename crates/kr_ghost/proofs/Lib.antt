@@ -17,7 +17,8 @@ pub mod Known
 pub mod Turn
 pub mod Reading
 pub mod Writing
-pub mod Revived
+pub mod OnNext
+pub mod Inserted
 pub mod Attempts
 pub mod Looks
 pub mod Ends

@@ -17,7 +17,7 @@ use Rattle.kr_ghost.specs.declared.vain.Vain.TheVariants as vain
 use Rattle.kr_ghost.specs.Protocol.{GhostProtocol, AsksMode, IsLawfulGhost}
 use Rattle.kr_ghost.specs.Step as step
 use Rattle.kr_ghost.specs.Step.{on, as_fetch, missed}
-use Rattle.kr_ghost.specs.Safe.{Ask, FetchHit, FetchMiss, ScanName, ScanStop, Insert, Delete, Update, Revive, InsertHit, DeleteMiss, UpdateMiss, ReviveNext, asked}
+use Rattle.kr_ghost.specs.Safe.{Ask, FetchHit, FetchMiss, ScanName, ScanStop, Insert, Delete, Update, Revive, InsertHit, DeleteMiss, UpdateMiss, ReviveNext, InsertHitNext, asked}
 use Rattle.kr_ghost.proofs.Names.{key_is}
 
 module _ (p : GhostProtocol) (laws : IsLawfulGhost p) where
@@ -59,6 +59,7 @@ module _ (p : GhostProtocol) (laws : IsLawfulGhost p) where
   ask_mode DeleteMiss o io = vain_mode vain.DeleteMiss
   ask_mode UpdateMiss o io = vain_mode vain.UpdateMiss
   ask_mode ReviveNext o io = laws.revive_next
+  ask_mode InsertHitNext o io = laws.insert_hit_next
 
   pub asks_one : (n : Name) (request : Option (ℕ × Span)) → AsksMode p.table request → AskModes p.table (request_at (Some n) request)
   asks_one n None mode = tt

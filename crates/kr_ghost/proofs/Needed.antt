@@ -80,7 +80,7 @@ abbrev table_asking : (Row → Side → ℕ → Option (ℕ × Span)) → Protoc
 table_asking ask = record kvl { ask = ask; updates = true }
 
 abbrev asking : (Row → Side → ℕ → Option (ℕ × Span)) → GhostProtocol
-asking ask = record { table = table_asking ask; revive = for_commit X; revive_next = None; vain = λ v. None; purges = Inherit shared_heir }
+asking ask = record { table = table_asking ask; revive = for_commit X; revive_next = None; vain = λ v. None; insert_hit_next = None; purges = Inherit shared_heir }
 
 -- A table of which no case but n of the rule fails, and a run of it with a difference.
 needed : (p : GhostProtocol) (r : Rule) (n : ℕ) (moves : List Move) (d : Difference) → IsLawfulGhost p → map (λ f. f.case) (failed_cases p) ≡ replicate n r
@@ -94,6 +94,7 @@ asking_lawful ask laws = record {
   revive = mode_is (table_asking ask) X (record { some = omega arith; in_range = omega arith });
   revive_next = asks_nothing (table_asking ask);
   vain = no_rows (table_asking ask);
+  insert_hit_next = asks_nothing (table_asking ask);
   purges = (refl, shared_within);
 }
 
@@ -108,7 +109,7 @@ forgets_shared_table = record (table_asking keeps_next_ask) {
 }
 
 abbrev forgets_shared : GhostProtocol
-forgets_shared = record { table = forgets_shared_table; revive = for_commit X; revive_next = None; vain = λ v. None; purges = Inherit shared_heir }
+forgets_shared = record { table = forgets_shared_table; revive = for_commit X; revive_next = None; vain = λ v. None; insert_hit_next = None; purges = Inherit shared_heir }
 
 conversion_needed : IsNeeded Conversion
 conversion_needed = needed forgets_shared Conversion 1 (by 1 (op.Fetch 17) ∷ by 1 (op.Insert 15 5) ∷ by 2 (op.Insert 17 7) ∷ then_commit (2 ∷ 1 ∷ [])) (differ 1 1 reply.None (reply.Found 7))
@@ -117,6 +118,7 @@ conversion_needed = needed forgets_shared Conversion 1 (by 1 (op.Fetch 17) ∷ b
       revive = mode_is forgets_shared_table X (record { some = omega arith; in_range = omega arith });
       revive_next = asks_nothing forgets_shared_table;
       vain = no_rows forgets_shared_table;
+      insert_hit_next = asks_nothing forgets_shared_table;
       purges = (refl, shared_within);
     }) refl refl
 
@@ -212,6 +214,7 @@ revive_needed = needed revives_at_once Revive 3 (after_delete (by 2 (op.Insert 2
       revive = requested_is (table_asking key_ask) X Instant (record { some = omega arith; in_range = omega arith });
       revive_next = asks_nothing (table_asking key_ask);
       vain = no_rows (table_asking key_ask);
+      insert_hit_next = asks_nothing (table_asking key_ask);
       purges = (refl, shared_within);
     }) refl refl
 
@@ -226,6 +229,7 @@ heir_needed = needed drops Heir 15 (after_delete (by 2 (op.Fetch 20) ∷ Purge 2
       revive = mode_is (table_asking key_ask) X (record { some = omega arith; in_range = omega arith });
       revive_next = asks_nothing (table_asking key_ask);
       vain = no_rows (table_asking key_ask);
+      insert_hit_next = asks_nothing (table_asking key_ask);
       purges = (refl, λ h le. omega arith);
     }) refl refl
 
@@ -263,6 +267,7 @@ passing_lawful w = record {
   revive = mode_is (table_asking key_ask) X (record { some = omega arith; in_range = omega arith });
   revive_next = asks_nothing (table_asking key_ask);
   vain = row_asks w;
+  insert_hit_next = asks_nothing (table_asking key_ask);
   purges = (refl, shared_within);
 }
 

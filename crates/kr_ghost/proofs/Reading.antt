@@ -84,6 +84,23 @@ module _ (p : GhostProtocol) (opening : Map) (h : List Entry) (s : GhostState) (
       (record { scan = subst (λ z. StandsScan None z) (sym turn.idle) tt; changes = same_changes p opening h s g t turn.live; rolling = same_rolling p opening h s g t turn.live })
 
   -- A key that is a name is read.
+  pub hit_granted : (o : Op) (a : Reply) (k : ℕ) (r : Ask) → has e k ≡ true → MayAsk p (has m k) (g.hold t (Key k)) r → present_after (has m k) r ≡ has m k
+      → key_after (has m k) (g.hold t (Key k)).key r ≡ and_read (g.hold t (Key k)).key
+      → is_of_key r ≡ true
+      → after_op m o ≡ m → a ≡ answer m o → ((y : ℕ) → Points o y → y ≡ k)
+      → (is_operation o && is_granted a) ≡ true → ((f : List Entry) → answer_of t o a f ≡ a) → is_committed a ≡ false
+      → Free p.table (own l) t (Key k) (asked p r (own l t (Key k)))
+      → KnownAfter p opening h t o (a, record { state = state_after s.state m (locks_after p s t (Key k) r) (put nat_cmp t (standing s.state t) s.state.active); ghosts = s.ghosts })
+  hit_granted o a k r there may stays_so reads of_key still a_is points granted same no_commit grant =
+      let w = guards p opening h s g in
+      let state : Hold = after p (has m k) (g.hold t (Key k)) r in
+      let self : Protects ReadKey state = ap is_read reads ∙ read_reads (g.hold t (Key k)).key in
+      read o a (Key k) r k may stays_so (subst (λ x. Fits (olds (g.part t).changes k) x) (sym reads) (fits_read (olds (g.part t).changes k) (g.hold t (Key k)).key (z.fits t (Key k)))) grant
+      still a_is points granted same no_commit (λ y none. not_key e k y there none)
+      (covered_name e (with_hold g.hold t (Key k) state) he t k there (subst (λ x. Protects ReadKey x) (sym (hold_here g.hold t (Key k) state)) self))
+      (λ u ne changed. kept_out p opening h s g t turn (Key k) r may grant u ne (changed_keeps_out (has m k) (g.hold u (Key k)) r of_key (w.change u k changed)))
+
+  -- Granted where nobody blocks it.
   pub hit : (o : Op) (a : Reply) (k : ℕ) (r : Ask) → has e k ≡ true → MayAsk p (has m k) (g.hold t (Key k)) r → present_after (has m k) r ≡ has m k
       → key_after (has m k) (g.hold t (Key k)).key r ≡ and_read (g.hold t (Key k)).key
       → is_of_key r ≡ true
@@ -92,14 +109,7 @@ module _ (p : GhostProtocol) (opening : Map) (h : List Entry) (s : GhostState) (
       → blockers p.table l t (on (Key k) (asked p r (own l t (Key k)))) ≡ []
       → KnownAfter p opening h t o (a, record { state = state_after s.state m (locks_after p s t (Key k) r) (put nat_cmp t (standing s.state t) s.state.active); ghosts = s.ghosts })
   hit o a k r there may stays_so reads of_key still a_is points granted same no_commit free =
-      let w = guards p opening h s g in
-      let grant = free_one p opening h s g turn.laws t (Key k) r free in
-      let state : Hold = after p (has m k) (g.hold t (Key k)) r in
-      let self : Protects ReadKey state = ap is_read reads ∙ read_reads (g.hold t (Key k)).key in
-      read o a (Key k) r k may stays_so (subst (λ x. Fits (olds (g.part t).changes k) x) (sym reads) (fits_read (olds (g.part t).changes k) (g.hold t (Key k)).key (z.fits t (Key k)))) grant
-      still a_is points granted same no_commit (λ y none. not_key e k y there none)
-      (covered_name e (with_hold g.hold t (Key k) state) he t k there (subst (λ x. Protects ReadKey x) (sym (hold_here g.hold t (Key k) state)) self))
-      (λ u ne changed. kept_out p opening h s g t turn (Key k) r may grant u ne (changed_keeps_out (has m k) (g.hold u (Key k)) r of_key (w.change u k changed)))
+      hit_granted o a k r there may stays_so reads of_key still a_is points granted same no_commit (free_one p opening h s g turn.laws t (Key k) r free)
 
   -- A key that is no name is looked for.
   pub miss : (o : Op) (a : Reply) (k : ℕ) (r : Ask) → has e k ≡ false → ((b : Bool) (x : Hold) → x.rolling ≡ false → MayAsk p b x r)

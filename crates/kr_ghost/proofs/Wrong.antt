@@ -79,6 +79,7 @@ drops_locks-unsafe =
       revive = mode_is record_gap.table 2 (record { some = omega arith; in_range = omega arith });
       revive_next = asks_nothing record_gap.table;
       vain = no_rows record_gap.table;
+      insert_hit_next = asks_nothing record_gap.table;
       purges = (refl, λ h le. omega arith);
     }) drops_locks-wrong
 
@@ -96,6 +97,7 @@ inherits_only_gaps-unsafe =
       revive = mode_is record_gap.table 2 (record { some = omega arith; in_range = omega arith });
       revive_next = asks_nothing record_gap.table;
       vain = no_rows record_gap.table;
+      insert_hit_next = asks_nothing record_gap.table;
       purges = (refl, only_gaps_within);
     }) inherits_only_gaps-wrong
 
@@ -106,6 +108,7 @@ inserts_plainly-unsafe =
       revive = mode_is inserts_plainly.table 2 (record { some = omega arith; in_range = omega arith });
       revive_next = asks_nothing inserts_plainly.table;
       vain = no_rows inserts_plainly.table;
+      insert_hit_next = asks_nothing inserts_plainly.table;
       purges = (let w = record_gap_lawful in w.purges);
     }) inserts_plainly-wrong
 
@@ -116,6 +119,7 @@ revives_freely-unsafe =
       revive = asks_nothing record_gap.table;
       revive_next = asks_nothing record_gap.table;
       vain = no_rows record_gap.table;
+      insert_hit_next = asks_nothing record_gap.table;
       purges = (let w = record_gap_lawful in w.purges);
     }) revives_freely-wrong
 
@@ -126,6 +130,7 @@ purges_locked-unsafe =
       revive = mode_is range_ghost.table 2 (record { some = omega arith; in_range = omega arith });
       revive_next = asks_nothing range_ghost.table;
       vain = no_rows range_ghost.table;
+      insert_hit_next = asks_nothing range_ghost.table;
       purges = (refl, λ h le. omega arith);
     }) purges_locked-wrong
 
@@ -136,6 +141,7 @@ range_inserts_plainly-unsafe =
       revive = mode_is range_inserts_plainly.table 2 (record { some = omega arith; in_range = omega arith });
       revive_next = asks_nothing range_inserts_plainly.table;
       vain = no_rows range_inserts_plainly.table;
+      insert_hit_next = asks_nothing range_inserts_plainly.table;
       purges = tt;
     }) range_inserts_plainly-wrong
 
@@ -146,5 +152,6 @@ next_inserts_plainly-unsafe =
       revive = mode_is next_inserts_plainly.table 5 (record { some = omega arith; in_range = omega arith });
       revive_next = asks_nothing next_inserts_plainly.table;
       vain = no_rows next_inserts_plainly.table;
+      insert_hit_next = asks_nothing next_inserts_plainly.table;
       purges = tt;
     }) next_inserts_plainly-wrong

@@ -28,6 +28,8 @@ pub record GhostProtocol : Type 0 where
   pub revive_next : Option (ℕ × Span)
   -- what a vain step requests; nothing here where it requests what a fetch does
   pub vain : Vain → Option (Option (ℕ × Span))
+  -- what an insert of a present key requests on the next name
+  pub insert_hit_next : Option (ℕ × Span)
   pub purges : Purges
 
 -- An inherited mode is none or a mode, and no lock leaves no lock.
@@ -45,4 +47,5 @@ pub record IsLawfulGhost (p : GhostProtocol) : Type 0 where
   pub revive : AsksMode p.table p.revive
   pub revive_next : AsksMode p.table p.revive_next
   pub vain : (v : Vain) (asked : Option (ℕ × Span)) → p.vain v ≡ Some asked → AsksMode p.table asked
+  pub insert_hit_next : AsksMode p.table p.insert_hit_next
   pub purges : IsLawfulPurge p.table p.purges

@@ -45,7 +45,7 @@ is_read _ = true
 
 -- Requests --
 
--- What is requested of a name; an insert requests its lock on the next name here. A revive is an insert of a ghost, with a request on the next name too; and an insert of a present key, and a delete or an update of one that is no name, change nothing.
+-- What is requested of a name; an insert requests its lock on the next name here. A revive is an insert of a ghost; it and an insert of a present key may request a lock on the next name too.
 pub data Ask : Type 0 where
   FetchHit : Ask
   FetchMiss : Ask
@@ -59,6 +59,7 @@ pub data Ask : Type 0 where
   DeleteMiss : Ask
   UpdateMiss : Ask
   ReviveNext : Ask
+  InsertHitNext : Ask
 
 -- The mode and span requested by one whose own mode there is o.
 abbrev pub asked : GhostProtocol → Ask → ℕ → Option (ℕ × Span)
@@ -74,6 +75,7 @@ asked p InsertHit o = step.vain p vain.InsertHit
 asked p DeleteMiss o = step.vain p vain.DeleteMiss
 asked p UpdateMiss o = step.vain p vain.UpdateMiss
 asked p ReviveNext o = p.revive_next
+asked p InsertHitNext o = p.insert_hit_next
 
 -- Whom a lock state has to keep out for the sake of the key, by whether the key is present: who has changed it keeps out all who read or change it; who has read it keeps out all who change it, a present key by a delete or an update, and a ghost by an insert.
 abbrev pub by_key : Bool → KeyUse → Ask → Bool
@@ -83,6 +85,7 @@ by_key present k Insert = false
 by_key present k DeleteMiss = false
 by_key present k UpdateMiss = false
 by_key present k ReviveNext = false
+by_key present k InsertHitNext = false
 by_key present k FetchHit = is_changed k
 by_key present k InsertHit = is_changed k
 by_key present k ScanName = is_changed k

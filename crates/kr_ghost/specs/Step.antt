@@ -65,7 +65,7 @@ keyed_requests p r k n Absent = on n (missed p r)
 
 -- An insert of k, where n is the least name not below k, on which its own mode is o, and above the least name above k.
 abbrev pub insert_requests : GhostProtocol → ℕ → Name → ℕ → Name → Stand → List Request
-insert_requests p k n o above Present = on (Key k) (vain p InsertHit)
+insert_requests p k n o above Present = on (Key k) (vain p InsertHit) ++ on above p.insert_hit_next
 insert_requests p k n o above Ghost = on (Key k) p.revive ++ on above p.revive_next
 insert_requests p k n o above Absent = on (Key k) (p.table.ask row.Insert Current o) ++ on n (p.table.ask row.Insert Next o)
 

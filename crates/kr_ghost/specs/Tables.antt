@@ -76,6 +76,7 @@ record_gap = record {
   revive = for_commit N-X;
   revive_next = None;
   vain = λ v. None;
+  insert_hit_next = None;
   purges = Inherit to_gap;
 }
 
@@ -104,6 +105,7 @@ range_ghost = record {
   revive = for_commit N-X;
   revive_next = None;
   vain = λ v. None;
+  insert_hit_next = None;
   purges = Unlocked;
 }
 
@@ -153,5 +155,6 @@ next_key_ghost = record {
   revive = for_commit KX;
   revive_next = None;
   vain = λ v. None;
+  insert_hit_next = None;
   purges = Unlocked;
 }

@@ -172,6 +172,10 @@ impl GhostProtocol for NextKeyGhost {
         None
     }
 
+    fn insert_hit_next(&self) -> Option<(Mode, Span)> {
+        None
+    }
+
     fn inherits(&self) -> bool {
         false
     }

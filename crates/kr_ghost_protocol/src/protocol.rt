@@ -26,6 +26,10 @@ pub trait GhostProtocol: Protocol {
     fn vain(&self, vain: Vain) -> Option<Option<(Mode, Span)>>
         ensures { result ≡ (ghosts self.now).vain vain };
 
+    /// The mode that an insert of a present key requests on the next name, and how long it is held. At `None` nothing is asked.
+    fn insert_hit_next(&self) -> Option<(Mode, Span)>
+        ensures { result ≡ (ghosts self.now).insert_hit_next };
+
     /// Whether the locks on a ghost that is purged are inherited. Where they aren't, the purge waits until there are none.
     fn inherits(&self) -> bool
         ensures { result ≡ inherits (ghosts self.now).purges };
@@ -56,6 +60,10 @@ impl<P: GhostProtocol> GhostProtocol for &P {
 
     fn vain(&self, vain: Vain) -> Option<Option<(Mode, Span)>> {
         P::vain(*self, vain)
+    }
+
+    fn insert_hit_next(&self) -> Option<(Mode, Span)> {
+        P::insert_hit_next(*self)
     }
 
     fn inherits(&self) -> bool {

@@ -118,6 +118,10 @@ impl GhostProtocol for RangeGhost {
         None
     }
 
+    fn insert_hit_next(&self) -> Option<(Mode, Span)> {
+        None
+    }
+
     fn inherits(&self) -> bool {
         false
     }

@@ -231,6 +231,10 @@ impl GhostProtocol for RecordGap {
         None
     }
 
+    fn insert_hit_next(&self) -> Option<(Mode, Span)> {
+        None
+    }
+
     fn inherits(&self) -> bool {
         true
     }
