@@ -71,12 +71,12 @@ def text_of(rng, table, names):
     lines += ['[convert]'] + [f'{quoted(names[h])} = {{ {", ".join(pair(h, q) for q in modes)} }}' for h in modes]
     lines += ['[purge]'] + [f'{quoted(names[h])} = {quoted(names[table.heir[h]])}' for h in modes] if table.heir else []
     rows = {row: [clause(it, names)] if it else [] for row, it in table.rows.items() if row not in ('insert', 'insert-next')}
-    next_of_revive = rows.pop('revive-next')
+    beside = {it: rows.pop(f'{it}-next') for it in ('revive', 'insert-hit')}
     for row, clauses in rows.items():
-        also = row == 'revive' and (next_of_revive or rng.random() < 0.3)
+        also = row in beside and (beside[row] or rng.random() < 0.3)
         if clauses or also or row in VAIN or rng.random() < 0.5:
             sides = [f'{side_of(row)} = {listed(clauses)}'] if clauses or rng.random() < 0.7 else []
-            lines += [f'[rules.{row}]', *sides] + [f'next = {listed(next_of_revive)}'] * bool(also)
+            lines += [f'[rules.{row}]', *sides] + [f'next = {listed(beside[row])}' for _ in range(bool(also))]
     lines += ['[rules.insert]'] + [
         f'{side} = {listed(insert_clauses(rng, table.rows[row], names))}' for side, row in (('current', 'insert'), ('next', 'insert-next'))
     ]
@@ -95,7 +95,7 @@ def read(file):
         fits = (it for it in document['rules'].get(row, {}).get(side, []) if names[own] in it.get('own', names))
         return next(((number[it['mode']], it['span'] == 'commit') for it in fits), None)
 
-    rows = {row: asked(row, side_of(row)) for row in ROWS if 'insert' not in row} | {'revive-next': asked('revive', 'next')}
+    rows = {row: asked(row, side_of(row)) for row in ROWS if 'insert' not in row} | {f'{it}-next': asked(it, 'next') for it in ('revive', 'insert-hit')}
     rows |= {row: asked(row, side_of(row)) for row in VAIN if row in document['rules']}
     rows |= {row: [asked('insert', side, own) for own in every] for row, side in (('insert', 'current'), ('insert-next', 'next'))}
     purge = document['purge']

@@ -78,7 +78,7 @@ heirs list m = slice_index_or list m 0
 
 def drawn(beside, convert, rows, heir):
     """A table of `names`: modes from 1, with rows of a mode, `!` for instant, or of such by the own mode."""
-    return Table(beside, convert, {**rows, 'revive-next': None}, heir, True)
+    return Table(beside, convert, {**rows, 'revive-next': None, 'insert-hit-next': None}, heir, True)
 
 
 def parts_table(gaps, keys, gap_beside, gap_convert, key_of):
@@ -160,10 +160,12 @@ def some_table(rng):
         for _ in range(rng.choice((0, 1, 1, 2, 3))):
             changed(rng, table)
     mode = lambda: rng.randint(1, table.count)
-    for row in (*VAIN, 'revive-next'):
+    for row in (*VAIN, 'revive-next', 'insert-hit-next'):
         if rng.random() < 0.2:
             like = table.rows.get(VAIN.get(row), (mode(), True))
             table.rows[row] = like if rng.random() < 0.5 else rng.choice([None, (mode(), True), (mode(), False)])
+    if 'insert-hit' not in table.rows:
+        table.rows['insert-hit-next'] = None  # of that row
     if rng.random() < 0.3:
         table.updates, table.rows['update'] = False, None
     return table
@@ -226,6 +228,7 @@ abbrev {name} : GhostProtocol
   revive = {request(rows['revive'])};
   revive_next = {request(rows['revive-next'])};
   vain = vains {vain};
+  insert_hit_next = {request(rows['insert-hit-next'])};
   purges = {purges};
 }}
 """

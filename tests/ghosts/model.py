@@ -4,7 +4,7 @@ request is a mode and whether it is kept to commit."""
 
 END = float('inf')
 READS = ('fetch-hit', 'fetch-miss', 'scan-key', 'scan-stop')
-ROWS = (*READS, 'insert', 'insert-next', 'delete', 'update', 'revive', 'revive-next')
+ROWS = (*READS, 'insert', 'insert-next', 'delete', 'update', 'revive', 'revive-next', 'insert-hit-next')
 VAIN = {'insert-hit': 'fetch-hit', 'delete-miss': 'fetch-miss', 'update-miss': 'fetch-miss'}  # rows that a table may lack, and which then count
 
 
@@ -64,7 +64,7 @@ class Run:
     def requests(self, txn, op, key):
         ask, name = self.table.ask, self.name_from(key)
         if op == 'insert' and key in self.index:
-            return [(key, ask('insert-hit'))]
+            return [(key, ask('insert-hit')), (self.name_from(key + 1), ask('insert-hit-next'))]
         if op == 'insert' and key in self.ghosts:
             return [(key, ask('revive')), (self.name_from(key + 1), ask('revive-next'))]
         if op == 'insert':
@@ -296,7 +296,7 @@ def requests(table, present, x):
     does += [('delete', False, changed(DELETED) if present else read, gap)]
     does += [('update', present, changed(UPDATED) if present else read, gap), ('update-miss', present, key, True)] if table.updates else []
     does += [('insert-hit', True, read, gap) if present else ('revive', True, changed(INSERTED), gap)]
-    does += [('delete-miss', present, key, True), ('revive-next', present, key, gap)]
+    does += [('delete-miss', present, key, True), *((it, present, key, gap) for it in ('revive-next', 'insert-hit-next'))]
     for row, then, k, g in does:
         asked = table.ask(row, mode)
         yield row, asked, then, (table.after(mode, asked), k, g, False)
@@ -304,7 +304,7 @@ def requests(table, present, x):
 
 def keeps_out(present, x, row):
     key, gap = x[1], x[2]
-    if row in ('fetch-miss', 'scan-stop', 'delete-miss', 'update-miss', 'revive-next'):
+    if row in ('fetch-miss', 'scan-stop', 'delete-miss', 'update-miss', 'revive-next', 'insert-hit-next'):
         return False
     if row == 'insert-next':
         return gap
