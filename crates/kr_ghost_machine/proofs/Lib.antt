@@ -6,3 +6,4 @@ pub mod Attempted
 pub mod Listed
 pub mod Copied
 pub mod Handed
+pub mod Sides

@@ -1,5 +1,5 @@
 -- What an operation requests.
-use Rattle.std.specs.Prelude.{ℕ, List, [], Option, Some, None}
+use Rattle.std.specs.Prelude.{ℕ, suc, List, [], Option, Some, None}
 use Rattle.kr_model.specs.declared.Op.{Op}
 use Rattle.kr_model.specs.declared.Op.TheVariants as op
 use Rattle.kr_model.specs.declared.Row.TheVariants as row
@@ -19,7 +19,7 @@ abbrev pub requests_of : GhostProtocol → GhostState → ℕ → Op → List Re
 requests_of p s t (op.Fetch k) = keyed_requests p row.FetchHit k (name_from s k) (stand s k)
 requests_of p s t (op.Scan lo hi) = scan_requests p s (Some (record { lo = lo; hi = hi; rows = [] }))
 requests_of p s t op.Go = scan_requests p s (standing s.state t).scan
-requests_of p s t (op.Insert k v) = insert_requests p k (name_from s k) (own s.state.locks t (name_from s k)) (stand s k)
+requests_of p s t (op.Insert k v) = insert_requests p k (name_from s k) (own s.state.locks t (name_from s k)) (name_from s (suc k)) (stand s k)
 requests_of p s t (op.Delete k) = keyed_requests p row.Delete k (name_from s k) (stand s k)
 requests_of p s t (op.Update k v) = keyed_requests p row.Update k (name_from s k) (stand s k)
 requests_of p s t op.Commit = []

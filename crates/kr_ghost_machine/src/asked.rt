@@ -36,6 +36,7 @@ impl<P: GhostProtocol, L: Holdings> GhostStepper<P, L> {
             Op::Update(key, _) => Some(self.keyed(txn, Row::Update, key)),
             Op::Insert(key, _) => Some(insert(
                 &self.protocol,
+                &self.index,
                 &self.locks,
                 txn,
                 key,

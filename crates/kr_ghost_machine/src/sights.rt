@@ -80,7 +80,7 @@ fn insert<P: GhostProtocol, L: Holdings>(
     ensures sight { IsSight (P.table protocol.now).count index.now.map result }
 {
     let look = index.look(key);
-    let plan = requests::insert(protocol, locks, txn, key, look);
+    let plan = requests::insert(protocol, index, locks, txn, key, look);
     let deed = match look.value {
         Some(_) => Deed::Answer(Reply::Duplicate),
         None => Deed::Change(Change {

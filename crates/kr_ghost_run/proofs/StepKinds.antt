@@ -86,7 +86,7 @@ performed_kind p s t (op.Fetch k) works rest unrolled =
     attempt_kind p s t (op.Fetch k) rs (fetched s.state.map (standing s.state t) (get s.state.map k)) s.ghosts (blockers p.table s.state.locks t rs) works (unrolled refl)
     (adds_fetch s.state.map (standing s.state t) k (get s.state.map k) (is_scanning s.state t) (rest refl) (rest refl))
 performed_kind p s t (op.Insert k v) works rest unrolled =
-    let rs = insert_requests p k (name_from s k) (own s.state.locks t (name_from s k)) (stand s k) in
+    let rs = insert_requests p k (name_from s k) (own s.state.locks t (name_from s k)) (name_from s (suc k)) (stand s k) in
     attempt_kind p s t (op.Insert k v) rs (inserted s.state.map (standing s.state t) k v (get s.state.map k)) (if is_some (get s.state.map k) then s.ghosts else ghosts_with s.ghosts k (Some v))
     (blockers p.table s.state.locks t rs) works (unrolled refl)
     (adds_insert s.state.map (standing s.state t) k v (get s.state.map k) (is_scanning s.state t) (rest refl) (rest refl))

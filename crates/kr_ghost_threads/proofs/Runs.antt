@@ -108,7 +108,7 @@ performed_stays p s t (op.Fetch k) is =
 performed_stays p s t (op.Scan lo hi) is = scan_stays p s t (Some (record { lo = lo; hi = hi; rows = [] })) is
 performed_stays p s t op.Go is = scan_stays p s t (standing s.state t).scan is
 performed_stays p s t (op.Insert k v) is =
-    let rs = insert_requests p k (name_from s k) (own s.state.locks t (name_from s k)) (stand s k) in
+    let rs = insert_requests p k (name_from s k) (own s.state.locks t (name_from s k)) (name_from s (suc k)) (stand s k) in
     attempt_stays p s t rs (inserted s.state.map (standing s.state t) k v (get s.state.map k)) (if is_some (get s.state.map k) then s.ghosts else ghosts_with s.ghosts k (Some v))
     (blockers p.table s.state.locks t rs) (insert_grants s.state.map (standing s.state t) k v (get s.state.map k)) is
 performed_stays p s t (op.Delete k) is =

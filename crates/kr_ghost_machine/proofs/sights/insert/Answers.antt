@@ -1,7 +1,7 @@
 use Rattle.std.proofs.Common.{◌≡◌, ap, sym, ◌∙◌}
 use Rattle.std.specs.Prelude.{Some, if◌then◌else◌, is_some}
 use Rattle.kr_model.specs.Locks.{own}
-use Rattle.kr_model.specs.Map.{at, get}
+use Rattle.kr_model.specs.Map.{after, at, get}
 use Rattle.kr_model.specs.Plan.{requests}
 use Rattle.kr_model.specs.State.{standing}
 use Rattle.kr_model.specs.Step.{inserted}
@@ -24,11 +24,12 @@ returns-clause-performs g c ended active =
     let a = standing s.state t in
     let look = c.look-look.result in
     let n = at (named x.map x.ghosts) k in
-    let asked : insert_requests p k n (own h t n) (stand_by (get x.map k) (among x.ghosts k)) ≡ requests c.insert-plan.result =
+    let above = after (named x.map x.ghosts) k in
+    let asked : insert_requests p k n (own h t n) above (stand_by (get x.map k) (among x.ghosts k)) ≡ requests c.insert-plan.result =
     sym (c.insert-plan.ensures.requests
-    ∙ ap (λ z. insert_requests p k z (own h t z) (stand_by look.value look.is_ghost)) c.look-look.ensures.name
-    ∙ ap (λ z. insert_requests p k n (own h t n) (stand_by z look.is_ghost)) c.look-look.ensures.value
-    ∙ ap (λ z. insert_requests p k n (own h t n) (stand_by (get x.map k) z)) c.look-look.ensures.is_ghost) in
+    ∙ ap (λ z. insert_requests p k z (own h t z) above (stand_by look.value look.is_ghost)) c.look-look.ensures.name
+    ∙ ap (λ z. insert_requests p k n (own h t n) above (stand_by z look.is_ghost)) c.look-look.ensures.value
+    ∙ ap (λ z. insert_requests p k n (own h t n) above (stand_by (get x.map k) z)) c.look-look.ensures.is_ghost) in
     elim c.match-look.branch [
       | in-Some w ↦
           let there = sym c.look-look.ensures.value ∙ w.in-Some.is in
