@@ -110,19 +110,15 @@ fn revive<P: GhostProtocol>(protocol: &P, index: &GhostIndex, key: u64) -> Plan
     Plan {
         row: Row::Insert,
         current: side(Name::Key(key), protocol.revive()),
-        next: revive_next(protocol, index, key),
+        next: above(index, key, protocol.revive_next()),
     }
 }
 
-/// Its request on the least name above it, which is looked for only where something is requested there.
-fn revive_next<P: GhostProtocol>(
-    protocol: &P,
-    index: &GhostIndex,
-    key: u64,
-) -> Option<(Name, Mode, Span)>
-    ensures { result ≡ side_request (Some (after (named index.now.map index.now.ghosts) key)) (P.ghosts protocol.now).revive_next }
+/// The request on the least name above a key, which is looked for only where something is requested.
+fn above(index: &GhostIndex, key: u64, asked: Option<(Mode, Span)>) -> Option<(Name, Mode, Span)>
+    ensures { result ≡ side_request (Some (after (named index.now.map index.now.ghosts) key)) asked }
 {
-    let (mode, span) = protocol.revive_next()?;
+    let (mode, span) = asked?;
     Some((index.name_after(key), mode, span))
 }
 

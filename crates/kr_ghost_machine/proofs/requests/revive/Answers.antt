@@ -13,7 +13,10 @@ returns-clause-modes g c =
     let p = g.P.GhostProtocol.ghosts protocol in
     let same = g.met.P.GhostProtocol.tables protocol in
     let laws = g.met.P.GhostProtocol.lawful_ghosts protocol in
-    let x = c.args.index.now in (
-      side_mode p.table _ same (Key c.args.key) p.revive _ laws.revive (c.side.ensures ∙ ap (side_request (Some (Key c.args.key))) c.revive.ensures),
-      side_mode p.table _ same (after (named x.map x.ghosts) c.args.key) p.revive_next _ laws.revive_next c.revive_next.ensures,
+    let x = c.args.index.now in
+    let name = Key c.args.key in
+    let above = after (named x.map x.ghosts) c.args.key in
+    (
+      side_mode p.table _ same name p.revive _ laws.revive (c.side.ensures ∙ ap (side_request (Some name)) c.revive.ensures),
+      side_mode p.table _ same above p.revive_next _ laws.revive_next (c.above.ensures ∙ ap (side_request (Some above)) c.revive_next.ensures),
     )
