@@ -1,6 +1,6 @@
 -- A side requests a mode.
 use Rattle.std.specs.Prelude.{◌≡◌, ℕ, Option, Some, None, refl}
-use Rattle.std.proofs.Common.{sym, subst}
+use Rattle.std.proofs.Common.{sym, ◌∙◌, ap, subst}
 use Rattle.kr_model.specs.declared.Name.{Name}
 use Rattle.kr_model.specs.declared.Span.{Span}
 use Rattle.kr_model.specs.Locks.{Request}
@@ -14,7 +14,8 @@ asked_side : (p : Protocol) (n : Name) (asked : Option (ℕ × Span)) → AsksMo
 asked_side p n None mode = tt
 asked_side p n (Some (q, span)) mode = let m = mode q span refl in (m.some, m.in_range)
 
--- The same of the protocol that these tables are, and of a side that is this request.
-pub side_mode : (p table : Protocol) → p ≡ table → (n : Name) (asked : Option (ℕ × Span)) (side : Option Request) → AsksMode p asked → side ≡ side_request (Some n) asked → SideIsMode table.count side
-side_mode p table same n asked side mode is =
-    subst (λ q. SideIsMode q.count side) same (subst (SideIsMode p.count) (sym is) (asked_side p n asked mode))
+-- The same of the protocol that has these tables, and of a side by its name and by what is asked.
+pub side_mode : (p table : Protocol) → p ≡ table → (asked : Option (ℕ × Span)) → AsksMode p asked
+    → (n : Name) (side : Option Request) (r : Option (ℕ × Span)) → side ≡ side_request (Some n) r → r ≡ asked → SideIsMode table.count side
+side_mode p table same asked mode n side r is by =
+    subst (λ q. SideIsMode q.count side) same (subst (SideIsMode p.count) (sym (is ∙ ap (side_request (Some n)) by)) (asked_side p n asked mode))
