@@ -22,13 +22,14 @@ one_by_one : {A : Type 0} (a b c d e f g h : List A) → (a ++ (b ++ (c ++ [])))
 one_by_one a b c d e f g h = simp append_assoc refl
 
 module _ (p : GhostProtocol) where
-  abbrev before_heirs : List Case → List Case
-  before_heirs hs =
-      cases_of p rule.ScanStop ++ (cases_of p rule.Insert ++ (cases_of p rule.Split ++ (cases_of p rule.Delete ++ (cases_of p rule.Update ++ (cases_of p rule.Revive ++ (hs ++ []))))))
+  abbrev from_stops : List Case → List Case
+  from_stops hs =
+      cases_of p rule.ScanStop ++ (cases_of p rule.Insert ++ (cases_of p rule.Split ++ (cases_of p rule.Delete ++ (cases_of p rule.Update ++ (cases_of p rule.Revive ++ (hs
+      ++ (cases_of p rule.InsertHit ++ (cases_of p rule.DeleteMiss ++ (cases_of p rule.UpdateMiss ++ [])))))))))
 
   -- The cases of all groups are those of all rules.
   pub cases_grouped : cases p ≡ flat_map (group p) groups
   cases_grouped =
-      ap (λ hs. cases_of p rule.Conversion ++ (cases_of p rule.FetchHit ++ (cases_of p rule.FetchMiss ++ (cases_of p rule.ScanName ++ before_heirs hs)))) (heirs_listed p p.purges)
+      ap (λ hs. cases_of p rule.Conversion ++ (cases_of p rule.FetchHit ++ (cases_of p rule.FetchMiss ++ (cases_of p rule.ScanName ++ from_stops hs)))) (heirs_listed p p.purges)
       ∙ one_by_one (group p (rule.Conversion, ReadKey)) (group p (rule.Conversion, ReadGap)) (group p (rule.Conversion, ChangedKey)) (group p (rule.FetchHit, ReadKey)) (group p (rule.FetchMiss, ReadGap))
-      (group p (rule.ScanName, ReadKey)) (group p (rule.ScanName, ReadGap)) (before_heirs (group p (rule.Heir, ReadGap)))
+      (group p (rule.ScanName, ReadKey)) (group p (rule.ScanName, ReadGap)) (from_stops (group p (rule.Heir, ReadGap)))

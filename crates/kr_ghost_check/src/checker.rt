@@ -4,13 +4,12 @@
 //! memory only where a case fails.
 ghost use Rattle.std.specs.Prelude.{◌≡◌, ◌≢◌, ◌≤◌, ◌++◌, [], None, OnOk, OnErr, IfOk, length};
 ghost use Rattle.std.specs.Option.{option_to_list};
-ghost use Rattle.kr_ghost.specs.Protocol as model;
 ghost use Rattle.kr_ghost.specs.Covers.{cases, failed_cases, failure};
-ghost use Rattle.kr_ghost_check.specs.Groups.{case_at, line, square, group, groups, failures};
+ghost use Rattle.kr_ghost_check.specs.Groups.{case_at, line, square, group, groups, failures, line_count};
 
-use crate::requests::count;
+use crate::requests::{count, has_row};
 use crate::rules::{failure, first_own};
-use kr_ghost::{Cover, FailedCase, Rule};
+use kr_ghost::{Cover, FailedCase, Rule, Vain};
 use kr_ghost_protocol::{GhostProtocol, Mode};
 use kr_model::Memory;
 use std::alloc::Global;
@@ -34,6 +33,9 @@ fn groups() -> &'static [(Rule, Cover)]
         (Rule::Update, Cover::ChangedKey),
         (Rule::Revive, Cover::ChangedKey),
         (Rule::Heir, Cover::ReadGap),
+        (Rule::InsertHit, Cover::ReadKey),
+        (Rule::DeleteMiss, Cover::ReadGap),
+        (Rule::UpdateMiss, Cover::ReadGap),
     ]
 }
 
@@ -95,7 +97,8 @@ fn square<P: GhostProtocol>(
     Ok(())
 }
 
-/// The cases of a group: none of updates where none are offered, and none of heirs where locks aren't inherited.
+/// The cases of a group: none of updates where none are offered, none of heirs where locks aren't inherited, and none of vain
+/// steps of which the table has no row.
 fn group<P: GhostProtocol>(
     protocol: &P,
     failed: &mut Vec<FailedCase>,
@@ -108,7 +111,10 @@ fn group<P: GhostProtocol>(
     let (rule, cover) = pair;
     match rule {
         Rule::Conversion => square(protocol, failed, rule, cover),
-        Rule::Update if !protocol.updates() => Ok(()),
+        Rule::Update | Rule::UpdateMiss if !protocol.updates() => Ok(()),
+        Rule::InsertHit if !has_row(protocol, Vain::InsertHit) => Ok(()),
+        Rule::DeleteMiss if !has_row(protocol, Vain::DeleteMiss) => Ok(()),
+        Rule::UpdateMiss if !has_row(protocol, Vain::UpdateMiss) => Ok(()),
         Rule::Heir if protocol.inherits() => square(protocol, failed, rule, cover),
         Rule::Heir => Ok(()),
         _ => line(protocol, failed, rule, cover, 0),
@@ -131,14 +137,28 @@ pub fn failed_cases<P: GhostProtocol>(
     Ok(failed)
 }
 
-/// The number of cases of a protocol of so many modes that offers updates, or none, and whose locks on a purged ghost are
-/// inherited, or not.
-pub fn cases(count: Mode, updates: bool, inherits: bool) -> usize
-    ensures { (p : model.GhostProtocol) → p.table.count ≡ count → p.table.updates ≡ updates → model.inherits p.purges ≡ inherits
-        → length (cases p) ≡ result }
+/// How many groups have a case for each own mode and for none: nine, and one for each row that not each table has.
+fn lines<P: GhostProtocol>(protocol: &P) -> usize
+    ensures lines { result ≡ line_count (P.ghosts protocol.now) }
+    ensures few { result ≤ 13 }
 {
-    let modes = count as usize;
-    let rows = if updates { 10 } else { 9 };
-    let heirs = if inherits { modes * (modes + 1) } else { 0 };
-    3 * (modes * modes) + rows * (modes + 1) + heirs
+    let updates = protocol.updates();
+    let update_miss = updates && has_row(protocol, Vain::UpdateMiss);
+    9 + usize::from(updates)
+        + usize::from(has_row(protocol, Vain::InsertHit))
+        + usize::from(has_row(protocol, Vain::DeleteMiss))
+        + usize::from(update_miss)
+}
+
+/// The number of cases of a protocol.
+pub fn cases<P: GhostProtocol>(protocol: &P) -> usize
+    ensures { result ≡ length (cases (P.ghosts protocol.now)) }
+{
+    let modes = count(protocol) as usize;
+    let heirs = if protocol.inherits() {
+        modes * (modes + 1)
+    } else {
+        0
+    };
+    3 * (modes * modes) + lines(protocol) * (modes + 1) + heirs
 }

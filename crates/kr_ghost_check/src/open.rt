@@ -3,8 +3,8 @@ ghost use Rattle.std.specs.Prelude.{◌≡◌, ◌≤◌, filter};
 ghost use Rattle.kr_model.specs.Firsts.{first};
 ghost use Rattle.kr_ghost.specs.Covers.{accesses, requesters, is_open, open_requesters, serves};
 
-use crate::requests::{count, is_open};
-use kr_ghost::{Access, Cover, Requester};
+use crate::requests::{count, has_row, is_open};
+use kr_ghost::{Access, Cover, Requester, Vain};
 use kr_ghost_protocol::{GhostProtocol, Mode};
 
 /// What a lock that has the cover must conflict with, in order.
@@ -12,18 +12,35 @@ fn accesses<P: GhostProtocol>(protocol: &P, cover: Cover) -> &'static [Access]
     ensures { result.now ≡ accesses (P.ghosts protocol.now) cover }
 {
     let updates = protocol.updates();
-    match cover {
-        Cover::ReadKey if updates => &[Access::Delete, Access::Revive, Access::Update],
-        Cover::ReadKey => &[Access::Delete, Access::Revive],
-        Cover::ReadGap => &[Access::Insert],
-        Cover::ChangedKey if updates => &[
+    match (cover, has_row(protocol, Vain::InsertHit)) {
+        (Cover::ReadKey, _) if updates => &[Access::Delete, Access::Revive, Access::Update],
+        (Cover::ReadKey, _) => &[Access::Delete, Access::Revive],
+        (Cover::ReadGap, _) => &[Access::Insert],
+        (Cover::ChangedKey, true) if updates => &[
+            Access::Fetch,
+            Access::Scan,
+            Access::InsertHit,
+            Access::Delete,
+            Access::Revive,
+            Access::Update,
+        ],
+        (Cover::ChangedKey, true) => &[
+            Access::Fetch,
+            Access::Scan,
+            Access::InsertHit,
+            Access::Delete,
+            Access::Revive,
+        ],
+        (Cover::ChangedKey, false) if updates => &[
             Access::Fetch,
             Access::Scan,
             Access::Delete,
             Access::Revive,
             Access::Update,
         ],
-        Cover::ChangedKey => &[Access::Fetch, Access::Scan, Access::Delete, Access::Revive],
+        (Cover::ChangedKey, false) => {
+            &[Access::Fetch, Access::Scan, Access::Delete, Access::Revive]
+        }
     }
 }
 

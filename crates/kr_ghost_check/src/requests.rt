@@ -2,10 +2,11 @@
 //! of its table with ghosts.
 ghost use Rattle.std.specs.Prelude.{◌≡◌, ◌≤◌, IfSome};
 ghost use Rattle.kr_model.specs.Covers.{mode_after};
-ghost use Rattle.kr_ghost.specs.Covers.{asked, is_open};
+ghost use Rattle.kr_ghost.specs.Covers.{asked, has_row, is_open};
+ghost use Rattle.kr_ghost.specs.Step as spec;
 
-use kr_ghost::{Access, Requester};
-use kr_ghost_protocol::{GhostProtocol, Mode, Row, Side, Span};
+use kr_ghost::{Access, Requester, Vain};
+use kr_ghost_protocol::{GhostProtocol, Mode, Row, Side, Span, vain_request};
 
 /// How many modes there are.
 pub(crate) fn count<P: GhostProtocol>(protocol: &P) -> Mode
@@ -37,6 +38,21 @@ pub(crate) fn revive<P: GhostProtocol>(protocol: &P) -> Option<(Mode, Span)>
     protocol.revive()
 }
 
+/// Whether the table has a row for a vain step.
+pub(crate) fn has_row<P: GhostProtocol>(protocol: &P, vain: Vain) -> bool
+    ensures { result ≡ has_row (P.ghosts protocol.now) vain }
+{
+    protocol.vain(vain).is_some()
+}
+
+/// What a vain step requests.
+pub(crate) fn vain<P: GhostProtocol>(protocol: &P, vain: Vain) -> Option<(Mode, Span)>
+    ensures asked { result ≡ spec.vain (P.ghosts protocol.now) vain }
+    ensures in_range { IfSome result (λ a. a.0 ≤ (P.ghosts protocol.now).table.count) }
+{
+    vain_request(protocol, vain)
+}
+
 /// What an access requests, of one who has this own mode on the name.
 fn asked<P: GhostProtocol>(protocol: &P, access: Access, own: Mode) -> Option<(Mode, Span)>
     requires { own ≤ (P.ghosts protocol.now).table.count }
@@ -50,6 +66,7 @@ fn asked<P: GhostProtocol>(protocol: &P, access: Access, own: Mode) -> Option<(M
         Access::Update => ask(protocol, Row::Update, Side::Current, 0),
         Access::Revive => revive(protocol),
         Access::Insert => ask(protocol, Row::Insert, Side::Next, own),
+        Access::InsertHit => vain(protocol, Vain::InsertHit),
     }
 }
 

@@ -4,8 +4,8 @@ ghost use Rattle.kr_ghost.specs.Covers.{failure, mode_on_new};
 ghost use Rattle.kr_ghost_check.specs.Groups.{request_of, mode_at, origin_at, is_due, case_at, first_own};
 
 use crate::open::{first_open, serves};
-use crate::requests::{after, ask, converted, revive};
-use kr_ghost::{Cover, FailedCase, Rule};
+use crate::requests::{after, ask, converted, revive, vain};
+use kr_ghost::{Cover, FailedCase, Rule, Vain};
 use kr_ghost_protocol::{GhostProtocol, Mode, Row, Side, Span};
 use kr_model::Origin;
 
@@ -22,6 +22,9 @@ fn request_of<P: GhostProtocol>(protocol: &P, rule: Rule) -> Option<(Mode, Span)
         Rule::Delete => ask(protocol, Row::Delete, Side::Current, 0),
         Rule::Update => ask(protocol, Row::Update, Side::Current, 0),
         Rule::Revive => revive(protocol),
+        Rule::InsertHit => vain(protocol, Vain::InsertHit),
+        Rule::DeleteMiss => vain(protocol, Vain::DeleteMiss),
+        Rule::UpdateMiss => vain(protocol, Vain::UpdateMiss),
         Rule::Conversion | Rule::Insert | Rule::Split | Rule::Heir => None,
     }
 }
