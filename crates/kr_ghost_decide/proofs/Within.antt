@@ -8,9 +8,8 @@ use Rattle.kr_model.specs.declared.Span.{Span}
 use Rattle.kr_model.specs.declared.Span.TheVariants.{Instant, Commit}
 use Rattle.kr_model.specs.Covers.{mode_after}
 use Rattle.kr_model.proofs.Keep.{kept_mode}
-use Rattle.kr_ghost.specs.Protocol.{GhostProtocol, IsLawfulGhost, Purges, Inherit, IsLawfulPurge}
+use Rattle.kr_ghost.specs.Protocol.{GhostProtocol, AsksMode, IsLawfulGhost, Purges, Inherit, IsLawfulPurge}
 use Rattle.kr_ghost.specs.Safe.{Hold, free, is_read, asked, Quiet, commit, leave, roll, undo, inherits, Beside, start, turn, ask, quiet, third_asks, third_undoes, new, purge}
-use Rattle.kr_ghost.proofs.Grants.{AsksMode}
 use Rattle.kr_ghost.proofs.Locking.{row_mode, ask_mode}
 
 module _ (p : GhostProtocol) (laws : IsLawfulGhost p) where

@@ -1,7 +1,7 @@
 -- What comes of two lock states on one name, as tests.
 use Rattle.std.specs.Prelude.{Bool, true, false, ◌&&◌, ◌||◌, ◌==◌, not, if◌then◌else◌, List, [], ◌∷◌, Option, Some, None}
 use Rattle.kr_ghost.specs.Protocol.{GhostProtocol}
-use Rattle.kr_ghost.specs.Safe.{KeyUse, Free, Inserted, Updated, Deleted, Several, Hold, free, is_changed, is_read, Ask, Delete, Update, Revive, is_blocked, present_after, after, on_new_key, rolled}
+use Rattle.kr_ghost.specs.Safe.{KeyUse, Free, Inserted, Updated, Deleted, Several, Hold, free, is_changed, is_read, Ask, Delete, Update, Revive, InsertHit, UpdateMiss, is_blocked, present_after, after, on_new_key, rolled}
 use Rattle.kr_ghost_decide.specs.declared.ask.Ask.{Ask as AskInCode}
 use Rattle.kr_ghost_decide.specs.declared.ask.Ask.TheVariants as ask
 use Rattle.kr_ghost_decide.specs.declared.hold.KeyUse.TheVariants as key
@@ -11,12 +11,14 @@ use Rattle.kr_ghost_decide.specs.Holds.{key_use, asking, Fact}
 
 -- All requests, in order.
 abbrev pub asks : List AskInCode
-asks = ask.FetchHit ∷ ask.FetchMiss ∷ ask.ScanName ∷ ask.ScanStop ∷ ask.Insert ∷ ask.Delete ∷ ask.Update ∷ ask.Revive ∷ []
+asks = ask.FetchHit ∷ ask.FetchMiss ∷ ask.ScanName ∷ ask.ScanStop ∷ ask.Insert ∷ ask.Delete ∷ ask.Update ∷ ask.Revive ∷ ask.InsertHit ∷ ask.DeleteMiss ∷ ask.UpdateMiss ∷ ask.ReviveNext ∷ []
 
 -- Whether one with the lock state x may come to request this.
 abbrev pub may_ask : GhostProtocol → Bool → Hold → Ask → Bool
 may_ask p present x Revive = not x.rolling && not present
+may_ask p present x InsertHit = not x.rolling && present
 may_ask p present x Update = not x.rolling && p.table.updates
+may_ask p present x UpdateMiss = not x.rolling && p.table.updates
 may_ask p present x _ = not x.rolling
 
 -- The first is granted what it comes to request, where the other's lock doesn't block it.
@@ -54,7 +56,8 @@ with_new p f = if is_free f.other && not f.own.rolling then Some (record { prese
 abbrev pub ways : List Way
 ways =
     way.Turn ∷ way.End ∷ way.Roll ∷ way.New ∷ way.Ask ask.FetchHit ∷ way.Ask ask.FetchMiss ∷ way.Ask ask.ScanName ∷ way.Ask ask.ScanStop ∷ way.Ask ask.Insert ∷ way.Ask ask.Delete ∷ way.Ask ask.Update ∷ way.Ask ask.Revive
-    ∷ way.Undo false key.Free ∷ way.Undo true key.Free ∷ way.Undo true key.Inserted ∷ way.Undo true key.Updated ∷ way.Undo false key.Deleted ∷ way.Undo true key.Several ∷ way.Undo false key.Several ∷ []
+    ∷ way.Undo false key.Free ∷ way.Undo true key.Free ∷ way.Undo true key.Inserted ∷ way.Undo true key.Updated ∷ way.Undo false key.Deleted ∷ way.Undo true key.Several ∷ way.Undo false key.Several
+    ∷ way.Ask ask.InsertHit ∷ way.Ask ask.DeleteMiss ∷ way.Ask ask.UpdateMiss ∷ way.Ask ask.ReviveNext ∷ []
 
 -- What they have then.
 abbrev pub moved : GhostProtocol → Fact → Way → Option Fact

@@ -1,14 +1,16 @@
 //! Requests on a name: what each asks for, who may make it, whom it has to be kept from, and what it does where it is granted.
 ghost use Rattle.std.specs.Prelude.{◌≡◌, ◌≤◌, IfSome};
 ghost use Rattle.kr_model.specs.Covers.{mode_after};
+ghost use Rattle.kr_ghost.specs.Step as spec;
 ghost use Rattle.kr_ghost.specs.Safe.{asked, keeps_out, is_blocked, present_after, and_read, and_changed, key_after, after, on_new_key};
 ghost use Rattle.kr_ghost_decide.specs.Holds.{asking, key_use, hold, fact, facts};
 ghost use Rattle.kr_ghost_decide.specs.Ways.{may_ask, asks, granted};
 
 use crate::hold::{Hold, KeyUse, Pair, is_changed, is_read};
-use kr_ghost_protocol::{GhostProtocol, Mode, Row, Side, Span};
+use kr_ghost_protocol::{GhostProtocol, Mode, Row, Side, Span, Vain, vain_request};
 
-/// What is requested of a name. An insert requests its lock on the next name here; a revive is an insert of a ghost.
+/// What is requested of a name. An insert requests its lock on the next name here. A revive is an insert of a ghost, with a request
+/// on the next name too; and an insert of a present key, and a delete or an update of one that is no name, change nothing.
 #[derive(Clone, Copy, PartialEq, Eq)]
 pub enum Ask {
     FetchHit,
@@ -19,6 +21,10 @@ pub enum Ask {
     Delete,
     Update,
     Revive,
+    InsertHit,
+    DeleteMiss,
+    UpdateMiss,
+    ReviveNext,
 }
 
 /// All requests, in order.
@@ -34,6 +40,10 @@ pub(crate) fn asks() -> &'static [Ask]
         Ask::Delete,
         Ask::Update,
         Ask::Revive,
+        Ask::InsertHit,
+        Ask::DeleteMiss,
+        Ask::UpdateMiss,
+        Ask::ReviveNext,
     ]
 }
 
@@ -54,12 +64,28 @@ fn row<P: GhostProtocol>(protocol: &P, row: Row, side: Side, own_next: Mode) -> 
     protocol.ask(row, side, own_next)
 }
 
-/// What an insert of a ghost requests.
+/// What an insert of a ghost requests on it.
 fn revive<P: GhostProtocol>(protocol: &P) -> Option<(Mode, Span)>
     ensures asked { result ≡ (P.ghosts protocol.now).revive }
     ensures in_range { IfSome result (λ a. a.0 ≤ (P.ghosts protocol.now).table.count) }
 {
     protocol.revive()
+}
+
+/// And on the next name.
+fn revive_next<P: GhostProtocol>(protocol: &P) -> Option<(Mode, Span)>
+    ensures asked { result ≡ (P.ghosts protocol.now).revive_next }
+    ensures in_range { IfSome result (λ a. a.0 ≤ (P.ghosts protocol.now).table.count) }
+{
+    protocol.revive_next()
+}
+
+/// What a vain step requests.
+fn vain<P: GhostProtocol>(protocol: &P, vain: Vain) -> Option<(Mode, Span)>
+    ensures asked { result ≡ spec.vain (P.ghosts protocol.now) vain }
+    ensures in_range { IfSome result (λ a. a.0 ≤ (P.ghosts protocol.now).table.count) }
+{
+    vain_request(protocol, vain)
 }
 
 /// What is requested, by one who has this own mode on the name.
@@ -77,6 +103,10 @@ fn asked<P: GhostProtocol>(protocol: &P, ask: Ask, own: Mode) -> Option<(Mode, S
         Ask::Delete => row(protocol, Row::Delete, Side::Current, 0),
         Ask::Update => row(protocol, Row::Update, Side::Current, 0),
         Ask::Revive => revive(protocol),
+        Ask::InsertHit => vain(protocol, Vain::InsertHit),
+        Ask::DeleteMiss => vain(protocol, Vain::DeleteMiss),
+        Ask::UpdateMiss => vain(protocol, Vain::UpdateMiss),
+        Ask::ReviveNext => revive_next(protocol),
     }
 }
 
@@ -101,7 +131,8 @@ pub(crate) fn may_ask<P: GhostProtocol>(protocol: &P, present: bool, own: Hold, 
     }
     match ask {
         Ask::Revive => !present,
-        Ask::Update => protocol.updates(),
+        Ask::InsertHit => present,
+        Ask::Update | Ask::UpdateMiss => protocol.updates(),
         _ => true,
     }
 }
@@ -126,9 +157,10 @@ pub(crate) fn keeps_out(present: bool, other: Hold, ask: Ask) -> bool
     ensures { result ≡ keeps_out present (hold other) (asking ask) }
 {
     match ask {
-        Ask::FetchMiss | Ask::ScanStop => false,
+        Ask::FetchMiss | Ask::ScanStop | Ask::DeleteMiss | Ask::UpdateMiss => false,
+        Ask::ReviveNext => false,
         Ask::Insert => other.gap,
-        Ask::FetchHit | Ask::ScanName => is_changed(other.key),
+        Ask::FetchHit | Ask::InsertHit | Ask::ScanName => is_changed(other.key),
         Ask::Delete | Ask::Update if present => is_read(other.key),
         Ask::Revive if !present => is_read(other.key),
         _ => is_changed(other.key),
@@ -171,7 +203,7 @@ fn key_after(present: bool, key: KeyUse, ask: Ask) -> KeyUse
     ensures { key_use result ≡ key_after present (key_use key) (asking ask) }
 {
     match ask {
-        Ask::FetchHit | Ask::ScanName => and_read(key),
+        Ask::FetchHit | Ask::InsertHit | Ask::ScanName => and_read(key),
         Ask::Delete if present => and_changed(KeyUse::Deleted, key),
         Ask::Update if present => and_changed(KeyUse::Updated, key),
         Ask::Delete | Ask::Update => and_read(key),
@@ -186,7 +218,7 @@ fn after<P: GhostProtocol>(protocol: &P, present: bool, own: Hold, ask: Ask) -> 
     ensures { hold result ≡ after (P.ghosts protocol.now) present (hold own) (asking ask) }
 {
     let gap = match ask {
-        Ask::FetchMiss | Ask::ScanName | Ask::ScanStop => true,
+        Ask::FetchMiss | Ask::DeleteMiss | Ask::UpdateMiss | Ask::ScanName | Ask::ScanStop => true,
         _ => own.gap,
     };
     Hold {

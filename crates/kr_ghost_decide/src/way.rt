@@ -48,6 +48,10 @@ pub(crate) fn ways() -> &'static [Way]
         Way::Undo(false, KeyUse::Deleted),
         Way::Undo(true, KeyUse::Several),
         Way::Undo(false, KeyUse::Several),
+        Way::Ask(Ask::InsertHit),
+        Way::Ask(Ask::DeleteMiss),
+        Way::Ask(Ask::UpdateMiss),
+        Way::Ask(Ask::ReviveNext),
     ]
 }
 
