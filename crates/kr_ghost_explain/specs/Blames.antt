@@ -54,6 +54,9 @@ access_of rule.Delete = Some access.Delete
 access_of rule.Update = Some access.Update
 access_of rule.Revive = Some access.Revive
 access_of rule.Heir = None
+access_of rule.InsertHit = Some access.InsertHit
+access_of rule.DeleteMiss = None
+access_of rule.UpdateMiss = None
 
 -- What is blamed is the request of a rule's row, if it is any: what it requests, or that its access requests nothing.
 abbrev pub IsOfRow : GhostProtocol → GhostBlame → Rule → Type 0

@@ -155,6 +155,7 @@ fn access_of(rule: Rule) -> Option<Access>
         Rule::Delete => Some(Access::Delete),
         Rule::Update => Some(Access::Update),
         Rule::Revive => Some(Access::Revive),
+        Rule::InsertHit => Some(Access::InsertHit),
         _ => None,
     }
 }

@@ -1,6 +1,6 @@
 //! Explaining a table with ghosts.
-ghost use Rattle.std.specs.Prelude.{◌≡◌, IfOk, IfSome, length};
-ghost use Rattle.kr_ghost.specs.Covers.{cases, failed_cases};
+ghost use Rattle.std.specs.Prelude.{◌≡◌, IfOk, IfSome};
+ghost use Rattle.kr_ghost.specs.Covers.{failed_cases};
 ghost use Rattle.kr_ghost_explain.specs.Explained.{AreGhostFailures, IsGhostExplained, IsWrong};
 
 use crate::causes::ghost_causes;
@@ -26,7 +26,7 @@ pub fn explain_ghosts<P: GhostProtocol>(
     let failed = failed_cases(alloc, protocol)?;
     if failed.is_empty() {
         return Ok(GhostExplanation::Accepted {
-            cases: cases_in(protocol),
+            cases: cases(protocol),
         });
     }
     if is_safe_ghost(alloc, protocol)? {
@@ -36,13 +36,6 @@ pub fn explain_ghosts<P: GhostProtocol>(
     let schedule = found_schedule(alloc, protocol)?;
     let failures = failures_of(alloc, protocol, &failed, schedule)?;
     Ok(GhostExplanation::Rejected(failures))
-}
-
-/// How many cases a table with ghosts has.
-fn cases_in<P: GhostProtocol>(protocol: &P) -> usize
-    ensures { result ≡ length (cases (P.ghosts protocol.now)) }
-{
-    cases(protocol.count(), protocol.updates(), protocol.inherits())
 }
 
 /// Why cases of a table fail, of which these do, with a schedule that goes wrong under it, or with none.
@@ -59,7 +52,7 @@ fn failures_of<P: GhostProtocol>(
 {
     let causes = ghost_causes(alloc, protocol, failed)?;
     Ok(GhostFailures {
-        cases: cases_in(protocol),
+        cases: cases(protocol),
         failed: failed.len(),
         causes,
         schedule,

@@ -3,8 +3,8 @@ ghost use Rattle.std.specs.Prelude.{◌≡◌};
 ghost use Rattle.kr_ghost_check.specs.Groups.{request_of};
 ghost use Rattle.kr_ghost_explain.specs.Blames.{asked_at, heir_at, requested_at};
 
-use kr_ghost::{Access, Requester, Rule};
-use kr_ghost_protocol::{GhostProtocol, Mode, Row, Side, Span};
+use kr_ghost::{Access, Requester, Rule, Vain};
+use kr_ghost_protocol::{GhostProtocol, Mode, Row, Side, Span, vain_request};
 use kr_protocol::converted;
 
 /// What a rule's operation requests on a name, where it is one request on one name.
@@ -19,6 +19,9 @@ pub(crate) fn row_request<P: GhostProtocol>(protocol: &P, rule: Rule) -> Option<
         Rule::Delete => protocol.ask(Row::Delete, Side::Current, 0),
         Rule::Update => protocol.ask(Row::Update, Side::Current, 0),
         Rule::Revive => protocol.revive(),
+        Rule::InsertHit => vain_request(protocol, Vain::InsertHit),
+        Rule::DeleteMiss => vain_request(protocol, Vain::DeleteMiss),
+        Rule::UpdateMiss => vain_request(protocol, Vain::UpdateMiss),
         Rule::Conversion | Rule::Insert | Rule::Split | Rule::Heir => None,
     }
 }
@@ -37,6 +40,7 @@ pub fn request_of<P: GhostProtocol>(protocol: &P, requester: Requester) -> Optio
         Access::Update => protocol.ask(Row::Update, Side::Current, 0),
         Access::Revive => protocol.revive(),
         Access::Insert => protocol.ask(Row::Insert, Side::Next, requester.own),
+        Access::InsertHit => vain_request(protocol, Vain::InsertHit),
     }
 }
 

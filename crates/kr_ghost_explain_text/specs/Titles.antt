@@ -15,7 +15,8 @@ use Rattle.kr_ghost_explain_text.specs.Words.{access_side, rule_number, row_word
 
 -- The groups of cases, in their order.
 abbrev pub all_groups : List Rule
-all_groups = rule.Conversion ∷ rule.FetchHit ∷ rule.FetchMiss ∷ rule.ScanName ∷ rule.ScanStop ∷ rule.Insert ∷ rule.Split ∷ rule.Delete ∷ rule.Update ∷ rule.Revive ∷ rule.Heir ∷ []
+all_groups = rule.Conversion ∷ rule.FetchHit ∷ rule.FetchMiss ∷ rule.ScanName ∷ rule.ScanStop ∷ rule.Insert ∷ rule.Split ∷ rule.Delete ∷ rule.Update ∷ rule.Revive ∷ rule.Heir
+    ∷ rule.InsertHit ∷ rule.DeleteMiss ∷ rule.UpdateMiss ∷ []
 
 -- How many of the cases are of a group.
 abbrev pub count_of : List FailedCase → Rule → ℕ

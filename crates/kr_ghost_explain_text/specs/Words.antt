@@ -18,6 +18,9 @@ rule_number rule.Delete = 8
 rule_number rule.Update = 9
 rule_number rule.Revive = 10
 rule_number rule.Heir = 11
+rule_number rule.InsertHit = 12
+rule_number rule.DeleteMiss = 13
+rule_number rule.UpdateMiss = 14
 
 -- The row of a rule.
 abbrev pub row_words : Rule → List ℕ
@@ -32,6 +35,9 @@ row_words rule.Delete = codes "delete"
 row_words rule.Update = codes "update"
 row_words rule.Revive = codes "revive"
 row_words rule.Heir = codes "purge"
+row_words rule.InsertHit = codes "insert-hit"
+row_words rule.DeleteMiss = codes "delete-miss"
+row_words rule.UpdateMiss = codes "update-miss"
 
 -- What the row requests its lock on.
 abbrev pub side_words : Rule → List ℕ
@@ -46,6 +52,9 @@ side_words rule.Delete = codes "its key"
 side_words rule.Update = codes "its key"
 side_words rule.Revive = codes "its key"
 side_words rule.Heir = codes "the next name"
+side_words rule.InsertHit = codes "its key"
+side_words rule.DeleteMiss = codes "the next name"
+side_words rule.UpdateMiss = codes "the next name"
 
 -- What an access requests its lock on.
 abbrev pub access_side : Access → List ℕ
@@ -55,3 +64,4 @@ access_side access.Delete = codes "its key"
 access_side access.Update = codes "its key"
 access_side access.Revive = codes "its key"
 access_side access.Insert = codes "the next name"
+access_side access.InsertHit = codes "its key"

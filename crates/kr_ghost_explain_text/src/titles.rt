@@ -53,6 +53,9 @@ fn all_groups() -> &'static [Rule]
         Rule::Update,
         Rule::Revive,
         Rule::Heir,
+        Rule::InsertHit,
+        Rule::DeleteMiss,
+        Rule::UpdateMiss,
     ]
 }
 

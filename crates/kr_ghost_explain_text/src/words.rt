@@ -20,6 +20,9 @@ pub(crate) fn rule_number(rule: Rule) -> u8
         Rule::Update => 9,
         Rule::Revive => 10,
         Rule::Heir => 11,
+        Rule::InsertHit => 12,
+        Rule::DeleteMiss => 13,
+        Rule::UpdateMiss => 14,
     }
 }
 
@@ -38,6 +41,9 @@ pub(crate) fn row_words(rule: Rule) -> &'static str
         Rule::Update => "update",
         Rule::Revive => "revive",
         Rule::Heir => "purge",
+        Rule::InsertHit => "insert-hit",
+        Rule::DeleteMiss => "delete-miss",
+        Rule::UpdateMiss => "update-miss",
     }
 }
 
@@ -47,6 +53,7 @@ pub(crate) fn side_words(rule: Rule) -> &'static str
 {
     match rule {
         Rule::FetchMiss | Rule::ScanStop | Rule::Heir => "the next name",
+        Rule::DeleteMiss | Rule::UpdateMiss => "the next name",
         Rule::Insert | Rule::Split => "its new key",
         _ => "its key",
     }
@@ -76,6 +83,9 @@ pub(crate) fn step_words(rule: Rule) -> &'static str {
         Rule::Update => "`update`",
         Rule::Revive => "`revive`",
         Rule::Heir => "the purge of a ghost that it has locked",
+        Rule::InsertHit => "`insert-hit`",
+        Rule::DeleteMiss => "`delete-miss`",
+        Rule::UpdateMiss => "`update-miss`",
     }
 }
 
@@ -99,5 +109,6 @@ pub(crate) fn deed_words(access: Access) -> &'static str {
         Access::Update => "update that key",
         Access::Revive => "insert that key again",
         Access::Insert => "insert a key into the gap below that name",
+        Access::InsertHit => "find that key by an insert",
     }
 }
