@@ -149,15 +149,17 @@ has_ghosts Ghosts = true
 abbrev pub sees_own : Rows → List ℕ → Bool
 sees_own r row = bytes_eq row (codes "insert") || (not (has_ghosts r) && bytes_eq row (codes "delete"))
 
--- Whether the row asks at the current name; the row of updates is there only where they are offered, and that of an insert of a ghost where there are ghosts.
+-- Whether the row asks at the current name; the row of updates is there only where they are offered, and those of an insert of a ghost and of one that finds its key present where there are ghosts.
 abbrev pub has_current : Rows → List ℕ → Bool
 has_current r row =
     bytes_eq row (codes "fetch-hit") || bytes_eq row (codes "scan-key") || bytes_eq row (codes "insert") || bytes_eq row (codes "delete")
-    || (has_updates r && bytes_eq row (codes "update")) || (has_ghosts r && bytes_eq row (codes "revive"))
+    || (has_updates r && bytes_eq row (codes "update")) || (has_ghosts r && (bytes_eq row (codes "revive") || bytes_eq row (codes "insert-hit")))
 
--- Whether the row asks at the next name.
+-- Whether the row asks at the next name; those of an insert of a ghost, and of a delete and an update that find no name, are there only where there are ghosts.
 abbrev pub has_next : Rows → List ℕ → Bool
-has_next r row = bytes_eq row (codes "fetch-miss") || bytes_eq row (codes "scan-stop") || sees_own r row
+has_next r row =
+    bytes_eq row (codes "fetch-miss") || bytes_eq row (codes "scan-stop") || sees_own r row
+    || (has_ghosts r && (bytes_eq row (codes "revive") || bytes_eq row (codes "delete-miss") || bytes_eq row (codes "update-miss")))
 
 -- Whether there is a row of this name.
 abbrev pub is_row : Rows → List ℕ → Bool

@@ -28,13 +28,16 @@ fn has_current(rows: Rows, row: &str) -> bool
         || row == "insert"
         || row == "delete"
         || (rows.has_updates() && row == "update")
-        || (rows.has_ghosts() && row == "revive")
+        || (rows.has_ghosts() && (row == "revive" || row == "insert-hit"))
 }
 
 fn has_next(rows: Rows, row: &str) -> bool
     ensures { result ≡ spec.has_next rows row.now }
 {
-    row == "fetch-miss" || row == "scan-stop" || sees_own(rows, row)
+    row == "fetch-miss"
+        || row == "scan-stop"
+        || sees_own(rows, row)
+        || (rows.has_ghosts() && (row == "revive" || row == "delete-miss" || row == "update-miss"))
 }
 
 fn is_row(rows: Rows, row: &str) -> bool
