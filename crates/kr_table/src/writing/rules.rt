@@ -163,6 +163,22 @@ pub fn put_both_sides(
     put_in(alloc, rules, row, both_sides(alloc, current, next)?)
 }
 
+/// Puts a row of both sides, whose requests go by no own mode, at its name. `Memory` comes only where a growth was refused.
+pub fn put_plain_sides(
+    alloc: Global,
+    rules: &mut Document,
+    row: &str,
+    names: &[String],
+    current: Option<(Mode, Span)>,
+    next: Option<(Mode, Span)>,
+) -> Result<(), Memory>
+    ensures { OnOk result (members_view rules.new.entries ≡ spec.put row.now (a_table (spec.both_sides (spec.plain_clauses (map string_bytes names.now) current) (spec.plain_clauses (map string_bytes names.now) next))) (members_view rules.old.entries)) }
+{
+    let current = plain_clauses(alloc, names, current)?;
+    let next = plain_clauses(alloc, names, next)?;
+    put_in(alloc, rules, row, both_sides(alloc, current, next)?)
+}
+
 /// Puts the rows that every table has into a member with none.
 fn put_rows(alloc: Global, rules: &mut Document, p: &Parts) -> Result<(), Memory>
     requires { IsTable (data_of p.now) }
