@@ -16,7 +16,7 @@ pub lawful_ghosts_of : (t : AnyGhostTable) → IsLawfulGhost (ghosts_of t)
 lawful_ghosts_of RecordGap = record_gap_lawful
 lawful_ghosts_of RangeGhost = range_ghost_lawful
 lawful_ghosts_of NextKeyGhost = next_key_ghost_lawful
-lawful_ghosts_of (Read t) = read.lawful_ghosts_of (ghost_data t) t.table.lawful t.revives t.leaves
+lawful_ghosts_of (Read t) = read.lawful_ghosts_of (ghost_data t) t.table.lawful t.asks t.leaves
 
 pub named_of : (t : AnyGhostTable) → AreModeNames (names_of t) (ghosts_of t).table.count
 named_of RecordGap = named_by_test record_gap_names 11 refl

@@ -3,6 +3,7 @@ ghost use Rattle.std.specs.Prelude.{refl};
 ghost use Rattle.kr_cli.specs.GhostLawful.{lawful_ghosts_of, named_of};
 ghost use Rattle.kr_cli.specs.GhostTables.{ghosts_of, names_of};
 
+use kr_ghost::Vain;
 use kr_ghost_protocol::{GhostProtocol, NextKeyGhost, RangeGhost, RecordGap};
 use kr_ghost_table::GhostTable;
 use kr_protocol::{Mode, Protocol, Row, Side, Span};
@@ -102,6 +103,24 @@ impl GhostProtocol for AnyGhostTable {
             AnyGhostTable::RangeGhost => RangeGhost.revive(),
             AnyGhostTable::NextKeyGhost => NextKeyGhost.revive(),
             AnyGhostTable::Read(table) => table.revive(),
+        }
+    }
+
+    fn revive_next(&self) -> Option<(Mode, Span)> {
+        match self {
+            AnyGhostTable::RecordGap => RecordGap.revive_next(),
+            AnyGhostTable::RangeGhost => RangeGhost.revive_next(),
+            AnyGhostTable::NextKeyGhost => NextKeyGhost.revive_next(),
+            AnyGhostTable::Read(table) => table.revive_next(),
+        }
+    }
+
+    fn vain(&self, vain: Vain) -> Option<Option<(Mode, Span)>> {
+        match self {
+            AnyGhostTable::RecordGap => RecordGap.vain(vain),
+            AnyGhostTable::RangeGhost => RangeGhost.vain(vain),
+            AnyGhostTable::NextKeyGhost => NextKeyGhost.vain(vain),
+            AnyGhostTable::Read(table) => table.vain(vain),
         }
     }
 

@@ -26,20 +26,21 @@ each_side modes row (member side d ms) e =
     let q = both_empty (clauses_faults Ghosts modes row side 0 (items_within d)) (side_faults Ghosts modes row ms) p.1 in
     (((and_parts (is_side Ghosts row side) (is_some (as_array d)) (held_by (is_side Ghosts row side && is_some (as_array d)) fault p.0)).0, q.0), each_side modes row ms q.1)
 
--- the row has no faults in its sides
-abbrev IsGoodRow : List (List ℕ) → List ℕ → Data → Type 0
-IsGoodRow modes row d = side_faults Ghosts modes row (members_of d) ≡ []
+-- there is such a row, and it has no faults in its sides
+abbrev pub IsGoodRow : List (List ℕ) → List ℕ → Data → Type 0
+IsGoodRow modes row d = ((is_row Ghosts row && is_some (as_table d)) ≡ true) × (side_faults Ghosts modes row (members_of d) ≡ [])
 
-each_row : (modes : List (List ℕ)) (ms : Members) → row_faults Ghosts modes ms ≡ [] → EachMember (IsGoodRow modes) ms
+pub each_row : (modes : List (List ℕ)) (ms : Members) → row_faults Ghosts modes ms ≡ [] → EachMember (IsGoodRow modes) ms
 each_row modes no_members e = tt
 each_row modes (member row d ms) e =
-    let p = both_empty (unless (is_row Ghosts row && is_some (as_table d)) (rule (codes "rules." ++ row))) (side_faults Ghosts modes row (members_of d) ++ row_faults Ghosts modes ms) e in
+    let fault = rule (codes "rules." ++ row) in
+    let p = both_empty (unless (is_row Ghosts row && is_some (as_table d)) fault) (side_faults Ghosts modes row (members_of d) ++ row_faults Ghosts modes ms) e in
     let q = both_empty (side_faults Ghosts modes row (members_of d)) (row_faults Ghosts modes ms) p.1 in
-    (q.0, each_row modes ms q.1)
+    ((held_by (is_row Ghosts row && is_some (as_table d)) fault p.0, q.0), each_row modes ms q.1)
 
 side_of : (modes : List (List ℕ)) (row side : List ℕ) (o : Option Data) → IfSome o (IsGoodRow modes row) → IfSome (get side (unwrap_or o (table no_members))) (IsGoodSide modes row side)
 side_of modes row side None good = tt
-side_of modes row side (Some d) good = found_in (IsGoodSide modes row) side d (each_side modes row (members_of d) good)
+side_of modes row side (Some d) good = found_in (IsGoodSide modes row) side d (each_side modes row (members_of d) good.1)
 
 -- the side of a row, if it is there
 side_found : (modes : List (List ℕ)) (row side : List ℕ) (rules : Data) → row_faults Ghosts modes (members_of rules) ≡ [] → IfSome (get side (data_in row rules)) (IsGoodSide modes row side)

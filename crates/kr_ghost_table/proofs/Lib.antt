@@ -2,6 +2,7 @@ pub mod Bounds
 pub mod Deletes
 pub mod Documents
 pub mod EveryMember
+pub mod GivenRows
 pub mod HeirsBack
 pub mod Laws
 pub mod Whole

@@ -1,6 +1,6 @@
 -- A document's parts put together.
-use Rattle.std.proofs.Common.{◌≡◌, ℕ, List, [], ◌++◌, map, Option, Some, None, Ok, Err, true, is_some, refl, subst, sym, ap, ◌∙◌, codes}
-use Rattle.std.specs.Prelude.{IfSome}
+use Rattle.std.proofs.Common.{◌≡◌, ℕ, List, [], ◌++◌, map, Option, Some, None, Ok, Err, Bool, true, false, if◌then◌else◌, length, is_some, refl, subst, sym, ap, ◌∙◌, codes}
+use Rattle.std.specs.Prelude.{IfSome, unwrap_or}
 use Rattle.toml.specs.Data.{Data, Items, get, as_table}
 use Rattle.kr_model.specs.Firsts.{first}
 use Rattle.kr_table.specs.declared.faults.TableFault.{TableFault}
@@ -8,13 +8,17 @@ use Rattle.kr_table.specs.declared.rows.Rows.TheVariants.{Ghosts}
 use Rattle.kr_table.specs.Faults as of_table
 use Rattle.kr_table.specs.Members.{integer_in, list_in, items_in, data_in, members_of, items_len, names_of, modes_in}
 use Rattle.kr_table.specs.DocumentFaults.{list_faults, table_faults, count_faults, mode_faults, content_faults, entry_faults, missing_faults, held_faults, missing_pairs, row_faults}
+use Rattle.kr_table.specs.Tables.{Request, asks_mode}
+use Rattle.kr_table.specs.Reading.{asked, clauses_of}
 use Rattle.kr_table.proofs.Lists.{first_append}
 use Rattle.kr_table.proofs.Sound.{both_empty, sound, row_good}
+use Rattle.kr_ghost.specs.declared.vain.Vain.{Vain}
+use Rattle.kr_ghost.specs.declared.vain.Vain.TheVariants.{InsertHit, DeleteMiss, UpdateMiss}
 use Rattle.kr_ghost_table.specs.declared.faults.GhostTableFault.{GhostTableFault}
 use Rattle.kr_ghost_table.specs.Faults.{Fault, Tells, fault_of, table}
 use Rattle.kr_ghost_table.specs.DocumentFaults.{format_faults, name_faults, delete_faults, purge_faults, table_document_faults, heir_faults, faults}
-use Rattle.kr_ghost_table.specs.Tables.{GhostData, IsGhostTable}
-use Rattle.kr_ghost_table.specs.Reading.{table_of, table_of_members, judged, unless_faulty}
+use Rattle.kr_ghost_table.specs.Tables.{GhostData, IsGhostTable, vain_row}
+use Rattle.kr_ghost_table.specs.Reading.{row_in, vain_rows_in, table_of, table_of_members, judged, unless_faulty}
 use Rattle.kr_ghost_table.specs.Answer.{Gives}
 use Rattle.kr_ghost_table.proofs.Bounds.{all_heirs}
 use Rattle.kr_ghost_table.proofs.Deletes.{delete_alike, delete_nothing}
@@ -26,6 +30,19 @@ rows_good modes b c r content =
     let p3 = both_empty (held_faults modes (members_of c)) _ p2.1 in
     let p4 = both_empty (missing_pairs modes modes c) (row_faults Ghosts modes (members_of r)) p3.1 in
     p4.1
+
+given_sound : (m : ℕ) (b : Bool) (r : Request) → asks_mode m r ≡ true → asks_mode m (unwrap_or (if b then Some r else None) None) ≡ true
+given_sound m true r h = h
+given_sound m false r h = refl
+
+row_sound : (modes : List (List ℕ)) (r : Data) (row side : List ℕ) → row_faults Ghosts modes (members_of r) ≡ [] → asks_mode (length modes) (unwrap_or (row_in modes r row side) None) ≡ true
+row_sound modes r row side rows = given_sound (length modes) (is_some (get row r)) (asked modes (clauses_of r row side) (codes "none")) (row_good Ghosts modes row side (codes "none") r rows)
+
+-- what a vain step requests is a mode
+vain_sound : (modes : List (List ℕ)) (r : Data) → row_faults Ghosts modes (members_of r) ≡ [] → (v : Vain) → asks_mode (length modes) (unwrap_or (vain_row (vain_rows_in modes r) v) None) ≡ true
+vain_sound modes r rows InsertHit = row_sound modes r (codes "insert-hit") (codes "current") rows
+vain_sound modes r rows DeleteMiss = row_sound modes r (codes "delete-miss") (codes "next") rows
+vain_sound modes r rows UpdateMiss = row_sound modes r (codes "update-miss") (codes "next") rows
 
 -- a document whose faults are in its heirs at most gives a table
 pub table_sound : (d : Data) → table_document_faults d ≡ [] → IsGhostTable (table_of d)
@@ -50,6 +67,8 @@ table_sound d none =
       delete_current = delete_alike (modes_in d) r rows;
       delete_next = delete_nothing (modes_in d) r rows;
       revive = row_good Ghosts (modes_in d) (codes "revive") (codes "current") (codes "none") r rows;
+      revive_next = row_good Ghosts (modes_in d) (codes "revive") (codes "next") (codes "none") r rows;
+      vain = vain_sound (modes_in d) r rows;
       heirs = all_heirs (modes_in d) (data_in (codes "purge") d) (as_table (data_in (codes "purge") d));
     }
 

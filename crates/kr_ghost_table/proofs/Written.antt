@@ -5,17 +5,20 @@ use Rattle.std.specs.List.{list_all}
 use Rattle.std.proofs.lemmas.Bool.{and_parts}
 use Rattle.toml.specs.Data.{Data, table, Items, no_members, get, as_table}
 use Rattle.kr_table.specs.declared.rows.Rows.TheVariants.{Ghosts}
-use Rattle.kr_table.specs.Members.{items_len, integer_in, list_in, members_of, names_of}
-use Rattle.kr_table.specs.DocumentFaults.{count_faults, mode_faults, content_faults, row_faults}
+use Rattle.kr_table.specs.Members.{items_len, items_in, integer_in, list_in, members_of, names_of}
+use Rattle.kr_table.specs.DocumentFaults.{count_faults, mode_faults, content_faults, row_faults, side_faults}
 use Rattle.kr_table.specs.Tables.{Request, TableData, IsAsked, asks_mode}
 use Rattle.kr_table.specs.Reading.{square, stands, converts, asked, asked_each, asked_update, clauses_of, table_of_parts}
 use Rattle.kr_table.specs.Writing.{strings, with_compatible, with_conversion, plain_clauses, own_clauses}
 use Rattle.kr_table.proofs.ReadBack.{Distinct, distinct_from, none_apart, names_of_strings, len_strings, good_strings, within_itself, compatible_back, compatible_good, none_missing}
 use Rattle.kr_table.proofs.ReadRest.{conversion_back, conversion_good, no_pair_missing, plain_back, plain_good, own_back, own_good, all_owns}
+use Rattle.kr_ghost.specs.declared.vain.Vain.TheVariants.{InsertHit, DeleteMiss, UpdateMiss}
+use Rattle.kr_ghost_table.specs.declared.vain.VainRows.{VainRows}
 use Rattle.kr_ghost_table.specs.DocumentFaults.{format_faults, name_faults, delete_faults, is_purge, purge_faults, table_document_faults}
 use Rattle.kr_ghost_table.specs.Tables.{GhostData, IsGhostTable, delete_of}
-use Rattle.kr_ghost_table.specs.Reading.{heirs, table_of_members, judged}
-use Rattle.kr_ghost_table.specs.Writing.{purge_of, written_rules, written}
+use Rattle.kr_ghost_table.specs.Reading.{vain_rows_in, heirs, table_of_members, judged}
+use Rattle.kr_ghost_table.specs.Writing.{purge_of, revive_sides, revive_row, all_rows, written_rules, written}
+use Rattle.kr_ghost_table.proofs.GivenRows.{other_rows, parts_over, vain_back, vain_good}
 use Rattle.kr_ghost_table.proofs.HeirsBack.{purge_good, purge_back}
 use Rattle.kr_ghost_table.proofs.Whole.{judged_whole}
 
@@ -29,6 +32,10 @@ convert_of x = table (with_conversion x.modes.names x.modes.names x.modes.conver
 
 abbrev rules_of : GhostData → Data
 rules_of x = table (written_rules x)
+
+-- without the rows of the vain steps
+abbrev rows_of : GhostData → Data
+rows_of x = table (all_rows x)
 
 -- the table that is read --
 
@@ -58,9 +65,9 @@ delete_good : (m : ℕ) (rs : List Request) → IsAsked m rs → asks_mode m (sl
 delete_good m [] a = refl
 delete_good m (r ∷ rs) a = (and_parts (asks_mode m r) (list_all (asks_mode m) rs) a.modes).0
 
--- the table as one without ghosts
-parts_back : (x : GhostData) → IsGhostTable x → table_of_parts true x.table.modes.names (compatible_of x.table) (convert_of x.table) (rules_of x) ≡ x.table
-parts_back x s =
+-- the table as one without ghosts, of the rows that every table has
+rows_back : (x : GhostData) → IsGhostTable x → table_of_parts true x.table.modes.names (compatible_of x.table) (convert_of x.table) (rows_of x) ≡ x.table
+rows_back x s =
     let t = s.table in
     let names = x.table.modes.names in
     let owns = codes "none" ∷ names in
@@ -69,15 +76,15 @@ parts_back x s =
     let each : (rs : List Request) → IsAsked (length names) rs → asked_each names (own_clauses names owns rs) ≡ rs = λ rs a. own_back names owns rs d e (a.whole ∙ omega arith) a.modes in
     same_table x.table (square (stands (compatible_of x.table)) names names)
     (square (converts names (convert_of x.table)) names names)
-    (asked names (clauses_of (rules_of x) (codes "fetch-hit") (codes "current")) (codes "none"))
-    (asked names (clauses_of (rules_of x) (codes "fetch-miss") (codes "next")) (codes "none"))
-    (asked names (clauses_of (rules_of x) (codes "scan-key") (codes "current")) (codes "none"))
-    (asked names (clauses_of (rules_of x) (codes "scan-stop") (codes "next")) (codes "none"))
-    (asked_each names (clauses_of (rules_of x) (codes "insert") (codes "current")))
-    (asked_each names (clauses_of (rules_of x) (codes "insert") (codes "next")))
-    (asked_each names (clauses_of (rules_of x) (codes "delete") (codes "current")))
-    (asked_each names (clauses_of (rules_of x) (codes "delete") (codes "next")))
-    (asked_update true names (rules_of x))
+    (asked names (clauses_of (rows_of x) (codes "fetch-hit") (codes "current")) (codes "none"))
+    (asked names (clauses_of (rows_of x) (codes "fetch-miss") (codes "next")) (codes "none"))
+    (asked names (clauses_of (rows_of x) (codes "scan-key") (codes "current")) (codes "none"))
+    (asked names (clauses_of (rows_of x) (codes "scan-stop") (codes "next")) (codes "none"))
+    (asked_each names (clauses_of (rows_of x) (codes "insert") (codes "current")))
+    (asked_each names (clauses_of (rows_of x) (codes "insert") (codes "next")))
+    (asked_each names (clauses_of (rows_of x) (codes "delete") (codes "current")))
+    (asked_each names (clauses_of (rows_of x) (codes "delete") (codes "next")))
+    (asked_update true names (rows_of x))
     (compatible_back names names x.table.modes.compatible no_members d d t.compatible)
     (conversion_back names names x.table.modes.conversion no_members d d t.conversion t.conversions)
     (plain_back names x.table.fetch_hit (codes "none") d t.fetch_hit)
@@ -91,8 +98,29 @@ parts_back x s =
     (same_each (λ own. None) None owns x.table.delete_next (λ own. refl) s.delete_next (t.delete_next.whole ∙ omega arith))
     (ap (λ r. Some r) (plain_back names (unwrap_or x.table.update None) (codes "none") d t.update) ∙ same_update x.table.update s.updates)
 
-same_data : (x : GhostData) (t : TableData) (r : Request) (p : Option (List ℕ)) → t ≡ x.table → r ≡ x.revive → p ≡ x.purge → ◌≡◌ {A = GhostData} (record { table = t; revive = r; purge = p }) x
-same_data x t r p e f g = rw (e, f, g)
+-- and of all rows
+parts_back : (x : GhostData) → IsGhostTable x → table_of_parts true x.table.modes.names (compatible_of x.table) (convert_of x.table) (rules_of x) ≡ x.table
+parts_back x s = parts_over x.table.modes.names (compatible_of x.table) (convert_of x.table) x.vain (all_rows x) ∙ rows_back x s
+
+-- what an insert of a ghost requests on it and on the next name
+revive_asked : (names : List (List ℕ)) (c n : Request) → Distinct names → asks_mode (length names) c ≡ true → asked names (items_in (codes "current") (revive_row names c n)) (codes "none") ≡ c
+revive_asked names c None d h = plain_back names c (codes "none") d h
+revive_asked names c (Some r) d h = plain_back names c (codes "none") d h
+
+next_asked : (names : List (List ℕ)) (c n : Request) → Distinct names → asks_mode (length names) n ≡ true → asked names (items_in (codes "next") (revive_row names c n)) (codes "none") ≡ n
+next_asked names c None d h = refl
+next_asked names c (Some r) d h = plain_back names (Some r) (codes "none") d h
+
+-- at a side of the row that stands among all
+revive_back : (x : GhostData) (side : List ℕ) (r : Request) → asked x.table.modes.names (items_in side (revive_row x.table.modes.names x.revive x.revive_next)) (codes "none") ≡ r
+    → asked x.table.modes.names (clauses_of (rules_of x) (codes "revive") side) (codes "none") ≡ r
+revive_back x side r h =
+    let names = x.table.modes.names in
+    ap (λ o. asked names (items_in side (unwrap_or o (table no_members))) (codes "none")) (other_rows (codes "revive") names x.vain (all_rows x) refl refl refl) ∙ h
+
+same_data : (x : GhostData) (t : TableData) (r n : Request) (v : VainRows) (p : Option (List ℕ)) → t ≡ x.table → r ≡ x.revive → n ≡ x.revive_next → v ≡ x.vain → p ≡ x.purge
+    → ◌≡◌ {A = GhostData} (record { table = t; revive = r; revive_next = n; vain = v; purge = p }) x
+same_data x t r n v p e1 e2 e3 e4 e5 = rw (e1, e2, e3, e4, e5)
 
 -- the whole table
 table_back : (x : GhostData) → IsGhostTable x → table_of_members x.table.modes.names (compatible_of x.table) (convert_of x.table) (rules_of x) (purge_of x.table.modes.names x.purge) ≡ x
@@ -101,15 +129,23 @@ table_back x s =
     let d = distinct_from [] names s.table.named in
     same_data x (table_of_parts true names (compatible_of x.table) (convert_of x.table) (rules_of x))
     (asked names (clauses_of (rules_of x) (codes "revive") (codes "current")) (codes "none"))
+    (asked names (clauses_of (rules_of x) (codes "revive") (codes "next")) (codes "none"))
+    (vain_rows_in names (rules_of x))
     (heirs names (purge_of names x.purge))
     (parts_back x s)
-    (plain_back names x.revive (codes "none") d s.revive)
+    (revive_back x (codes "current") x.revive (revive_asked names x.revive x.revive_next d s.revive))
+    (revive_back x (codes "next") x.revive_next (next_asked names x.revive x.revive_next d s.revive_next))
+    (vain_back names x.vain (all_rows x) d (s.vain InsertHit) (s.vain DeleteMiss) (s.vain UpdateMiss) refl refl refl)
     (purge_back names x.purge d (none_apart [] names s.table.named) s.heirs)
 
 -- no faults --
 
-rules_good : (x : GhostData) → IsGhostTable x → row_faults Ghosts x.table.modes.names (written_rules x) ≡ []
-rules_good x s =
+revive_good : (names : List (List ℕ)) (c n : Request) → asks_mode (length names) c ≡ true → asks_mode (length names) n ≡ true → side_faults Ghosts names (codes "revive") (revive_sides names c n) ≡ []
+revive_good names c None h k = rw (plain_good Ghosts names (codes "revive") (codes "current") c h)
+revive_good names c (Some r) h k = rw (plain_good Ghosts names (codes "revive") (codes "current") c h, plain_good Ghosts names (codes "revive") (codes "next") (Some r) k)
+
+rows_good : (x : GhostData) → IsGhostTable x → row_faults Ghosts x.table.modes.names (all_rows x) ≡ []
+rows_good x s =
     let t = s.table in
     let names = x.table.modes.names in
     let owns = codes "none" ∷ names in
@@ -120,11 +156,14 @@ rules_good x s =
       plain_good Ghosts names (codes "fetch-miss") (codes "next") x.table.fetch_miss t.fetch_miss,
       own_good Ghosts names (codes "insert") (codes "current") 0 owns x.table.insert_current refl w t.insert_current.modes,
       own_good Ghosts names (codes "insert") (codes "next") 0 owns x.table.insert_next refl w t.insert_next.modes,
-      plain_good Ghosts names (codes "revive") (codes "current") x.revive s.revive,
+      revive_good names x.revive x.revive_next s.revive s.revive_next,
       plain_good Ghosts names (codes "scan-key") (codes "current") x.table.scan_key t.scan_key,
       plain_good Ghosts names (codes "scan-stop") (codes "next") x.table.scan_stop t.scan_stop,
       plain_good Ghosts names (codes "update") (codes "current") (unwrap_or x.table.update None) t.update,
     )
+
+rules_good : (x : GhostData) → IsGhostTable x → row_faults Ghosts x.table.modes.names (written_rules x) ≡ []
+rules_good x s = vain_good x.table.modes.names x.vain (all_rows x) (s.vain InsertHit) (s.vain DeleteMiss) (s.vain UpdateMiss) (rows_good x s)
 
 content_good : (x : GhostData) → IsGhostTable x → content_faults Ghosts x.table.modes.names (compatible_of x.table) (convert_of x.table) (rules_of x) ≡ []
 content_good x s =

@@ -8,7 +8,7 @@ use Rattle.kr_ghost_table.specs.Shown.{data_of}
 
 -- What a table says. Two tables are the same where this is equal.
 abbrev pub ghost_data : GhostTable → GhostData
-ghost_data t = data_of t.table t.revive t.heirs
+ghost_data t = data_of t.table t.revive t.revive_next t.vain t.heirs
 
 -- The answer is the reading, unless memory ran out.
 abbrev pub Gives : Result GhostTable GhostTableFault → Result GhostData Fault → Type 0

@@ -1,11 +1,13 @@
 -- What a document of format 3 says, and what bytes read as.
-use Rattle.std.specs.Prelude.{ℕ, ℤ, pos, codes, List, ◌&&◌, length, map, Bool, true, false, nat_lt, nat_le, if◌then◌else◌, Option, Some, None, Result, Ok, Err}
+use Rattle.std.specs.Prelude.{ℕ, ℤ, pos, codes, List, ◌&&◌, length, map, Bool, true, false, nat_lt, nat_le, if◌then◌else◌, Option, Some, None, is_some, Result, Ok, Err}
 use Rattle.std.specs.Ordering.{int_eq}
 use Rattle.toml.specs.Data.{Data, Members, get, as_table}
 use Rattle.kr_model.specs.Firsts.{first}
 use Rattle.kr_table.specs.Faults.{too_long, not_toml}
 use Rattle.kr_table.specs.Members.{modes_in, data_in, integer_in}
+use Rattle.kr_table.specs.Tables.{Request}
 use Rattle.kr_table.specs.Reading.{number, text_of, asked, clauses_of, table_of_parts, document}
+use Rattle.kr_ghost_table.specs.declared.vain.VainRows.{VainRows}
 use Rattle.kr_ghost_table.specs.Faults.{Fault, table}
 use Rattle.kr_ghost_table.specs.DocumentFaults.{faults}
 use Rattle.kr_ghost_table.specs.Tables.{GhostData}
@@ -23,11 +25,25 @@ table_heirs modes purge (Some ms) = Some (map (heir modes purge) modes)
 abbrev pub heirs : List (List ℕ) → Data → Option (List ℕ)
 heirs modes purge = table_heirs modes purge (as_table purge)
 
+-- What a row requests at a side, and nothing where `rules` hasn't the row.
+abbrev pub row_in : List (List ℕ) → Data → List ℕ → List ℕ → Option Request
+row_in modes rules row side = if is_some (get row rules) then Some (asked modes (clauses_of rules row side) (codes "none")) else None
+
+-- What the rows of the vain steps request.
+abbrev pub vain_rows_in : List (List ℕ) → Data → VainRows
+vain_rows_in modes rules = record {
+  insert_hit = row_in modes rules (codes "insert-hit") (codes "current");
+  delete_miss = row_in modes rules (codes "delete-miss") (codes "next");
+  update_miss = row_in modes rules (codes "update-miss") (codes "next");
+}
+
 -- The table of modes of these names, by `compatible`, `convert`, `rules` and `purge`.
 abbrev pub table_of_members : List (List ℕ) → Data → Data → Data → Data → GhostData
 table_of_members modes compatible convert rules purge = record {
   table = table_of_parts true modes compatible convert rules;
   revive = asked modes (clauses_of rules (codes "revive") (codes "current")) (codes "none");
+  revive_next = asked modes (clauses_of rules (codes "revive") (codes "next")) (codes "none");
+  vain = vain_rows_in modes rules;
   purge = heirs modes purge;
 }
 

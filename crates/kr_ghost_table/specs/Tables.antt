@@ -1,13 +1,18 @@
 -- What a table with ghosts says, and its meaning as a locking protocol.
-use Rattle.std.specs.Prelude.{◌≡◌, ◌==◌, ◌&&◌, ℕ, zero, suc, List, length, All, Bool, true, nat_le, Option, Some, None, is_some, slice_index_or}
+use Rattle.std.specs.Prelude.{◌≡◌, ◌==◌, ◌&&◌, ℕ, zero, suc, List, length, All, Bool, true, nat_le, Option, Some, None, is_some, slice_index_or, unwrap_or}
 use Rattle.std.specs.List.{list_all}
 use Rattle.kr_table.specs.Tables.{Request, TableData, IsTable, protocol_of, asks_mode}
+use Rattle.kr_ghost.specs.declared.vain.Vain.{Vain}
+use Rattle.kr_ghost.specs.declared.vain.Vain.TheVariants.{InsertHit, DeleteMiss, UpdateMiss}
 use Rattle.kr_ghost.specs.Protocol.{GhostProtocol, Purges, Unlocked, Inherit}
+use Rattle.kr_ghost_table.specs.declared.vain.VainRows.{VainRows}
 
--- The table as one without ghosts, what an insert of a ghost requests on it, and the heir of each mode, from 1, or nothing where a purge waits until there is no lock. An heir is 0 where nothing is inherited.
+-- The table as one without ghosts, what an insert of a ghost requests on it and on the next name, what the vain steps request, and the heir of each mode, from 1, or nothing where a purge waits until there is no lock. An heir is 0 where nothing is inherited.
 pub record GhostData : Type 0 where
   pub table : TableData
   pub revive : Request
+  pub revive_next : Request
+  pub vain : VainRows
   pub purge : Option (List ℕ)
 
 -- Its meaning --
@@ -22,9 +27,15 @@ abbrev pub purges_of : Option (List ℕ) → Purges
 purges_of None = Unlocked
 purges_of (Some hs) = Inherit (heir_at hs)
 
+-- What the row of a vain step requests, and nothing where the table hasn't the row.
+abbrev pub vain_row : VainRows → Vain → Option Request
+vain_row rows InsertHit = rows.insert_hit
+vain_row rows DeleteMiss = rows.delete_miss
+vain_row rows UpdateMiss = rows.update_miss
+
 -- The protocol that a table is.
 abbrev pub ghost_protocol_of : GhostData → GhostProtocol
-ghost_protocol_of x = record { table = protocol_of x.table; revive = x.revive; purges = purges_of x.purge }
+ghost_protocol_of x = record { table = protocol_of x.table; revive = x.revive; revive_next = x.revive_next; vain = vain_row x.vain; purges = purges_of x.purge }
 
 -- What holds of every table, as tests --
 
@@ -48,4 +59,6 @@ pub record IsGhostTable (x : GhostData) : Type 0 where
   pub delete_current : All (λ r. r ≡ delete_of x.table) x.table.delete_current
   pub delete_next : All (λ r. r ≡ None) x.table.delete_next
   pub revive : asks_mode (length x.table.modes.names) x.revive ≡ true
+  pub revive_next : asks_mode (length x.table.modes.names) x.revive_next ≡ true
+  pub vain : (v : Vain) → asks_mode (length x.table.modes.names) (unwrap_or (vain_row x.vain v) None) ≡ true
   pub heirs : are_heirs (length x.table.modes.names) x.purge ≡ true

@@ -3,7 +3,8 @@ use Rattle.std.specs.Prelude.{codes, pos, ℕ, List, Option, Some, None, unwrap_
 use Rattle.toml.specs.Data.{Data, string, integer, array, table, Members, no_members}
 use Rattle.toml.specs.Text.{IsDocumentText}
 use Rattle.kr_table.specs.Tables.{Request}
-use Rattle.kr_table.specs.Writing.{put, strings, with_compatible, with_pairs, with_conversion, plain_clauses, one_side, changing_row, IsLongText}
+use Rattle.kr_table.specs.Writing.{put, strings, with_compatible, with_pairs, with_conversion, plain_clauses, one_side, both_sides, changing_row, IsLongText}
+use Rattle.kr_ghost_table.specs.declared.vain.VainRows.{VainRows}
 use Rattle.kr_ghost_table.specs.Tables.{GhostData, delete_of}
 
 -- What stands at `purge`: the word `unlocked`, or a table with the name of its heir at that of each mode, `none` where it has none.
@@ -11,18 +12,40 @@ abbrev pub purge_of : List (List ℕ) → Option (List ℕ) → Data
 purge_of names None = string (codes "unlocked")
 purge_of names (Some hs) = table (with_pairs names names hs no_members)
 
--- A row with the side `current` alone.
+-- A row with this side alone.
+abbrev pub side_row : List ℕ → List (List ℕ) → Request → Data
+side_row side names r = table (one_side side (plain_clauses names r))
+
 abbrev pub current_row : List (List ℕ) → Request → Data
-current_row names r = table (one_side (codes "current") (plain_clauses names r))
+current_row = side_row (codes "current")
 
--- A row with the side `next` alone.
 abbrev pub next_row : List (List ℕ) → Request → Data
-next_row names r = table (one_side (codes "next") (plain_clauses names r))
+next_row = side_row (codes "next")
 
--- The member `rules`: each row that a table with ghosts may have.
-abbrev pub written_rules : GhostData → Members
-written_rules x =
-    put (codes "revive") (current_row x.table.modes.names x.revive)
+-- The sides of an insert of a ghost: it has the side `next` where something is requested there.
+abbrev pub revive_sides : List (List ℕ) → Request → Request → Members
+revive_sides names current None = one_side (codes "current") (plain_clauses names current)
+revive_sides names current (Some r) = both_sides (plain_clauses names current) (plain_clauses names (Some r))
+
+abbrev pub revive_row : List (List ℕ) → Request → Request → Data
+revive_row names current next = table (revive_sides names current next)
+
+-- A row that is made of what it requests, where the table has it.
+abbrev pub with_row : List ℕ → (Request → Data) → Option Request → Members → Members
+with_row row made None ms = ms
+with_row row made (Some r) ms = put row (made r) ms
+
+-- The rows of the vain steps.
+abbrev pub with_vain : List (List ℕ) → VainRows → Members → Members
+with_vain names rows ms =
+    with_row (codes "update-miss") (next_row names) rows.update_miss
+    (with_row (codes "delete-miss") (next_row names) rows.delete_miss
+    (with_row (codes "insert-hit") (current_row names) rows.insert_hit ms))
+
+-- The rows that every table has.
+abbrev pub all_rows : GhostData → Members
+all_rows x =
+    put (codes "revive") (revive_row x.table.modes.names x.revive x.revive_next)
     (put (codes "update") (current_row x.table.modes.names (unwrap_or x.table.update None))
     (put (codes "delete") (current_row x.table.modes.names (delete_of x.table))
     (put (codes "insert") (table (changing_row x.table.modes.names x.table.insert_current x.table.insert_next))
@@ -30,6 +53,10 @@ written_rules x =
     (put (codes "scan-key") (current_row x.table.modes.names x.table.scan_key)
     (put (codes "fetch-miss") (next_row x.table.modes.names x.table.fetch_miss)
     (put (codes "fetch-hit") (current_row x.table.modes.names x.table.fetch_hit) no_members)))))))
+
+-- The member `rules`.
+abbrev pub written_rules : GhostData → Members
+written_rules x = with_vain x.table.modes.names x.vain (all_rows x)
 
 -- The document that is written for a table.
 abbrev pub written : GhostData → Members

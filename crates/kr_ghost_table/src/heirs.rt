@@ -1,7 +1,7 @@
 //! The entries of `purge`: the heir of each mode.
-ghost use Rattle.std.specs.Prelude.{◌≡◌, ◌≤◌, ◌∷◌, [], IfOk, is_some, length, map, string_bytes};
+ghost use Rattle.std.specs.Prelude.{◌≡◌, ◌≤◌, ◌∷◌, [], IfOk, length, map, string_bytes};
 ghost use Rattle.toml.specs.View.{view, members_view};
-ghost use Rattle.toml.specs.Data.{get, as_str};
+ghost use Rattle.toml.specs.Data.{as_str};
 ghost use Rattle.kr_table.specs.DocumentFaults.{is_own_text};
 ghost use Rattle.kr_ghost_table.specs.Faults as fault;
 ghost use Rattle.kr_ghost_table.specs.Faults.{Passes, Tells};
@@ -10,6 +10,7 @@ ghost use Rattle.kr_ghost_table.specs.Reading.{heirs};
 ghost use Rattle.kr_ghost_table.specs.Shown as shown;
 
 use crate::faults::GhostTableFault;
+use crate::members::has;
 use kr_model::Memory;
 use kr_protocol::Mode;
 use kr_table::TableFault;
@@ -48,12 +49,6 @@ fn test_entries(alloc: Global, modes: &[String], entries: &Document) -> Result<(
         }
     }
     Ok(())
-}
-
-fn has(value: &Value, name: &str) -> bool
-    ensures { result ≡ is_some (get name.now (view value.now)) }
-{
-    value.get(name).is_some()
 }
 
 /// Tests that each mode has an entry.

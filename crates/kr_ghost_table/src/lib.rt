@@ -8,6 +8,7 @@ mod members;
 mod reading;
 mod shape;
 mod table;
+mod vain;
 mod writing;
 
 pub use faults::GhostTableFault;

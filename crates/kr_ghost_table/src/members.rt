@@ -1,5 +1,5 @@
 //! The members of a document: its format, no unknown ones, and those that speak of ghosts.
-ghost use Rattle.std.specs.Prelude.{◌≡◌, MatchResult, Some, [], codes};
+ghost use Rattle.std.specs.Prelude.{◌≡◌, MatchResult, Some, [], codes, is_some};
 ghost use Rattle.toml.specs.View.{view, members_view};
 ghost use Rattle.toml.specs.Data.{get, as_str};
 ghost use Rattle.kr_table.specs.Faults.{Passes, Tells};
@@ -10,6 +10,13 @@ use kr_table::TableFault;
 use kr_table::walk::{field, is_member_name};
 use std::alloc::Global;
 use toml::{Table as Document, Value};
+
+/// Whether something stands at the name.
+pub fn has(value: &Value, name: &str) -> bool
+    ensures { result ≡ is_some (get name.now (view value.now)) }
+{
+    value.get(name).is_some()
+}
 
 /// Tests that the format is 3.
 pub fn test_format(alloc: Global, value: &Value) -> Result<(), TableFault>

@@ -13,6 +13,7 @@ use crate::faults::GhostTableFault;
 use crate::heirs::{heirs_of, test_heirs};
 use crate::shape::{Shape, shape_of};
 use crate::table::GhostTable;
+use crate::vain::vain_rows_of;
 use kr_model::Memory;
 use kr_table::making::{asked_at, parts_of};
 use kr_table::{Table, TableFault};
@@ -63,6 +64,8 @@ fn made(alloc: Global, shape: Shape<'_>) -> Result<GhostTable, Memory>
 {
     let names = shape.names.as_slice();
     let revive = asked_at(names, shape.rules, "revive", "current");
+    let revive_next = asked_at(names, shape.rules, "revive", "next");
+    let vain = vain_rows_of(names, shape.rules);
     let heirs = heirs_of(alloc, names, shape.purge)?;
     let parts = parts_of(
         alloc,
@@ -72,7 +75,7 @@ fn made(alloc: Global, shape: Shape<'_>) -> Result<GhostTable, Memory>
         shape.convert,
         shape.rules,
     )?;
-    Ok(GhostTable::new(Table::new(parts), revive, heirs))
+    Ok(GhostTable::new(Table::new(parts), revive, revive_next, vain, heirs))
 }
 
 /// Whether the format of a document is 3.

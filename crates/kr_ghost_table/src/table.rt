@@ -4,8 +4,10 @@ ghost use Rattle.kr_table.specs.Tables.{protocol_of};
 ghost use Rattle.kr_table.specs.Answer.{table_data};
 ghost use Rattle.kr_ghost_table.specs.Tables.{IsGhostTable, ghost_protocol_of};
 ghost use Rattle.kr_ghost_table.specs.Shown.{data_of, heirs_of};
-ghost use Rattle.kr_ghost_table.specs.Lawful.{RevivesByMode, LeavesModes, lawful_ghosts_of};
+ghost use Rattle.kr_ghost_table.specs.Lawful.{AsksModes, LeavesModes, lawful_ghosts_of};
 
+use crate::vain::VainRows;
+use kr_ghost::Vain;
 use kr_ghost_protocol::GhostProtocol;
 use kr_protocol::{Mode, Protocol, Row, Side, Span};
 use kr_table::Table;
@@ -16,25 +18,32 @@ use kr_table::Table;
 pub struct GhostTable {
     pub(crate) table: Table,
     pub(crate) revive: Option<(Mode, Span)>,
+    pub(crate) revive_next: Option<(Mode, Span)>,
+    pub(crate) vain: VainRows,
     pub(crate) heirs: Option<Vec<Mode>>,
-    ghost sound: { IsGhostTable (data_of table revive heirs) },
-    ghost revives: { RevivesByMode (data_of table revive heirs) },
+    ghost sound: { IsGhostTable (data_of table revive revive_next vain heirs) },
+    ghost asks: { AsksModes (data_of table revive revive_next vain heirs) },
     ghost leaves: { LeavesModes (protocol_of (table_data table)) (heirs_of heirs) },
 }
 
 impl GhostTable {
-    /// The table of these parts: the heir of each mode from 1, 0 for none, or no heirs where a purge waits until there is no lock.
+    /// The table of these parts: what an insert of a ghost requests on it and on the next name, what each vain step requests, and
+    /// the heir of each mode from 1, 0 for none, or no heirs where a purge waits until there is no lock.
     pub(crate) fn new(
         table: Table,
         revive: Option<(Mode, Span)>,
+        revive_next: Option<(Mode, Span)>,
+        vain: VainRows,
         heirs: Option<Vec<Mode>>,
     ) -> GhostTable
-        requires { IsGhostTable (data_of table revive heirs) }
-        ensures { data_of result.table result.revive result.heirs ≡ data_of table revive heirs }
+        requires { IsGhostTable (data_of table revive revive_next vain heirs) }
+        ensures { data_of result.table result.revive result.revive_next result.vain result.heirs ≡ data_of table revive revive_next vain heirs }
     {
         GhostTable {
             table,
             revive,
+            revive_next,
+            vain,
             heirs,
         }
     }
@@ -79,10 +88,18 @@ impl Protocol for GhostTable {
 }
 
 impl GhostProtocol for GhostTable {
-    ghost ghosts = { λ t. ghost_protocol_of (data_of t.table t.revive t.heirs) };
+    ghost ghosts = { λ t. ghost_protocol_of (data_of t.table t.revive t.revive_next t.vain t.heirs) };
 
     fn revive(&self) -> Option<(Mode, Span)> {
         self.revive
+    }
+
+    fn revive_next(&self) -> Option<(Mode, Span)> {
+        self.revive_next
+    }
+
+    fn vain(&self, vain: Vain) -> Option<Option<(Mode, Span)>> {
+        self.vain.row(vain)
     }
 
     fn inherits(&self) -> bool {
@@ -101,7 +118,7 @@ impl GhostProtocol for GhostTable {
 
     ghost tables = { λ t. refl };
 
-    ghost lawful_ghosts = { λ t. lawful_ghosts_of (data_of t.table t.revive t.heirs) t.table.lawful t.revives t.leaves };
+    ghost lawful_ghosts = { λ t. lawful_ghosts_of (data_of t.table t.revive t.revive_next t.vain t.heirs) t.table.lawful t.asks t.leaves };
 }
 
 /// By hand, so that crates above call it by its contract and don't prove a destructor of their own.
@@ -110,6 +127,8 @@ impl Drop for GhostTable {
         let GhostTable {
             table: _,
             revive: _,
+            revive_next: _,
+            vain: _,
             heirs: _,
         } = self;
     }

@@ -1,10 +1,10 @@
 //! Writing a table with ghosts.
-ghost use Rattle.std.specs.Prelude.{◌≡◌, ◌≤◌, Err, IfOk, Ok, false, length, map, string_bytes, true};
+ghost use Rattle.std.specs.Prelude.{◌≡◌, ◌≤◌, Err, IfOk, Ok, OnOk, codes, false, length, map, string_bytes, true};
 ghost use Rattle.toml.specs.View.{view, members_view, table_view};
 ghost use Rattle.toml.specs.Data.{table as a_table, members_depth, members_have_valid_dates, no_members};
 ghost use Rattle.toml.specs.Text.{IsDocumentText};
 ghost use Rattle.kr_table.specs.declared.writing.WriteFault.TheVariants as fault;
-ghost use Rattle.kr_table.specs.Writing.{IsLongText, with_pairs};
+ghost use Rattle.kr_table.specs.Writing.{IsLongText, put, with_pairs};
 ghost use Rattle.kr_ghost_table.specs.Tables.{are_heirs};
 ghost use Rattle.kr_ghost_table.specs.Reading.{judged, reading};
 ghost use Rattle.kr_ghost_table.specs.Shown as shown;
@@ -14,11 +14,12 @@ ghost use Rattle.kr_ghost_table.specs.Writing.{IsTextOf, IsTooLong};
 
 use crate::reading::MAX_BYTES;
 use crate::table::GhostTable;
+use crate::vain::VainRows;
 use kr_model::Memory;
-use kr_protocol::Mode;
+use kr_protocol::{Mode, Span};
 use kr_table::WriteFault;
 use kr_table::writing::entries::{compatibility, conversions, name_at, put_in, text, texts_of};
-use kr_table::writing::rules::{put_both_sides, put_one_side};
+use kr_table::writing::rules::{put_both_sides, put_one_side, put_plain_sides};
 use std::alloc::Global;
 use toml::{Table as Document, Value};
 
@@ -46,7 +47,61 @@ fn purge_of(alloc: Global, names: &[String], heirs: &Option<Vec<Mode>>) -> Resul
     }
 }
 
-/// The member `rules`: all rows, since a table with ghosts offers updates.
+/// Puts the row of an insert of a ghost. It has the side `next` where something is requested there.
+fn put_revive(
+    alloc: Global,
+    rules: &mut Document,
+    names: &[String],
+    current: Option<(Mode, Span)>,
+    next: Option<(Mode, Span)>,
+) -> Result<(), Memory>
+    ensures { OnOk result (members_view rules.new.entries ≡ put (codes "revive") (spec.revive_row (map string_bytes names.now) current next) (members_view rules.old.entries)) }
+{
+    match next {
+        Some(_) => put_plain_sides(alloc, rules, "revive", names, current, next),
+        None => put_one_side(alloc, rules, "revive", "current", names, current),
+    }
+}
+
+/// Puts a row of one side, if it is given.
+fn put_given(
+    alloc: Global,
+    rules: &mut Document,
+    row: &str,
+    side: &str,
+    names: &[String],
+    given: Option<Option<(Mode, Span)>>,
+) -> Result<(), Memory>
+    ensures { OnOk result (members_view rules.new.entries ≡ spec.with_row row.now (spec.side_row side.now (map string_bytes names.now)) given (members_view rules.old.entries)) }
+{
+    match given {
+        Some(request) => put_one_side(alloc, rules, row, side, names, request),
+        None => Ok(()),
+    }
+}
+
+/// Puts the rows of the vain steps that are given.
+fn put_vain(
+    alloc: Global,
+    rules: &mut Document,
+    names: &[String],
+    vain: VainRows,
+) -> Result<(), Memory>
+    ensures { OnOk result (members_view rules.new.entries ≡ spec.with_vain (map string_bytes names.now) vain (members_view rules.old.entries)) }
+{
+    put_given(
+        alloc,
+        rules,
+        "insert-hit",
+        "current",
+        names,
+        vain.insert_hit,
+    )?;
+    put_given(alloc, rules, "delete-miss", "next", names, vain.delete_miss)?;
+    put_given(alloc, rules, "update-miss", "next", names, vain.update_miss)
+}
+
+/// The member `rules`: all rows, since a table with ghosts offers updates, but those of vain steps that it hasn't.
 fn rules_of(alloc: Global, table: &GhostTable) -> Result<Document, Memory>
     ensures { IfOk result (λ t. members_view t.entries ≡ spec.written_rules (ghost_data table.now)) }
 {
@@ -82,7 +137,8 @@ fn rules_of(alloc: Global, table: &GhostTable) -> Result<Document, Memory>
         p.delete_current[0],
     )?;
     put_one_side(alloc, &mut rules, "update", "current", names, update)?;
-    put_one_side(alloc, &mut rules, "revive", "current", names, table.revive)?;
+    put_revive(alloc, &mut rules, names, table.revive, table.revive_next)?;
+    put_vain(alloc, &mut rules, names, table.vain)?;
     Ok(rules)
 }
 

@@ -6,7 +6,9 @@ mod texts;
 
 use self::texts::{NEXT_KEY_GHOST, RANGE_GHOST, RECORD_GAP};
 use super::table::likeness::are_alike;
-use kr_ghost::{Access, Cover, FailedCase, Requester, Rule, access_words, cover_code, rule_code};
+use kr_ghost::{
+    Access, Cover, FailedCase, Requester, Rule, Vain, access_words, cover_code, rule_code,
+};
 use kr_ghost_check::{cases, failed_cases};
 use kr_ghost_protocol::{GhostProtocol, NextKeyGhost, RangeGhost, RecordGap};
 use kr_ghost_table::{GhostTable, GhostTableFault, has_ghosts, read, write};
@@ -102,7 +104,14 @@ fn have_ghosts_alike<P: GhostProtocol, Q: GhostProtocol>(one: &P, other: &Q) -> 
             return false;
         }
     }
-    one.revive() == other.revive() && one.inherits() == other.inherits()
+    for vain in [Vain::InsertHit, Vain::DeleteMiss, Vain::UpdateMiss] {
+        if one.vain(vain) != other.vain(vain) {
+            return false;
+        }
+    }
+    one.revive() == other.revive()
+        && one.revive_next() == other.revive_next()
+        && one.inherits() == other.inherits()
 }
 
 /// Reads the table that a text is, which is this protocol, writes it, and reads that back.
@@ -138,6 +147,28 @@ fn a_table_is_read(rt: HostRuntime) -> Result<(), Fail> {
     same!(rt; table.heir(1), 1);
     assert!(rt; table.inherits());
     Ok(())
+}
+
+/// An insert of a ghost that requests on the next name too, and two rows of vain steps, one without a clause.
+const VAIN: &str = r#"revive = { current = [{ mode = "A", span = "commit" }], next = [{ mode = "A", span = "instant" }] }
+insert-hit = { current = [{ mode = "A", span = "instant" }] }
+delete-miss = {}
+"#;
+
+#[test]
+fn rows_of_vain_steps_are_read_back(rt: HostRuntime) -> Result<(), Fail> {
+    let alloc = rt.alloc();
+    let plain = table_of(&rt, alloc, &[ONE, REVIVE])?;
+    same!(rt; plain.revive_next(), None);
+    same!(rt; plain.vain(Vain::InsertHit), None);
+    same!(rt; plain.vain(Vain::DeleteMiss), None);
+    let table = table_of(&rt, alloc, &[ONE, VAIN])?;
+    same!(rt; table.revive_next(), Some((1, Span::Instant)));
+    same!(rt; table.vain(Vain::InsertHit), Some(Some((1, Span::Instant))));
+    same!(rt; table.vain(Vain::DeleteMiss), Some(None));
+    same!(rt; table.vain(Vain::UpdateMiss), None);
+    let text = [ONE, VAIN].concat(alloc)?;
+    is_read_back(&rt, alloc, text.as_str(), &table)
 }
 
 #[test]
