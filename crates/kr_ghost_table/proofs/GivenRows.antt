@@ -1,16 +1,14 @@
 -- Rows that a table may lack: what is read of them, what of the others, and that they have no faults.
-use Rattle.std.proofs.Common.{◌≡◌, ℕ, List, [], ◌++◌, ◌&&◌, Bool, true, false, true≢false, length, Option, Some, None, is_some, refl, sym, ap, subst, ◌∙◌, codes, if◌then◌else◌}
+use Rattle.std.proofs.Common.{◌≡◌, ℕ, List, [], true, false, true≢false, length, Option, Some, None, is_some, refl, sym, ap, subst, ◌∙◌, codes, if◌then◌else◌}
 use Rattle.std.specs.Prelude.{bytes_eq, unwrap_or}
 use Rattle.std.proofs.lemmas.Slice.Eq.{bytes_eq-Decides}
-use Rattle.toml.specs.Data.{Data, array, table, Members, no_members, member, get_member, as_table}
-use Rattle.kr_model.specs.Firsts.{unless}
+use Rattle.toml.specs.Data.{Data, array, table, Members, no_members, member, get_member}
 use Rattle.kr_table.specs.declared.rows.Rows.TheVariants.{Ghosts}
-use Rattle.kr_table.specs.Faults.{rule}
-use Rattle.kr_table.specs.Members.{items_in, members_of}
-use Rattle.kr_table.specs.DocumentFaults.{is_row, is_side, row_faults, side_faults}
+use Rattle.kr_table.specs.Members.{items_in}
+use Rattle.kr_table.specs.DocumentFaults.{is_row, is_side, row_faults}
 use Rattle.kr_table.specs.Tables.{Request, asks_mode}
 use Rattle.kr_table.specs.Reading.{asked, asked_each, clauses_of, table_of_parts}
-use Rattle.kr_table.specs.Writing.{put, plain_clauses}
+use Rattle.kr_table.specs.Writing.{plain_clauses}
 use Rattle.kr_table.proofs.Puts.{get_put, get_put_other}
 use Rattle.kr_table.proofs.ReadBack.{Distinct}
 use Rattle.kr_table.proofs.ReadRest.{plain_back, plain_good}
