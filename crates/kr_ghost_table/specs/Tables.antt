@@ -7,7 +7,7 @@ use Rattle.kr_ghost.specs.declared.vain.Vain.TheVariants.{InsertHit, DeleteMiss,
 use Rattle.kr_ghost.specs.Protocol.{GhostProtocol, Purges, Unlocked, Inherit}
 use Rattle.kr_ghost_table.specs.declared.vain.VainRows.{VainRows}
 
--- The table as one without ghosts, what an insert of a ghost requests on it and on the next name, what the vain steps request, and the heir of each mode, from 1, or nothing where a purge waits until there is no lock. An heir is 0 where nothing is inherited.
+-- The table as one without ghosts, what an insert of a ghost requests on it and on the next name, what the rows of the vain steps request, and the heir of each mode, from 1, or nothing where a purge waits until there is no lock. An heir is 0 where nothing is inherited.
 pub record GhostData : Type 0 where
   pub table : TableData
   pub revive : Request

@@ -150,7 +150,8 @@ fn a_table_is_read(rt: HostRuntime) -> Result<(), Fail> {
 }
 
 /// An insert of a ghost that requests on the next name too, and two rows of vain steps, one without a clause.
-const VAIN: &str = r#"revive = { current = [{ mode = "A", span = "commit" }], next = [{ mode = "A", span = "instant" }] }
+const VAIN: &str =
+    r#"revive = { current = [{ mode = "A", span = "commit" }], next = [{ mode = "A", span = "instant" }] }
 insert-hit = { current = [{ mode = "A", span = "instant" }] }
 delete-miss = {}
 "#;
