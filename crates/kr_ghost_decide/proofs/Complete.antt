@@ -3,7 +3,7 @@ use Rattle.std.proofs.Common.{ℕ, Bool, true, false, ◌≡◌, ◌≤◌, List
 use Rattle.std.specs.Prelude.{◌&&◌, ◌||◌, not, if◌then◌else◌}
 use Rattle.std.proofs.lemmas.Bool.{and_from}
 use Rattle.kr_ghost.specs.Protocol.{GhostProtocol, IsLawfulGhost, Inherit, inherits as are_inherited}
-use Rattle.kr_ghost.specs.Safe.{KeyUse, Free, Several, Hold, free, is_changed, Ask, FetchHit, FetchMiss, ScanName, ScanStop, Insert, Delete, Update, Revive, InsertHit, DeleteMiss, UpdateMiss, ReviveNext, MayAsk, keeps_out, is_blocked, present_after, Undone, insert, update, delete, to_insert, to_update, to_delete, to_several, Quiet, commit, leave, roll, undo, inherits, Beside, start, turn, ask, quiet, third_asks, third_undoes, new, purge, IsSafeGhost}
+use Rattle.kr_ghost.specs.Safe.{KeyUse, Free, Several, Hold, free, is_changed, Ask, FetchHit, FetchMiss, ScanName, ScanStop, Insert, Delete, Update, Revive, InsertHit, DeleteMiss, UpdateMiss, ReviveNext, InsertHitNext, MayAsk, keeps_out, is_blocked, present_after, Undone, insert, update, delete, to_insert, to_update, to_delete, to_several, Quiet, commit, leave, roll, undo, inherits, Beside, start, turn, ask, quiet, third_asks, third_undoes, new, purge, IsSafeGhost}
 use Rattle.kr_ghost_decide.specs.declared.found.Found.{Found}
 use Rattle.kr_ghost_decide.specs.declared.heir.Heirs.{Heirs}
 use Rattle.kr_ghost_decide.specs.Holds.{Fact, hold_number, place, fact_at}
@@ -81,6 +81,7 @@ module _ (p : GhostProtocol) (laws : IsLawfulGhost p) where
   may_true b x DeleteMiss h = ap not h
   may_true b x UpdateMiss h = and_from (not x.rolling) p.table.updates (ap not h.0) h.1
   may_true b x ReviveNext h = ap not h
+  may_true b x InsertHitNext h = ap not h
 
   abbrev pair : Bool → Hold → Hold → Fact
   pair b x y = record { present = b; own = x; other = y }
@@ -123,6 +124,7 @@ module _ (p : GhostProtocol) (laws : IsLawfulGhost p) where
     grants f DeleteMiss h = h 20 (omega arith)
     grants f UpdateMiss h = h 21 (omega arith)
     grants f ReviveNext h = h 22 (omega arith)
+    grants f InsertHitNext h = h 23 (omega arith)
 
     undoes : (f : Fact) (j : KeyUse) (b : Bool) (k : KeyUse) → Undone j b k → HasMoved p marks f → HasAny marks (undone f b k)
     undoes f j b k insert h = h 12 (omega arith)
@@ -162,6 +164,7 @@ module _ (p : GhostProtocol) (laws : IsLawfulGhost p) where
     by_third DeleteMiss b x y z may fx fy h alter = h
     by_third UpdateMiss b x y z may fx fy h alter = h
     by_third ReviveNext b x y z may fx fy h alter = h
+    by_third InsertHitNext b x y z may fx fy h alter = h
     by_third Delete false x y z may fx fy h alter = h
     by_third Delete true x y z may fx fy h alter = alter (by_second z.rolling _ _ may (and_from (not (is_blocked p z x Delete)) (not (is_blocked p z y Delete)) (ap not fx) (ap not fy)))
     by_third Revive true x y z may fx fy h alter = h
@@ -212,7 +215,7 @@ module _ (p : GhostProtocol) (laws : IsLawfulGhost p) where
 
     -- No hole --
 
-    tested : (f : Fact) (a : Ask) → HasNoHole p 12 f → is_hole p f a ≡ false
+    tested : (f : Fact) (a : Ask) → HasNoHole p 13 f → is_hole p f a ≡ false
     tested f FetchHit h = h 0 (omega arith)
     tested f FetchMiss h = h 1 (omega arith)
     tested f ScanName h = h 2 (omega arith)
@@ -225,12 +228,13 @@ module _ (p : GhostProtocol) (laws : IsLawfulGhost p) where
     tested f DeleteMiss h = h 9 (omega arith)
     tested f UpdateMiss h = h 10 (omega arith)
     tested f ReviveNext h = h 11 (omega arith)
+    tested f InsertHitNext h = h 12 (omega arith)
 
     pub none_open : NoHoles p 294912 marks → IsSafeGhost p
     none_open none a b x y s may keeps =
         let f : Fact = pair b x y in
         let r = reached p laws f s in
-        let n : HasNoHole p 12 f = subst (HaveNoHole p) (found f r (all b x y s)) (none (place f) (new_below p laws f r)) in
+        let n : HasNoHole p 13 f = subst (HaveNoHole p) (found f r (all b x y s)) (none (place f) (new_below p laws f r)) in
         blocked (may_ask p b x a) (keeps_out b y a) (is_blocked p x y a) (tested f a n) (may_true b x a may) keeps
 
   pub safe_by_test : (f : Found) → IsFound p f → IsDone p f.marks.items → IsSafeGhost p

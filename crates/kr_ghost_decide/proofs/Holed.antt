@@ -27,7 +27,7 @@ hole_unsafe p h i safe = let e = safe (asking h.ask) h.present (hold h.own) (hol
 pub unmarked : (p : GhostProtocol) (r : Option Pair) (m : Option Fact) → facts r ≡ m → r ≡ None → HaveNoHole p m
 unmarked p r m is none = subst (HaveNoHole p) (sym (ap facts none) ∙ is) tt
 
-pub without : (p : GhostProtocol) (r : Option Pair) (q : Pair) (m : Option Fact) → facts r ≡ m → r ≡ Some q → HasNoHole p 12 (fact q) → HaveNoHole p m
+pub without : (p : GhostProtocol) (r : Option Pair) (q : Pair) (m : Option Fact) → facts r ≡ m → r ≡ Some q → HasNoHole p 13 (fact q) → HaveNoHole p m
 without p r q m is some h = subst (HaveNoHole p) (sym (ap facts some) ∙ is) h
 
 -- The answer by whether a hole was found.

@@ -4,7 +4,7 @@ use Rattle.std.proofs.lemmas.Bool.Decides.{nat_tests}
 use Rattle.std.specs.Prelude.{◌&&◌, ◌||◌, ◌==◌, not, if◌then◌else◌}
 use Rattle.std.proofs.lemmas.Bool.{and_parts}
 use Rattle.kr_ghost.specs.Protocol.{GhostProtocol, Purges, Unlocked, Inherit, inherits as are_inherited, heir_of}
-use Rattle.kr_ghost.specs.Safe.{KeyUse, Free, Read, Inserted, Updated, Deleted, Several, Hold, free, is_changed, is_read, Ask, FetchHit, FetchMiss, ScanName, ScanStop, Insert, Delete, Update, Revive, InsertHit, DeleteMiss, UpdateMiss, ReviveNext, MayAsk, is_blocked, rolled, Undone, insert, update, delete, to_insert, to_update, to_delete, to_several, commit, leave, roll, undo, inherits, Beside, turn, ask, quiet, third_asks, third_undoes, new, purge}
+use Rattle.kr_ghost.specs.Safe.{KeyUse, Free, Read, Inserted, Updated, Deleted, Several, Hold, free, is_changed, is_read, Ask, FetchHit, FetchMiss, ScanName, ScanStop, Insert, Delete, Update, Revive, InsertHit, DeleteMiss, UpdateMiss, ReviveNext, InsertHitNext, MayAsk, is_blocked, rolled, Undone, insert, update, delete, to_insert, to_update, to_delete, to_several, commit, leave, roll, undo, inherits, Beside, turn, ask, quiet, third_asks, third_undoes, new, purge}
 use Rattle.kr_ghost_decide.specs.declared.heir.Heirs.{Heirs}
 use Rattle.kr_ghost_decide.specs.declared.way.Way.{Way}
 use Rattle.kr_ghost_decide.specs.declared.way.Way.TheVariants as way
@@ -101,6 +101,7 @@ module _ (p : GhostProtocol) where
   may_back b x DeleteMiss h = not_true x.rolling h
   may_back b x UpdateMiss h = let z = and_parts (not x.rolling) p.table.updates h in (not_true x.rolling z.0, z.1)
   may_back b x ReviveNext h = not_true x.rolling h
+  may_back b x InsertHitNext h = not_true x.rolling h
 
   -- By itself --
 

@@ -46,7 +46,7 @@ HasAny marks (Some f) = has marks f ≡ true
 
 -- What comes of a pair by itself is marked.
 abbrev pub HasMoved : GhostProtocol → List Bool → Fact → Type 0
-HasMoved p marks f = (k : ℕ) → k < 23 → HasAny marks (moved p f (slice_index_or ways k way.Turn))
+HasMoved p marks f = (k : ℕ) → k < 24 → HasAny marks (moved p f (slice_index_or ways k way.Turn))
 
 -- Whether a third with the lock state z stands beside both, and may take the key away or bring it back.
 abbrev pub is_altered : GhostProtocol → List Bool → Fact → Hold → Bool

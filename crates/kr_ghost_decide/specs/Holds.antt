@@ -1,6 +1,6 @@
 -- Lock states, requests and pairs as the definitions have them, and their numbers.
 use Rattle.std.specs.Prelude.{ℕ, ◌+◌, ◌*◌, ◌/◌, ◌%◌, ◌==◌, Bool, Option, Some, None, cond, if◌then◌else◌}
-use Rattle.kr_ghost.specs.Safe.{KeyUse, Free, Read, Inserted, Updated, Deleted, Several, Hold, Ask, FetchHit, FetchMiss, ScanName, ScanStop, Insert, Delete, Update, Revive, InsertHit, DeleteMiss, UpdateMiss, ReviveNext}
+use Rattle.kr_ghost.specs.Safe.{KeyUse, Free, Read, Inserted, Updated, Deleted, Several, Hold, Ask, FetchHit, FetchMiss, ScanName, ScanStop, Insert, Delete, Update, Revive, InsertHit, DeleteMiss, UpdateMiss, ReviveNext, InsertHitNext}
 use Rattle.kr_ghost_decide.specs.declared.hold.KeyUse.{KeyUse as KeyUseInCode}
 use Rattle.kr_ghost_decide.specs.declared.hold.KeyUse.TheVariants as key
 use Rattle.kr_ghost_decide.specs.declared.hold.Hold.{Hold as HoldInCode}
@@ -34,6 +34,7 @@ asking ask.InsertHit = InsertHit
 asking ask.DeleteMiss = DeleteMiss
 asking ask.UpdateMiss = UpdateMiss
 asking ask.ReviveNext = ReviveNext
+asking ask.InsertHitNext = InsertHitNext
 
 -- What two transactions have on one name, while its key is present or not.
 pub record Fact : Type 0 where

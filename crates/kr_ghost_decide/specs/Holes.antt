@@ -30,7 +30,7 @@ HasNoHole p n f = (k : ℕ) → k < n → is_hole p f (asking (slice_index_or as
 
 abbrev pub HaveNoHole : GhostProtocol → Option Fact → Type 0
 HaveNoHole p None = Unit {0}
-HaveNoHole p (Some f) = HasNoHole p 12 f
+HaveNoHole p (Some f) = HasNoHole p 13 f
 
 -- And none at the first n pairs that are marked.
 abbrev pub NoHoles : GhostProtocol → ℕ → List Bool → Type 0

@@ -11,7 +11,7 @@ use Rattle.kr_ghost_decide.specs.Holds.{key_use, asking, Fact}
 
 -- All requests, in order.
 abbrev pub asks : List AskInCode
-asks = ask.FetchHit ∷ ask.FetchMiss ∷ ask.ScanName ∷ ask.ScanStop ∷ ask.Insert ∷ ask.Delete ∷ ask.Update ∷ ask.Revive ∷ ask.InsertHit ∷ ask.DeleteMiss ∷ ask.UpdateMiss ∷ ask.ReviveNext ∷ []
+asks = ask.FetchHit ∷ ask.FetchMiss ∷ ask.ScanName ∷ ask.ScanStop ∷ ask.Insert ∷ ask.Delete ∷ ask.Update ∷ ask.Revive ∷ ask.InsertHit ∷ ask.DeleteMiss ∷ ask.UpdateMiss ∷ ask.ReviveNext ∷ ask.InsertHitNext ∷ []
 
 -- Whether one with the lock state x may come to request this.
 abbrev pub may_ask : GhostProtocol → Bool → Hold → Ask → Bool
@@ -57,7 +57,7 @@ abbrev pub ways : List Way
 ways =
     way.Turn ∷ way.End ∷ way.Roll ∷ way.New ∷ way.Ask ask.FetchHit ∷ way.Ask ask.FetchMiss ∷ way.Ask ask.ScanName ∷ way.Ask ask.ScanStop ∷ way.Ask ask.Insert ∷ way.Ask ask.Delete ∷ way.Ask ask.Update ∷ way.Ask ask.Revive
     ∷ way.Undo false key.Free ∷ way.Undo true key.Free ∷ way.Undo true key.Inserted ∷ way.Undo true key.Updated ∷ way.Undo false key.Deleted ∷ way.Undo true key.Several ∷ way.Undo false key.Several
-    ∷ way.Ask ask.InsertHit ∷ way.Ask ask.DeleteMiss ∷ way.Ask ask.UpdateMiss ∷ way.Ask ask.ReviveNext ∷ []
+    ∷ way.Ask ask.InsertHit ∷ way.Ask ask.DeleteMiss ∷ way.Ask ask.UpdateMiss ∷ way.Ask ask.ReviveNext ∷ way.Ask ask.InsertHitNext ∷ []
 
 -- What they have then.
 abbrev pub moved : GhostProtocol → Fact → Way → Option Fact

@@ -9,8 +9,8 @@ ghost use Rattle.kr_ghost_decide.specs.Ways.{may_ask, asks, granted};
 use crate::hold::{Hold, KeyUse, Pair, is_changed, is_read};
 use kr_ghost_protocol::{GhostProtocol, Mode, Row, Side, Span, Vain, vain_request};
 
-/// What is requested of a name. An insert requests its lock on the next name here. A revive is an insert of a ghost, with a request
-/// on the next name too; and an insert of a present key, and a delete or an update of one that is no name, change nothing.
+/// What is requested of a name. An insert requests its lock on the next name here. A revive is an insert of a ghost; it and an insert
+/// of a present key may request a lock on the next name too.
 #[derive(Clone, Copy, PartialEq, Eq)]
 pub enum Ask {
     FetchHit,
@@ -25,6 +25,7 @@ pub enum Ask {
     DeleteMiss,
     UpdateMiss,
     ReviveNext,
+    InsertHitNext,
 }
 
 /// All requests, in order.
@@ -44,6 +45,7 @@ pub(crate) fn asks() -> &'static [Ask]
         Ask::DeleteMiss,
         Ask::UpdateMiss,
         Ask::ReviveNext,
+        Ask::InsertHitNext,
     ]
 }
 
@@ -80,6 +82,14 @@ fn revive_next<P: GhostProtocol>(protocol: &P) -> Option<(Mode, Span)>
     protocol.revive_next()
 }
 
+/// What an insert of a present key requests on the next name.
+fn insert_hit_next<P: GhostProtocol>(protocol: &P) -> Option<(Mode, Span)>
+    ensures asked { result ≡ (P.ghosts protocol.now).insert_hit_next }
+    ensures in_range { IfSome result (λ a. a.0 ≤ (P.ghosts protocol.now).table.count) }
+{
+    protocol.insert_hit_next()
+}
+
 /// What a vain step requests.
 fn vain<P: GhostProtocol>(protocol: &P, vain: Vain) -> Option<(Mode, Span)>
     ensures asked { result ≡ spec.vain (P.ghosts protocol.now) vain }
@@ -107,6 +117,7 @@ fn asked<P: GhostProtocol>(protocol: &P, ask: Ask, own: Mode) -> Option<(Mode, S
         Ask::DeleteMiss => vain(protocol, Vain::DeleteMiss),
         Ask::UpdateMiss => vain(protocol, Vain::UpdateMiss),
         Ask::ReviveNext => revive_next(protocol),
+        Ask::InsertHitNext => insert_hit_next(protocol),
     }
 }
 
@@ -158,7 +169,7 @@ pub(crate) fn keeps_out(present: bool, other: Hold, ask: Ask) -> bool
 {
     match ask {
         Ask::FetchMiss | Ask::ScanStop | Ask::DeleteMiss | Ask::UpdateMiss => false,
-        Ask::ReviveNext => false,
+        Ask::ReviveNext | Ask::InsertHitNext => false,
         Ask::Insert => other.gap,
         Ask::FetchHit | Ask::InsertHit | Ask::ScanName => is_changed(other.key),
         Ask::Delete | Ask::Update if present => is_read(other.key),

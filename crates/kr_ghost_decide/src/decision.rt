@@ -40,7 +40,7 @@ fn is_hole<P: GhostProtocol>(protocol: &P, pair: Pair, ask: Ask) -> bool
 fn hole_of<P: GhostProtocol>(protocol: &P, pair: Pair) -> Option<Hole>
     requires { IsReached (P.ghosts protocol.now) (fact pair) }
     ensures some { IfSome result (IsHole (P.ghosts protocol.now)) }
-    ensures none { IfNone result (HasNoHole (P.ghosts protocol.now) 12 (fact pair)) }
+    ensures none { IfNone result (HasNoHole (P.ghosts protocol.now) 13 (fact pair)) }
 {
     let asks = asks();
     for number in 0..asks.len() {

@@ -52,6 +52,7 @@ pub(crate) fn ways() -> &'static [Way]
         Way::Ask(Ask::DeleteMiss),
         Way::Ask(Ask::UpdateMiss),
         Way::Ask(Ask::ReviveNext),
+        Way::Ask(Ask::InsertHitNext),
     ]
 }
 

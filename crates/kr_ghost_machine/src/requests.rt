@@ -81,7 +81,7 @@ pub(crate) fn insert<P: GhostProtocol, L: Holdings>(
     ensures modes { ArePlanModes (P.table protocol.now).count result }
 {
     if look.value.is_some() {
-        hit(protocol, key)
+        hit(protocol, index, key)
     } else if look.is_ghost {
         revive(protocol, index, key)
     } else {
@@ -90,15 +90,15 @@ pub(crate) fn insert<P: GhostProtocol, L: Holdings>(
     }
 }
 
-/// What an insert of a present key requests.
-fn hit<P: GhostProtocol>(protocol: &P, key: u64) -> Plan
-    ensures requests { requests result ≡ on (Key key) (vain (P.ghosts protocol.now) InsertHit) }
+/// What an insert of a present key requests on it, and on the least name above it.
+fn hit<P: GhostProtocol>(protocol: &P, index: &GhostIndex, key: u64) -> Plan
+    ensures requests { requests result ≡ on (Key key) (vain (P.ghosts protocol.now) InsertHit) ++ on (after (named index.now.map index.now.ghosts) key) (P.ghosts protocol.now).insert_hit_next }
     ensures modes { ArePlanModes (P.table protocol.now).count result }
 {
     Plan {
         row: Row::FetchHit,
         current: side(Name::Key(key), vain_request(protocol, Vain::InsertHit)),
-        next: None,
+        next: above(index, key, protocol.insert_hit_next()),
     }
 }
 
