@@ -8,7 +8,7 @@ use Rattle.kr_model.specs.declared.Span.{Span}
 use Rattle.kr_model.specs.Protocol.{Protocol, IsMode}
 use Rattle.kr_table.specs.Tables.{Request, TableData, protocol_of, in_range, asks_mode}
 use Rattle.kr_ghost.specs.Protocol.{AsksMode}
-use Rattle.kr_ghost_table.specs.Tables.{GhostData, IsGhostTable, is_heir, are_heirs, vain_row}
+use Rattle.kr_ghost_table.specs.Tables.{GhostData, IsGhostTable, is_heir, are_heirs, next_of, vain_row}
 use Rattle.kr_ghost_table.specs.Lawful.{AsksModes, LeavesModes}
 use Rattle.kr_ghost_table.proofs.Bounds.{heir_within}
 
@@ -29,6 +29,7 @@ asks_of x t = record {
   revive = λ q span e. mode_of_request (protocol_of x.table) x.revive q span t.revive e;
   revive_next = λ q span e. mode_of_request (protocol_of x.table) x.revive_next q span t.revive_next e;
   vain = λ v r e. mode_of_given (protocol_of x.table) (vain_row x.vain v) r (t.vain v) e;
+  insert_hit_next = λ q span e. mode_of_request (protocol_of x.table) (next_of x.vain.insert_hit) q span t.insert_hit_next e;
 }
 
 leaves_at : (x : TableData) (o : Option (List ℕ)) → are_heirs (length x.modes.names) o ≡ true → LeavesModes (protocol_of x) o

@@ -17,8 +17,8 @@ use Rattle.kr_ghost.specs.declared.vain.Vain.TheVariants.{InsertHit, DeleteMiss,
 use Rattle.kr_ghost_table.specs.declared.faults.GhostTableFault.{GhostTableFault}
 use Rattle.kr_ghost_table.specs.Faults.{Fault, Tells, fault_of, table}
 use Rattle.kr_ghost_table.specs.DocumentFaults.{format_faults, name_faults, delete_faults, purge_faults, table_document_faults, heir_faults, faults}
-use Rattle.kr_ghost_table.specs.Tables.{GhostData, IsGhostTable, vain_row}
-use Rattle.kr_ghost_table.specs.Reading.{row_in, vain_rows_in, table_of, table_of_members, judged, unless_faulty}
+use Rattle.kr_ghost_table.specs.Tables.{GhostData, IsGhostTable, vain_row, current_of, next_of}
+use Rattle.kr_ghost_table.specs.Reading.{row_in, vain_rows_in, table_of, table_of_members, judged, unless_faulty, sides_in}
 use Rattle.kr_ghost_table.specs.Answer.{Gives}
 use Rattle.kr_ghost_table.proofs.Bounds.{all_heirs}
 use Rattle.kr_ghost_table.proofs.Deletes.{delete_alike, delete_nothing}
@@ -31,6 +31,19 @@ rows_good modes b c r content =
     let p4 = both_empty (missing_pairs modes modes c) (row_faults Ghosts modes (members_of r)) p3.1 in
     p4.1
 
+hit_sound : (m : ℕ) (b : Bool) (c n : Request) → asks_mode m c ≡ true → asks_mode m n ≡ true → (asks_mode m (unwrap_or (current_of (if b then Some (record { current = c; next = n }) else None)) None) ≡ true)
+    × (asks_mode m (next_of (if b then Some (record { current = c; next = n }) else None)) ≡ true)
+hit_sound m true c n h k = (h, k)
+hit_sound m false c n h k = (refl, refl)
+
+-- what an insert of a present key requests is a mode
+hits_sound : (modes : List (List ℕ)) (r : Data) → row_faults Ghosts modes (members_of r) ≡ []
+    → (asks_mode (length modes) (unwrap_or (current_of (sides_in modes r (codes "insert-hit"))) None) ≡ true) × (asks_mode (length modes) (next_of (sides_in modes r (codes "insert-hit"))) ≡ true)
+hits_sound modes r rows =
+    hit_sound (length modes) (is_some (get (codes "insert-hit") r)) (asked modes (clauses_of r (codes "insert-hit") (codes "current")) (codes "none"))
+    (asked modes (clauses_of r (codes "insert-hit") (codes "next")) (codes "none")) (row_good Ghosts modes (codes "insert-hit") (codes "current") (codes "none") r rows)
+    (row_good Ghosts modes (codes "insert-hit") (codes "next") (codes "none") r rows)
+
 given_sound : (m : ℕ) (b : Bool) (r : Request) → asks_mode m r ≡ true → asks_mode m (unwrap_or (if b then Some r else None) None) ≡ true
 given_sound m true r h = h
 given_sound m false r h = refl
@@ -40,7 +53,7 @@ row_sound modes r row side rows = given_sound (length modes) (is_some (get row r
 
 -- what a vain step requests is a mode
 vain_sound : (modes : List (List ℕ)) (r : Data) → row_faults Ghosts modes (members_of r) ≡ [] → (v : Vain) → asks_mode (length modes) (unwrap_or (vain_row (vain_rows_in modes r) v) None) ≡ true
-vain_sound modes r rows InsertHit = row_sound modes r (codes "insert-hit") (codes "current") rows
+vain_sound modes r rows InsertHit = (hits_sound modes r rows).0
 vain_sound modes r rows DeleteMiss = row_sound modes r (codes "delete-miss") (codes "next") rows
 vain_sound modes r rows UpdateMiss = row_sound modes r (codes "update-miss") (codes "next") rows
 
@@ -69,6 +82,7 @@ table_sound d none =
       revive = row_good Ghosts (modes_in d) (codes "revive") (codes "current") (codes "none") r rows;
       revive_next = row_good Ghosts (modes_in d) (codes "revive") (codes "next") (codes "none") r rows;
       vain = vain_sound (modes_in d) r rows;
+      insert_hit_next = (hits_sound (modes_in d) r rows).1;
       heirs = all_heirs (modes_in d) (data_in (codes "purge") d) (as_table (data_in (codes "purge") d));
     }
 

@@ -17,8 +17,8 @@ use Rattle.kr_ghost_table.specs.declared.vain.VainRows.{VainRows}
 use Rattle.kr_ghost_table.specs.DocumentFaults.{format_faults, name_faults, delete_faults, is_purge, purge_faults, table_document_faults}
 use Rattle.kr_ghost_table.specs.Tables.{GhostData, IsGhostTable, delete_of}
 use Rattle.kr_ghost_table.specs.Reading.{vain_rows_in, heirs, table_of_members, judged}
-use Rattle.kr_ghost_table.specs.Writing.{purge_of, revive_sides, revive_row, all_rows, written_rules, written}
-use Rattle.kr_ghost_table.proofs.GivenRows.{other_rows, parts_over, vain_back, vain_good}
+use Rattle.kr_ghost_table.specs.Writing.{purge_of, sides_row, all_rows, written_rules, written}
+use Rattle.kr_ghost_table.proofs.GivenRows.{other_rows, parts_over, current_asked, next_asked, vain_back, sides_good, vain_good}
 use Rattle.kr_ghost_table.proofs.HeirsBack.{purge_good, purge_back}
 use Rattle.kr_ghost_table.proofs.Whole.{judged_whole}
 
@@ -102,17 +102,8 @@ rows_back x s =
 parts_back : (x : GhostData) → IsGhostTable x → table_of_parts true x.table.modes.names (compatible_of x.table) (convert_of x.table) (rules_of x) ≡ x.table
 parts_back x s = parts_over x.table.modes.names (compatible_of x.table) (convert_of x.table) x.vain (all_rows x) ∙ rows_back x s
 
--- what an insert of a ghost requests on it and on the next name
-revive_asked : (names : List (List ℕ)) (c n : Request) → Distinct names → asks_mode (length names) c ≡ true → asked names (items_in (codes "current") (revive_row names c n)) (codes "none") ≡ c
-revive_asked names c None d h = plain_back names c (codes "none") d h
-revive_asked names c (Some r) d h = plain_back names c (codes "none") d h
-
-next_asked : (names : List (List ℕ)) (c n : Request) → Distinct names → asks_mode (length names) n ≡ true → asked names (items_in (codes "next") (revive_row names c n)) (codes "none") ≡ n
-next_asked names c None d h = refl
-next_asked names c (Some r) d h = plain_back names (Some r) (codes "none") d h
-
 -- at a side of the row that stands among all
-revive_back : (x : GhostData) (side : List ℕ) (r : Request) → asked x.table.modes.names (items_in side (revive_row x.table.modes.names x.revive x.revive_next)) (codes "none") ≡ r
+revive_back : (x : GhostData) (side : List ℕ) (r : Request) → asked x.table.modes.names (items_in side (sides_row x.table.modes.names x.revive x.revive_next)) (codes "none") ≡ r
     → asked x.table.modes.names (clauses_of (rules_of x) (codes "revive") side) (codes "none") ≡ r
 revive_back x side r h =
     let names = x.table.modes.names in
@@ -133,16 +124,12 @@ table_back x s =
     (vain_rows_in names (rules_of x))
     (heirs names (purge_of names x.purge))
     (parts_back x s)
-    (revive_back x (codes "current") x.revive (revive_asked names x.revive x.revive_next d s.revive))
+    (revive_back x (codes "current") x.revive (current_asked names x.revive x.revive_next d s.revive))
     (revive_back x (codes "next") x.revive_next (next_asked names x.revive x.revive_next d s.revive_next))
-    (vain_back names x.vain (all_rows x) d (s.vain InsertHit) (s.vain DeleteMiss) (s.vain UpdateMiss) refl refl refl)
+    (vain_back names x.vain (all_rows x) d (s.vain InsertHit) s.insert_hit_next (s.vain DeleteMiss) (s.vain UpdateMiss) refl refl refl)
     (purge_back names x.purge d (none_apart [] names s.table.named) s.heirs)
 
 -- no faults --
-
-revive_good : (names : List (List ℕ)) (c n : Request) → asks_mode (length names) c ≡ true → asks_mode (length names) n ≡ true → side_faults Ghosts names (codes "revive") (revive_sides names c n) ≡ []
-revive_good names c None h k = rw (plain_good Ghosts names (codes "revive") (codes "current") c h)
-revive_good names c (Some r) h k = rw (plain_good Ghosts names (codes "revive") (codes "current") c h, plain_good Ghosts names (codes "revive") (codes "next") (Some r) k)
 
 rows_good : (x : GhostData) → IsGhostTable x → row_faults Ghosts x.table.modes.names (all_rows x) ≡ []
 rows_good x s =
@@ -156,14 +143,14 @@ rows_good x s =
       plain_good Ghosts names (codes "fetch-miss") (codes "next") x.table.fetch_miss t.fetch_miss,
       own_good Ghosts names (codes "insert") (codes "current") 0 owns x.table.insert_current refl w t.insert_current.modes,
       own_good Ghosts names (codes "insert") (codes "next") 0 owns x.table.insert_next refl w t.insert_next.modes,
-      revive_good names x.revive x.revive_next s.revive s.revive_next,
+      sides_good names (codes "revive") x.revive x.revive_next refl refl s.revive s.revive_next,
       plain_good Ghosts names (codes "scan-key") (codes "current") x.table.scan_key t.scan_key,
       plain_good Ghosts names (codes "scan-stop") (codes "next") x.table.scan_stop t.scan_stop,
       plain_good Ghosts names (codes "update") (codes "current") (unwrap_or x.table.update None) t.update,
     )
 
 rules_good : (x : GhostData) → IsGhostTable x → row_faults Ghosts x.table.modes.names (written_rules x) ≡ []
-rules_good x s = vain_good x.table.modes.names x.vain (all_rows x) (s.vain InsertHit) (s.vain DeleteMiss) (s.vain UpdateMiss) (rows_good x s)
+rules_good x s = vain_good x.table.modes.names x.vain (all_rows x) (s.vain InsertHit) s.insert_hit_next (s.vain DeleteMiss) (s.vain UpdateMiss) (rows_good x s)
 
 content_good : (x : GhostData) → IsGhostTable x → content_faults Ghosts x.table.modes.names (compatible_of x.table) (convert_of x.table) (rules_of x) ≡ []
 content_good x s =

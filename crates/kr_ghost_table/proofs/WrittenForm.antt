@@ -8,7 +8,7 @@ use Rattle.kr_table.specs.Writing as of_table
 use Rattle.kr_table.specs.Writing.{put, with_pairs, with_update, all_rows}
 use Rattle.kr_table.proofs.WrittenForm as table_form
 use Rattle.kr_ghost_table.specs.Tables.{GhostData, IsGhostTable, are_heirs, delete_of}
-use Rattle.kr_ghost_table.specs.Writing.{purge_of, side_row, current_row, revive_row, with_vain, written}
+use Rattle.kr_ghost_table.specs.Writing.{purge_of, side_row, current_row, sides_row, with_vain, written}
 use Rattle.kr_ghost_table.proofs.EveryMember.{EachMember, each_put, found}
 use Rattle.kr_ghost_table.proofs.GivenRows.{each_vain}
 use Rattle.kr_ghost_table.proofs.HeirsBack.{each_heir}
@@ -22,7 +22,7 @@ with_update_put names (Some r) ms h = refl
 
 -- its rules, with the rows of deletes and of inserts of ghosts
 abbrev rows_over : GhostData → Members → Members
-rows_over x rules = put (codes "delete") (current_row x.table.modes.names (delete_of x.table)) (put (codes "revive") (revive_row x.table.modes.names x.revive x.revive_next) rules)
+rows_over x rules = put (codes "delete") (current_row x.table.modes.names (delete_of x.table)) (put (codes "revive") (sides_row x.table.modes.names x.revive x.revive_next) rules)
 
 -- and with those of the vain steps
 abbrev rules_over : GhostData → Members → Members
@@ -65,10 +65,10 @@ row_form : (side : List ℕ) (names : List (List ℕ)) (r : Request) (k : List �
 row_form side names None k = (omega arith, refl)
 row_form side names (Some (q, s)) k = (omega arith, refl)
 
-revive_form : (names : List (List ℕ)) (c n : Request) (k : List ℕ) → HasForm 79 k (revive_row names c n)
-revive_form names c None k = row_form (codes "current") names c k
-revive_form names None (Some (q, s)) k = (omega arith, refl)
-revive_form names (Some (q, s)) (Some (r, t)) k = (omega arith, refl)
+sides_form : (names : List (List ℕ)) (c n : Request) (k : List ℕ) → HasForm 79 k (sides_row names c n)
+sides_form names c None k = row_form (codes "current") names c k
+sides_form names None (Some (q, s)) k = (omega arith, refl)
+sides_form names (Some (q, s)) (Some (r, t)) k = (omega arith, refl)
 
 purge_form : (names : List (List ℕ)) (o : Option (List ℕ)) (k : List ℕ) → are_heirs (length names) o ≡ true → HasForm 80 k (purge_of names o)
 purge_form names None k sound = (omega arith, refl)
@@ -80,11 +80,11 @@ purge_form names (Some hs) k sound =
 rules_form : (x : GhostData) (rules : Members) → EachMember (HasForm 79) rules → HasForm 80 (codes "rules") (table (rules_over x rules))
 rules_form x rules each =
     let names = x.table.modes.names in
-    let revive = revive_row names x.revive x.revive_next in
+    let revive = sides_row names x.revive x.revive_next in
     let delete = current_row names (delete_of x.table) in
-    let with_revive = each_put (HasForm 79) (codes "revive") revive rules (revive_form names x.revive x.revive_next (codes "revive")) each in
+    let with_revive = each_put (HasForm 79) (codes "revive") revive rules (sides_form names x.revive x.revive_next (codes "revive")) each in
     let with_delete = each_put (HasForm 79) (codes "delete") delete (put (codes "revive") revive rules) (row_form (codes "current") names (delete_of x.table) (codes "delete")) with_revive in
-    let with_all = each_vain (HasForm 79) names x.vain (rows_over x rules) (λ r e. row_form (codes "current") names r (codes "insert-hit")) (λ r e. row_form (codes "next") names r (codes "delete-miss"))
+    let with_all = each_vain (HasForm 79) names x.vain (rows_over x rules) (λ r e. sides_form names r.current r.next (codes "insert-hit")) (λ r e. row_form (codes "next") names r (codes "delete-miss"))
     (λ r e. row_form (codes "next") names r (codes "update-miss")) with_delete in
     let form = each_form 79 (rules_over x rules) with_all in
     let deep : members_depth (rules_over x rules) ≤ 79 = form.0 in

@@ -7,6 +7,7 @@ use Rattle.kr_table.specs.Faults.{too_long, not_toml}
 use Rattle.kr_table.specs.Members.{modes_in, data_in, integer_in}
 use Rattle.kr_table.specs.Tables.{Request}
 use Rattle.kr_table.specs.Reading.{number, text_of, asked, clauses_of, table_of_parts, document}
+use Rattle.kr_ghost_table.specs.declared.vain.Sides.{Sides}
 use Rattle.kr_ghost_table.specs.declared.vain.VainRows.{VainRows}
 use Rattle.kr_ghost_table.specs.Faults.{Fault, table}
 use Rattle.kr_ghost_table.specs.DocumentFaults.{faults}
@@ -29,10 +30,16 @@ heirs modes purge = table_heirs modes purge (as_table purge)
 abbrev pub row_in : List (List ℕ) → Data → List ℕ → List ℕ → Option Request
 row_in modes rules row side = if is_some (get row rules) then Some (asked modes (clauses_of rules row side) (codes "none")) else None
 
+-- The same of a row with both sides.
+abbrev pub sides_in : List (List ℕ) → Data → List ℕ → Option Sides
+sides_in modes rules row =
+    if is_some (get row rules)
+    then Some (record { current = asked modes (clauses_of rules row (codes "current")) (codes "none"); next = asked modes (clauses_of rules row (codes "next")) (codes "none") }) else None
+
 -- What the rows of the vain steps request.
 abbrev pub vain_rows_in : List (List ℕ) → Data → VainRows
 vain_rows_in modes rules = record {
-  insert_hit = row_in modes rules (codes "insert-hit") (codes "current");
+  insert_hit = sides_in modes rules (codes "insert-hit");
   delete_miss = row_in modes rules (codes "delete-miss") (codes "next");
   update_miss = row_in modes rules (codes "update-miss") (codes "next");
 }

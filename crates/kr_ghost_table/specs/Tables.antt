@@ -5,6 +5,7 @@ use Rattle.kr_table.specs.Tables.{Request, TableData, IsTable, protocol_of, asks
 use Rattle.kr_ghost.specs.declared.vain.Vain.{Vain}
 use Rattle.kr_ghost.specs.declared.vain.Vain.TheVariants.{InsertHit, DeleteMiss, UpdateMiss}
 use Rattle.kr_ghost.specs.Protocol.{GhostProtocol, Purges, Unlocked, Inherit}
+use Rattle.kr_ghost_table.specs.declared.vain.Sides.{Sides}
 use Rattle.kr_ghost_table.specs.declared.vain.VainRows.{VainRows}
 
 -- The table as one without ghosts, what an insert of a ghost requests on it and on the next name, what the rows of the vain steps request, and the heir of each mode, from 1, or nothing where a purge waits until there is no lock. An heir is 0 where nothing is inherited.
@@ -27,15 +28,24 @@ abbrev pub purges_of : Option (List ℕ) → Purges
 purges_of None = Unlocked
 purges_of (Some hs) = Inherit (heir_at hs)
 
+-- What a row requests at each side, if the table has it.
+abbrev pub current_of : Option Sides → Option Request
+current_of None = None
+current_of (Some s) = Some s.current
+
+abbrev pub next_of : Option Sides → Request
+next_of None = None
+next_of (Some s) = s.next
+
 -- What the row of a vain step requests, and nothing where the table hasn't the row.
 abbrev pub vain_row : VainRows → Vain → Option Request
-vain_row rows InsertHit = rows.insert_hit
+vain_row rows InsertHit = current_of rows.insert_hit
 vain_row rows DeleteMiss = rows.delete_miss
 vain_row rows UpdateMiss = rows.update_miss
 
 -- The protocol that a table is.
 abbrev pub ghost_protocol_of : GhostData → GhostProtocol
-ghost_protocol_of x = record { table = protocol_of x.table; revive = x.revive; revive_next = x.revive_next; vain = vain_row x.vain; purges = purges_of x.purge }
+ghost_protocol_of x = record { table = protocol_of x.table; revive = x.revive; revive_next = x.revive_next; vain = vain_row x.vain; insert_hit_next = next_of x.vain.insert_hit; purges = purges_of x.purge }
 
 -- What holds of every table, as tests --
 
@@ -61,4 +71,5 @@ pub record IsGhostTable (x : GhostData) : Type 0 where
   pub revive : asks_mode (length x.table.modes.names) x.revive ≡ true
   pub revive_next : asks_mode (length x.table.modes.names) x.revive_next ≡ true
   pub vain : (v : Vain) → asks_mode (length x.table.modes.names) (unwrap_or (vain_row x.vain v) None) ≡ true
+  pub insert_hit_next : asks_mode (length x.table.modes.names) (next_of x.vain.insert_hit) ≡ true
   pub heirs : are_heirs (length x.table.modes.names) x.purge ≡ true

@@ -4,6 +4,7 @@ use Rattle.toml.specs.Data.{Data, string, integer, array, table, Members, no_mem
 use Rattle.toml.specs.Text.{IsDocumentText}
 use Rattle.kr_table.specs.Tables.{Request}
 use Rattle.kr_table.specs.Writing.{put, strings, with_compatible, with_pairs, with_conversion, plain_clauses, one_side, both_sides, changing_row, IsLongText}
+use Rattle.kr_ghost_table.specs.declared.vain.Sides.{Sides}
 use Rattle.kr_ghost_table.specs.declared.vain.VainRows.{VainRows}
 use Rattle.kr_ghost_table.specs.Tables.{GhostData, delete_of}
 
@@ -22,30 +23,34 @@ current_row = side_row (codes "current")
 abbrev pub next_row : List (List ℕ) → Request → Data
 next_row = side_row (codes "next")
 
--- The sides of an insert of a ghost: it has the side `next` where something is requested there.
-abbrev pub revive_sides : List (List ℕ) → Request → Request → Members
-revive_sides names current None = one_side (codes "current") (plain_clauses names current)
-revive_sides names current (Some r) = both_sides (plain_clauses names current) (plain_clauses names (Some r))
+-- The sides of a row that has the side `next` only where something is requested there.
+abbrev pub both_or_current : List (List ℕ) → Request → Request → Members
+both_or_current names current None = one_side (codes "current") (plain_clauses names current)
+both_or_current names current (Some r) = both_sides (plain_clauses names current) (plain_clauses names (Some r))
 
-abbrev pub revive_row : List (List ℕ) → Request → Request → Data
-revive_row names current next = table (revive_sides names current next)
+abbrev pub sides_row : List (List ℕ) → Request → Request → Data
+sides_row names current next = table (both_or_current names current next)
 
 -- A row that is made of what it requests, where the table has it.
-abbrev pub with_row : List ℕ → (Request → Data) → Option Request → Members → Members
+abbrev pub with_row : {A : Type 0} → List ℕ → (A → Data) → Option A → Members → Members
 with_row row made None ms = ms
 with_row row made (Some r) ms = put row (made r) ms
+
+-- That of an insert of a present key.
+abbrev pub hit_row : List (List ℕ) → Sides → Data
+hit_row names s = sides_row names s.current s.next
 
 -- The rows of the vain steps.
 abbrev pub with_vain : List (List ℕ) → VainRows → Members → Members
 with_vain names rows ms =
     with_row (codes "update-miss") (next_row names) rows.update_miss
     (with_row (codes "delete-miss") (next_row names) rows.delete_miss
-    (with_row (codes "insert-hit") (current_row names) rows.insert_hit ms))
+    (with_row (codes "insert-hit") (hit_row names) rows.insert_hit ms))
 
 -- The rows that every table has.
 abbrev pub all_rows : GhostData → Members
 all_rows x =
-    put (codes "revive") (revive_row x.table.modes.names x.revive x.revive_next)
+    put (codes "revive") (sides_row x.table.modes.names x.revive x.revive_next)
     (put (codes "update") (current_row x.table.modes.names (unwrap_or x.table.update None))
     (put (codes "delete") (current_row x.table.modes.names (delete_of x.table))
     (put (codes "insert") (table (changing_row x.table.modes.names x.table.insert_current x.table.insert_next))

@@ -102,6 +102,10 @@ impl GhostProtocol for GhostTable {
         self.vain.row(vain)
     }
 
+    fn insert_hit_next(&self) -> Option<(Mode, Span)> {
+        self.vain.insert_hit_next()
+    }
+
     fn inherits(&self) -> bool {
         self.heirs.is_some()
     }

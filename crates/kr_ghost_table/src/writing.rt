@@ -14,7 +14,7 @@ ghost use Rattle.kr_ghost_table.specs.Writing.{IsTextOf, IsTooLong};
 
 use crate::reading::MAX_BYTES;
 use crate::table::GhostTable;
-use crate::vain::VainRows;
+use crate::vain::{Sides, VainRows};
 use kr_model::Memory;
 use kr_protocol::{Mode, Span};
 use kr_table::WriteFault;
@@ -47,19 +47,34 @@ fn purge_of(alloc: Global, names: &[String], heirs: &Option<Vec<Mode>>) -> Resul
     }
 }
 
-/// Puts the row of an insert of a ghost. It has the side `next` where something is requested there.
-fn put_revive(
+/// Puts a row that has the side `next` only where something is requested there.
+fn put_sides(
+    alloc: Global,
+    rules: &mut Document,
+    row: &str,
+    names: &[String],
+    sides: Sides,
+) -> Result<(), Memory>
+    ensures { OnOk result (members_view rules.new.entries ≡ put row.now (spec.sides_row (map string_bytes names.now) sides.current sides.next) (members_view rules.old.entries)) }
+{
+    match sides.next {
+        Some(_) => put_plain_sides(alloc, rules, row, names, sides.current, sides.next),
+        None => put_one_side(alloc, rules, row, "current", names, sides.current),
+    }
+}
+
+/// Puts the row of an insert of a present key, if it is given.
+fn put_hit(
     alloc: Global,
     rules: &mut Document,
     names: &[String],
-    current: Option<(Mode, Span)>,
-    next: Option<(Mode, Span)>,
+    given: Option<Sides>,
 ) -> Result<(), Memory>
-    ensures { OnOk result (members_view rules.new.entries ≡ put (codes "revive") (spec.revive_row (map string_bytes names.now) current next) (members_view rules.old.entries)) }
+    ensures { OnOk result (members_view rules.new.entries ≡ spec.with_row (codes "insert-hit") (spec.hit_row (map string_bytes names.now)) given (members_view rules.old.entries)) }
 {
-    match next {
-        Some(_) => put_plain_sides(alloc, rules, "revive", names, current, next),
-        None => put_one_side(alloc, rules, "revive", "current", names, current),
+    match given {
+        Some(sides) => put_sides(alloc, rules, "insert-hit", names, sides),
+        None => Ok(()),
     }
 }
 
@@ -89,14 +104,7 @@ fn put_vain(
 ) -> Result<(), Memory>
     ensures { OnOk result (members_view rules.new.entries ≡ spec.with_vain (map string_bytes names.now) vain (members_view rules.old.entries)) }
 {
-    put_given(
-        alloc,
-        rules,
-        "insert-hit",
-        "current",
-        names,
-        vain.insert_hit,
-    )?;
+    put_hit(alloc, rules, names, vain.insert_hit)?;
     put_given(alloc, rules, "delete-miss", "next", names, vain.delete_miss)?;
     put_given(alloc, rules, "update-miss", "next", names, vain.update_miss)
 }
@@ -137,7 +145,11 @@ fn rules_of(alloc: Global, table: &GhostTable) -> Result<Document, Memory>
         p.delete_current[0],
     )?;
     put_one_side(alloc, &mut rules, "update", "current", names, update)?;
-    put_revive(alloc, &mut rules, names, table.revive, table.revive_next)?;
+    let revive = Sides {
+        current: table.revive,
+        next: table.revive_next,
+    };
+    put_sides(alloc, &mut rules, "revive", names, revive)?;
     put_vain(alloc, &mut rules, names, table.vain)?;
     Ok(rules)
 }

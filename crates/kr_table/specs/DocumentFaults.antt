@@ -155,11 +155,15 @@ has_current r row =
     bytes_eq row (codes "fetch-hit") || bytes_eq row (codes "scan-key") || bytes_eq row (codes "insert") || bytes_eq row (codes "delete")
     || (has_updates r && bytes_eq row (codes "update")) || (has_ghosts r && (bytes_eq row (codes "revive") || bytes_eq row (codes "insert-hit")))
 
--- Whether the row asks at the next name; those of an insert of a ghost, and of a delete and an update that find no name, are there only where there are ghosts.
+-- Whether the row asks at the next name only where there are ghosts: that of an insert of a ghost or of a present key, and of a delete or an update that finds no name.
+abbrev pub is_next_with_ghosts : List ℕ → Bool
+is_next_with_ghosts row = bytes_eq row (codes "revive") || bytes_eq row (codes "insert-hit") || bytes_eq row (codes "delete-miss") || bytes_eq row (codes "update-miss")
+
+-- Whether the row asks at the next name.
 abbrev pub has_next : Rows → List ℕ → Bool
 has_next r row =
     bytes_eq row (codes "fetch-miss") || bytes_eq row (codes "scan-stop") || sees_own r row
-    || (has_ghosts r && (bytes_eq row (codes "revive") || bytes_eq row (codes "delete-miss") || bytes_eq row (codes "update-miss")))
+    || (has_ghosts r && is_next_with_ghosts row)
 
 -- Whether there is a row of this name.
 abbrev pub is_row : Rows → List ℕ → Bool

@@ -9,9 +9,9 @@ pub enum Rows {
     Plain,
     /// The same, and `update`: those of format 2.
     Updates,
-    /// The same, and `revive` with both sides, `insert-hit` with the side `current`, and `delete-miss`
-    /// and `update-miss` with the side `next`: those of format 3, whose deletes leave ghosts. A delete
-    /// has no side `next`, and only an insert has clauses with `own`.
+    /// The same, and `revive` and `insert-hit` with both sides, and `delete-miss` and `update-miss` with
+    /// the side `next`: those of format 3, whose deletes leave ghosts. A delete has no side `next`, and
+    /// only an insert has clauses with `own`.
     Ghosts,
 }
 

@@ -37,7 +37,14 @@ fn has_next(rows: Rows, row: &str) -> bool
     row == "fetch-miss"
         || row == "scan-stop"
         || sees_own(rows, row)
-        || (rows.has_ghosts() && (row == "revive" || row == "delete-miss" || row == "update-miss"))
+        || (rows.has_ghosts() && is_next_with_ghosts(row))
+}
+
+/// Whether the row asks at the next name only where there are ghosts.
+fn is_next_with_ghosts(row: &str) -> bool
+    ensures { result ≡ spec.is_next_with_ghosts row.now }
+{
+    row == "revive" || row == "insert-hit" || row == "delete-miss" || row == "update-miss"
 }
 
 fn is_row(rows: Rows, row: &str) -> bool
