@@ -124,6 +124,15 @@ impl GhostProtocol for AnyGhostTable {
         }
     }
 
+    fn insert_hit_next(&self) -> Option<(Mode, Span)> {
+        match self {
+            AnyGhostTable::RecordGap => RecordGap.insert_hit_next(),
+            AnyGhostTable::RangeGhost => RangeGhost.insert_hit_next(),
+            AnyGhostTable::NextKeyGhost => NextKeyGhost.insert_hit_next(),
+            AnyGhostTable::Read(table) => table.insert_hit_next(),
+        }
+    }
+
     fn inherits(&self) -> bool {
         match self {
             AnyGhostTable::RecordGap => RecordGap.inherits(),

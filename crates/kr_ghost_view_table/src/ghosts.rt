@@ -2,9 +2,9 @@
 ghost use Rattle.std.specs.Prelude.{◌≡◌, ◌≤◌, IfOk, flat_map, string_bytes};
 ghost use Rattle.kr_model.specs.Covers.{modes};
 ghost use Rattle.kr_ghost_view_table.specs.declared.ghosts.TheConstants.{GHOSTS, HEIRS, WAITS};
-ghost use Rattle.kr_ghost_view_table.specs.Ghosts.{ghosts_words, heir_row, mode_words, purge_words};
+ghost use Rattle.kr_ghost_view_table.specs.Ghosts.{above_words, ghosts_words, heir_row, mode_words, purge_words, row_words, vain_words};
 
-use kr_ghost_protocol::GhostProtocol;
+use kr_ghost_protocol::{GhostProtocol, Span, Vain};
 use kr_model::{Memory, Mode};
 use kr_protocol::{Protocol, name_or_empty};
 use kr_view_scenes::escape;
@@ -27,14 +27,77 @@ pub const HEIRS: &str =
 <tbody>
 ";
 
-/// What an insert of a ghost requests, and what becomes of locks at a purge.
+/// What an insert of a ghost and vain steps request, and what becomes of locks at a purge.
 pub fn ghosts<P: GhostProtocol>(alloc: Global, protocol: &P) -> Result<String, Memory>
     ensures { IfOk result (λ text. string_bytes text ≡ ghosts_words (P.ghosts protocol.now) (P.names protocol.now)) }
 {
     let opening = opening();
     let request = request(alloc, protocol, protocol.revive())?;
+    let above = above(alloc, protocol, protocol.revive_next())?;
+    let vain = vain_rows(alloc, protocol)?;
     let purges = purges(alloc, protocol)?;
-    format!(in alloc; "{opening}{request}.</p>\n{purges}")
+    format!(in alloc; "{opening}{request}{above}.</p>\n{vain}{purges}")
+}
+
+/// What is requested on the name above too, if anything is.
+fn above<P: GhostProtocol>(
+    alloc: Global,
+    protocol: &P,
+    asked: Option<(Mode, Span)>,
+) -> Result<String, Memory>
+    ensures { IfOk result (λ text. string_bytes text ≡ above_words (P.names protocol.now) asked) }
+{
+    if asked.is_none() {
+        return Ok(String::new(alloc));
+    }
+    let request = request(alloc, protocol, asked)?;
+    format!(in alloc; "; on the name above it: {request}")
+}
+
+/// What the row of a vain step requests, behind these words, if the table has the row.
+fn row<P: GhostProtocol>(
+    alloc: Global,
+    protocol: &P,
+    opening: &str,
+    row: Option<Option<(Mode, Span)>>,
+    next: Option<(Mode, Span)>,
+) -> Result<String, Memory>
+    ensures { IfOk result (λ text. string_bytes text ≡ row_words (P.names protocol.now) opening.now row next) }
+{
+    let Some(asked) = row else {
+        return Ok(String::new(alloc));
+    };
+    let request = request(alloc, protocol, asked)?;
+    let above = above(alloc, protocol, next)?;
+    format!(in alloc; "{opening}{request}{above}.</p>\n")
+}
+
+/// The rows of vain steps that the table has.
+fn vain_rows<P: GhostProtocol>(alloc: Global, protocol: &P) -> Result<String, Memory>
+    ensures { IfOk result (λ text. string_bytes text ≡ vain_words (P.ghosts protocol.now) (P.names protocol.now)) }
+{
+    let hit = row(
+        alloc,
+        protocol,
+        "<p>insert-hit, an insert of a present key, on it: ",
+        protocol.vain(Vain::InsertHit),
+        protocol.insert_hit_next(),
+    )?;
+    let delete = row(
+        alloc,
+        protocol,
+        "<p>delete-miss, a delete of a key that is no name, on the next name: ",
+        protocol.vain(Vain::DeleteMiss),
+        None,
+    )?;
+    let update = row(
+        alloc,
+        protocol,
+        "<p>update-miss, an update of such a key, on the next name: ",
+        protocol.vain(Vain::UpdateMiss),
+        None,
+    )?;
+    format!(in alloc; "{hit}{delete}{update}")
 }
 
 /// What stands before what an insert of a ghost requests.
