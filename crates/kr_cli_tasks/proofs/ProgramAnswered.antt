@@ -18,11 +18,9 @@ use Rattle.kr_cli.specs.declared.ghost_tables.AnyGhostTable.{AnyGhostTable}
 use Rattle.kr_cli.specs.GhostLawful.{lawful_ghosts_of}
 use Rattle.kr_cli.specs.NamedTables.{NamesGhosts}
 use Rattle.kr_cli.specs.GhostTables as ghost
-use Rattle.kr_cli_tasks.specs.Tasks.{DoesTask}
 use Rattle.kr_cli_tasks.specs.Program.{ThreadsReported, GhostThreadsReported, DoesThreads, Does, WritesReport}
 use Rattle.kr_cli_tasks.specs.Words.{AreWords}
-use Rattle.kr_cli_tasks.specs.declared.asked.Task.{Task}
-use Rattle.kr_cli_tasks.specs.declared.asked.Task.TheVariants.{Check, Run, Judge, Threads}
+use Rattle.kr_cli_tasks.specs.declared.asked.Form.{Form}
 use Rattle.kr_cli_tasks.proofs.Answered.{names_script}
 
 -- it is of a run by several threads of the script that a word names
@@ -40,19 +38,7 @@ pub done_with_ghosts : (may_give : List ℕ → Option (List ℕ) → Type 0) (r
 done_with_ghosts may_give (Ok well) table script t old new names reports = inr (t, (names, (lawful_ghosts_of t, reports)))
 done_with_ghosts may_give (Err e) table script t old new names reports = tt
 
--- or of a task without threads
-does_of : (may_give : List ℕ → Option (List ℕ) → Type 0) (table : List ℕ) (task : Task) (old new : Option (List ℕ)) (well : Bool) → DoesTask may_give table task old new well → Does may_give table task old new well
-does_of may_give table Check old new well does = does
-does_of may_give table (Run word) old new well does = does
-does_of may_give table (Judge words) old new well does = does
-does_of may_give table (Threads word workers) old new well (inl (t, (names, (lawful, reports)))) = absurd reports
-does_of may_give table (Threads word workers) old new well (inr (t, (names, (lawful, reports)))) = absurd reports
-
-pub does_task : (may_give : List ℕ → Option (List ℕ) → Type 0) (r : Result Bool Ending) (table : List ℕ) (task : Task) (old new : Option (List ℕ)) → IfOk r (DoesTask may_give table task old new) → IfOk r (Does may_give table task old new)
-does_task may_give (Ok well) table task old new does = does_of may_give table task old new well does
-does_task may_give (Err e) table task old new does = tt
-
--- and that of the words that ask for the task
-pub answered : (may_give : List ℕ → Option (List ℕ) → Type 0) (words : List (List ℕ)) (r : Result Bool Ending) (table : List ℕ) (task : Task) (old new : Option (List ℕ)) → AreWords words table task → IfOk r (Does may_give table task old new) → IfOk r (WritesReport may_give words old new)
-answered may_give words (Ok well) table task old new ask does = (table, (task, (ask, does)))
-answered may_give words (Err e) table task old new ask does = tt
+-- it is that of the words that have this form
+pub answered : (may_give : List ℕ → Option (List ℕ) → Type 0) (words : List (List ℕ)) (r : Result Bool Ending) (table : List ℕ) (form : Form) (old new : Option (List ℕ)) → AreWords words table form → IfOk r (Does may_give table form old new) → IfOk r (WritesReport may_give words old new)
+answered may_give words (Ok well) table form old new ask does = (table, (form, (ask, does)))
+answered may_give words (Err e) table form old new ask does = tt

@@ -11,12 +11,11 @@ use Rattle.kr_cli.specs.declared.ghost_tables.AnyGhostTable.{AnyGhostTable}
 use Rattle.kr_cli.specs.NamedTables.{NamesGhosts, TellsNone}
 use Rattle.kr_cli.specs.GhostScripts.{TellsNoGhostScript}
 use Rattle.kr_cli.proofs.GhostOneLine.{none_in_none, none_in_no_ghost_script}
-use Rattle.kr_cli_tasks.specs.Tasks.{EndsTask}
 use Rattle.kr_cli_tasks.proofs.TaskEnded.{none_in_told, none_in_not_understood, none_in_memory, none_in_ending}
 use Rattle.kr_cli_tasks.specs.Program.{TellsThreads, EndsAny, Ends}
 use Rattle.kr_cli_tasks.specs.Words.{AreWords}
-use Rattle.kr_cli_tasks.specs.declared.asked.Task.{Task}
-use Rattle.kr_cli_tasks.specs.declared.asked.Task.TheVariants.{Check, Run, Judge, Threads}
+use Rattle.kr_cli_tasks.specs.declared.asked.Form.{Form}
+use Rattle.kr_cli_tasks.specs.declared.asked.Form.TheVariants.{Plain, Threads}
 
 -- the word of a table names none
 pub no_table : (may_give : List ℕ → Option (List ℕ) → Type 0) (table script : List ℕ) (e : Ending) → MemoryOrTold e (TellsNone may_give table) → Unreported (TellsThreads may_give table script) e
@@ -46,27 +45,10 @@ no_script may_give r table script t names ends = less r (TellsNoScript may_give 
 pub no_ghost_script : (may_give : List ℕ → Option (List ℕ) → Type 0) (r : Result Bool Ending) (table script : List ℕ) (t : AnyGhostTable) → NamesGhosts may_give table t → IfErr r (Unreported (TellsNoGhostScript may_give script)) → IfErr r (Unreported (TellsThreads may_give table script))
 no_ghost_script may_give r table script t names ends = less r (TellsNoGhostScript may_give script) (TellsThreads may_give table script) (λ line tells. inr (inl (t, (names, tells)))) ends
 
--- A task ends as `task_at` does, to which one by several threads isn't understood.
-ends_of : (may_give : List ℕ → Option (List ℕ) → Type 0) (table : List ℕ) (task : Task) (e : Ending) → EndsTask may_give table task e → (e ≡ NotUnderstood) ⊎ EndsAny may_give table task e
-ends_of may_give table Check e ends = inr ends
-ends_of may_give table (Run word) e ends = inr ends
-ends_of may_give table (Judge words) e ends = inr ends
-ends_of may_give table (Threads word workers) e (inl told) = inr (no_table may_give table word.now e told)
-ends_of may_give table (Threads word workers) e (inr (inl (t, (names, ends)))) = inl ends
-ends_of may_give table (Threads word workers) e (inr (inr (t, (names, ends)))) = inl ends
-
-ends_at : (may_give : List ℕ → Option (List ℕ) → Type 0) (words : List (List ℕ)) (table : List ℕ) (task : Task) (e : Ending) → AreWords words table task → (e ≡ NotUnderstood) ⊎ EndsAny may_give table task e → Ends may_give words e
-ends_at may_give words table task e ask (inl not_understood) = inl not_understood
-ends_at may_give words table task e ask (inr ends) = inr (inr (table, (task, (ask, ends))))
-
-pub task_ends : (may_give : List ℕ → Option (List ℕ) → Type 0) (words : List (List ℕ)) (r : Result Bool Ending) (table : List ℕ) (task : Task) → AreWords words table task → IfErr r (EndsTask may_give table task) → IfErr r (Ends may_give words)
-task_ends may_give words (Ok well) table task ask ends = tt
-task_ends may_give words (Err e) table task ask ends = ends_at may_give words table task e ask (ends_of may_give table task e ends)
-
--- So does the program: the task that its words ask for ends,
-pub ended : (may_give : List ℕ → Option (List ℕ) → Type 0) (words : List (List ℕ)) (r : Result Bool Ending) (table : List ℕ) (task : Task) → AreWords words table task → IfErr r (EndsAny may_give table task) → IfErr r (Ends may_give words)
-ended may_give words (Ok well) table task ask ends = tt
-ended may_give words (Err e) table task ask ends = inr (inr (table, (task, (ask, ends))))
+-- So does the program: what its words ask for ends,
+pub ended : (may_give : List ℕ → Option (List ℕ) → Type 0) (words : List (List ℕ)) (r : Result Bool Ending) (table : List ℕ) (form : Form) → AreWords words table form → IfErr r (EndsAny may_give table form) → IfErr r (Ends may_give words)
+ended may_give words (Ok well) table form ask ends = tt
+ended may_give words (Err e) table form ask ends = inr (inr (table, (form, (ask, ends))))
 
 -- or it reads no words.
 pub unread : (may_give : List ℕ → Option (List ℕ) → Type 0) (words : List (List ℕ)) (e : Ending) → (e ≡ Memory) ⊎ (e ≡ NotUnderstood) → Ends may_give words e
@@ -79,13 +61,11 @@ none_in_threads may_give table script line (inl tells) = none_in_none may_give t
 none_in_threads may_give table script line (inr (inl (t, (names, tells)))) = none_in_no_ghost_script may_give script line tells
 none_in_threads may_give table script line (inr (inr (t, (names, tells)))) = none_in_no_script may_give script line tells
 
-none_in_any : (may_give : List ℕ → Option (List ℕ) → Type 0) (table : List ℕ) (task : Task) (e : Ending) → EndsAny may_give table task e → HasNoLineFeed (line_of e)
-none_in_any may_give table Check e ends = none_in_ending may_give table Check e ends
-none_in_any may_give table (Run word) e ends = none_in_ending may_give table (Run word) e ends
-none_in_any may_give table (Judge words) e ends = none_in_ending may_give table (Judge words) e ends
+none_in_any : (may_give : List ℕ → Option (List ℕ) → Type 0) (table : List ℕ) (form : Form) (e : Ending) → EndsAny may_give table form e → HasNoLineFeed (line_of e)
+none_in_any may_give table (Plain task) e ends = none_in_ending may_give table task e ends
 none_in_any may_give table (Threads word workers) e ends = none_in_told (TellsThreads may_give table word.now) e (none_in_threads may_give table word.now) ends
 
 pub none_in_line : (may_give : List ℕ → Option (List ℕ) → Type 0) (words : List (List ℕ)) (e : Ending) → Ends may_give words e → HasNoLineFeed (line_of e)
 none_in_line may_give words e (inl not_understood) = none_in_not_understood e not_understood
 none_in_line may_give words e (inr (inl memory)) = none_in_memory e memory
-none_in_line may_give words e (inr (inr (table, (task, (ask, ends))))) = none_in_any may_give table task e ends
+none_in_line may_give words e (inr (inr (table, (form, (ask, ends))))) = none_in_any may_give table form e ends

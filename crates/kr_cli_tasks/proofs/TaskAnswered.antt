@@ -1,4 +1,4 @@
--- What is known of the report of a task without threads that was written.
+-- What is known of the report of a task that was written.
 use Rattle.std.specs.Prelude.{ℕ, List, Bool, Option, Result, Ok, Err, IfOk}
 use Rattle.std.proofs.Common.{inl, inr}
 use Rattle.kr_cli.specs.declared.endings.Ending.{Ending}

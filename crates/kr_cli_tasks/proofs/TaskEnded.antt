@@ -1,4 +1,4 @@
--- Why a task without threads ends without a report.
+-- Why a task ends without a report.
 use Rattle.std.proofs.Common.{◌≡◌, ◌⊎◌, ℕ, Bool, List, Option, Result, Ok, Err, IfErr, map, codes, string_bytes, subst, sym, inl, inr, refl}
 use Rattle.kr_cli.specs.declared.endings.Ending.{Ending}
 use Rattle.kr_cli.specs.declared.endings.Ending.TheVariants.{NotUnderstood, Memory, Place, Output, Told}
@@ -14,7 +14,7 @@ use Rattle.kr_cli.proofs.GhostOneLine.{none_in_none, none_in_no_ghost_script, no
 use Rattle.kr_cli_tasks.specs.Judges.{TellsFirst}
 use Rattle.kr_cli_tasks.specs.Tasks.{Undone, UndoneGhosts, EndsTask}
 use Rattle.kr_cli_tasks.specs.declared.asked.Task.{Task}
-use Rattle.kr_cli_tasks.specs.declared.asked.Task.TheVariants.{Check, Run, Judge, Threads}
+use Rattle.kr_cli_tasks.specs.declared.asked.Task.TheVariants.{Check, Run, Judge}
 
 -- A task ends where the word of its table names none,
 pub no_table : (may_give : List ℕ → Option (List ℕ) → Type 0) (table : List ℕ) (task : Task) (e : Ending) → MemoryOrTold e (TellsNone may_give table) → EndsTask may_give table task e
@@ -65,7 +65,6 @@ none_in_task may_give (Run word) e ends = none_in_told (TellsNoScript may_give w
 none_in_task may_give (Judge words) e ends =
     let ws = map (λ w. w.now) words.items in
     none_in_told (TellsFirst may_give ws) e (none_in_first may_give ws) ends
-none_in_task may_give (Threads word workers) e ends = none_in_not_understood e ends
 
 none_in_ghost_task : (may_give : List ℕ → Option (List ℕ) → Type 0) (task : Task) (e : Ending) → UndoneGhosts may_give task e → HasNoLineFeed (line_of e)
 none_in_ghost_task may_give Check e ends = none_in_told (λ line. ⊥) e (λ line tells. absurd tells) ends
@@ -73,7 +72,6 @@ none_in_ghost_task may_give (Run word) e ends = none_in_told (TellsNoGhostScript
 none_in_ghost_task may_give (Judge words) e ends =
     let ws = map (λ w. w.now) words.items in
     none_in_told (TellsFirstGhost may_give ws) e (none_in_first_ghost may_give ws) ends
-none_in_ghost_task may_give (Threads word workers) e ends = none_in_not_understood e ends
 
 pub none_in_ending : (may_give : List ℕ → Option (List ℕ) → Type 0) (table : List ℕ) (task : Task) (e : Ending) → EndsTask may_give table task e → HasNoLineFeed (line_of e)
 none_in_ending may_give table task e (inl told) = none_in_no_table may_give table e told

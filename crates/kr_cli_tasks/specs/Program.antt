@@ -19,8 +19,8 @@ use Rattle.kr_cli.specs.GhostTables as ghost
 use Rattle.kr_cli.specs.GhostScripts.{NamesGhostScript, TellsNoGhostScript}
 use Rattle.kr_cli_tasks.specs.Checks.{check_line, ghost_check_line}
 use Rattle.kr_cli_tasks.specs.Words.{AreWords}
-use Rattle.kr_cli_tasks.specs.declared.asked.Task.{Task}
-use Rattle.kr_cli_tasks.specs.declared.asked.Task.TheVariants.{Check, Run, Judge, Threads}
+use Rattle.kr_cli_tasks.specs.declared.asked.Form.{Form}
+use Rattle.kr_cli_tasks.specs.declared.asked.Form.TheVariants.{Plain, Threads}
 use Rattle.kr_cli_tasks.specs.Tasks.{DoesTask, EndsTask}
 use Rattle.kr_cli_tasks.specs.Threads.{threads_line, ghost_threads_line}
 use Rattle.kr_report.specs.declared.threaded.Threaded.{Threaded}
@@ -46,16 +46,14 @@ DoesThreads may_give table script old new well =
     ((t : AnyTable) × (NamesTable may_give table t × (IsLawful (table_of t) × ThreadsReported may_give (table_of t) (names_of t) script old new well)))
     ⊎ ((t : AnyGhostTable) × (NamesGhosts may_give table t × (IsLawfulGhost (ghost.ghosts_of t) × GhostThreadsReported may_give (ghost.ghosts_of t) (ghost.names_of t) script old new well)))
 
--- The whole report of a task was written under the table that a word names.
-abbrev pub Does : (List ℕ → Option (List ℕ) → Type 0) → List ℕ → Task → Option (List ℕ) → Option (List ℕ) → Bool → Type 0
-Does may_give table Check = DoesTask may_give table Check
-Does may_give table (Run word) = DoesTask may_give table (Run word)
-Does may_give table (Judge words) = DoesTask may_give table (Judge words)
+-- The whole report of what a form says was written under the table that a word names.
+abbrev pub Does : (List ℕ → Option (List ℕ) → Type 0) → List ℕ → Form → Option (List ℕ) → Option (List ℕ) → Bool → Type 0
+Does may_give table (Plain task) = DoesTask may_give table task
 Does may_give table (Threads word workers) = DoesThreads may_give table word.now
 
--- The whole report of the task that these words ask for was written.
+-- The whole report of what these words ask for was written.
 abbrev pub WritesReport : (List ℕ → Option (List ℕ) → Type 0) → List (List ℕ) → Option (List ℕ) → Option (List ℕ) → Bool → Type 0
-WritesReport may_give words old new well = (table : List ℕ) × ((task : Task) × (AreWords words table task × Does may_give table task old new well))
+WritesReport may_give words old new well = (table : List ℕ) × ((form : Form) × (AreWords words table form × Does may_give table form old new well))
 
 -- The line tells why the word of a table names none; or, where it names one, why the word of a script names none.
 abbrev pub TellsThreads : (List ℕ → Option (List ℕ) → Type 0) → List ℕ → List ℕ → List ℕ → Type 0
@@ -64,14 +62,12 @@ TellsThreads may_give table script line =
     ⊎ (((t : AnyGhostTable) × (NamesGhosts may_give table t × TellsNoGhostScript may_give script line))
     ⊎ ((t : AnyTable) × (NamesTable may_give table t × TellsNoScript may_give script line)))
 
--- A task under the table that a word names ends without its report, or with a prefix of it; one by several threads for memory, a place or output, or with a line that tells of its table or its script.
-abbrev pub EndsAny : (List ℕ → Option (List ℕ) → Type 0) → List ℕ → Task → Ending → Type 0
-EndsAny may_give table Check = EndsTask may_give table Check
-EndsAny may_give table (Run word) = EndsTask may_give table (Run word)
-EndsAny may_give table (Judge words) = EndsTask may_give table (Judge words)
+-- What a form says ends under the table that a word names without its report, or with a prefix of it; a run by several threads for memory, a place or output, or with a line that tells of its table or its script.
+abbrev pub EndsAny : (List ℕ → Option (List ℕ) → Type 0) → List ℕ → Form → Ending → Type 0
+EndsAny may_give table (Plain task) = EndsTask may_give table task
 EndsAny may_give table (Threads word workers) = Unreported (TellsThreads may_give table word.now)
 
--- Why the program ends without the report that these words ask for, or with a prefix of it: the words aren't understood, or memory ran out, or the task that they ask for ends so.
+-- Why the program ends without the report that these words ask for, or with a prefix of it: the words aren't understood, or memory ran out, or what they ask for ends so.
 abbrev pub Ends : (List ℕ → Option (List ℕ) → Type 0) → List (List ℕ) → Ending → Type 0
 Ends may_give words e =
-    (e ≡ NotUnderstood) ⊎ ((e ≡ Memory) ⊎ ((table : List ℕ) × ((task : Task) × (AreWords words table task × EndsAny may_give table task e))))
+    (e ≡ NotUnderstood) ⊎ ((e ≡ Memory) ⊎ ((table : List ℕ) × ((form : Form) × (AreWords words table form × EndsAny may_give table form e))))

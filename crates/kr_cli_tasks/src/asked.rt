@@ -10,10 +10,20 @@ pub struct Asked<'a> {
     /// The word that names the table.
     pub table: &'a str,
     /// What is done under it.
-    pub task: Task<'a>,
+    pub form: Form<'a>,
 }
 
-/// What is done under a table.
+/// The form of the words.
+#[derive(Drop)]
+pub enum Form<'a> {
+    /// A task is done.
+    Plain(Task<'a>),
+    /// The table is checked, and then the script that a word names is run by so many workers, each a thread: status 0 where
+    /// the run is serializable, and 1 where it isn't or the table is rejected.
+    Threads(&'a str, Workers),
+}
+
+/// What is done under a table, but for runs by several threads.
 #[derive(Drop)]
 pub enum Task<'a> {
     /// The table is checked: status 0 where it is accepted, and 1 where it is rejected.
@@ -23,9 +33,6 @@ pub enum Task<'a> {
     /// The scripts that words name are judged, and no verdict is shown before all are: status 0 where each run is serializable,
     /// and 1 where one isn't.
     Judge(Vec<&'a str>),
-    /// The table is checked, and then the script that a word names is run by so many workers, each a thread: status 0 where
-    /// the run is serializable, and 1 where it isn't or the table is rejected.
-    Threads(&'a str, Workers),
 }
 
 /// How many workers there are: 1 to 64.

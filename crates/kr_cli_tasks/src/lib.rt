@@ -18,7 +18,7 @@ mod with_ghosts;
 mod without_ghosts;
 mod words;
 
-pub use asked::{Asked, Task, Workers};
+pub use asked::{Asked, Form, Task, Workers};
 pub use checks::{check_ghosts, check_over, write_check};
 pub use faults::OverFault;
 pub use ghost_runs::{judge_ghosts, run_ghosts};

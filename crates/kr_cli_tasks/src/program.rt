@@ -11,7 +11,7 @@ ghost use Rattle.kr_cli_tasks.specs.Threads.{threads_line};
 ghost use Rattle.kr_report.specs.declared.threaded.Threaded.{Threaded};
 ghost use Rattle.kr_threads.specs.Threaded.{IsThreaded};
 
-use crate::asked::{Task, Workers};
+use crate::asked::{Form, Workers};
 use crate::checks::write_check;
 use crate::faults::OverFault;
 use crate::ghost_threads::check_and_thread_ghosts;
@@ -128,10 +128,10 @@ pub fn task<T: Threads + Wait + Sync, F: Files + Sync, W: Sink>(
     ensures cause { IfErr result (λ e. IsTrue (is_output e) → HasCause (W.failures out.old) (W.failures out.new)) }
 {
     let asked = read_words(alloc, words)?;
-    match asked.task {
-        Task::Threads(script, workers) => {
+    match asked.form {
+        Form::Plain(task) => task_at(threads, alloc, asked.table, &task, files, out),
+        Form::Threads(script, workers) => {
             threads_at(threads, alloc, asked.table, script, workers, files, out)
         }
-        _ => task_at(threads, alloc, &asked, files, out),
     }
 }

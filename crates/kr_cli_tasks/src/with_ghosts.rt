@@ -14,8 +14,8 @@ use kr_sink::Sink;
 use std::alloc::Global;
 
 /// Does a task under a protocol with ghosts, and answers whether the table is accepted, or each run is serializable; under a
-/// covered protocol that is so, whatever the task. Scripts may have purges. A task by several threads isn't understood. At a fault
-/// of scripts or memory nothing is written on `out`.
+/// covered protocol that is so, whatever the task. Scripts may have purges. At a fault of scripts or memory nothing is written on
+/// `out`.
 pub fn under_ghosts<P: GhostProtocol, F: Files, W: Sink>(
     alloc: Global,
     protocol: &P,
@@ -33,6 +33,5 @@ pub fn under_ghosts<P: GhostProtocol, F: Files, W: Sink>(
         Task::Check => Ok(check_ghosts(alloc, protocol, out)?),
         Task::Run(script) => run_ghosts(alloc, protocol, script, files, out),
         Task::Judge(words) => judge_ghosts(alloc, protocol, words.as_slice(), files, out),
-        Task::Threads(_, _) => Err(Ending::NotUnderstood),
     }
 }

@@ -15,8 +15,7 @@ use std::alloc::Global;
 use std::thread::Threads;
 
 /// Does a task under a protocol, and answers whether the table is accepted, or each run is serializable; under a covered
-/// protocol that is so, whatever the task. A task by several threads isn't understood. At a fault of scripts or memory nothing is
-/// written on `out`.
+/// protocol that is so, whatever the task. At a fault of scripts or memory nothing is written on `out`.
 pub fn under<T: Threads + Sync, P: Protocol + Sync, F: Files + Sync, W: Sink>(
     threads: &T,
     alloc: Global,
@@ -42,6 +41,5 @@ pub fn under<T: Threads + Sync, P: Protocol + Sync, F: Files + Sync, W: Sink>(
             files,
             out,
         ),
-        Task::Threads(_, _) => Err(Ending::NotUnderstood),
     }
 }

@@ -4,7 +4,7 @@ ghost use Rattle.kr_cli.specs.Words.{IsPlain};
 ghost use Rattle.kr_cli.specs.declared.endings.Ending.TheVariants as ending;
 ghost use Rattle.kr_cli_tasks.specs.Words.{AreLeft, AreWords, HasWorkers, LeavesWords, count_of};
 
-use crate::asked::{Asked, Task, Workers};
+use crate::asked::{Asked, Form, Task, Workers};
 use crate::forms::command;
 use clap::ArgMatches;
 use clap::error::ErrorKind;
@@ -37,15 +37,15 @@ fn is_form(words: &[String], first: &str, table: &str, scripts: &[&str]) -> bool
 impl Asked<'_> {
     /// Whether these words ask for this, but for how many workers there are.
     fn is_of(&self, words: &[String]) -> bool
-        ensures { IsTrue result → AreLeft (map string_bytes words.now) self.now.table.now self.now.task }
+        ensures { IsTrue result → AreLeft (map string_bytes words.now) self.now.table.now self.now.form }
     {
-        match &self.task {
-            Task::Check => is_form(words, "check", self.table, &[]),
-            Task::Run(script) => is_form(words, "run", self.table, &[*script]),
-            Task::Judge(scripts) => {
+        match &self.form {
+            Form::Plain(Task::Check) => is_form(words, "check", self.table, &[]),
+            Form::Plain(Task::Run(script)) => is_form(words, "run", self.table, &[*script]),
+            Form::Plain(Task::Judge(scripts)) => {
                 !scripts.is_empty() && is_form(words, "judge", self.table, scripts.as_slice())
             }
-            Task::Threads(script, _) => is_form(words, "threads", self.table, &[*script]),
+            Form::Threads(script, _) => is_form(words, "threads", self.table, &[*script]),
         }
     }
 }
@@ -87,25 +87,25 @@ fn asked_of<'a>(
     given: &ArgMatches<'a>,
     workers: Workers,
 ) -> Result<Asked<'a>, Ending>
-    ensures workers { IfOk result (λ a. HasWorkers workers a.task) }
+    ensures workers { IfOk result (λ a. HasWorkers workers a.form) }
     ensures err { IfErr result (λ e. (e ≡ ending.Memory) ⊎ (e ≡ ending.NotUnderstood)) }
 {
     let Some(table) = given.get_str("table") else {
         return Err(Ending::NotUnderstood);
     };
-    let task = match (name, given.get_str("script"), given.get_strs("scripts")) {
-        ("check", _, _) => Task::Check,
-        ("run", Some(script), _) => Task::Run(script),
-        ("judge", _, Some(scripts)) => Task::Judge(scripts.to_vec(alloc)?),
-        ("threads", Some(script), _) => Task::Threads(script, workers),
+    let form = match (name, given.get_str("script"), given.get_strs("scripts")) {
+        ("check", _, _) => Form::Plain(Task::Check),
+        ("run", Some(script), _) => Form::Plain(Task::Run(script)),
+        ("judge", _, Some(scripts)) => Form::Plain(Task::Judge(scripts.to_vec(alloc)?)),
+        ("threads", Some(script), _) => Form::Threads(script, workers),
         _ => return Err(Ending::NotUnderstood),
     };
-    Ok(Asked { table, task })
+    Ok(Asked { table, form })
 }
 
 /// What `clap` takes words for, where `--workers` and its number have been taken away.
 fn parsed<'a>(alloc: Global, words: &'a [String], workers: Workers) -> Result<Asked<'a>, Ending>
-    ensures workers { IfOk result (λ a. HasWorkers workers a.task) }
+    ensures workers { IfOk result (λ a. HasWorkers workers a.form) }
     ensures err { IfErr result (λ e. (e ≡ ending.Memory) ⊎ (e ≡ ending.NotUnderstood)) }
 {
     let matches = matches_of(alloc, words)?;
@@ -119,7 +119,7 @@ fn parsed<'a>(alloc: Global, words: &'a [String], workers: Workers) -> Result<As
 /// or more, or `threads TABLE SCRIPT --workers N` with N from 1 to 64, where the last two words may be left out, and N is
 /// then 4. Other words aren't understood.
 pub fn read_words<'a>(alloc: Global, words: &'a [String]) -> Result<Asked<'a>, Ending>
-    ensures words { IfOk result (λ a. AreWords (map string_bytes words.now) a.table.now a.task) }
+    ensures words { IfOk result (λ a. AreWords (map string_bytes words.now) a.table.now a.form) }
     ensures err { IfErr result (λ e. (e ≡ ending.Memory) ⊎ (e ≡ ending.NotUnderstood)) }
 {
     let Some((left, workers)) = without_workers(words) else {

@@ -24,8 +24,8 @@ use Rattle.kr_cli.specs.GhostScripts.{IsSerialGhosts, NameGhostScripts, NamesGho
 use Rattle.kr_cli.specs.GhostTables as ghost
 use Rattle.kr_cli_tasks.specs.Runs.{IsSerialScript}
 use Rattle.kr_cli_tasks.specs.Words.{count_of}
-use Rattle.kr_cli_tasks.specs.declared.asked.Task.{Task}
-use Rattle.kr_cli_tasks.specs.declared.asked.Task.TheVariants as task
+use Rattle.kr_cli_tasks.specs.declared.asked.Form.TheVariants.{Plain, Threads}
+use Rattle.kr_cli_tasks.specs.declared.asked.Task.TheVariants.{Check, Run, Judge}
 use Rattle.kr_cli_tasks.specs.Tasks.{DoesTask}
 use Rattle.kr_cli_tasks.specs.Program.{DoesThreads, WritesReport}
 use Rattle.kr_cli_tables.specs.Explain as explain
@@ -56,18 +56,18 @@ not_both b yea nay = let t : true ≡ false = sym yea ∙ nay in absurd (cc)
 
 -- `check` --
 
-checked : (may_give : List ℕ → Option (List ℕ) → Type 0) (rest : List (List ℕ)) (table : List ℕ) (old new : Option (List ℕ)) (well : Bool) → rest ≡ table ∷ [] → DoesTask may_give table task.Check old new well → Checks may_give rest old new well
+checked : (may_give : List ℕ → Option (List ℕ) → Type 0) (rest : List (List ℕ)) (table : List ℕ) (old new : Option (List ℕ)) (well : Bool) → rest ≡ table ∷ [] → DoesTask may_give table Check old new well → Checks may_give rest old new well
 checked may_give rest table old new well are (inl (t, (names, (lawful, (written, verdict))))) =
     record { table = table; named = Table t; words_are = are; names = names; lawful = lawful; written = written; verdict = verdict; serial = λ h. runs_are_serial (table_of t) lawful (verdict.0 h) }
 checked may_give rest table old new well are (inr (t, (names, (lawful, (written, verdict))))) =
     record { table = table; named = Ghosts t; words_are = are; names = names; lawful = lawful; written = written; verdict = verdict; serial = λ h. covered_runs_are_serial (ghost.ghosts_of t) lawful (verdict.0 h) }
 
 pub checks : (may_give : List ℕ → Option (List ℕ) → Type 0) (rest : List (List ℕ)) (old new : Option (List ℕ)) (well : Bool) → WritesReport may_give (codes "check" ∷ rest) old new well → Checks may_give rest old new well
-checks may_give rest old new well (table, (task.Check, ((form, plain), does))) = checked may_give rest table old new well (rest_of _ _ rest _ form) does
-checks may_give rest old new well (table, (task.Run word, ((form, plain), does))) = absurd (not_first (codes "check") (codes "run") rest _ refl refl form)
-checks may_give rest old new well (table, (task.Judge words, (((form, some), plain), does))) = absurd (not_first (codes "check") (codes "judge") rest _ refl refl form)
-checks may_give rest old new well (table, (task.Threads word workers, ((inl form, plain), does))) = absurd (not_first (codes "check") (codes "threads") rest _ refl refl form)
-checks may_give rest old new well (table, (task.Threads word workers, ((inr (form, four), plain), does))) = absurd (not_first (codes "check") (codes "threads") rest _ refl refl form)
+checks may_give rest old new well (table, (Plain Check, ((form, plain), does))) = checked may_give rest table old new well (rest_of _ _ rest _ form) does
+checks may_give rest old new well (table, (Plain (Run word), ((form, plain), does))) = absurd (not_first (codes "check") (codes "run") rest _ refl refl form)
+checks may_give rest old new well (table, (Plain (Judge words), (((form, some), plain), does))) = absurd (not_first (codes "check") (codes "judge") rest _ refl refl form)
+checks may_give rest old new well (table, (Threads word workers, ((inl form, plain), does))) = absurd (not_first (codes "check") (codes "threads") rest _ refl refl form)
+checks may_give rest old new well (table, (Threads word workers, ((inr (form, four), plain), does))) = absurd (not_first (codes "check") (codes "threads") rest _ refl refl form)
 
 -- `run` and `judge` --
 
@@ -84,11 +84,11 @@ ran may_give rest table script old new well are (inr (t, (names, (lawful, report
     record { table = table; script = script; named = Ghosts t; words_are = are; names = names; lawful = lawful; reports = reports }
 
 pub runs : (may_give : List ℕ → Option (List ℕ) → Type 0) (rest : List (List ℕ)) (old new : Option (List ℕ)) (well : Bool) → WritesReport may_give (codes "run" ∷ rest) old new well → Runs may_give rest old new well
-runs may_give rest old new well (table, (task.Check, ((form, plain), does))) = absurd (not_first (codes "run") (codes "check") rest _ refl refl form)
-runs may_give rest old new well (table, (task.Run word, ((form, plain), does))) = ran may_give rest table word.now old new well (rest_of _ _ rest _ form) does
-runs may_give rest old new well (table, (task.Judge words, (((form, some), plain), does))) = absurd (not_first (codes "run") (codes "judge") rest _ refl refl form)
-runs may_give rest old new well (table, (task.Threads word workers, ((inl form, plain), does))) = absurd (not_first (codes "run") (codes "threads") rest _ refl refl form)
-runs may_give rest old new well (table, (task.Threads word workers, ((inr (form, four), plain), does))) = absurd (not_first (codes "run") (codes "threads") rest _ refl refl form)
+runs may_give rest old new well (table, (Plain Check, ((form, plain), does))) = absurd (not_first (codes "run") (codes "check") rest _ refl refl form)
+runs may_give rest old new well (table, (Plain (Run word), ((form, plain), does))) = ran may_give rest table word.now old new well (rest_of _ _ rest _ form) does
+runs may_give rest old new well (table, (Plain (Judge words), (((form, some), plain), does))) = absurd (not_first (codes "run") (codes "judge") rest _ refl refl form)
+runs may_give rest old new well (table, (Threads word workers, ((inl form, plain), does))) = absurd (not_first (codes "run") (codes "threads") rest _ refl refl form)
+runs may_give rest old new well (table, (Threads word workers, ((inr (form, four), plain), does))) = absurd (not_first (codes "run") (codes "threads") rest _ refl refl form)
 
 judged : (may_give : List ℕ → Option (List ℕ) → Type 0) (rest : List (List ℕ)) (table : List ℕ) (scripts : List (List ℕ)) (old new : Option (List ℕ)) (well : Bool) → rest ≡ table ∷ scripts → Either may_give table (λ t. JudgedUnder may_give t scripts old new well) → Judges may_give rest old new well
 judged may_give rest table scripts old new well are (inl (t, (names, (lawful, reports)))) =
@@ -97,11 +97,11 @@ judged may_give rest table scripts old new well are (inr (t, (names, (lawful, re
     record { table = table; scripts = scripts; named = Ghosts t; words_are = are; names = names; lawful = lawful; reports = reports }
 
 pub judges : (may_give : List ℕ → Option (List ℕ) → Type 0) (rest : List (List ℕ)) (old new : Option (List ℕ)) (well : Bool) → WritesReport may_give (codes "judge" ∷ rest) old new well → Judges may_give rest old new well
-judges may_give rest old new well (table, (task.Check, ((form, plain), does))) = absurd (not_first (codes "judge") (codes "check") rest _ refl refl form)
-judges may_give rest old new well (table, (task.Run word, ((form, plain), does))) = absurd (not_first (codes "judge") (codes "run") rest _ refl refl form)
-judges may_give rest old new well (table, (task.Judge words, (((form, some), plain), does))) = judged may_give rest table (map (λ w. w.now) words.items) old new well (rest_of _ _ rest _ form) does
-judges may_give rest old new well (table, (task.Threads word workers, ((inl form, plain), does))) = absurd (not_first (codes "judge") (codes "threads") rest _ refl refl form)
-judges may_give rest old new well (table, (task.Threads word workers, ((inr (form, four), plain), does))) = absurd (not_first (codes "judge") (codes "threads") rest _ refl refl form)
+judges may_give rest old new well (table, (Plain Check, ((form, plain), does))) = absurd (not_first (codes "judge") (codes "check") rest _ refl refl form)
+judges may_give rest old new well (table, (Plain (Run word), ((form, plain), does))) = absurd (not_first (codes "judge") (codes "run") rest _ refl refl form)
+judges may_give rest old new well (table, (Plain (Judge words), (((form, some), plain), does))) = judged may_give rest table (map (λ w. w.now) words.items) old new well (rest_of _ _ rest _ form) does
+judges may_give rest old new well (table, (Threads word workers, ((inl form, plain), does))) = absurd (not_first (codes "judge") (codes "threads") rest _ refl refl form)
+judges may_give rest old new well (table, (Threads word workers, ((inr (form, four), plain), does))) = absurd (not_first (codes "judge") (codes "threads") rest _ refl refl form)
 
 -- `threads` --
 
@@ -117,11 +117,11 @@ threaded may_give rest table script workers old new well are does =
     record { table = table; script = script; workers = workers; words_are = are; does = does; serial = well_is_serial may_give table script old new well does }
 
 pub threads : (may_give : List ℕ → Option (List ℕ) → Type 0) (rest : List (List ℕ)) (old new : Option (List ℕ)) (well : Bool) → WritesReport may_give (codes "threads" ∷ rest) old new well → RunsThreads may_give rest old new well
-threads may_give rest old new well (table, (task.Check, ((form, plain), does))) = absurd (not_first (codes "threads") (codes "check") rest _ refl refl form)
-threads may_give rest old new well (table, (task.Run word, ((form, plain), does))) = absurd (not_first (codes "threads") (codes "run") rest _ refl refl form)
-threads may_give rest old new well (table, (task.Judge words, (((form, some), plain), does))) = absurd (not_first (codes "threads") (codes "judge") rest _ refl refl form)
-threads may_give rest old new well (table, (task.Threads word workers, ((inl form, plain), does))) = threaded may_give rest table word.now (count_of workers) old new well (inl (rest_of _ _ rest _ form)) does
-threads may_give rest old new well (table, (task.Threads word workers, ((inr (form, four), plain), does))) = threaded may_give rest table word.now (count_of workers) old new well (inr (rest_of _ _ rest _ form, four)) does
+threads may_give rest old new well (table, (Plain Check, ((form, plain), does))) = absurd (not_first (codes "threads") (codes "check") rest _ refl refl form)
+threads may_give rest old new well (table, (Plain (Run word), ((form, plain), does))) = absurd (not_first (codes "threads") (codes "run") rest _ refl refl form)
+threads may_give rest old new well (table, (Plain (Judge words), (((form, some), plain), does))) = absurd (not_first (codes "threads") (codes "judge") rest _ refl refl form)
+threads may_give rest old new well (table, (Threads word workers, ((inl form, plain), does))) = threaded may_give rest table word.now (count_of workers) old new well (inl (rest_of _ _ rest _ form)) does
+threads may_give rest old new well (table, (Threads word workers, ((inr (form, four), plain), does))) = threaded may_give rest table word.now (count_of workers) old new well (inr (rest_of _ _ rest _ form, four)) does
 
 -- `explain` --
 

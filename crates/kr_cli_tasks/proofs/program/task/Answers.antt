@@ -1,7 +1,7 @@
 use Rattle.std.specs.Prelude.{map, string_bytes}
 use Rattle.std.proofs.Common.{rules}
-use Rattle.kr_cli_tasks.proofs.ProgramAnswered.{answered, does_task}
-use Rattle.kr_cli_tasks.proofs.ProgramEnded.{unread, ended, task_ends}
+use Rattle.kr_cli_tasks.proofs.ProgramAnswered.{answered}
+use Rattle.kr_cli_tasks.proofs.ProgramEnded.{unread, ended}
 use Rattle.kr_cli_tasks.proofs.program.task.Goals as goal
 
 pub returns-in_err-asked-clause-err : goal.returns-in_err-asked-clause-err
@@ -13,20 +13,16 @@ returns-in_err-asked-clause-err g c =
 pub returns-in-Threads-clause-answers : goal.returns-in-Threads-clause-answers
 returns-in-Threads-clause-answers g c =
     let taken = g.W.Sink.taken in
-    answered (g.F.Files.may_give c.args.files.now) (map string_bytes c.args.words.now) c.threads_at.result c.in_ok-asked.asked.table.now c.in_ok-asked.asked.task (taken c.args.out.now) (taken c.threads_at.new.out) c.in_ok-asked.ensures.words (rw c.in-Threads.is c.threads_at.ensures.does)
+    answered (g.F.Files.may_give c.args.files.now) (map string_bytes c.args.words.now) c.threads_at.result c.in_ok-asked.asked.table.now c.in_ok-asked.asked.form (taken c.args.out.now) (taken c.threads_at.new.out) c.in_ok-asked.ensures.words (rw c.in-Threads.is c.threads_at.ensures.does)
 
 pub returns-in-Threads-clause-err : goal.returns-in-Threads-clause-err
-returns-in-Threads-clause-err g c = ended (g.F.Files.may_give c.args.files.now) (map string_bytes c.args.words.now) c.threads_at.result c.in_ok-asked.asked.table.now c.in_ok-asked.asked.task c.in_ok-asked.ensures.words (rw c.in-Threads.is c.threads_at.ensures.err)
+returns-in-Threads-clause-err g c = ended (g.F.Files.may_give c.args.files.now) (map string_bytes c.args.words.now) c.threads_at.result c.in_ok-asked.asked.table.now c.in_ok-asked.asked.form c.in_ok-asked.ensures.words (rw c.in-Threads.is c.threads_at.ensures.err)
 
--- Any other task.
-pub returns-clause-answers : goal.returns-clause-answers
-returns-clause-answers g c =
-    let may_give = g.F.Files.may_give c.args.files.now in
+-- A task.
+pub returns-in-Plain-clause-answers : goal.returns-in-Plain-clause-answers
+returns-in-Plain-clause-answers g c =
     let taken = g.W.Sink.taken in
-    let table = c.in_ok-asked.asked.table.now in
-    let task = c.in_ok-asked.asked.task in
-    let does = does_task may_give c.task_at.result table task (taken c.args.out.now) (taken c.task_at.new.out) c.task_at.ensures.does in
-    answered may_give (map string_bytes c.args.words.now) c.task_at.result table task (taken c.args.out.now) (taken c.task_at.new.out) c.in_ok-asked.ensures.words does
+    answered (g.F.Files.may_give c.args.files.now) (map string_bytes c.args.words.now) c.task_at.result c.in_ok-asked.asked.table.now c.in_ok-asked.asked.form (taken c.args.out.now) (taken c.task_at.new.out) c.in_ok-asked.ensures.words (rw c.in-Plain.is c.task_at.ensures.does)
 
-pub returns-clause-err : goal.returns-clause-err
-returns-clause-err g c = task_ends (g.F.Files.may_give c.args.files.now) (map string_bytes c.args.words.now) c.task_at.result c.in_ok-asked.asked.table.now c.in_ok-asked.asked.task c.in_ok-asked.ensures.words c.task_at.ensures.err
+pub returns-in-Plain-clause-err : goal.returns-in-Plain-clause-err
+returns-in-Plain-clause-err g c = ended (g.F.Files.may_give c.args.files.now) (map string_bytes c.args.words.now) c.task_at.result c.in_ok-asked.asked.table.now c.in_ok-asked.asked.form c.in_ok-asked.ensures.words (rw c.in-Plain.is c.task_at.ensures.err)

@@ -1,4 +1,4 @@
-use Rattle.std.proofs.Common.{sym, refl}
+use Rattle.std.proofs.Common.{sym}
 use Rattle.kr_ghost.proofs.AllCases.{covered_is_safe}
 use Rattle.kr_cli_tasks.proofs.with_ghosts.under_ghosts.Goals as goal
 
@@ -26,7 +26,3 @@ pub returns-in-Judge-clause-covered : goal.returns-in-Judge-clause-covered
 returns-in-Judge-clause-covered g c covered =
     let p = g.P.GhostProtocol.ghosts c.args.protocol.now in
     c.judge_ghosts.ensures.safe (covered_is_safe p (g.met.P.GhostProtocol.lawful_ghosts c.args.protocol.now) covered)
-
--- The task is one by several threads.
-pub returns-in-Threads-clause-err : goal.returns-in-Threads-clause-err
-returns-in-Threads-clause-err g c = rw c.in-Threads.is refl

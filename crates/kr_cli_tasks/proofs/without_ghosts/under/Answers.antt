@@ -1,4 +1,4 @@
-use Rattle.std.proofs.Common.{sym, refl}
+use Rattle.std.proofs.Common.{sym}
 use Rattle.kr_cli_tasks.proofs.without_ghosts.under.Goals as goal
 
 -- The task is to run this script.
@@ -8,7 +8,3 @@ returns-in-Run-clause-err g c = rw c.in-Run.is c.run_script.ensures.err
 -- The task is to judge these words.
 pub returns-in-Judge-clause-err : goal.returns-in-Judge-clause-err
 returns-in-Judge-clause-err g c = rw (c.in-Judge.is, sym c.as_slice.ensures.value) c.judge_scripts.ensures.err
-
--- The task is one by several threads.
-pub returns-in-Threads-clause-err : goal.returns-in-Threads-clause-err
-returns-in-Threads-clause-err g c = rw c.in-Threads.is refl

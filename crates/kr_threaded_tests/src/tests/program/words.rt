@@ -1,9 +1,5 @@
 //! Words that are not read, and words of no form.
-use super::{RUN, Row, Shelf, compare, each_leaves, files_of};
-use kr_cli::finish;
-use kr_cli_tasks::{read_words, task_at};
-use kr_cli_test_support::{Left, owned};
-use kr_sink::Io;
+use super::{RUN, Row, each_leaves};
 use std::test::Fail;
 
 /// A fault of the words.
@@ -20,25 +16,4 @@ const ROWS: &[Row] = &[
 #[test]
 fn words_that_ask_for_nothing(rt: HostRuntime) -> Result<(), Fail> {
     each_leaves(&rt, ROWS)
-}
-
-/// The call that does the tasks without threads takes none by several threads.
-#[test]
-fn threads_are_not_understood_without_them(rt: HostRuntime) -> Result<(), Fail> {
-    let texts = files_of("", super::PHANTOM);
-    let files = Shelf(texts.as_slice());
-    let row = Row {
-        err: "kr: words not understood",
-        ..FAULT
-    };
-    let alloc = rt.alloc();
-    let words = owned(alloc, &["threads", "@kvl", "s"])?;
-    let mut out = Io::new(Vec::new(alloc));
-    let mut err = Io::new(Vec::new(alloc));
-    let done = match read_words(alloc, words.as_slice()) {
-        Ok(asked) => task_at(&rt, alloc, &asked, &files, &mut out),
-        Err(fault) => Err(fault),
-    };
-    let status = finish(&done, "", "", &mut err);
-    compare(&rt, &row, &Left::on(alloc, status, &out, &err)?)
 }
