@@ -1,53 +1,16 @@
--- Why a script isn't run, or scripts aren't judged.
-use Rattle.std.proofs.Common.{◌≡◌, ◌<◌, ℕ, zero, suc, List, [], ◌∷◌, ◌++◌, Option, Some, None, Err, length, map, get_or, string_bytes, subst, sym, ap, inl, inr, arith, length-append}
+-- Why scripts aren't judged.
+use Rattle.std.proofs.Common.{◌≡◌, ◌<◌, ℕ, zero, suc, List, [], ◌∷◌, ◌++◌, Option, Some, None, length, map, get_or, string_bytes, subst, sym, ap, inl, inr, arith, length-append}
 use Rattle.std.proofs.lemmas.List.{length-map}
 use Rattle.kr_script.specs.declared.faults.ScriptFault.{ScriptFault}
 use Rattle.kr_script.specs.Faults.{Fault, fault_of}
-use Rattle.kr_script.specs.Reading.{reading}
 use Rattle.kr_cli.specs.declared.endings.Ending.{Ending}
 use Rattle.kr_cli.specs.declared.endings.Ending.TheVariants.{NotUnderstood, Memory, Place, Output, Told}
-use Rattle.kr_cli.specs.Endings.{MemoryOrTold, Unreported}
+use Rattle.kr_cli.specs.Endings.{MemoryOrTold}
 use Rattle.kr_cli.specs.Files.{MayBeScript}
 use Rattle.kr_cli.specs.Lines.{told_line, unreadable_line, script_fault_text}
-use Rattle.kr_cli.specs.Named.{TellsUnreadable, TellsNoScript}
 use Rattle.kr_batch.specs.Names.{IsFirst, HasFault}
+use Rattle.kr_cli_tasks.specs.Endings.{Unreported}
 use Rattle.kr_cli_tasks.specs.Judges.{TellsFirst}
-
--- nothing is told of a word
-pub untold_ends : (P : List ℕ → Type 0) (e : Ending) → Unreported (λ line. ⊥) e → Unreported P e
-untold_ends P NotUnderstood ends = absurd ends
-untold_ends P Memory ends = tt
-untold_ends P Place ends = tt
-untold_ends P Output ends = tt
-untold_ends P (Told line) ends = absurd ends
-
--- memory ran out, or a line is told
-pub told_ends : (P : List ℕ → Type 0) (e : Ending) → MemoryOrTold e P → Unreported P e
-told_ends P NotUnderstood told = absurd told
-told_ends P Memory told = tt
-told_ends P Place told = absurd told
-told_ends P Output told = absurd told
-told_ends P (Told line) told = told
-
--- the file that a word names can't be read
-pub unreadable_ends : (may_give : List ℕ → Option (List ℕ) → Type 0) (word : List ℕ) (e : Ending) → MemoryOrTold e (TellsUnreadable may_give word) → Unreported (TellsNoScript may_give word) e
-unreadable_ends may_give word NotUnderstood told = absurd told
-unreadable_ends may_give word Memory told = tt
-unreadable_ends may_give word Place told = tt
-unreadable_ends may_give word Output told = tt
-unreadable_ends may_give word (Told line) told = inl told
-
--- the bytes that may be had for a word are no script
-pub script_ends : (may_give : List ℕ → Option (List ℕ) → Type 0) (word bytes read : List ℕ) (f : ScriptFault) (e : Ending) → read ≡ bytes → MayBeScript may_give word (Some bytes) → (x : Fault) × ((fault_of f ≡ Some x) × (reading read ≡ Err x)) → MemoryOrTold e (λ line. line ≡ told_line word (script_fault_text f)) → Unreported (TellsNoScript may_give word) e
-script_ends may_give word bytes read f NotUnderstood same had is_fault told = absurd told
-script_ends may_give word bytes read f Memory same had is_fault told = tt
-script_ends may_give word bytes read f Place same had is_fault told = tt
-script_ends may_give word bytes read f Output same had is_fault told = tt
-script_ends may_give word bytes read f (Told line) same had is_fault told =
-    let P : List ℕ → Type 0 = λ bs. MayBeScript may_give word (Some bs) in
-    inr (read, (subst P (sym same) had, (f, (is_fault, told))))
-
--- Of several words --
 
 -- the word at a place is the one that stands behind as many
 word_at : {N : Type 0} (bytes_of : N → List ℕ) (words : List N) (before rest : List (List ℕ)) (word : List ℕ) (place : ℕ) (other : N) → map bytes_of words ≡ before ++ word ∷ rest → length before ≡ place → bytes_of (get_or words place other) ≡ word
@@ -64,8 +27,8 @@ word_at bytes_of (w ∷ words) (b ∷ before) rest word (suc place) other split 
 pub first_unreadable : {N : Type 0} (may_give : List ℕ → Option (List ℕ) → Type 0) (bytes_of : N → List ℕ) (words : List N) (place : ℕ) (other : N) (e : Ending) → IsFirst (MayBeScript may_give) (map bytes_of words) place (λ word. MayBeScript may_give word None) → MemoryOrTold e (λ line. line ≡ unreadable_line (bytes_of (get_or words place other))) → Unreported (TellsFirst may_give (map bytes_of words)) e
 first_unreadable may_give bytes_of words place other NotUnderstood first told = absurd told
 first_unreadable may_give bytes_of words place other Memory first told = tt
-first_unreadable may_give bytes_of words place other Place first told = tt
-first_unreadable may_give bytes_of words place other Output first told = tt
+first_unreadable may_give bytes_of words place other Place first told = absurd told
+first_unreadable may_give bytes_of words place other Output first told = absurd told
 first_unreadable may_give bytes_of words place other (Told line) (before, word, rest, ss, split, long, are, none) told =
     let P : List ℕ → Type 0 = λ w. string_bytes line ≡ unreadable_line w in
     let same : bytes_of (get_or words place other) ≡ word = word_at bytes_of words before rest word place other split long in
@@ -75,8 +38,8 @@ first_unreadable may_give bytes_of words place other (Told line) (before, word, 
 pub first_faulty : {N : Type 0} (may_give : List ℕ → Option (List ℕ) → Type 0) (bytes_of : N → List ℕ) (words : List N) (place : ℕ) (other : N) (f : ScriptFault) (e : Ending) → (x : Fault) × ((fault_of f ≡ Some x) × IsFirst (MayBeScript may_give) (map bytes_of words) place (HasFault (MayBeScript may_give) x)) → MemoryOrTold e (λ line. line ≡ told_line (bytes_of (get_or words place other)) (script_fault_text f)) → Unreported (TellsFirst may_give (map bytes_of words)) e
 first_faulty may_give bytes_of words place other f NotUnderstood first told = absurd told
 first_faulty may_give bytes_of words place other f Memory first told = tt
-first_faulty may_give bytes_of words place other f Place first told = tt
-first_faulty may_give bytes_of words place other f Output first told = tt
+first_faulty may_give bytes_of words place other f Place first told = absurd told
+first_faulty may_give bytes_of words place other f Output first told = absurd told
 first_faulty may_give bytes_of words place other f (Told line) (x, (is_x, (before, word, rest, ss, split, long, are, (bytes, (had, reads))))) told =
     let P : List ℕ → Type 0 = λ w. string_bytes line ≡ told_line w (script_fault_text f) in
     let same : bytes_of (get_or words place other) ≡ word = word_at bytes_of words before rest word place other split long in

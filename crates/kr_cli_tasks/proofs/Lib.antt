@@ -1,7 +1,5 @@
-pub mod Answered
 pub mod Covered
 pub mod Ended
-pub mod GhostEndings
 pub mod GhostJudged
 pub mod GhostSerials
 pub mod ProgramAnswered

@@ -1,19 +1,11 @@
 -- What is known of a report that was written.
-use Rattle.std.specs.Prelude.{◌≡◌, ℕ, List, Bool, Option, Some, Result, Ok, Err, IfOk, IsTrue}
+use Rattle.std.specs.Prelude.{ℕ, List, Bool, Option, Result, Ok, Err, IfOk}
 use Rattle.std.proofs.Common.{inl, inr}
-use Rattle.std.specs.Io.KnownBytes.{Appends}
-use Rattle.kr_model.specs.Protocol.{Protocol}
-use Rattle.kr_script.specs.Script.{Script}
-use Rattle.kr_script.specs.Reading.{reading}
-use Rattle.kr_report.specs.declared.threaded.Threaded.{Threaded}
-use Rattle.kr_threads.specs.Threaded.{IsThreaded}
 use Rattle.kr_cli.specs.declared.endings.Ending.{Ending}
 use Rattle.kr_cli.specs.declared.tables.AnyTable.{AnyTable}
-use Rattle.kr_cli.specs.Files.{MayBeScript}
 use Rattle.kr_cli.specs.Lawful.{lawful_of}
-use Rattle.kr_cli.specs.Named.{NamesTable, NamesScript}
+use Rattle.kr_cli.specs.Named.{NamesTable}
 use Rattle.kr_cli.specs.Tables.{table_of, names_of}
-use Rattle.kr_cli_tasks.specs.Threads.{threads_line}
 use Rattle.kr_cli.specs.declared.ghost_tables.AnyGhostTable.{AnyGhostTable}
 use Rattle.kr_cli.specs.GhostLawful.{lawful_ghosts_of}
 use Rattle.kr_cli.specs.NamedTables.{NamesGhosts}
@@ -21,12 +13,6 @@ use Rattle.kr_cli.specs.GhostTables as ghost
 use Rattle.kr_cli_tasks.specs.Program.{ThreadsReported, GhostThreadsReported, DoesThreads, Does, WritesReport}
 use Rattle.kr_cli_tasks.specs.Words.{AreWords}
 use Rattle.kr_cli_tasks.specs.declared.asked.Form.{Form}
-use Rattle.kr_cli_tasks.proofs.Answered.{names_script}
-
--- it is of a run by several threads of the script that a word names
-pub threads_reported : (may_give : List ℕ → Option (List ℕ) → Type 0) (p : Protocol) (word bytes read : List ℕ) (old new : Option (List ℕ)) (serial : Bool) → read ≡ bytes → MayBeScript may_give word (Some bytes) → (s : Script) × ((d : Threaded) × ((reading read ≡ Ok s) × (IsThreaded p s.opening s.steps d × Appends old new (threads_line d)))) → IsTrue serial → IsTrue serial × ((s : Script) × (NamesScript may_give word s × ((d : Threaded) × (IsThreaded p s.opening s.steps d × Appends old new (threads_line d)))))
-threads_reported may_give p word bytes read old new serial same had (s, (d, (reads, (threaded, written)))) is_serial =
-    (is_serial, (s, (names_script may_give word bytes read s same had reads, (d, (threaded, written)))))
 
 -- it is under the table that a word names, which is lawful
 pub done : (may_give : List ℕ → Option (List ℕ) → Type 0) (r : Result Bool Ending) (table script : List ℕ) (t : AnyTable) (old new : Option (List ℕ)) → NamesTable may_give table t → IfOk r (ThreadsReported may_give (table_of t) (names_of t) script old new) → IfOk r (DoesThreads may_give table script old new)

@@ -3,7 +3,7 @@ use Rattle.std.proofs.Common.{◌≡◌, ◌⊎◌, ℕ, Bool, List, Option, Res
 use Rattle.kr_cli.specs.declared.endings.Ending.{Ending}
 use Rattle.kr_cli.specs.declared.endings.Ending.TheVariants.{NotUnderstood, Memory, Place, Output, Told}
 use Rattle.kr_cli.specs.declared.tables.AnyTable.{AnyTable}
-use Rattle.kr_cli.specs.Endings.{MemoryOrTold, Unreported, line_of}
+use Rattle.kr_cli.specs.Endings.{MemoryOrTold, line_of}
 use Rattle.kr_cli.specs.Lines.{HasNoLineFeed}
 use Rattle.kr_cli.specs.Named.{NamesTable, TellsNoScript}
 use Rattle.kr_cli.proofs.OneLine.{none_above, none_in_no_script}
@@ -11,6 +11,7 @@ use Rattle.kr_cli.specs.declared.ghost_tables.AnyGhostTable.{AnyGhostTable}
 use Rattle.kr_cli.specs.NamedTables.{NamesGhosts, TellsNone}
 use Rattle.kr_cli.specs.GhostScripts.{TellsNoGhostScript, TellsFirstGhost}
 use Rattle.kr_cli.proofs.GhostOneLine.{none_in_none, none_in_no_ghost_script, none_in_first_ghost}
+use Rattle.kr_cli_tasks.specs.Endings.{Unreported}
 use Rattle.kr_cli_tasks.specs.Judges.{TellsFirst}
 use Rattle.kr_cli_tasks.specs.Tasks.{Undone, UndoneGhosts, EndsTask}
 use Rattle.kr_cli_tasks.specs.declared.asked.Task.{Task}
@@ -36,11 +37,14 @@ ghost_task_ends may_give (Err e) table task t names ends = inr (inl (t, (names, 
 pub none_in_told : (P : List ℕ → Type 0) (e : Ending) → ((line : List ℕ) → P line → HasNoLineFeed line) → Unreported P e → HasNoLineFeed (line_of e)
 none_in_told P NotUnderstood none ends = absurd ends
 none_in_told P Memory none ends = none_above (codes "out of memory") refl
-none_in_told P Place none ends = none_above (codes "place refused") refl
+none_in_told P Place none ends = absurd ends
 none_in_told P Output none ends = none_above (codes "output: cannot be written") refl
 none_in_told P (Told line) none ends = none (string_bytes line) ends
 
--- of memory, and of words that aren't understood
+-- of a place, of memory, and of words that aren't understood
+pub none_in_place : (e : Ending) → e ≡ Place → HasNoLineFeed (line_of e)
+none_in_place e is = subst (λ x. HasNoLineFeed (line_of x)) (sym is) (none_above (codes "place refused") refl)
+
 pub none_in_not_understood : (e : Ending) → e ≡ NotUnderstood → HasNoLineFeed (line_of e)
 none_in_not_understood e is = subst (λ x. HasNoLineFeed (line_of x)) (sym is) (none_above (codes "words not understood") refl)
 

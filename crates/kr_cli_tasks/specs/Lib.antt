@@ -1,4 +1,5 @@
 pub mod Checks
+pub mod Endings
 pub mod GhostRuns
 pub mod Judges
 pub mod Program

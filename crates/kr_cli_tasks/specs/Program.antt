@@ -5,7 +5,6 @@ use Rattle.kr_model.specs.Protocol.{Protocol, IsLawful}
 use Rattle.kr_model.specs.Covers.{IsCovered}
 use Rattle.kr_script.specs.Script.{Script}
 use Rattle.kr_ghost_script.specs.Script.{GhostScript}
-use Rattle.kr_cli.specs.Endings.{Unreported}
 use Rattle.kr_cli.specs.declared.endings.Ending.{Ending}
 use Rattle.kr_cli.specs.declared.endings.Ending.TheVariants.{NotUnderstood, Memory}
 use Rattle.kr_cli.specs.declared.tables.AnyTable.{AnyTable}
@@ -18,6 +17,7 @@ use Rattle.kr_cli.specs.NamedTables.{NamesGhosts, TellsNone}
 use Rattle.kr_cli.specs.GhostTables as ghost
 use Rattle.kr_cli.specs.GhostScripts.{NamesGhostScript, TellsNoGhostScript}
 use Rattle.kr_cli_tasks.specs.Checks.{check_line, ghost_check_line}
+use Rattle.kr_cli_tasks.specs.Endings.{UnreportedThreads}
 use Rattle.kr_cli_tasks.specs.Words.{AreWords}
 use Rattle.kr_cli_tasks.specs.declared.asked.Form.{Form}
 use Rattle.kr_cli_tasks.specs.declared.asked.Form.TheVariants.{Plain, Threads}
@@ -65,7 +65,7 @@ TellsThreads may_give table script line =
 -- What a form says ends under the table that a word names without its report, or with a prefix of it; a run by several threads for memory, a place or output, or with a line that tells of its table or its script.
 abbrev pub EndsAny : (List ℕ → Option (List ℕ) → Type 0) → List ℕ → Form → Ending → Type 0
 EndsAny may_give table (Plain task) = EndsTask may_give table task
-EndsAny may_give table (Threads word workers) = Unreported (TellsThreads may_give table word.now)
+EndsAny may_give table (Threads word workers) = UnreportedThreads (TellsThreads may_give table word.now)
 
 -- Why the program ends without the report that these words ask for, or with a prefix of it: the words aren't understood, or memory ran out, or what they ask for ends so.
 abbrev pub Ends : (List ℕ → Option (List ℕ) → Type 0) → List (List ℕ) → Ending → Type 0

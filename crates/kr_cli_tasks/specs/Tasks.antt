@@ -7,7 +7,7 @@ use Rattle.kr_script.specs.Script.{Script}
 use Rattle.kr_ghost_script.specs.Script.{GhostScript}
 use Rattle.kr_cli.specs.declared.endings.Ending.{Ending}
 use Rattle.kr_cli.specs.declared.tables.AnyTable.{AnyTable}
-use Rattle.kr_cli.specs.Endings.{MemoryOrTold, Unreported}
+use Rattle.kr_cli.specs.Endings.{MemoryOrTold}
 use Rattle.kr_cli.specs.Files.{MayBeScript}
 use Rattle.kr_cli.specs.Named.{NamesTable, NamesScript, TellsNoScript}
 use Rattle.kr_cli.specs.Tables.{table_of, names_of}
@@ -20,6 +20,7 @@ use Rattle.kr_cli.specs.GhostScripts.{IsSerialGhosts, NamesGhostScript, NameGhos
 use Rattle.kr_cli_tasks.specs.GhostRuns.{ghost_report_line, ghost_judge_lines}
 use Rattle.kr_batch.specs.Names.{AreNamed}
 use Rattle.kr_cli_tasks.specs.Runs.{report_line, IsSerialScript}
+use Rattle.kr_cli_tasks.specs.Endings.{Unreported}
 use Rattle.kr_cli_tasks.specs.Checks.{check_line, ghost_check_line}
 use Rattle.kr_cli_tasks.specs.Judges.{judge_lines, TellsFirst}
 use Rattle.kr_cli_tasks.specs.declared.asked.Task.{Task}
@@ -47,7 +48,7 @@ DoesTask may_give table task old new well =
     ((t : AnyTable) × (NamesTable may_give table t × (IsLawful (table_of t) × Reports may_give (table_of t) (names_of t) task old new well)))
     ⊎ ((t : AnyGhostTable) × (NamesGhosts may_give table t × (IsLawfulGhost (ghost.ghosts_of t) × ReportsGhosts may_give (ghost.ghosts_of t) (ghost.names_of t) task old new well)))
 
--- A task under a table without ghosts ends without its report, or with a prefix of it: for memory, a place or output, or a line tells why a word of it names no script, of several the first.
+-- A task under a table without ghosts ends without its report, or with a prefix of it: for memory or output, or a line tells why a word of it names no script, of several the first.
 abbrev pub Undone : (List ℕ → Option (List ℕ) → Type 0) → Task → Ending → Type 0
 Undone may_give Check = Unreported (λ line. ⊥)
 Undone may_give (Run word) = Unreported (TellsNoScript may_give word.now)

@@ -4,9 +4,9 @@ ghost use Rattle.std.specs.Io.KnownBytes.{Appends};
 ghost use Rattle.kr_model.specs.Covers.{IsCovered};
 ghost use Rattle.kr_ghost.specs.Covers.{IsCoveredGhost};
 ghost use Rattle.kr_cli_tasks.specs.Checks.{line_of, check_line, ghost_check_line, ExplainsLine};
-ghost use Rattle.kr_cli_tasks.specs.declared.faults.OverFault.TheVariants as fault;
+ghost use Rattle.kr_cli_tasks.specs.declared.faults.ReportFault.TheVariants as fault;
 
-use crate::faults::OverFault;
+use crate::faults::ReportFault;
 use kr_cases::{FailedCase, Rejected, WhyRejected, check};
 use kr_ghost_check::failed_cases;
 use kr_ghost_protocol::GhostProtocol;
@@ -21,7 +21,7 @@ pub fn write_check<P: Protocol, W: Sink>(
     protocol: &P,
     failed: &[FailedCase],
     out: &mut W,
-) -> Result<bool, OverFault>
+) -> Result<bool, ReportFault>
     ensures ok { IfOk result (λ _. Appends (W.taken out.old) (W.taken out.new)
         (line_of (P.table protocol.now) (P.names protocol.now) failed.now)) }
     ensures accepted { IfOk result (λ accepted. IsTrue accepted ↔ (failed.now ≡ [])) }
@@ -32,7 +32,7 @@ pub fn write_check<P: Protocol, W: Sink>(
     let text = report_check(alloc, protocol, failed)?;
     match print(out, text.as_str()) {
         Ok(()) => Ok(failed.is_empty()),
-        Err(_) => Err(OverFault::Print),
+        Err(_) => Err(ReportFault::Print),
     }
 }
 
@@ -42,7 +42,7 @@ pub fn check_over<P: Protocol, W: Sink>(
     alloc: Global,
     protocol: P,
     out: &mut W,
-) -> Result<bool, OverFault>
+) -> Result<bool, ReportFault>
     ensures ok { IfOk result (λ _.
         Appends (W.taken out.old) (W.taken out.new) (check_line (P.table protocol) (P.names protocol))) }
     ensures accepted { IfOk result (λ accepted. IsTrue accepted ↔ IsCovered (P.table protocol)) }
@@ -54,7 +54,7 @@ pub fn check_over<P: Protocol, W: Sink>(
         Ok(checked) => write_check(alloc, checked.protocol(), &[], out),
         Err(Rejected { protocol, cause }) => match cause {
             WhyRejected::Failed(failed) => write_check(alloc, &protocol, failed.as_slice(), out),
-            WhyRejected::Memory => Err(OverFault::Memory),
+            WhyRejected::Memory => Err(ReportFault::Memory),
         },
     }
 }
@@ -64,7 +64,7 @@ pub fn check_ghosts<P: GhostProtocol, W: Sink>(
     alloc: Global,
     protocol: &P,
     out: &mut W,
-) -> Result<bool, OverFault>
+) -> Result<bool, ReportFault>
     ensures ok { IfOk result (λ _.
         Appends (W.taken out.old) (W.taken out.new) (ghost_check_line (P.ghosts protocol.now) (P.names protocol.now))) }
     ensures accepted { IfOk result (λ accepted. IsTrue accepted ↔ IsCoveredGhost (P.ghosts protocol.now)) }
@@ -77,6 +77,6 @@ pub fn check_ghosts<P: GhostProtocol, W: Sink>(
     let text = report_ghost_check(alloc, protocol, failed.as_slice())?;
     match print(out, text.as_str()) {
         Ok(()) => Ok(is_accepted),
-        Err(_) => Err(OverFault::Print),
+        Err(_) => Err(ReportFault::Print),
     }
 }

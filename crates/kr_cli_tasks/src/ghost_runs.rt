@@ -6,8 +6,9 @@ ghost use Rattle.kr_ghost.specs.Safe.{IsSafeGhost};
 ghost use Rattle.kr_ghost_script.specs.Script.{GhostScript};
 ghost use Rattle.kr_ghost_run.specs.Ran.{verdict_of_moves};
 ghost use Rattle.kr_report.specs.Report.{verdict_text};
-ghost use Rattle.kr_cli.specs.Endings.{MemoryOrTold, Unreported, is_output};
+ghost use Rattle.kr_cli.specs.Endings.{MemoryOrTold, is_output};
 ghost use Rattle.kr_cli.specs.GhostScripts.{IsSerialGhosts, NamesGhostScript, NameGhostScripts, TellsNoGhostScript, TellsFirstGhost};
+ghost use Rattle.kr_cli_tasks.specs.Endings.{Unreported};
 ghost use Rattle.kr_cli_tasks.specs.GhostRuns.{ghost_report_text, ghost_report_line, ghost_judge_lines, AreJudged};
 
 use kr_cli::{Ending, Files, ghost_script_at};

@@ -1,13 +1,14 @@
 //! From the word of a script to the report of its run by several threads under a table with ghosts, on a sink.
-ghost use Rattle.std.specs.Prelude.{◌≡◌, ◌⊎◌, ◌<◌, ◌++◌, ◌∷◌, [], false, IfOk, IfErr, IsTrue, string_bytes};
+ghost use Rattle.std.specs.Prelude.{◌≡◌, ◌⊎◌, ◌++◌, ◌∷◌, [], IfOk, IfErr, IsTrue, string_bytes};
 ghost use Rattle.std.specs.Io.KnownBytes.{Appends};
 ghost use Rattle.kr_sink.specs.Puts.{HasCause};
 ghost use Rattle.kr_ghost.specs.Covers.{IsCoveredGhost};
 ghost use Rattle.kr_ghost_script.specs.Script.{GhostScript};
 ghost use Rattle.kr_ghost_threads.specs.declared.made.GhostThreaded.{GhostThreaded};
 ghost use Rattle.kr_ghost_threads.specs.Threaded.{IsGhostThreaded};
-ghost use Rattle.kr_cli.specs.Endings.{Unreported, is_output};
+ghost use Rattle.kr_cli.specs.Endings.{is_output};
 ghost use Rattle.kr_cli.specs.GhostScripts.{NamesGhostScript, TellsNoGhostScript};
+ghost use Rattle.kr_cli_tasks.specs.Endings.{UnreportedThreads, ghost_threads_ending};
 ghost use Rattle.kr_cli_tasks.specs.Program.{GhostThreadsReported};
 ghost use Rattle.kr_cli_tasks.specs.Threads.{ghost_threads_line};
 
@@ -24,28 +25,32 @@ use std::alloc::Global;
 use std::sync::Wait;
 use std::thread::Threads;
 
-/// The report of what several threads did, with the verdict on the run of its history, which is serializable.
+/// The report of what several threads did under a covered protocol, with the verdict on the run of its history, which is
+/// serializable.
 fn told<T: Threads + Wait + Sync, P: GhostProtocol + Sync>(
     threads: &T,
     alloc: Global,
     protocol: &P,
     script: &kr_ghost_script::GhostScript,
     workers: Workers,
-) -> Result<String, Ending>
-    requires covered { IsCoveredGhost (P.ghosts protocol.now) }
-    ensures text { IfOk result (λ text. (d : GhostThreaded) × (IsGhostThreaded (P.ghosts protocol.now) script.now.opening script.now.moves d
+) -> Result<String, GhostRunFault>
+    requires { IsCoveredGhost (P.ghosts protocol.now) }
+    ensures { IfOk result (λ text. (d : GhostThreaded) × (IsGhostThreaded (P.ghosts protocol.now) script.now.opening script.now.moves d
         × (string_bytes text ++ 10 ∷ [] ≡ ghost_threads_line (P.ghosts protocol.now) script.now.opening d))) }
-    ensures err { IfErr result (Unreported (λ line. ⊥)) }
-    ensures other { IfErr result (λ e. is_output e ≡ false) }
 {
-    let done = run_ghost_threads(threads, alloc, protocol, script, workers.count(), &Passage);
-    let threaded = match done {
-        Ok(threaded) => threaded,
-        Err(GhostRunFault::Memory) => return Err(Ending::Memory),
-        Err(GhostRunFault::Place) => return Err(Ending::Place),
-    };
-    let text = report_ghost_threads(alloc, &threaded, &Verdict::Serial)?;
-    Ok(text)
+    let workers = workers.count();
+    let threaded = run_ghost_threads(threads, alloc, protocol, script, workers, &Passage)?;
+    Ok(report_ghost_threads(alloc, &threaded, &Verdict::Serial)?)
+}
+
+/// How the program ends at a fault of a run by several threads.
+fn ending_of(fault: GhostRunFault) -> Ending
+    ensures { result ≡ ghost_threads_ending fault }
+{
+    match fault {
+        GhostRunFault::Memory => Ending::Memory,
+        GhostRunFault::Place => Ending::Place,
+    }
 }
 
 /// Runs the script in the file that a word names by several threads, writes the report of what they did, and answers that the
@@ -64,12 +69,15 @@ fn thread_ghosts<T: Threads + Wait + Sync, P: GhostProtocol + Sync, F: Files, W:
         × ((d : GhostThreaded) × (IsGhostThreaded (P.ghosts protocol.now) s.opening s.moves d
         × Appends (W.taken out.old) (W.taken out.new) (ghost_threads_line (P.ghosts protocol.now) s.opening d))))) }
     ensures serial { IfOk result (λ serial. IsTrue serial) }
-    ensures err { IfErr result (Unreported (TellsNoGhostScript (F.may_give files.now) word.now)) }
+    ensures err { IfErr result (UnreportedThreads (TellsNoGhostScript (F.may_give files.now) word.now)) }
     ensures nothing { IfErr result (λ e. IsTrue (is_output e) ⊎ (out.new ≡ out.old)) }
     ensures cause { IfErr result (λ e. IsTrue (is_output e) → HasCause (W.failures out.old) (W.failures out.new)) }
 {
     let script = ghost_script_at(alloc, word, files)?;
-    let text = told(threads, alloc, protocol, &script, workers)?;
+    let text = match told(threads, alloc, protocol, &script, workers) {
+        Ok(text) => text,
+        Err(fault) => return Err(ending_of(fault)),
+    };
     print(out, text.as_str())?;
     Ok(true)
 }
@@ -92,7 +100,7 @@ pub(crate) fn check_and_thread_ghosts<
 ) -> Result<bool, Ending>
     ensures reports { IfOk result (GhostThreadsReported (F.may_give files.now) (P.ghosts protocol.now) (P.names protocol.now) word.now (W.taken out.old) (W.taken out.new)) }
     ensures covered { IsCoveredGhost (P.ghosts protocol.now) → IfOk result (λ is_well. IsTrue is_well) }
-    ensures err { IfErr result (Unreported (TellsNoGhostScript (F.may_give files.now) word.now)) }
+    ensures err { IfErr result (UnreportedThreads (TellsNoGhostScript (F.may_give files.now) word.now)) }
     ensures nothing { IfErr result (λ e. IsTrue (is_output e) ⊎ (out.new ≡ out.old)) }
     ensures cause { IfErr result (λ e. IsTrue (is_output e) → HasCause (W.failures out.old) (W.failures out.new)) }
 {

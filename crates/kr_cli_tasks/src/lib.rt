@@ -20,14 +20,13 @@ mod words;
 
 pub use asked::{Asked, Form, Task, Workers};
 pub use checks::{check_ghosts, check_over, write_check};
-pub use faults::OverFault;
+pub use faults::ReportFault;
 pub use ghost_runs::{judge_ghosts, run_ghosts};
 pub use judges::{LinesFault, judge_over};
 pub use named_tasks::task_at;
 pub use program::task;
-pub use runs::run_over;
-pub use scripts::{judge_scripts, run_script};
-pub use threads::threads_over;
+pub use runs::run_script;
+pub use scripts::judge_scripts;
 pub use with_ghosts::under_ghosts;
 pub use without_ghosts::under;
 pub use words::read_words;

@@ -1,6 +1,7 @@
-//! From the bytes of a script to its report on a sink.
-ghost use Rattle.std.specs.Prelude.{◌≡◌, ◌⊎◌, ◌↔◌, IfOk, IfErr, IsTrue, Ok, string_bytes};
+//! From the word of a script to the report of its run, on a sink.
+ghost use Rattle.std.specs.Prelude.{◌≡◌, ◌⊎◌, ◌↔◌, IfOk, IfErr, IsTrue, string_bytes};
 ghost use Rattle.std.specs.Io.KnownBytes.{Appends};
+ghost use Rattle.kr_sink.specs.Puts.{AppendsFront, HasCause};
 ghost use Rattle.kr_model.specs.Covers.{IsCovered};
 ghost use Rattle.kr_model.specs.Safe.{IsSafe};
 ghost use Rattle.kr_model.specs.Difference.{first_difference};
@@ -8,16 +9,16 @@ ghost use Rattle.kr_model.specs.Serial.{AreSerial};
 ghost use Rattle.kr_judge.specs.Verdicts.{verdict_of};
 ghost use Rattle.kr_judge.specs.declared.verdict.Verdict.TheVariants as verdict;
 ghost use Rattle.kr_script.specs.Script.{Script};
-ghost use Rattle.kr_script.specs.Reading.{reading};
 ghost use Rattle.kr_report.specs.Report.{run_text};
-ghost use Rattle.kr_cli_tasks.specs.Runs.{report_text, report_line, IsSerialScript, Explains};
-ghost use Rattle.kr_cli_tasks.specs.declared.faults.OverFault.TheVariants as fault;
+ghost use Rattle.kr_cli.specs.Endings.{is_output};
+ghost use Rattle.kr_cli.specs.Named.{NamesScript, TellsNoScript};
+ghost use Rattle.kr_cli_tasks.specs.Endings.{Unreported};
+ghost use Rattle.kr_cli_tasks.specs.Runs.{report_text, report_line, IsSerialScript};
 
-use crate::faults::OverFault;
 use kr_cases::check;
+use kr_cli::{Ending, Files, script_at};
 use kr_protocol::Protocol;
 use kr_report::{report_played, report_run};
-use kr_script::read_script;
 use kr_serial::{Ran, Verdict, judge, play, run_any};
 use kr_sink::{Sink, print};
 use std::alloc::{AllocError, Global};
@@ -81,27 +82,28 @@ fn reported<P: Protocol>(
     report_judged(alloc, protocol, script)
 }
 
-/// Runs the script that the bytes are under a protocol, writes the report of the run with its verdict and a line feed, and
-/// answers whether the run is serializable in commit order; under a safe protocol it is, and so under a covered one. Where
-/// the bytes are no script, or a growth was refused, nothing is written; where printing fails, a prefix of the report
-/// was.
-pub fn run_over<P: Protocol, W: Sink>(
+/// Runs the script in the file that a word names under a protocol, writes the report of the run with its verdict and a line feed,
+/// and answers whether the run is serializable in commit order; under a safe protocol it is, and so under a covered one. At a
+/// fault of the file, of its bytes or of memory nothing is written; where printing fails, a prefix of the report was.
+pub fn run_script<P: Protocol, F: Files, W: Sink>(
     alloc: Global,
     protocol: &P,
-    script: &[u8],
+    word: &str,
+    files: &F,
     out: &mut W,
-) -> Result<bool, OverFault>
-    ensures ok { IfOk result (λ _. (s : Script) × ((reading script.now ≡ Ok s)
-        × Appends (W.taken out.old) (W.taken out.new) (report_line (P.table protocol.now) (P.names protocol.now) s))) }
-    ensures serial { IfOk result (λ serial. IfOk (reading script.now)
-        (λ s. IsTrue serial ↔ IsSerialScript (P.table protocol.now) s)) }
+) -> Result<bool, Ending>
+    ensures reports { IfOk result (λ serial. (s : Script) × (NamesScript (F.may_give files.now) word.now s
+        × (Appends (W.taken out.old) (W.taken out.new) (report_line (P.table protocol.now) (P.names protocol.now) s)
+        × (IsTrue serial ↔ IsSerialScript (P.table protocol.now) s)))) }
     ensures safe { IsSafe (P.table protocol.now) → IfOk result (λ serial. IsTrue serial) }
     ensures covered { IsCovered (P.table protocol.now) → IfOk result (λ serial. IsTrue serial) }
-    ensures err { IfErr result (Explains (P.table protocol.now) (P.names protocol.now) script.now
-        (W.taken out.old) (W.taken out.new) (W.failures out.old) (W.failures out.new)) }
-    ensures nothing { IfErr result (λ e. (e ≡ fault.Print) ⊎ (out.new ≡ out.old)) }
+    ensures err { IfErr result (Unreported (TellsNoScript (F.may_give files.now) word.now)) }
+    ensures front { IfErr result (λ e. IsTrue (is_output e) → (s : Script) × (NamesScript (F.may_give files.now) word.now s
+        × AppendsFront (W.taken out.old) (W.taken out.new) (report_line (P.table protocol.now) (P.names protocol.now) s))) }
+    ensures nothing { IfErr result (λ e. IsTrue (is_output e) ⊎ (out.new ≡ out.old)) }
+    ensures cause { IfErr result (λ e. IsTrue (is_output e) → HasCause (W.failures out.old) (W.failures out.new)) }
 {
-    let script = read_script(alloc, script)?;
+    let script = script_at(alloc, word, files)?;
     let (text, is_serial) = reported(alloc, protocol, &script)?;
     print(out, text.as_str())?;
     Ok(is_serial)

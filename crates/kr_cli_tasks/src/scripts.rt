@@ -1,65 +1,23 @@
-//! Scripts in the files that words name, run and judged; and how the program ends where they aren't.
+//! Scripts in the files that words name, judged; and how the program ends where they aren't.
 ghost use Rattle.std.specs.Prelude.{◌≡◌, ◌⊎◌, ◌↔◌, List, All, false, IfOk, IfErr, IsTrue, map};
 ghost use Rattle.std.specs.Io.KnownBytes.{Appends};
 ghost use Rattle.kr_model.specs.Covers.{IsCovered};
 ghost use Rattle.kr_sink.specs.Puts.{HasCause};
 ghost use Rattle.kr_script.specs.Script.{Script};
-ghost use Rattle.kr_cli.specs.Endings.{Unreported, is_output};
+ghost use Rattle.kr_cli.specs.Endings.{is_output};
 ghost use Rattle.kr_cli.specs.Files.{MayBeScript};
-ghost use Rattle.kr_cli.specs.Named.{NamesScript, TellsNoScript};
-ghost use Rattle.kr_cli.specs.declared.endings.Ending.TheVariants as ending;
 ghost use Rattle.kr_batch.specs.Names.{AreNamed, ExplainsNames};
-ghost use Rattle.kr_cli_tasks.specs.Runs.{report_line, IsSerialScript};
+ghost use Rattle.kr_cli_tasks.specs.Endings.{Unreported};
+ghost use Rattle.kr_cli_tasks.specs.Runs.{IsSerialScript};
 ghost use Rattle.kr_cli_tasks.specs.Judges.{judge_lines, TellsFirst};
-ghost use Rattle.kr_cli_tasks.specs.declared.faults.OverFault.TheVariants as fault;
 
-use crate::faults::OverFault;
 use crate::judges::{LinesFault, judge_over};
-use crate::runs::run_over;
 use kr_batch::{JudgeFault, TextFault, Texts};
-use kr_cli::{Ending, FileFault, Files, SCRIPT_BYTES, at_fault, read_file, unreadable, whole};
+use kr_cli::{Ending, FileFault, Files, SCRIPT_BYTES, at_fault, read_file, unreadable};
 use kr_protocol::Protocol;
 use kr_sink::Sink;
 use std::alloc::Global;
 use std::thread::Threads;
-
-/// Output and a place that was refused are told as that, and all else as want of memory. A script's fault is told with the
-/// word that names the script, so none comes here.
-impl From<OverFault> for Ending {
-    ghost from_gives = { λ f e. ((e ≡ ending.Output) ↔ (f ≡ fault.Print)) × (((e ≡ ending.Place) ↔ (f ≡ fault.Place)) × Unreported (λ _. ⊥) e) };
-
-    fn from(fault: OverFault) -> Ending {
-        match fault {
-            OverFault::Print => Ending::Output,
-            OverFault::Place => Ending::Place,
-            OverFault::Script(_) | OverFault::Memory => Ending::Memory,
-        }
-    }
-}
-
-/// Runs the script in the file that a word names, writes its report, and answers whether the run is serializable.
-pub fn run_script<P: Protocol, F: Files, W: Sink>(
-    alloc: Global,
-    protocol: &P,
-    script: &str,
-    files: &F,
-    out: &mut W,
-) -> Result<bool, Ending>
-    ensures reports { IfOk result (λ serial. (s : Script) × (NamesScript (F.may_give files.now) script.now s
-        × (Appends (W.taken out.old) (W.taken out.new) (report_line (P.table protocol.now) (P.names protocol.now) s)
-        × (IsTrue serial ↔ IsSerialScript (P.table protocol.now) s)))) }
-    ensures covered { IsCovered (P.table protocol.now) → IfOk result (λ serial. IsTrue serial) }
-    ensures err { IfErr result (Unreported (TellsNoScript (F.may_give files.now) script.now)) }
-    ensures nothing { IfErr result (λ e. IsTrue (is_output e) ⊎ (out.new ≡ out.old)) }
-    ensures cause { IfErr result (λ e. IsTrue (is_output e) → HasCause (W.failures out.old) (W.failures out.new)) }
-{
-    let bytes = whole(alloc, script, files, SCRIPT_BYTES)?;
-    match run_over(alloc, protocol, bytes.as_slice(), out) {
-        Ok(is_serial) => Ok(is_serial),
-        Err(OverFault::Script(fault)) => Err(at_fault(alloc, script, fault)),
-        Err(fault) => Err(Ending::from(fault)),
-    }
-}
 
 /// The files that words name, as the texts of scripts.
 #[derive(Drop)]

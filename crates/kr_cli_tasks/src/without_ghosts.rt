@@ -7,7 +7,8 @@ ghost use Rattle.kr_cli_tasks.specs.Tasks.{Reports, Undone};
 
 use crate::asked::Task;
 use crate::checks::check_over;
-use crate::scripts::{judge_scripts, run_script};
+use crate::runs::run_script;
+use crate::scripts::judge_scripts;
 use kr_cli::{Ending, Files};
 use kr_protocol::Protocol;
 use kr_sink::Sink;

@@ -1,6 +1,6 @@
 use Rattle.std.proofs.Common.{◌∷◌, ◌++◌, [], List, ℕ, subst, ◌∙◌}
 use Rattle.kr_sink.specs.Puts.{AppendsFront}
-use Rattle.kr_cli_tasks.proofs.GhostEndings.{where_output}
+use Rattle.kr_cli_tasks.proofs.Unprinted.{where_output}
 use Rattle.kr_cli_tasks.proofs.ghost_runs.run_ghosts.Goals as goal
 
 -- Where printing fails, the sink took a prefix of the report.

@@ -9,6 +9,6 @@ returns-clause-reports g c =
     let taken = g.W.Sink.taken in
     let p = g.P.GhostProtocol.ghosts c.args.protocol.now in
     let s = c.in_ok-script.script in
-    let (d, (threaded, line)) = c.in_ok-text.ensures.text in
+    let (d, (threaded, line)) = c.in-Ok.ensures in
     let written = subst (Appends (taken c.args.out.now) (taken c.print.new.out)) (ap (λ t. t ++ 10 ∷ []) c.as_str.ensures.value ∙ line) c.in_ok-print.ensures.ok in
     (s, (c.in_ok-script.ensures.script, (d, (threaded, written))))

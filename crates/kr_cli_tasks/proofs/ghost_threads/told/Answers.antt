@@ -10,14 +10,14 @@ use Rattle.kr_ghost_threads.specs.Report.{ghost_threads_text}
 use Rattle.kr_cli_tasks.proofs.ghost_threads.told.Goals as goal
 
 -- Under a covered protocol, which is safe, the verdict is that the run is serializable.
-pub returns-clause-text : goal.returns-clause-text
-returns-clause-text g c =
+pub returns : goal.returns
+returns g c =
     let protocol = c.args.protocol.now in
     let p = g.P.GhostProtocol.ghosts protocol in
     let laws = (g.met.P.GhostProtocol g.world.𝓛 g.world.𝓜 g.world.𝓡 ((λ s x. x), (λ x. x), (λ x. x), λ x. x)).lawful_ghosts protocol in
     let opening = c.args.script.now.opening in
-    let d = c.in-Ok.threaded in
+    let d = c.in_ok-threaded.threaded in
     let ps = programs_of p opening d.history.items in
     let v : Verdict = verdict_of (first_difference opening ps) in
-    let is : v ≡ Serial = (serial_exactly v opening ps refl).1 (c.in-Ok.ensures.safe (covered_is_safe p laws c.requires.covered)) in
-    (d, (c.in-Ok.ensures.threaded, ap (λ (t : List ℕ). t ++ 10 ∷ []) (c.in_ok-text.ensures.text ∙ (λ i. ghost_threads_text d.faults.items d.ghosts d.history.items d.index [] (sym is i)))))
+    let is : v ≡ Serial = (serial_exactly v opening ps refl).1 (c.in_ok-threaded.ensures.safe (covered_is_safe p laws c.requires)) in
+    (d, (c.in_ok-threaded.ensures.threaded, ap (λ (t : List ℕ). t ++ 10 ∷ []) (c.in_ok-text.ensures.text ∙ (λ i. ghost_threads_text d.faults.items d.ghosts d.history.items d.index [] (sym is i)))))

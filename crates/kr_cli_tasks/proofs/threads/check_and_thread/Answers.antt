@@ -2,7 +2,7 @@ use Rattle.std.proofs.Common.{◌≡◌, inl, refl, subst}
 use Rattle.std.proofs.lemmas.Result.{IfOk-weaker}
 use Rattle.kr_model.specs.Covers.{IsCovered}
 use Rattle.kr_threads.specs.Threaded.{IsThreaded}
-use Rattle.kr_cli_tasks.proofs.program.check_and_thread.Goals as goal
+use Rattle.kr_cli_tasks.proofs.threads.check_and_thread.Goals as goal
 
 -- An accepted protocol is the one that was given, and covered.
 pub returns-in-Ok-clause-reports : goal.returns-in-Ok-clause-reports

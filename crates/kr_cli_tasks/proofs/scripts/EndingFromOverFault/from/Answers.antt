@@ -1,6 +1,0 @@
-use Rattle.std.proofs.Common.{arith}
-use Rattle.std.proofs.lemmas.Grind.{common_steps}
-use Rattle.kr_cli_tasks.proofs.scripts.EndingFromOverFault.from.Goals as goal
-
-pub returns : goal.returns
-returns c = grind (arith, common_steps)
