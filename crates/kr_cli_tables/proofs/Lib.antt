@@ -7,3 +7,4 @@ pub mod RelaxMade
 pub mod RelaxTaken
 pub mod SuiteEnded
 pub mod SuiteMade
+pub mod ViewShown

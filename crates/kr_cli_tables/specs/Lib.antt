@@ -5,3 +5,5 @@ pub mod RelaxWords
 pub mod Suite
 pub mod SuiteWords
 pub mod Tightest
+pub mod View
+pub mod ViewWords

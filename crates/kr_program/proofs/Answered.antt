@@ -8,7 +8,7 @@ use Rattle.kr_cli.specs.Endings.{ending_line, ending_text, is_output}
 use Rattle.kr_cli_diagnosis.specs.Finding.{AddsLines, AreLines}
 use Rattle.kr_cli_tasks.specs.Program as tasks
 use Rattle.kr_cli_tables.specs.Explain as explain
-use Rattle.kr_cli_view.specs.Program.{NameNoMemberTwice}
+use Rattle.kr_cli_tables.specs.View.{NameNoMemberTwice}
 use Rattle.kr_program.specs.declared.commands.Command.{Command}
 use Rattle.kr_program.specs.declared.commands.Command.TheVariants.{Check, Run, Judge, Threads, Explain, View, Trace, Suite, Relax, Help, Version}
 use Rattle.kr_program.specs.declared.questions.Question.{Question}

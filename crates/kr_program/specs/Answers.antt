@@ -33,8 +33,8 @@ use Rattle.kr_cli_tables.specs.Suite as suite
 use Rattle.kr_cli_tables.specs.SuiteWords as suite_words
 use Rattle.kr_cli_tables.specs.Relax as relax
 use Rattle.kr_cli_tables.specs.RelaxWords as relax_words
-use Rattle.kr_cli_view.specs.Program as view
-use Rattle.kr_cli_view.specs.Words.{AskNoPage}
+use Rattle.kr_cli_tables.specs.View as view
+use Rattle.kr_cli_tables.specs.ViewWords.{AskNoPage}
 use Rattle.kr_cli_trace.specs.Program as trace
 use Rattle.kr_cli_trace.specs.Words.{AskNoTrace}
 use Rattle.kr_program.specs.declared.commands.Command.{Command}
@@ -217,7 +217,7 @@ Ends may_give may_name Run rest old new e = tasks.Ends may_give (word_of Run ∷
 Ends may_give may_name Judge rest old new e = tasks.Ends may_give (word_of Judge ∷ rest) e
 Ends may_give may_name Threads rest old new e = tasks.Ends may_give (word_of Threads ∷ rest) e
 Ends may_give may_name Explain rest old new e = explain.Ends may_give rest e
-Ends may_give may_name View rest old new e = view.Explains may_give rest e
+Ends may_give may_name View rest old new e = view.Ends may_give rest e
 Ends may_give may_name Trace rest old new e = trace.Explains may_give may_name rest old new e
 Ends may_give may_name Suite rest old new e = suite.Ends may_give rest e
 Ends may_give may_name Relax rest old new e = relax.Ends may_give rest e

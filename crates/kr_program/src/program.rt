@@ -4,7 +4,7 @@ ghost use Rattle.kr_sink.specs.Puts.{HasCause};
 ghost use Rattle.std.specs.Io.KnownBytes.{Appends};
 ghost use Rattle.kr_cli.specs.declared.endings.Ending.TheVariants as ending;
 ghost use Rattle.kr_cli.specs.Endings.{IsTold, TellsOneLine, ending_text};
-ghost use Rattle.kr_cli_view.specs.Program.{NameNoMemberTwice};
+ghost use Rattle.kr_cli_tables.specs.View.{NameNoMemberTwice};
 ghost use Rattle.kr_program.specs.Answers.{Answers, AskNothing, IsAskable, answer_of, stream};
 ghost use Rattle.kr_program.specs.Commands.{word_of};
 ghost use Rattle.kr_program.specs.Manual.{usage_told};

@@ -4,7 +4,7 @@ use Rattle.kr_cli.specs.declared.endings.Ending.{Ending}
 use Rattle.kr_cli.specs.Endings.{IsTold, ending_text}
 use Rattle.kr_cli_diagnosis.specs.Finding.{AreLines}
 use Rattle.kr_cli_diagnosis.proofs.Helped.{all_lines}
-use Rattle.kr_cli_view.specs.Program.{NameNoMemberTwice}
+use Rattle.kr_cli_tables.specs.View.{NameNoMemberTwice}
 use Rattle.kr_program.specs.declared.commands.Command.TheVariants.{View}
 use Rattle.kr_program.specs.Answers.{IsTask, stream}
 use Rattle.kr_program.specs.Commands.{word_of}

@@ -4,7 +4,7 @@ use Rattle.std.proofs.Common.{sym, ◌∙◌}
 use Rattle.kr_sink.specs.Puts.{HasCause}
 use Rattle.kr_cli.specs.declared.endings.Ending.TheVariants as ending
 use Rattle.kr_cli.specs.Endings.{IsTold, ending_text}
-use Rattle.kr_cli_view.specs.Program.{NameNoMemberTwice}
+use Rattle.kr_cli_tables.specs.View.{NameNoMemberTwice}
 use Rattle.kr_program.specs.declared.commands.Command.{Command}
 use Rattle.kr_program.specs.declared.commands.Command.TheVariants.{View}
 use Rattle.kr_program.specs.declared.questions.Question.{Question}

@@ -1,0 +1,13 @@
+use Rattle.std.proofs.Common.{arith}
+use Rattle.std.proofs.lemmas.Grind.{common_steps}
+use Rattle.std.specs.Prelude.{string_bytes}
+use Rattle.kr_cli_tables.proofs.ViewShown.{table_written}
+use Rattle.kr_cli_tables.proofs.pages.write_table_page.Goals as goal
+
+pub returns-clause-page : goal.returns-clause-page
+returns-clause-page g c =
+    let taken = g.W.Sink.taken in
+    table_written (g.P.Protocol.table c.args.protocol.now) (g.P.Protocol.names c.args.protocol.now) c.as_bytes.result.now (string_bytes c.in_ok-page.page) c.args.table.now (taken c.args.out.now) (taken c.put_all.new.out) c.as_bytes.ensures.value c.in_ok-page.ensures.page c.in_ok-put_all.ensures.ok
+
+pub returns-clause-safe : goal.returns-clause-safe
+returns-clause-safe g c = grind (arith, common_steps)
