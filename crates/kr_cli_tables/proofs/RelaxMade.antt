@@ -1,10 +1,8 @@
 -- What was made of a table.
-use Rattle.std.proofs.Common.{◌≡◌, ◌==◌, ◌∙◌, ◌++◌, ℕ, Bool, List, ap, arith, false, length, refl, subst, sym, true}
-use Rattle.std.specs.Prelude.{◌↔◌, IsTrue, Ok, not}
-use Rattle.std.specs.List.{Any}
+use Rattle.std.proofs.Common.{◌≡◌, ◌==◌, ◌∙◌, ◌++◌, ℕ, Bool, List, ap, arith, length, subst, true}
+use Rattle.std.specs.Prelude.{Ok}
 use Rattle.std.proofs.lemmas.Bool.Decides.{nat_tests}
 use Rattle.kr_model.specs.Protocol.{Protocol}
-use Rattle.kr_change.specs.declared.change.Change.{Change}
 use Rattle.kr_table.specs.declared.table.Table.{Table}
 use Rattle.kr_table.specs.Answer.{table_data}
 use Rattle.kr_table.specs.Reading.{reading}
@@ -12,13 +10,11 @@ use Rattle.kr_relax_core.specs.Relaxations.{AreRelaxations}
 use Rattle.kr_relax_core.specs.Unused.{AreUnused}
 use Rattle.kr_relax_core.specs.declared.relax.Relaxed.{Relaxed}
 use Rattle.kr_relax_core.specs.declared.unused.Entry.{Entry}
-use Rattle.kr_relax_text.specs.declared.reasons.Reason.{Reason}
 use Rattle.kr_relax_text.specs.declared.scripts.Relaxation.{Relaxation}
-use Rattle.kr_relax_text.specs.Reasons.{AreReasons, IsRelaxing, changes_of_entry, reasons_words}
 use Rattle.kr_relax_text.specs.Scripts.{AreShown}
 use Rattle.kr_relax_text.specs.Unused.{unused_words}
 use Rattle.kr_relax_text.specs.Whole.{relaxed_text}
-use Rattle.kr_cli_tables.specs.Relax.{TellsReasons, TellsRelaxations, TellsTightest}
+use Rattle.kr_cli_tables.specs.Relax.{TellsRelaxations, TellsTightest}
 use Rattle.kr_cli_tables.specs.Tightest.{IsTightest}
 use Rattle.kr_cli_tables.proofs.RelaxTaken.{tight_if_none}
 
@@ -45,24 +41,4 @@ tells_all p names given found written list entries unused first second text tigh
   is_text = is_text ∙ (ap (λ t. t ++ second) (is_first ∙ ap (relaxed_text p names) is_written) ∙ ap (λ t. relaxed_text p names list ++ t) (is_second ∙ ap (unused_words p names) is_unused));
   verdict = verdict;
   is_tight = λ holds. tight_if_none p found (none_if (length found) tight verdict holds) are;
-}
-
--- a test of a list, and its negation's
-verdict_of : (tight found : Bool) (list : List Reason) → tight ≡ not found → IsTrue found ↔ Any IsRelaxing list → IsTrue (not tight) ↔ Any IsRelaxing list
-verdict_of tight found list is exactly = let same : not tight ≡ found = ap not is ∙ twice found in subst (λ (b : Bool). IsTrue b ↔ Any IsRelaxing list) (sym same) exactly
-  where
-    twice : (b : Bool) → not (not b) ≡ b
-    twice true = refl
-    twice false = refl
-
--- the text of reasons tells them
-pub tells_reasons : (p : Protocol) (names : List (List ℕ)) (entry : List ℕ) (given changes : List Change) (written tested list : List Reason) (text : List ℕ) (found tight : Bool)
-    → changes ≡ changes_of_entry p names entry → (length changes == 0) ≡ false → given ≡ changes → AreReasons p given list → written ≡ list → text ≡ reasons_words p names written
-    → tested ≡ list → IsTrue found ↔ Any IsRelaxing tested → tight ≡ not found → TellsReasons p names entry text tight
-tells_reasons p names entry given changes written tested list text found tight are some is_given reasons is_written is_text is_tested exactly is_tight = record {
-  list = list;
-  some = subst (λ (cs : List Change). (length cs == 0) ≡ false) are some;
-  are_reasons = subst (λ (cs : List Change). AreReasons p cs list) (is_given ∙ are) reasons;
-  is_text = is_text ∙ ap (reasons_words p names) is_written;
-  verdict = verdict_of tight found list is_tight (subst (λ (rs : List Reason). IsTrue found ↔ Any IsRelaxing rs) is_tested exactly);
 }

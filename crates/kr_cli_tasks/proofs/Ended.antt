@@ -1,5 +1,5 @@
 -- Why scripts aren't judged.
-use Rattle.std.proofs.Common.{◌≡◌, ◌<◌, ℕ, zero, suc, List, [], ◌∷◌, ◌++◌, Option, Some, None, length, map, get_or, string_bytes, subst, sym, ap, inl, inr, arith, length-append}
+use Rattle.std.proofs.Common.{◌≡◌, ◌<◌, ℕ, zero, suc, List, [], ◌∷◌, ◌++◌, Option, Some, None, length, map, get_or, string_bytes, subst, ap, inl, inr, arith, length-append}
 use Rattle.std.proofs.lemmas.List.{length-map}
 use Rattle.kr_script.specs.declared.faults.ScriptFault.{ScriptFault}
 use Rattle.kr_script.specs.Faults.{Fault, fault_of}

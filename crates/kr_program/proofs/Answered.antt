@@ -4,7 +4,7 @@ use Rattle.std.proofs.Common.{Global, arith, ap, append-nil, inl, inr, sym, subs
 use Rattle.kr_sink.specs.Puts.{HasCause}
 use Rattle.kr_cli.specs.declared.endings.Ending.{Ending}
 use Rattle.kr_cli.specs.declared.endings.Ending.TheVariants.{NotUnderstood, Output}
-use Rattle.kr_cli.specs.Endings.{ending_line, ending_text, is_output}
+use Rattle.kr_cli.specs.Endings.{ending_text, is_output}
 use Rattle.kr_cli_diagnosis.specs.Finding.{AddsLines, AreLines}
 use Rattle.kr_cli_tasks.specs.Program as tasks
 use Rattle.kr_cli_tables.specs.Explain as explain
@@ -12,7 +12,7 @@ use Rattle.kr_cli_tables.specs.View.{NameNoMemberTwice}
 use Rattle.kr_program.specs.declared.commands.Command.{Command}
 use Rattle.kr_program.specs.declared.commands.Command.TheVariants.{Check, Run, Judge, Threads, Explain, View, Trace, Suite, Relax, Help, Version}
 use Rattle.kr_program.specs.declared.questions.Question.{Question}
-use Rattle.kr_program.specs.Answers.{Answers, AskNothing, Does, Ends, Files, IsAnswered, IsAskable, IsQuiet, IsSilent, IsTask, IsUnasked, IsUnwritten, Stream, Tells, Traces, Writes, done, ended, unknown}
+use Rattle.kr_program.specs.Answers.{Answers, AskNothing, Does, Ends, Files, IsAnswered, IsAskable, IsQuiet, IsSilent, IsTask, IsUnasked, IsUnwritten, Stream, Tells, Traces, Writes, done, ended}
 use Rattle.kr_program.specs.Commands.{word_of}
 use Rattle.kr_program.specs.Manual.{usage_told}
 use Rattle.kr_program.specs.Questions.{IsNoQuestion, IsQuestion}
@@ -164,15 +164,3 @@ unknown_status n (Err e) Same usage shown begun help Told within well not_well n
     let here : Told (ending_text usage NotUnderstood ++ shown) = subst (λ (x : Ending). Told (ending_text usage x ++ shown)) other told in
     let text = ending_text usage NotUnderstood in
     (two e n within well not_well, (same, subst Told (ap (λ (h : List ℕ). text ++ h) empty ∙ append-nil text) here))
-
--- Words that begin with no command aren't understood.
-pub unknown_answers : (g : Files) (n : Traces) (all : List (List ℕ)) (out err : Stream) (status : ℕ) (r : Result Bool Ending)
-    → ((c : Command) (rest : List (List ℕ)) → all ≡ word_of c ∷ rest → ⊥) → r ≡ Err NotUnderstood → IsSilent out
-    → status ≤ 2 → ((status ≡ 0) ↔ (r ≡ Ok true)) → ((status ≡ 1) ↔ (r ≡ Ok false))
-    → IfErr r (λ e. Tells err (ending_text [] e ++ [])) → Answers g n all out err status
-unknown_answers g n all out err status (Ok well) none is silent within zero one told = absurd (cc)
-unknown_answers g n all out err status (Err e) none is silent within zero one told =
-    let other : e ≡ NotUnderstood = cc in
-    let here : Tells err (ending_text [] NotUnderstood ++ []) = subst (λ (x : Ending). Tells err (ending_text [] x ++ [])) other told in
-    let line : ending_text [] NotUnderstood ++ [] ≡ ending_line NotUnderstood = append-nil (ending_text [] NotUnderstood) ∙ append-nil (ending_line NotUnderstood) in
-    unknown none (two e status within zero one) silent (subst (λ (text : List ℕ). Tells err text) line here)

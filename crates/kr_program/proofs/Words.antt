@@ -4,7 +4,7 @@ use Rattle.std.proofs.Common.{arith, ap, inl, inr, subst, sym, ◌∙◌}
 use Rattle.std.proofs.lemmas.Grind.{common_steps}
 use Rattle.kr_program.specs.declared.commands.Command.{Command}
 use Rattle.kr_program.specs.declared.commands.Command.TheVariants.{Check, Run, Judge, Threads, Explain, View, Trace, Suite, Relax, Help, Version}
-use Rattle.kr_program.specs.Commands.{IsNoCommand, word_of}
+use Rattle.kr_program.specs.Commands.{word_of}
 use Rattle.kr_program.proofs.Serial.{first, rest_of}
 
 -- the words behind the first
@@ -16,10 +16,7 @@ pub in_front : {A : Type 0} (f : A → List ℕ) (words : List A) (item : A) (x 
 in_front f [] item x some is named = absurd (omega (arith, some))
 in_front f (w ∷ ws) item x some is named = let same : item ≡ w = is in ap (λ y. y ∷ map f ws) (ap f (sym same) ∙ named) ∙ ap (λ zs. x ∷ map f zs) (sym (all_behind w ws))
 
--- words whose first is that of no command begin with none
-pub no_command : (words : List (List ℕ)) (word : List ℕ) (xs : List (List ℕ)) → words ≡ word ∷ xs → IsNoCommand word → (c : Command) (rest : List (List ℕ)) → words ≡ word_of c ∷ rest → ⊥
-no_command words word xs are none c rest is = none c (first _ _ _ _ (sym are ∙ is))
-
+-- no words begin with no command
 pub no_words : (words : List (List ℕ)) → words ≡ [] → (c : Command) (rest : List (List ℕ)) → words ≡ word_of c ∷ rest → ⊥
 no_words words none c rest is = let k : [] ≡ word_of c ∷ rest = sym none ∙ is in absurd (cc)
 
