@@ -21,6 +21,7 @@ deed_words access.Delete = codes "a delete"
 deed_words access.Update = codes "an update"
 deed_words access.Revive = codes "an insert of the ghost"
 deed_words access.Insert = codes "an insert into the gap"
+deed_words access.InsertHit = codes "an insert that finds the key"
 
 -- The own mode of a requester, if it has one.
 abbrev pub holding : List (List ℕ) → ℕ → List ℕ

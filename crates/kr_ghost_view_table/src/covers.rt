@@ -138,6 +138,7 @@ fn deed_words(access: Access) -> &'static str
         Access::Update => "an update",
         Access::Revive => "an insert of the ghost",
         Access::Insert => "an insert into the gap",
+        Access::InsertHit => "an insert that finds the key",
     }
 }
 

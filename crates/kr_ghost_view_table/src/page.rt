@@ -53,7 +53,7 @@ fn page<P: GhostProtocol>(
     ensures { IfOk result (λ page. IsGhostTablePage (P.ghosts protocol.now) (P.names protocol.now) table.now (string_bytes page) is_safe) }
 {
     let name = escape(alloc, table)?;
-    let count = cases(protocol.count(), protocol.updates(), protocol.inherits());
+    let count = cases(protocol);
     let verdict = verdict_text(alloc, is_safe, failed.len(), count)?;
     let shown = escape(alloc, verdict.as_str())?;
     let tables = tables(alloc, protocol)?;

@@ -19,6 +19,7 @@ fn own_next(requester: Requester) -> Mode
     match requester.access {
         Access::Insert => requester.own,
         Access::Fetch | Access::Scan | Access::Delete | Access::Update | Access::Revive => 0,
+        Access::InsertHit => 0,
     }
 }
 
@@ -72,7 +73,7 @@ fn check_value<P: GhostProtocol>(
     ensures { IfOk result (λ v. view v ≡ check_data (P.ghosts protocol.now) (P.names protocol.now) failed.now) }
 {
     let modes = protocol.count();
-    let cases = cases(modes, protocol.updates(), protocol.inherits());
+    let cases = cases(protocol);
     if failed.is_empty() {
         return accepted_value(alloc, cases, modes);
     }

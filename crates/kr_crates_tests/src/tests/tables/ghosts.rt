@@ -49,7 +49,7 @@ fn is_accepted<P: GhostProtocol>(
     report: &str,
 ) -> Result<(), Fail> {
     same!(rt; protocol.count(), count);
-    same!(rt; cases(count, protocol.updates(), protocol.inherits()), number);
+    same!(rt; cases(protocol), number);
     let failed = failed_cases(alloc, protocol)?;
     same!(rt; failed.len(), 0);
     same!(rt; report_ghost_check(alloc, protocol, failed.as_slice())?.as_str(), report);
