@@ -5,7 +5,7 @@ ghost use Rattle.kr_cli.specs.Endings.{is_output};
 ghost use Rattle.kr_cli_tasks.specs.Endings.{UnreportedThreads};
 ghost use Rattle.kr_cli_tasks.specs.Program.{DoesThreads, Ends, TellsThreads, WritesReport};
 
-use crate::asked::{Form, Workers};
+use crate::asked::{Asked, Form, Workers};
 use crate::ghost_threads::check_and_thread_ghosts;
 use crate::named_tasks::task_at;
 use crate::threads::check_and_thread;
@@ -54,11 +54,11 @@ pub fn task<T: Threads + Wait + Sync, F: Files + Sync, W: Sink>(
     ensures nothing { IfErr result (λ e. IsTrue (is_output e) ⊎ (out.new ≡ out.old)) }
     ensures cause { IfErr result (λ e. IsTrue (is_output e) → HasCause (W.failures out.old) (W.failures out.new)) }
 {
-    let asked = read_words(alloc, words)?;
-    match asked.form {
-        Form::Plain(task) => task_at(threads, alloc, asked.table, &task, files, out),
+    let Asked { table, form } = read_words(alloc, words)?;
+    match form {
+        Form::Plain(task) => task_at(threads, alloc, table, &task, files, out),
         Form::Threads(script, workers) => {
-            threads_at(threads, alloc, asked.table, script, workers, files, out)
+            threads_at(threads, alloc, table, script, workers, files, out)
         }
     }
 }

@@ -20,4 +20,4 @@ returns g c =
     let ps = programs_of p opening d.history.items in
     let v : Verdict = verdict_of (first_difference opening ps) in
     let is : v ≡ Serial = (serial_exactly v opening ps refl).1 (c.in_ok-threaded.ensures.safe (covered_is_safe p laws c.requires)) in
-    (d, (c.in_ok-threaded.ensures.threaded, ap (λ (t : List ℕ). t ++ 10 ∷ []) (c.in_ok-text.ensures.text ∙ (λ i. ghost_threads_text d.faults.items d.ghosts d.history.items d.index [] (sym is i)))))
+    (d, (c.in_ok-threaded.ensures.threaded, ap (λ (t : List ℕ). t ++ 10 ∷ []) (c.in_ok-report_ghost_threads.ensures.text ∙ (λ i. ghost_threads_text d.faults.items d.ghosts d.history.items d.index [] (sym is i)))))
