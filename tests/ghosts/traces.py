@@ -72,7 +72,7 @@ class State:
         if op[0] == 'back':
             return sorted(self.run.ghosts)
         low, high = (self.ranges[txn][2] + 1, self.ranges[txn][1]) if op[0] == 'go' else op[1:3] if op[0] == 'scan' else (op[1], op[1])
-        high = high if whole else low
+        high = high if whole else low + (op[0] == 'insert' and self.run.table.rows['insert-hit-next'] is not None)
         return [it for it in sorted(self.run.ghosts) if not any(it < key < low or high <= key < it for key in self.run.index)]
 
     def requests(self, txn, op):

@@ -9,10 +9,11 @@ use kr_model::{Memory, Op};
 use kr_trace_follow::scans::{Progress, noted_of};
 use std::alloc::Global;
 
-/// The keys that the first step of a line looks from, and up to which the line looks: none where it requests nothing. What a
-/// change undone does depends on the locks on any ghost.
-fn range(scans: &[Progress], line: Logged) -> Option<(u64, u64)> {
+/// The keys that the first step of a line looks from, and up to which the line looks: none where it requests nothing. An insert
+/// looks above its key where one that finds it asks for a lock there. What a change undone does depends on the locks on any ghost.
+fn range(scans: &[Progress], line: Logged, looks_above: bool) -> Option<(u64, u64)> {
     match first_op(scans, line) {
+        Op::Insert(key, _) if looks_above => Some((key, key.saturating_add(1))),
         Op::Fetch(key) | Op::Insert(key, _) | Op::Delete(key) | Op::Update(key, _) => {
             Some((key, key))
         }
@@ -91,7 +92,8 @@ pub(crate) fn near<P: GhostProtocol>(
     line: Logged,
 ) -> Result<Vec<u64>, Memory> {
     let ghosts = stand.stepper.ghosts()?;
-    match range(&stand.scans, line) {
+    let looks_above = stand.stepper.protocol().insert_hit_next().is_some();
+    match range(&stand.scans, line, looks_above) {
         Some(ends) if !ghosts.as_slice().is_empty() => {
             let pairs = stand.stepper.index()?;
             beside(alloc, ghosts.as_slice(), pairs.as_slice(), ends)

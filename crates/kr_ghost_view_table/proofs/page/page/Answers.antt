@@ -2,7 +2,6 @@ use Rattle.std.specs.Prelude.{◌≡◌, ℕ, List, Some, length, string_bytes}
 use Rattle.std.specs.Str.{chars}
 use Rattle.std.proofs.Common.{ap, ap₂, refl, subst, sym, ◌∙◌}
 use Rattle.std.proofs.lemmas.Result.{IfOk-weaker}
-use Rattle.kr_model.specs.Protocol.{Protocol}
 use Rattle.kr_ghost.specs.declared.cases.FailedCase.{FailedCase}
 use Rattle.kr_ghost.specs.Covers.{cases, failed_cases}
 use Rattle.kr_view_scenes.specs.Escape.{escaped, unescaped}
@@ -16,11 +15,9 @@ pub returns : goal.returns
 returns g c =
     let p = g.P.GhostProtocol.ghosts c.args.protocol.now in
     let names = g.P.Protocol.names c.args.protocol.now in
-    let law = g.met.P.GhostProtocol.tables c.args.protocol.now in
     let failed = c.requires.failed in
     let safe = c.args.is_safe in
-    let count : length (cases p) ≡ c.cases-count.result =
-    c.cases-count.ensures p (ap (λ (q : Protocol). q.count) law ∙ sym c.count.ensures) (ap (λ (q : Protocol). q.updates) law ∙ sym c.updates.ensures) (sym c.inherits.ensures) in
+    let count : length (cases p) ≡ c.cases-count.result = sym c.cases-count.ensures in
     let Reads : List ℕ → Type 0 = λ n. unescaped (chars n) ≡ Some (chars c.args.table.now) in
     let verdict : string_bytes c.in_ok-verdict.verdict ≡ verdict_words safe (length (failed_cases p)) (length (cases p)) =
     c.in_ok-verdict.ensures ∙ ap₂ (λ (a b : ℕ). verdict_words safe a b) (ap (λ (fs : List FailedCase). length fs) failed) (sym count) in
