@@ -71,8 +71,14 @@ impl<P: GhostProtocol, L: Holdings> GhostStepper<P, L> {
         ensures requests { requests result ≡ look_requests (P.ghosts self.now.protocol) (name_from self.now.state lo) hi }
         ensures modes { ArePlanModes (P.ghosts self.now.protocol).table.count result }
     {
-        let (name, _) = self.index.name_from(lo);
-        look(&self.protocol, &self.locks, txn, name, hi)
+        look(&self.protocol, &self.locks, txn, self.name_from(lo), hi)
+    }
+
+    /// The least name not below `from`: a present key, a ghost, or the end.
+    pub fn name_from(&self, from: u64) -> Name
+        ensures { result ≡ name_from self.now.state from }
+    {
+        self.index.name_from(from).0
     }
 
     /// Whether a key is a ghost.
