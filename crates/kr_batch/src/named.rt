@@ -83,7 +83,7 @@ pub enum JudgeFault {
     /// The name at this place, from 0, is the first that stands for no script, and its text isn't had.
     #[error("text {0} can't be read")]
     Unreadable(usize),
-    /// The name at this place is the first that stands for no script, and its text has this fault, which is never `Memory`.
+    /// The name at this place is the first that stands for no script, and its text has this fault.
     #[error("text {0}: {1}")]
     Script(usize, ScriptFault),
     /// A growth was refused.

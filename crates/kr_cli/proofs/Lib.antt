@@ -1,5 +1,4 @@
 pub mod Begun
-pub mod Finished
 pub mod Fronts
 pub mod GhostFaults
 pub mod GhostOneLine

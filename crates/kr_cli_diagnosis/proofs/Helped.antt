@@ -60,10 +60,6 @@ no_help word old new same = ([], [], (inl refl, same ∙ sym (append-nil old)))
 pub one_help : (word old new : List ℕ) → AddsHelp word old new → AddsHelps word old new
 one_help word old new (bytes, text, (help, is)) = (bytes, text, (inl help, is))
 
--- lines that were put behind lines
-pub more_lines : (a b c : List ℕ) → AddsLines a b → AddsLines b c → AddsLines a c
-more_lines a b c (x, (are_x, is_b)) (y, (are_y, is_c)) = (x ++ y, (both x y are_x are_y, is_c ∙ (ap (λ z. z ++ y) is_b ∙ append_assoc a x y)))
-
 -- all that stands behind nothing
 pub all_lines : (old new : List ℕ) → old ≡ [] → AddsLines old new → AreLines new
 all_lines old new none (text, (are, is)) = (are.0, is ∙ (ap (λ x. x ++ text) none ∙ are.1))

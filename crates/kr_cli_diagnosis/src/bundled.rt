@@ -11,7 +11,7 @@ use std::alloc::{AllocError, Global};
 pub enum Bundled {
     /// Those without ghosts, as `kr suite` and `kr relax` do.
     WithoutGhosts,
-    /// All, as the other commands do.
+    /// All, as explain, view and trace do.
     All,
 }
 

@@ -83,7 +83,7 @@ fn transaction_fault(
 
 /// What is said of a step of format 2 in a script of format 1.
 fn later_fault(alloc: Global, place: Option<usize>, word: &str) -> Result<Help, AllocError> {
-    let what = format!(in alloc; "\"{word}\" is in format 2 alone")?;
+    let what = format!(in alloc; "\"{word}\" needs format 2")?;
     Help::new(alloc, place, what).hint_of(alloc, "write \"format\":2")
 }
 

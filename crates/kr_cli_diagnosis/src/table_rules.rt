@@ -58,7 +58,7 @@ fn row_fault(
     }
     let place = document.key(alloc, path)?;
     if row == "update" {
-        let what = "a row \"update\" is in format 2 alone";
+        let what = "a row \"update\" needs format 2";
         return Help::of(alloc, place, what)?.hint_of(alloc, "write format = 2");
     }
     no_such(alloc, place, "row", row, rows(document))

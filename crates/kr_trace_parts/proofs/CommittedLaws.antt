@@ -72,10 +72,3 @@ found_more m cs t program (Some verdict.Serial) now h g = absurd h
 found_more m cs t program (Some (verdict.SerialInOrder ts)) now h g = absurd h
 found_more m cs t program (Some (verdict.NotSerial u n given serial)) now h g = wrong_more m cs (record { txn = t; program = program }) u n given serial h
 found_more m cs t program (Some verdict.Unknown) now h g = absurd h
-
--- What is found is the verdict.
-pub found_verdict : (m : Map) (cs : List Committed) (v : TraceVerdict) → IsFirstFound m cs (Some v) → IsVerdict m cs v
-found_verdict m cs verdict.Serial h = absurd h
-found_verdict m cs (verdict.SerialInOrder ts) h = h
-found_verdict m cs (verdict.NotSerial t n given serial) h = h
-found_verdict m cs verdict.Unknown h = h

@@ -16,13 +16,6 @@ use Rattle.kr_trace_parts.proofs.ArrangeLaws.{arranged_order, commit_order, in_c
 
 -- The order that is told --
 
--- A first wrong answer in it.
-pub wrong_in_told : (m : Map) (cs : List Committed) (ts : List ℕ) (v : TraceVerdict) → IsFirstFound m (in_order cs ts) (Some v) → IsVerdictInTold m cs ts v
-wrong_in_told m cs ts verdict.Serial h = h
-wrong_in_told m cs ts (verdict.SerialInOrder us) h = absurd h
-wrong_in_told m cs ts (verdict.NotSerial t n given serial) h = h
-wrong_in_told m cs ts verdict.Unknown h = h
-
 -- The verdict on a part that tells an order.
 pub told_verdict : (s : Part) (m : Map) (cs : List Committed) (ts : List ℕ) (v : TraceVerdict) → m ≡ s.opening → cs ≡ committed_in s.steps → Some ts ≡ s.order → CommitsOnce s
     → IsVerdictInTold m cs ts v → IsVerdictInSomeOrder s v

@@ -75,11 +75,6 @@ one_at_most (Some s) = omega arith
 -- The part in progress --
 
 module _ {T : Type 0} (stands : T → ℕ → Part → Type 0) (asked : T → ℕ → Part → List ℕ → Bool → Type 0) (P : ℕ → Part → List ℕ → Bool → Type 0) where
-  -- The part in progress after a line of its own.
-  pub stands_after : (x y : T) (n : ℕ) (f : Part → Part) (s : Option Part) → StandsFor stands n (Some x) s → ((r : Part) → stands x n r → stands y n (f r)) → StandsFor stands n (Some y) (option_map f s)
-  stands_after x y n f None h g = h
-  stands_after x y n f (Some s) h g = g s h
-
   pub none_after : (n : ℕ) (f : Part → Part) (s : Option Part) → StandsFor stands n None s → StandsFor stands n None (option_map f s)
   none_after n f None h = tt
   none_after n f (Some s) h = h
