@@ -32,6 +32,9 @@ class Program:
     def note(self, operation, reply):
         if operation[0] == 'go':
             operation = self.scan
+        elif operation[0] == 'scan' and operation[1] > operation[2]:  # downwards
+            operation = ('scan', operation[2], operation[1])
+            reply = ['rows', reply[1][::-1]] if reply[0] == 'rows' else reply
         if reply[0] == 'going':
             self.scan = operation
         elif operation:

@@ -71,7 +71,7 @@ class State:
             return []
         if op[0] == 'back':
             return sorted(self.run.ghosts)
-        low, high = (self.ranges[txn][2] + 1, self.ranges[txn][1]) if op[0] == 'go' else op[1:3] if op[0] == 'scan' else (op[1], op[1])
+        low, high = (self.ranges[txn][2] + 1, self.ranges[txn][1]) if op[0] == 'go' else sorted(op[1:3]) if op[0] == 'scan' else (op[1], op[1])
         high = high if whole else low + (op[0] == 'insert' and self.run.table.rows['insert-hit-next'] is not None)
         return [it for it in sorted(self.run.ghosts) if not any(it < key < low or high <= key < it for key in self.run.index)]
 
@@ -102,7 +102,10 @@ class State:
         whole = op[0] == 'scan' and reply[0] in ('rows', 'blocked')
         op = self.first(txn, op, reply)
         self.waiting.pop(txn, None)
+        parts = parts_of(self.run, op)
+        rows = []
         while True:
+            op = parts.pop(0)
             requests = self.requests(txn, op)
             blocking = [lock for it in requests for lock in self.conflicts(names, txn, *it)]
             ahead = self.ahead(requests) if reply[0] == 'blocked' else set()
@@ -117,9 +120,13 @@ class State:
                 self.ranges[txn] = (low, high, given[1])
             elif given[0] not in ('blocked', 'refused'):
                 self.ranges.pop(txn, None)
-            if given[0] != 'going' or not whole and (given[1] not in self.run.ghosts or reply == ['going', given[1]]):
+            if given[0] == 'rows':
+                rows += given[1]
+                given = ['rows', rows]
+            if given[0] == 'going' and (whole or given[1] in self.run.ghosts and reply != ['going', given[1]]):
+                parts.append(('go',))
+            if given[0] not in ('going', 'rows') or not parts:
                 break
-            op = ('go',)
         if reply[0] == 'blocked':
             self.waiting[txn] = [(name, mode) for name, _, _, mode in requests]
         self.queued += bool(ahead) and given[0] not in ('blocked', 'refused')
@@ -137,6 +144,15 @@ class State:
         if reply[0] == 'blocked':
             return ['blocked', number, given]
         return None if fits(reply, given) else ['answer', number, given]
+
+
+def parts_of(run, op):
+    """The steps of an operation: of a scan downwards the scans up to each name, and to its end, the uppermost first."""
+    if op[0] != 'scan' or op[1] <= op[2]:
+        return [op]
+    high, low = op[1:]
+    ends = [*sorted(it for it in {*run.index, *run.ghosts} if low <= it < high), high]
+    return [('scan', start, end) for start, end in zip([low, *(it + 1 for it in ends)], ends)][::-1]
 
 
 def replied(reply):
@@ -207,7 +223,7 @@ def some_op(rng, run, txn):
         return ('back',) if now.changes else ('fetch', rng.choice(KEYS))
     if kind == 'scan':
         low, high = sorted((rng.choice(KEYS), rng.choice(KEYS)))
-        return ('scan', low, high)
+        return ('scan', low, high) if rng.random() < 0.6 else ('scan', high, low)
     return (kind, rng.choice(KEYS), *([rng.randrange(100)] if kind in ('insert', 'update') else []))
 
 
@@ -216,6 +232,17 @@ def logged(rng, reply):
     if reply[0] in ('deleted', 'updated', 'undone', 'blocked') and rng.random() < 0.3:
         return [reply[0]]
     return replied(reply)
+
+
+def stepped(run, txn, op):
+    """The reply to a step, or to the parts of a scan downwards up to the first that isn't read."""
+    rows = []
+    for part in parts_of(run, op):
+        reply = run.step(txn, part)
+        if reply[0] != 'rows':
+            return reply
+        rows += reply[1]
+    return ['rows', rows]
 
 
 def some_trace(rng, table):
@@ -232,7 +259,7 @@ def some_trace(rng, table):
             op = some_op(rng, run, txn)
         step = ('go',) if op[0] == 'scan' and run.active.get(txn, Active()).scan else op
         whole = op[0] == 'scan' and rng.random() < 0.4
-        reply = run.step(txn, step)
+        reply = stepped(run, txn, step)
         if reply[0] == 'refused':
             continue
         while reply[0] == 'going' and (whole or reply[1] in run.ghosts and rng.random() < 0.8):

@@ -23,8 +23,8 @@ use Rattle.kr_trace_follow.specs.Lines.{Line}
 use Rattle.kr_trace_follow.specs.Steps.{queue_for}
 use Rattle.kr_trace_follow.proofs.ConformLaws.{kind_fits}
 use Rattle.kr_ghost_follow.specs.Conforms.{IsSerialRunOf}
-use Rattle.kr_ghost_follow.specs.Points.{Moment, Point, Tried, ahead_of, conflicts_of, first_op, gone_on, is_passed, last_tried, left_after, more_steps, tried}
-use Rattle.kr_ghost_follow.specs.Reached.{Agrees, IsReached, Leads, start, purge, line, all_done, done_by, moves_of}
+use Rattle.kr_ghost_follow.specs.Points.{Moment, Point, Tried, ahead_of, conflicts_of, falling, first_op, gone_on, is_falling, is_passed, is_read, last_of, last_tried, left_after, moment_at, more_steps, read_down, read_on, tried, unread}
+use Rattle.kr_ghost_follow.specs.Reached.{Agrees, IsReached, Leads, start, purge, line, all_done, all_read, done_by, moves_of, steps_of}
 
 -- The state that moves lead to.
 abbrev after : GhostProtocol → GhostState → List Move → GhostState
@@ -60,12 +60,39 @@ all_ran p l queue (suc n) m o =
     on later true = later
     on later false = refl
 
+-- The parts of a scan downwards.
+all_fell : (p : GhostProtocol) (queue : Locks) (t : ℕ) (os : List Op) (y : Tried) → after p y.left.state (all_read p queue t os y) ≡ (read_down p queue t os y).left.state
+all_fell p queue t [] y = refl
+all_fell p queue t (o ∷ os) y = by (all_fell p queue t os (read_on p queue t y.left y.reply o)) (is_read y.ahead y.reply)
+  where
+    next : Tried
+    next = read_on p queue t y.left y.reply o
+
+    by : after p next.left.state (all_read p queue t os next) ≡ (read_down p queue t os next).left.state → (b : Bool)
+        → after p y.left.state (if b then done_by t o next.ahead ++ all_read p queue t os next else []) ≡ (if b then read_down p queue t os next else y).left.state
+    by later true =
+        ran_on p y.left.state (done_by t o next.ahead) (all_read p queue t os next)
+        ∙ ap (λ s. after p s (all_read p queue t os next)) (done_ran p t y.left o (ahead_of p queue t y.left.state o)) ∙ later
+    by later false = refl
+
+-- The steps of a line, upwards or downwards.
+line_ran : (p : GhostProtocol) (l : Line) (queue : Locks) (m : Moment) (o : Op) → after p m.state (steps_of p l queue m o) ≡ (last_of p l queue m o).left.state
+line_ran p l queue m o = by (is_falling o)
+  where
+    t : ℕ
+    t = l.event.txn
+
+    by : (b : Bool) → after p m.state (if b then all_read p queue t (falling m.state o) (unread m o) else all_done p l queue (more_steps m.scans t o) (tried p queue t m o))
+        ≡ (if b then read_down p queue t (falling m.state o) (unread m o) else gone_on p l queue (more_steps m.scans t o) (tried p queue t m o)).left.state
+    by true = all_fell p queue t (falling m.state o) (unread m o)
+    by false = all_ran p l queue (more_steps m.scans t o) m o
+
 pub leads_run : (p : GhostProtocol) (opening : Map) (lines : List Line) (moves : List Move) (at : Point) → Leads p opening lines moves at → after p (opened opening) moves ≡ at.state
 leads_run p opening _ _ _ start = refl
 leads_run p opening _ _ _ (purge k lines moves at h) = ran_on p (opened opening) moves (Purge k ∷ []) ∙ ap (λ s. purged p s k) (leads_run p opening lines moves at h)
 leads_run p opening _ _ _ (line l lines moves at h agrees) =
     ran_on p (opened opening) moves (moves_of p at l) ∙ ap (λ s. after p s (moves_of p at l)) (leads_run p opening lines moves at h)
-    ∙ all_ran p l (queue_for l.observed at.waiting) (more_steps at.scans l) (record { state = at.state; scans = at.scans }) (first_op at.scans l)
+    ∙ line_ran p l (queue_for l.observed at.waiting) (moment_at at) (first_op at.scans l)
 
 pub agrees_fit : (p : GhostProtocol) (at : Point) (l : Line) → Agrees p at l → is_queued (last_tried p at l).ahead (last_tried p at l).reply ≡ false → fits (last_tried p at l).reply l.observed ≡ true
 agrees_fit p at l h unqueued =

@@ -12,7 +12,7 @@ use Rattle.kr_trace_follow.specs.Since.{Since}
 use Rattle.kr_model.specs.declared.Op.{Op}
 use Rattle.kr_model.specs.Locks.{Locks}
 use Rattle.kr_trace_follow.specs.Steps.{queue_for}
-use Rattle.kr_ghost_follow.specs.Points.{Point, Tried, after_purge, at_start, conflicts_of, first_op, gone_on, kind_at, last_tried, more_steps, point_after, tried}
+use Rattle.kr_ghost_follow.specs.Points.{Point, Tried, after_purge, at_start, conflicts_of, first_op, kind_at, last_of, last_tried, moment_at, point_after}
 use Rattle.kr_ghost_follow.specs.Reached.{IsReached, start, purge, line}
 use Rattle.kr_ghost_follow.specs.Following.{IsDeviation, Stand}
 use Rattle.kr_ghost_follow.specs.Stands.{AreFollowed, IsStanding, Sits, Took, points_of}
@@ -135,13 +135,9 @@ pub removed_first : {X : Type 0} (P : X → Type 0) (xs : List X) (x : X) → 0 
 removed_first P xs x lt is h = subst P (sym is) (h 0 x lt)
 
 -- The last step of a line, by what it was attempted with.
-pub last_is : (p : GhostProtocol) (at : Point) (l : Line) (queue : Locks) (more : ℕ) (first : Op) (y : Tried) → queue ≡ queue_for l.observed at.waiting → more ≡ more_steps at.scans l → first ≡ first_op at.scans l
-    → y ≡ gone_on p l queue more (tried p queue l.event.txn (record { state = at.state; scans = at.scans }) first) → y ≡ last_tried p at l
-last_is p at l queue more first y q m f is =
-    is
-    ∙ ap (λ z. gone_on p l z more (tried p z l.event.txn (record { state = at.state; scans = at.scans }) first)) q
-    ∙ ap (λ n. gone_on p l (queue_for l.observed at.waiting) n (tried p (queue_for l.observed at.waiting) l.event.txn (record { state = at.state; scans = at.scans }) first)) m
-    ∙ ap (λ o. gone_on p l (queue_for l.observed at.waiting) (more_steps at.scans l) (tried p (queue_for l.observed at.waiting) l.event.txn (record { state = at.state; scans = at.scans }) o)) f
+pub last_is : (p : GhostProtocol) (at : Point) (l : Line) (queue : Locks) (first : Op) (y : Tried) → queue ≡ queue_for l.observed at.waiting → first ≡ first_op at.scans l
+    → y ≡ last_of p l queue (moment_at at) first → y ≡ last_tried p at l
+last_is p at l queue first y q f is = is ∙ ap (λ z. last_of p l z (moment_at at) first) q ∙ ap (λ o. last_of p l (queue_for l.observed at.waiting) (moment_at at) o) f
 
 -- How a line differs, by the state's protocol.
 pub kind_told : (p r : GhostProtocol) (at : Point) (l : Line) (since : Since) (y : Tried) (kind : Option DeviationKind) → r ≡ p → y ≡ last_tried p at l

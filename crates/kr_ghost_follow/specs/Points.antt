@@ -1,15 +1,17 @@
 -- Where the lines of a trace lead under a table whose deletes leave ghosts.
-use Rattle.std.specs.Prelude.{ℕ, zero, suc, Bool, true, false, not, ◌-◌, ◌&&◌, ◌||◌, ◌==◌, if◌then◌else◌, List, [], ◌∷◌, ◌++◌, Option, Some, None, map}
+use Rattle.std.specs.Prelude.{ℕ, zero, suc, Bool, true, false, not, ◌-◌, ◌&&◌, ◌||◌, ◌==◌, nat_lt, min, if◌then◌else◌, List, [], ◌∷◌, ◌++◌, reverse, Option, Some, None, map}
 use Rattle.std.specs.List.{flat_map}
 use Rattle.kr_model.specs.declared.Op.{Op}
 use Rattle.kr_model.specs.declared.Op.TheVariants as op
 use Rattle.kr_model.specs.declared.Reply.{Reply}
 use Rattle.kr_model.specs.declared.Reply.TheVariants as reply
+use Rattle.kr_model.specs.declared.Name.{Name}
+use Rattle.kr_model.specs.declared.Name.TheVariants.{Key, End}
 use Rattle.kr_model.specs.Covers.{is_empty}
 use Rattle.kr_model.specs.Locks.{Locks, release}
 use Rattle.kr_model.specs.Map.{Map}
 use Rattle.kr_ghost.specs.Protocol.{GhostProtocol}
-use Rattle.kr_ghost.specs.State.{GhostState, among, opened}
+use Rattle.kr_ghost.specs.State.{GhostState, among, name_from, opened}
 use Rattle.kr_ghost.specs.Step.{purged, step}
 use Rattle.kr_ghost_machine.specs.Plans.{requests_of}
 use Rattle.kr_trace_lines.specs.declared.deviation.Conflict.{Conflict}
@@ -78,7 +80,7 @@ tried p queue t m o =
     let ahead = ahead_of p queue t m.state o in
     record { op = o; ahead = ahead; reply = let done = step p m.state t o in done.0; left = left_after p t m o ahead }
 
--- A line --
+-- A scan upwards --
 
 -- Whether a scan is given as a whole: by its rows, or as blocked on its way.
 abbrev pub is_whole : Op → Observed → Bool
@@ -114,22 +116,80 @@ abbrev pub is_same_range : Option (ℕ × ℕ) → Op → Bool
 is_same_range (Some (lo, hi)) (op.Scan a b) = (lo == a) && (hi == b)
 is_same_range _ _ = false
 
--- The first step of a line: a scan that is in progress already, as one that was blocked on its way, goes on.
+-- How many steps it may take after the first: so many keys has the rest of the scan's range at most.
+abbrev pub more_steps : List Progress → ℕ → Op → ℕ
+more_steps scans t o = size (range_of scans t o)
+
+-- A scan downwards --
+
+-- Whether a scan reads from its upper end, which then comes first.
+abbrev pub is_falling : Op → Bool
+is_falling (op.Scan a b) = nat_lt b a
+is_falling _ = false
+
+-- The upper end of a part of a range up to hi: the name, or hi, if that is below it.
+abbrev pub upper_end : Name → ℕ → ℕ
+upper_end (Key k) hi = min k hi
+upper_end End hi = hi
+
+-- A range in parts, the lowest first: one up to each name within it, and one up to its end. There are no more names below its end than this.
+abbrev pub parts : GhostState → ℕ → ℕ → ℕ → List Op
+parts s zero lo hi = op.Scan lo hi ∷ []
+parts s (suc n) lo hi =
+    let end = upper_end (name_from s lo) hi in
+    op.Scan lo end ∷ (if end == hi then [] else parts s n (suc end) hi)
+
+-- The scans by which a scan reads its range downwards.
+abbrev pub falling : GhostState → Op → List Op
+falling s (op.Scan hi lo) = reverse (parts s (hi - lo) lo hi)
+falling s _ = []
+
+-- Whether a part is read: the table grants it.
+abbrev pub is_read : List ℕ → Reply → Bool
+is_read ahead (reply.Rows rows) = is_empty ahead
+is_read ahead _ = false
+
+-- The rows of a part behind those of the parts above it.
+abbrev pub behind : Reply → Reply → Reply
+behind (reply.Rows above) (reply.Rows rows) = reply.Rows (above ++ rows)
+behind _ r = r
+
+-- The next part, where those above it have this reply.
+abbrev pub read_on : GhostProtocol → Locks → ℕ → Moment → Reply → Op → Tried
+read_on p queue t m above o =
+    let next = tried p queue t m o in
+    record { op = o; ahead = next.ahead; reply = behind above next.reply; left = next.left }
+
+-- The last step of a line that reads these parts.
+abbrev pub read_down : GhostProtocol → Locks → ℕ → List Op → Tried → Tried
+read_down p queue t [] y = y
+read_down p queue t (o ∷ os) y = if is_read y.ahead y.reply then read_down p queue t os (read_on p queue t y.left y.reply o) else y
+
+-- No part has been read.
+abbrev pub unread : Moment → Op → Tried
+unread m o = record { op = o; ahead = []; reply = reply.Rows []; left = m }
+
+-- A line --
+
+-- The first step of a line: a scan that is in progress already, as one that was blocked on its way, goes on. One downwards begins again.
 abbrev pub first_op : List Progress → Line → Op
 first_op scans l =
     let o = taken l.event.op l.observed in
     if is_same_range (range_noted (noted_of scans l.event.txn)) o then op.Go else o
 
--- The first step of a line from a point, and the last.
-abbrev pub first_tried : GhostProtocol → Point → Line → Tried
-first_tried p at l = tried p (queue_for l.observed at.waiting) l.event.txn (record { state = at.state; scans = at.scans }) (first_op at.scans l)
+-- The last step of a line with this first one.
+abbrev pub last_of : GhostProtocol → Line → Locks → Moment → Op → Tried
+last_of p l queue m o =
+    let t = l.event.txn in
+    if is_falling o then read_down p queue t (falling m.state o) (unread m o) else gone_on p l queue (more_steps m.scans t o) (tried p queue t m o)
 
--- How many steps it may take after the first: so many keys has the rest of the scan's range at most.
-abbrev pub more_steps : List Progress → Line → ℕ
-more_steps scans l = size (range_of scans l.event.txn (first_op scans l))
+-- The moment at a point.
+abbrev pub moment_at : Point → Moment
+moment_at at = record { state = at.state; scans = at.scans }
 
+-- The last step of a line from a point.
 abbrev pub last_tried : GhostProtocol → Point → Line → Tried
-last_tried p at l = gone_on p l (queue_for l.observed at.waiting) (more_steps at.scans l) (first_tried p at l)
+last_tried p at l = last_of p l (queue_for l.observed at.waiting) (moment_at at) (first_op at.scans l)
 
 -- What t waits for after a step with this reply: what it requests.
 abbrev pub waited_for : GhostProtocol → ℕ → GhostState → Op → Observed → Locks

@@ -10,7 +10,7 @@ use Rattle.kr_ghost.specs.Protocol.{GhostProtocol}
 use Rattle.kr_trace_follow.specs.Lines.{Line}
 use Rattle.kr_trace_follow.specs.Since.{Since}
 use Rattle.kr_trace_follow.specs.Steps.{queue_for}
-use Rattle.kr_ghost_follow.specs.Points.{Point, Tried, at_start, after_purge, first_tried, is_passed, kind_at, more_steps, point_after, tried}
+use Rattle.kr_ghost_follow.specs.Points.{Moment, Point, Tried, at_start, after_purge, falling, first_op, is_falling, is_passed, is_read, kind_at, moment_at, more_steps, point_after, read_on, tried, unread}
 
 -- A step of t as a move, unless it waits behind others.
 abbrev pub done_by : ℕ → Op → List ℕ → List Move
@@ -24,9 +24,21 @@ all_done p l queue (suc n) y =
     done_by l.event.txn y.op y.ahead
     ++ (if is_passed l (let m = y.left in m.state) y.ahead y.reply then all_done p l queue n (tried p queue l.event.txn y.left op.Go) else [])
 
+-- The parts that a line reads downwards.
+abbrev pub all_read : GhostProtocol → Locks → ℕ → List Op → Tried → List Move
+all_read p queue t [] y = []
+all_read p queue t (o ∷ os) y =
+    if is_read y.ahead y.reply then (let next = read_on p queue t y.left y.reply o in done_by t o next.ahead ++ all_read p queue t os next) else []
+
+-- The steps of a line with this first one.
+abbrev pub steps_of : GhostProtocol → Line → Locks → Moment → Op → List Move
+steps_of p l queue m o =
+    let t = l.event.txn in
+    if is_falling o then all_read p queue t (falling m.state o) (unread m o) else all_done p l queue (more_steps m.scans t o) (tried p queue t m o)
+
 -- The steps of a line from a point.
 abbrev pub moves_of : GhostProtocol → Point → Line → List Move
-moves_of p at l = all_done p l (queue_for l.observed at.waiting) (more_steps at.scans l) (first_tried p at l)
+moves_of p at l = steps_of p l (queue_for l.observed at.waiting) (moment_at at) (first_op at.scans l)
 
 -- The line is what the table answers at a point.
 abbrev pub Agrees : GhostProtocol → Point → Line → Type 0

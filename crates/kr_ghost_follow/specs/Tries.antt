@@ -5,7 +5,7 @@ use Rattle.kr_trace_follow.specs.declared.scans.Progress.{Progress}
 use Rattle.kr_ghost_follow.specs.Points.{Moment, Tried}
 use Rattle.kr_trace_follow.specs.Lines.{Line}
 use Rattle.kr_ghost_follow.specs.declared.line.Logged.{Logged}
-use Rattle.kr_ghost_follow.specs.declared.steps.Outcome.{Outcome}
+use Rattle.kr_ghost_follow.specs.declared.tries.Outcome.{Outcome}
 
 -- A moment.
 abbrev pub moment : GhostState → List Progress → Moment

@@ -2,6 +2,7 @@
 //! may stand is followed.
 #![tactic(auto)]
 
+mod downwards;
 mod follower;
 mod known;
 mod laws;
@@ -13,6 +14,7 @@ mod since;
 mod spread;
 mod stand;
 mod steps;
+mod tries;
 
 pub use follower::Follower;
 pub use laws::{agreeing_fits, lines_are_run, standing_is_serial};

@@ -17,6 +17,7 @@ fn range(scans: &[Progress], line: Logged, looks_above: bool) -> Option<(u64, u6
         Op::Fetch(key) | Op::Insert(key, _) | Op::Delete(key) | Op::Update(key, _) => {
             Some((key, key))
         }
+        Op::Scan(hi, lo) if lo < hi => Some((lo, hi)),
         Op::Scan(lo, hi) => Some((lo, if is_whole(line) { hi } else { lo })),
         Op::Go => match noted_of(scans, line.event.txn) {
             Some(progress) => {

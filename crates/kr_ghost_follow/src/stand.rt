@@ -12,7 +12,8 @@ ghost use Rattle.kr_ghost_follow.specs.Tries.{line_of};
 use crate::line::Logged;
 use crate::requests::{conflicts_now, tests_now};
 use crate::since::note_inherited;
-use crate::steps::{Outcome, first_op, more_steps, try_all};
+use crate::steps::{first_op, try_line};
+use crate::tries::Outcome;
 use kr_ghost_index::GhostIndex;
 use kr_ghost_machine::GhostStepper;
 use kr_ghost_protocol::GhostProtocol;
@@ -182,9 +183,8 @@ fn take_line<P: GhostProtocol + Copy, L: Holdings>(
 {
     let txn = line.event.txn;
     let first = first_op(scans, line);
-    let more = more_steps(scans, txn, first);
     let queue = queue_for(line.observed, waiting);
-    let last = try_all(alloc, stepper, scans, notes, queue, line, first, more)?;
+    let last = try_line(alloc, stepper, scans, notes, queue, line, first)?;
     let was = replace(waiting, Vec::new(alloc));
     *waiting = waits_after(alloc, stepper, was, txn, last.op, line.observed)?;
     *queued = counted(*queued, is_queued(&last.ahead, &last.reply));

@@ -11,7 +11,7 @@ pub enum Observed {
     None,
     /// The scan read this key and goes on.
     Going(u64),
-    /// The scan ended with these pairs, keys rising.
+    /// The scan ended with these pairs, in the order in which it reads them.
     Rows(Pairs),
     /// The key was inserted.
     Done,

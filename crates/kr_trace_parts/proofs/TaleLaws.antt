@@ -10,7 +10,7 @@ use Rattle.kr_trace_lines.specs.declared.observed.Observed.{Observed}
 use Rattle.kr_trace_lines.specs.declared.observed.Observed.TheVariants as observed
 use Rattle.kr_trace_follow.specs.Lines.{Line}
 use Rattle.kr_trace_follow.specs.Programs.{Tale, tale_after, no_tale}
-use Rattle.kr_trace_parts.specs.Tales.{committed_from, committed_with, noted, program_committed, tale_in, told_after, told_of}
+use Rattle.kr_trace_parts.specs.Tales.{answer_upwards, committed_from, committed_with, noted, program_committed, rows_upwards, tale_in, told_after, told_of, upwards}
 use Rattle.kr_trace_parts.specs.declared.tales.Tale.{Tale as Noted}
 
 -- a tale of t beside the others
@@ -19,15 +19,15 @@ beside f g same t h u = ap₂ (λ (x y : Tale). cond (u == t) (h x) y) (same t) 
 
 -- The same is told after a step where the same was told before.
 pub told_same : (f g : ℕ → Tale) → ((u : ℕ) → f u ≡ g u) → (e : Event) (o : Observed) (u : ℕ) → told_of f e o u ≡ told_of g e o u
-told_same f g same e (observed.Found v) u = beside f g same e.txn (λ x. tale_after x e.op (observed.Found v)) u
-told_same f g same e observed.None u = beside f g same e.txn (λ x. tale_after x e.op observed.None) u
-told_same f g same e (observed.Going k) u = beside f g same e.txn (λ x. tale_after x e.op (observed.Going k)) u
-told_same f g same e (observed.Rows rows) u = beside f g same e.txn (λ x. tale_after x e.op (observed.Rows rows)) u
-told_same f g same e observed.Done u = beside f g same e.txn (λ x. tale_after x e.op observed.Done) u
-told_same f g same e observed.Duplicate u = beside f g same e.txn (λ x. tale_after x e.op observed.Duplicate) u
-told_same f g same e (observed.Deleted v) u = beside f g same e.txn (λ x. tale_after x e.op (observed.Deleted v)) u
-told_same f g same e observed.Absent u = beside f g same e.txn (λ x. tale_after x e.op observed.Absent) u
-told_same f g same e (observed.Updated v) u = beside f g same e.txn (λ x. tale_after x e.op (observed.Updated v)) u
+told_same f g same e (observed.Found v) u = beside f g same e.txn (λ x. tale_after x (upwards e.op) (observed.Found v)) u
+told_same f g same e observed.None u = beside f g same e.txn (λ x. tale_after x (upwards e.op) observed.None) u
+told_same f g same e (observed.Going k) u = beside f g same e.txn (λ x. tale_after x (upwards e.op) (observed.Going k)) u
+told_same f g same e (observed.Rows rows) u = beside f g same e.txn (λ x. tale_after x (upwards e.op) (observed.Rows (rows_upwards e.op rows))) u
+told_same f g same e observed.Done u = beside f g same e.txn (λ x. tale_after x (upwards e.op) observed.Done) u
+told_same f g same e observed.Duplicate u = beside f g same e.txn (λ x. tale_after x (upwards e.op) observed.Duplicate) u
+told_same f g same e (observed.Deleted v) u = beside f g same e.txn (λ x. tale_after x (upwards e.op) (observed.Deleted v)) u
+told_same f g same e observed.Absent u = beside f g same e.txn (λ x. tale_after x (upwards e.op) observed.Absent) u
+told_same f g same e (observed.Updated v) u = beside f g same e.txn (λ x. tale_after x (upwards e.op) (observed.Updated v)) u
 told_same f g same e (observed.Undone n) u = same u
 told_same f g same e observed.Committed u = beside f g same e.txn (λ x. no_tale) u
 told_same f g same e observed.Aborted u = beside f g same e.txn (λ x. no_tale) u
@@ -35,7 +35,7 @@ told_same f g same e (observed.Blocked named) u = same u
 
 -- A step that was granted, and ends nothing, adds to what was told of its transaction, and commits nothing.
 pub told_granted : (f : ℕ → Tale) (e : Event) (o : Observed) → ((n : Option ℕ) → o ≡ observed.Undone n → ⊥) → (o ≡ observed.Committed → ⊥) → (o ≡ observed.Aborted → ⊥)
-    → ((named : List ℕ) → o ≡ observed.Blocked named → ⊥) → ((u : ℕ) → told_of f e o u ≡ cond (u == e.txn) (tale_after (f e.txn) e.op o) (f u)) × ((x : Tale) → program_committed x o ≡ None)
+    → ((named : List ℕ) → o ≡ observed.Blocked named → ⊥) → ((u : ℕ) → told_of f e o u ≡ cond (u == e.txn) (tale_after (f e.txn) (upwards e.op) (answer_upwards e.op o)) (f u)) × ((x : Tale) → program_committed x o ≡ None)
 told_granted f e (observed.Found v) a b c d = (λ u. refl, λ x. refl)
 told_granted f e observed.None a b c d = (λ u. refl, λ x. refl)
 told_granted f e (observed.Going k) a b c d = (λ u. refl, λ x. refl)

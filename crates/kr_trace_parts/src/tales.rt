@@ -3,9 +3,10 @@ ghost use Rattle.std.specs.Prelude.{◌≡◌, ◌==◌, ℕ, IfOk, OnOk, if◌t
 ghost use Rattle.std.specs.Option.{option_map};
 ghost use Rattle.kr_trace_follow.specs.Programs as spec;
 ghost use Rattle.kr_trace_follow.specs.Programs.{no_tale};
+ghost use Rattle.kr_trace_parts.specs.Tales as tales;
 ghost use Rattle.kr_trace_parts.specs.Tales.{noted, program_committed, shown, told_of};
 
-use kr_model::{Event, Memory, Op, Txn};
+use kr_model::{Event, Memory, Op, Pairs, Txn};
 use kr_trace_lines::Observed;
 use std::alloc::Global;
 use std::collections::BTreeMap;
@@ -20,6 +21,40 @@ pub struct Tale {
     pub done: Vec<Answered>,
     /// The range of its scan in progress, if there is one.
     pub scan: Option<(u64, u64)>,
+}
+
+/// A scan downwards as the scan upwards of its range.
+fn upwards(op: Op) -> Op
+    ensures { result ≡ tales.upwards op }
+{
+    match op {
+        Op::Scan(first, last) => Op::Scan(first.min(last), first.max(last)),
+        op => op,
+    }
+}
+
+/// Its rows as those of the scan upwards.
+fn rows_upwards(op: Op, rows: Pairs) -> Pairs
+    ensures { result ≡ tales.rows_upwards op rows }
+{
+    match op {
+        Op::Scan(first, last) if last < first => {
+            let mut list = rows.into_vec();
+            list.reverse();
+            Pairs::from_vec(list)
+        }
+        _ => rows,
+    }
+}
+
+/// Its answer as that of the scan upwards.
+fn answer_upwards(op: Op, answer: Observed) -> Observed
+    ensures { result ≡ tales.answer_upwards op answer }
+{
+    match answer {
+        Observed::Rows(rows) => Observed::Rows(rows_upwards(op, rows)),
+        answer => answer,
+    }
 }
 
 /// Takes out what a transaction has done: nothing, where nothing is noted.
@@ -86,7 +121,7 @@ fn tale_after(tale: Tale, op: Op, answer: Observed) -> Result<Tale, Memory>
     }
 }
 
-/// Notes one more step with its reply, and answers with the program of the transaction where it commits.
+/// Notes one more step with its reply, a scan as one upwards, and answers with the program of the transaction where it commits.
 pub fn note(
     alloc: Global,
     tales: &mut BTreeMap<Txn, Tale>,
@@ -105,7 +140,12 @@ pub fn note(
         }
         answer => {
             let tale = take_out(alloc, tales, event.txn);
-            put_in(tales, event.txn, tale_after(tale, event.op, answer)?)?;
+            let answer = answer_upwards(event.op, answer);
+            put_in(
+                tales,
+                event.txn,
+                tale_after(tale, upwards(event.op), answer)?,
+            )?;
             Ok(None)
         }
     }

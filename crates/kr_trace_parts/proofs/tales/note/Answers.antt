@@ -1,5 +1,5 @@
 use Rattle.std.specs.Prelude.{◌==◌, cond}
-use Rattle.std.proofs.Common.{ap, ◌∙◌, sym}
+use Rattle.std.proofs.Common.{ap, ap₂, ◌∙◌, sym}
 use Rattle.kr_trace_follow.specs.Programs.{Tale, tale_after}
 use Rattle.kr_trace_parts.specs.Tales.{noted, shown}
 use Rattle.kr_trace_parts.proofs.TaleLaws.{put_back, told_granted}
@@ -15,7 +15,9 @@ returns-in_ok-put_in-in_default c =
       told = λ u. c.in_ok-put_in-in_default.ensures u
           ∙ ap (λ (z : Tale). cond (u == t) now z) (c.take_out-tale.ensures.rest u)
           ∙ put_back (u == t) now (old u)
-          ∙ ap (λ (x : Tale). cond (u == t) x (old u)) (c.in_ok-tale_after-in_default.ensures ∙ ap (λ (x : Tale). tale_after x c.args.event.op c.args.observed) c.take_out-tale.ensures.tale)
+          ∙ ap (λ (x : Tale). cond (u == t) x (old u)) (c.in_ok-tale_after-in_default.ensures
+          ∙ ap (λ (x : Tale). tale_after x c.upwards.result c.answer_upwards-answer.result) c.take_out-tale.ensures.tale
+          ∙ ap₂ (λ o a. tale_after (old t) o a) c.upwards.ensures c.answer_upwards-answer.ensures)
           ∙ sym (granted.0 u);
       program = sym (granted.1 (old t));
     }
