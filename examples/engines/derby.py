@@ -7,9 +7,10 @@ packages libderby-java and default-jdk-headless. Derby runs in a Java process of
 
 The isolation level is the first word, or SERIALIZABLE. `give-up`: a step that waits is interrupted, which ends its transaction.
 `peek`: an insert of a present key, and a delete or an update of an absent one, is left out, as a look without locks finds it.
+`upwards`: scans are written as if they read from the lower end, for tables without ghosts.
 
 Derby locks a key with the gap above it. So a key is stored as a great number less the key: Derby's previous key is the next key of
-the trace."""
+the trace, and a scan reads from its upper end."""
 
 import os
 import sys
@@ -52,7 +53,8 @@ class Connection(jdbc.Connection):
 
     def scan(self, low, high):
         rows = self.query(f'SELECT K, V FROM T {BY_KEY} WHERE K >= ? AND K <= ?', self.turned(high), self.turned(low))
-        return ['rows', sorted([self.turned(int(key)), int(value)] for key, value in rows)]
+        rows = [[self.turned(int(key)), int(value)] for key, value in rows]
+        return ['rows', sorted(rows) if 'upwards' in MORE else rows]
 
     def insert(self, key, value):
         return super().insert(self.turned(key), value)
@@ -119,6 +121,10 @@ class Driver(driver.Driver):
         is_there = self.engine.fetch(key) != ['none']
         self.engine.commit()
         return is_there == (operation == 'insert')
+
+    def write(self, step, reply):
+        falls = step[1] == 'scan' and 'upwards' not in MORE
+        super().write([*step[:2], *step[:1:-1]] if falls else step, reply)
 
     def waits(self, ids):
         ending = {it.connection.id for it in self.sessions.values() if it.step and it.step[1] in ('commit', 'abort')}
