@@ -1,0 +1,4 @@
+pub mod Rest
+pub mod GoneSteps
+pub mod Answered
+pub mod EitherRuns
