@@ -15,7 +15,7 @@ use Rattle.kr_ghost.specs.Run.{GhostTrace}
 use Rattle.kr_ghost.proofs.Runs as with
 use Rattle.kr_ghost.proofs.AllCases as ghost_cases
 use Rattle.kr_kinds.specs.Kinds.{IndexProtocol, Gone, Leaves, IsLawfulIndex, IsCoveredIndex, IsSafeIndex}
-use Rattle.kr_kinds.specs.Runs.{run, RunsAreSerial, steps_in, AreRunsOfSteps, AreRunsWithGhosts}
+use Rattle.kr_kinds.specs.Runs.{RunsAreSerial, steps_in, AreRunsOfSteps, AreRunsWithGhosts}
 
 -- A step more in front of a run.
 abbrev more : Event → ghost.Outcome → GhostTrace → GhostTrace
