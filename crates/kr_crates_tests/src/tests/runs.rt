@@ -2,7 +2,9 @@
 
 mod batch;
 mod counterexample;
+mod either;
 mod follows;
+mod kinds;
 mod placed;
 mod report;
 mod script;
