@@ -14,9 +14,11 @@ uint32_t krr_run(const void *, size_t, const void *, size_t, void *, size_t, siz
 uint32_t krr_mode(const void *, size_t, uint32_t, void *, size_t, size_t *);
 uint32_t krr_open(handle *, const void *, size_t, const void *, size_t, void *, size_t, size_t *);
 uint32_t krr_step(handle *, uint32_t, uint32_t, uint64_t, uint64_t, kr_reply *);
+uint32_t krr_purge(handle *, uint64_t, uint32_t *);
 uint32_t krr_blockers(handle *, uint32_t *, size_t, size_t *);
 uint32_t krr_rows(handle *, kr_pair *, size_t, size_t *);
 uint32_t krr_index(handle *, kr_pair *, size_t, size_t *);
+uint32_t krr_ghosts(handle *, uint64_t *, size_t, size_t *);
 uint32_t krr_locks(handle *, kr_lock *, size_t, size_t *);
 uint32_t krr_unfinished(handle *, uint32_t *, size_t, size_t *);
 uint32_t krr_verdict(handle *, void *, size_t, size_t *);
@@ -106,6 +108,12 @@ int kr_step(kr_session *session, uint32_t txn, uint32_t op, uint64_t first, uint
   return state ? state : (int)krr_step((handle *)&session->at, txn, op, first, second, reply);
 }
 
+int kr_purge(kr_session *session, uint64_t key, uint32_t *purged) {
+  int state = state_of(session);
+  if (state == KR_MISUSE || !purged) return KR_MISUSE;
+  return state ? state : (int)krr_purge((handle *)&session->at, key, purged);
+}
+
 /* A call that reads a session into a list. */
 #define READS(name, type, size)                                                \
   int kr_##name(kr_session *session, type *out, size_t room, size_t *length) { \
@@ -118,6 +126,7 @@ int kr_step(kr_session *session, uint32_t txn, uint32_t op, uint64_t first, uint
 READS(blockers, uint32_t, sizeof(uint32_t))
 READS(rows, kr_pair, sizeof(kr_pair))
 READS(index, kr_pair, sizeof(kr_pair))
+READS(ghosts, uint64_t, sizeof(uint64_t))
 READS(locks, kr_lock, sizeof(kr_lock))
 READS(unfinished, uint32_t, sizeof(uint32_t))
 READS(verdict, void, 1)

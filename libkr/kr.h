@@ -5,6 +5,9 @@
    a text in JSON. Both are given by an address and a length in bytes, and need no zero at the end. docs/TABLES.md and
    docs/SCRIPTS.md of kr describe them.
 
+   GHOSTS. Under "@record-gap", "@range-ghost", "@next-key-ghost" and tables of format 3 a deleted key stays as a ghost until it is
+   purged (docs/GHOSTS.md). All functions take them. Scripts under them may be of format 3, with purges.
+
    CODES. Each function but kr_version and kr_errmsg returns a code of enum kr_code. KR_OK is 0.
 
    TEXTS AND LISTS are written into memory of the caller's. `room` is how many bytes, or elements, it has room for; as many are
@@ -141,8 +144,9 @@ int kr_decide(const void *table, size_t table_length, void *text, size_t room, s
    Also KR_TABLE with the fault's line, KR_NOMEM, KR_MISUSE. */
 int kr_explain(const void *table, size_t table_length, void *text, size_t room, size_t *length);
 
-/* The script of the schedule that kr_explain shows of a cause, which has its number in that text, from 1. KR_OK: the text is the
-   script, as a line of JSON without a line feed, which kr_run and kr_open take. Its run under the table isn't serializable in
+/* The script of the schedule that kr_explain shows of a cause, which has its number in that text, from 1. A table with ghosts has
+   one schedule at most, of number 1. KR_OK: the text is the script, as a line of JSON without a line feed, which kr_run and
+   kr_open take. Its run under the table isn't serializable in
    commit order, and each of its steps is granted. KR_NO, with no text: there is no such cause, or no schedule of it is shown.
    Each call explains the table anew. Also KR_TABLE with the fault's line, KR_NOMEM, KR_MISUSE. */
 int kr_explain_script(const void *table, size_t table_length, size_t number, void *text, size_t room, size_t *length);
@@ -157,8 +161,8 @@ int kr_run(const void *table, size_t table_length, const void *script, size_t sc
    Also KR_TABLE with the fault's line, KR_NOMEM, KR_MISUSE. */
 int kr_mode(const void *table, size_t table_length, uint32_t mode, void *text, size_t room, size_t *length);
 
-/* Opens a session: an index with the opening pairs of the script, under the table, with no transactions. None of the script's steps
-   is attempted. KR_OK: close it by kr_close. Else the session is as it was: KR_TABLE and KR_SCRIPT with the fault's line, the
+/* Opens a session: an index with the opening pairs of the script, under the table, with no transactions and no ghosts. None of the
+   script's steps is attempted, and no purge is done. KR_OK: close it by kr_close. Else the session is as it was: KR_TABLE and KR_SCRIPT with the fault's line, the
    table's first, KR_NOMEM, KR_ISOPEN, KR_MISUSE. */
 int kr_open(kr_session *session, const void *table, size_t table_length, const void *script, size_t script_length, void *text,
             size_t room, size_t *length);
@@ -169,14 +173,21 @@ int kr_open(kr_session *session, const void *table, size_t table_length, const v
    Also KR_CLOSED, KR_MISUSE: then no step was attempted, and *reply isn't written. */
 int kr_step(kr_session *session, uint32_t txn, uint32_t op, uint64_t first, uint64_t second, kr_reply *reply);
 
+/* Purges a ghost, at any time: no transaction does it. KR_OK: *purged is 1 where the key was a ghost and is no name any more; and
+   else 0, and nothing changes: the key is no ghost, a transaction can still undo a change of it, or it is locked and the table
+   lets no locks be inherited. Without ghosts *purged is always 0. The last reply, with its blockers and rows, stays.
+   Also KR_CLOSED, KR_NOMEM, KR_MISUSE: then nothing changes, and *purged isn't written. */
+int kr_purge(kr_session *session, uint64_t key, uint32_t *purged);
+
 /* What the last reply has more of: the transactions that block the step, rising; the pairs of its rows, keys rising. The list is
    empty after any other reply. KR_OK, KR_CLOSED, KR_NOMEM, KR_MISUSE. */
 int kr_blockers(kr_session *session, uint32_t *txns, size_t room, size_t *length);
 int kr_rows(kr_session *session, kr_pair *pairs, size_t room, size_t *length);
 
-/* The state: the pairs of the index, keys rising; the locks that are held, by name, infinity last, and then by transaction; the
-   active transactions, rising. KR_OK, KR_CLOSED, KR_NOMEM, KR_MISUSE. */
+/* The state: the pairs of the index, keys rising; the ghosts, rising, none where deletes leave none; the locks that are held, by
+   name, infinity last, and then by transaction; the active transactions, rising. KR_OK, KR_CLOSED, KR_NOMEM, KR_MISUSE. */
 int kr_index(kr_session *session, kr_pair *pairs, size_t room, size_t *length);
+int kr_ghosts(kr_session *session, uint64_t *keys, size_t room, size_t *length);
 int kr_locks(kr_session *session, kr_lock *locks, size_t room, size_t *length);
 int kr_unfinished(kr_session *session, uint32_t *txns, size_t room, size_t *length);
 

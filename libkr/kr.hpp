@@ -135,7 +135,15 @@ class session {
     return reply;
   }
 
+  // Purges a ghost, and says whether it did: never where deletes leave no ghosts.
+  bool purge(std::uint64_t key) {
+    std::uint32_t purged = 0;
+    if (int code = kr_purge(at_.get(), key, &purged)) throw error(code, "");
+    return purged == 1;
+  }
+
   std::vector<kr_pair> index() { return read<kr_pair>(64, kr_index); }
+  std::vector<std::uint64_t> ghosts() { return read<std::uint64_t>(64, kr_ghosts); }
   std::vector<kr_lock> locks() { return read<kr_lock>(64, kr_locks); }
   std::vector<std::uint32_t> unfinished() { return read<std::uint32_t>(64, kr_unfinished); }
 

@@ -177,6 +177,43 @@ static void of_sessions(void) {
   HOLDS(kr_close(NULL) == KR_MISUSE);
 }
 
+/* Purges with ghosts and without, and what stays the same. */
+static void of_purges(void) {
+  static const char moves[] = "{\"format\":3,\"opening\":[[10,1],[20,2]],\"steps\":[[\"purge\",10]]}";
+  char text[256];
+  size_t n = 7;
+  uint32_t purged = 77, txn;
+  uint64_t ghosts[2] = {77, 77};
+  kr_session session = KR_SESSION;
+  kr_reply reply;
+  HOLDS(kr_purge(&session, 10, &purged) == KR_CLOSED && purged == 77);
+  HOLDS(kr_ghosts(&session, ghosts, 2, &n) == KR_CLOSED && n == 0);
+  HOLDS(kr_purge(NULL, 10, &purged) == KR_MISUSE && purged == 77);
+  HOLDS(kr_open(&session, "@kvl", 4, moves, sizeof moves - 1, text, sizeof text, &n) == KR_SCRIPT);
+  HOLDS(kr_open(&session, "@kvl", 4, SCRIPT, text, sizeof text, &n) == KR_OK);
+  HOLDS(kr_step(&session, 1, KR_DELETE, 10, 0, &reply) == KR_OK && reply.kind == KR_DELETED);
+  HOLDS(kr_purge(&session, 10, NULL) == KR_MISUSE);
+  HOLDS(kr_purge(&session, 10, &purged) == KR_OK && purged == 0);
+  HOLDS(kr_ghosts(&session, ghosts, 2, &n) == KR_OK && n == 0 && ghosts[0] == 77);
+  HOLDS(kr_close(&session) == KR_OK);
+  HOLDS(kr_open(&session, "@record-gap", 11, moves, sizeof moves - 1, text, sizeof text, &n) == KR_OK);
+  HOLDS(kr_step(&session, 1, KR_DELETE, 10, 0, &reply) == KR_OK && reply.kind == KR_DELETED);
+  HOLDS(kr_ghosts(&session, ghosts, 0, &n) == KR_OK && n == 1 && ghosts[0] == 77);
+  HOLDS(kr_ghosts(&session, ghosts, 2, &n) == KR_OK && n == 1 && ghosts[0] == 10 && ghosts[1] == 77);
+  HOLDS(kr_ghosts(&session, NULL, 1, &n) == KR_MISUSE);
+  HOLDS(kr_ghosts(&session, ghosts, SIZE_MAX / 8, &n) == KR_MISUSE);
+  HOLDS(kr_step(&session, 2, KR_FETCH, 10, 0, &reply) == KR_OK && reply.kind == KR_BLOCKED);
+  HOLDS(kr_purge(&session, 10, &purged) == KR_OK && purged == 0);
+  HOLDS(kr_purge(&session, 20, &purged) == KR_OK && purged == 0);
+  HOLDS(kr_blockers(&session, &txn, 1, &n) == KR_OK && n == 1 && txn == 1);
+  HOLDS(kr_step(&session, 1, KR_COMMIT, 0, 0, &reply) == KR_OK && reply.kind == KR_COMMITTED);
+  HOLDS(kr_purge(&session, 10, &purged) == KR_OK && purged == 1);
+  HOLDS(kr_purge(&session, 10, &purged) == KR_OK && purged == 0);
+  HOLDS(kr_ghosts(&session, ghosts, 2, &n) == KR_OK && n == 0);
+  HOLDS(kr_verdict(&session, text, sizeof text, &n) == KR_OK);
+  HOLDS(kr_close(&session) == KR_OK);
+}
+
 /* Lists in rooms that are too small, and the lists of other replies. */
 static void of_lists(void) {
   char text[256];
@@ -220,6 +257,7 @@ int main(int count, char **words) {
   of_lengths();
   of_rooms();
   of_sessions();
+  of_purges();
   of_lists();
   return failed;
 }

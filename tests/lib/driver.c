@@ -1,10 +1,13 @@
 /* Does what lines on standard input say through libkr, and prints a line for each: by it compare.py compares libkr with kr.
 
      open TABLE SCRIPT        the files of a table and a script
+     check TABLE              the file of a table: prints the code, the length, and the report
+     run TABLE SCRIPT         the same of the run of a script
      step TXN OP FIRST SECOND prints the reply
+     purge KEY                prints 1 where a ghost was purged, else 0
      explain TABLE            the file of a table: prints the code, the length, and the explanation
      script TABLE NUMBER      the same of the script of a cause
-     state                    prints the index, the locks, the active transactions and the verdict
+     state                    prints the index, the ghosts, the locks, the active transactions and the verdict
      close */
 #include <inttypes.h>
 #include <stdio.h>
@@ -20,6 +23,8 @@ static char text[1 << 20];
 static kr_pair pairs[1000];
 static kr_lock locks[10000];
 static uint32_t txns[1000];
+static uint64_t ghosts[1000];
+static char table[1 << 16], script[1 << 20];
 
 static void must(int code) {
   if (code != KR_OK) {
@@ -35,19 +40,39 @@ static size_t bytes_of(const char *name, char *into, size_t room) {
   return length;
 }
 
-static void explain(const char *name, size_t number) {
-  static char table[1 << 16];
-  size_t length, n = bytes_of(name, table, sizeof table);
-  int code = number ? kr_explain_script(table, n, number, text, sizeof text, &length) : kr_explain(table, n, text, sizeof text, &length);
+static void print_told(int code, size_t length) {
   if (code > KR_NO) must(code);
   printf("%d %zu %.*s\n", code, length, (int)length, text);
 }
 
-static void open_files(const char *table, const char *script) {
-  static char table_text[1 << 16], script_text[1 << 20];
-  size_t length, n = bytes_of(table, table_text, sizeof table_text), m = bytes_of(script, script_text, sizeof script_text);
-  must(kr_open(&session, table_text, n, script_text, m, text, sizeof text, &length));
+static void explain(const char *name, size_t number) {
+  size_t length, n = bytes_of(name, table, sizeof table);
+  int code = number ? kr_explain_script(table, n, number, text, sizeof text, &length) : kr_explain(table, n, text, sizeof text, &length);
+  print_told(code, length);
+}
+
+static void check(const char *name) {
+  size_t length, n = bytes_of(name, table, sizeof table);
+  int code = kr_check(table, n, text, sizeof text, &length);
+  print_told(code, length);
+}
+
+static void run(const char *name, const char *other) {
+  size_t length, n = bytes_of(name, table, sizeof table), m = bytes_of(other, script, sizeof script);
+  int code = kr_run(table, n, script, m, text, sizeof text, &length);
+  print_told(code, length);
+}
+
+static void open_files(const char *name, const char *other) {
+  size_t length, n = bytes_of(name, table, sizeof table), m = bytes_of(other, script, sizeof script);
+  must(kr_open(&session, table, n, script, m, text, sizeof text, &length));
   puts("opened");
+}
+
+static void purge(uint64_t key) {
+  uint32_t purged = 77;
+  must(kr_purge(&session, key, &purged));
+  printf("purge %" PRIu32 "\n", purged);
 }
 
 static void print_pairs(size_t length) {
@@ -82,6 +107,9 @@ static void state(void) {
   must(kr_index(&session, pairs, 1000, &length));
   printf("index");
   print_pairs(length);
+  must(kr_ghosts(&session, ghosts, 1000, &length));
+  printf(" ghosts");
+  for (size_t i = 0; i < length; i++) printf(" %" PRIu64, ghosts[i]);
   must(kr_locks(&session, locks, 10000, &length));
   printf(" locks");
   for (size_t i = 0; i < length; i++)
@@ -101,6 +129,9 @@ int main(void) {
   size_t number;
   while (fgets(line, sizeof line, stdin)) {
     if (sscanf(line, "open %2047s %2047s", a, b) == 2) open_files(a, b);
+    else if (sscanf(line, "check %2047s", a) == 1) check(a);
+    else if (sscanf(line, "run %2047s %2047s", a, b) == 2) run(a, b);
+    else if (sscanf(line, "purge %" SCNu64, &first) == 1) purge(first);
     else if (sscanf(line, "explain %2047s", a) == 1) explain(a, 0);
     else if (sscanf(line, "script %2047s %zu", a, &number) == 2) explain(a, number);
     else if (sscanf(line, "step %" SCNu32 " %" SCNu32 " %" SCNu64 " %" SCNu64, &txn, &op, &first, &second) == 4) step(txn, op, first, second);

@@ -30,12 +30,18 @@ static void step(kr::session &session, std::istream &words) {
 static void state(kr::session &session) {
   std::cout << "index";
   for (const auto &it : session.index()) std::cout << ' ' << it.key << ':' << it.value;
+  std::cout << " ghosts";
+  for (auto it : session.ghosts()) std::cout << ' ' << it;
   std::cout << " locks";
   for (const auto &it : session.locks()) std::cout << ' ' << it.key << ',' << it.is_end << ',' << it.txn << ',' << it.mode;
   std::cout << " unfinished";
   for (auto it : session.unfinished()) std::cout << ' ' << it;
   const kr::told verdict = session.verdict();
   std::cout << " verdict " << (verdict ? 0 : 1) << ' ' << verdict.text << '\n';
+}
+
+static void print_told(const kr::told &told) {
+  std::cout << (told ? 0 : 1) << ' ' << told.text.size() << ' ' << told.text << '\n';
 }
 
 int main() {
@@ -52,8 +58,19 @@ int main() {
     } else if (word == "explain") {
       std::string table;
       words >> table;
-      const kr::told told = kr::explain(bytes_of(table));
-      std::cout << (told ? 0 : 1) << ' ' << told.text.size() << ' ' << told.text << '\n';
+      print_told(kr::explain(bytes_of(table)));
+    } else if (word == "check") {
+      std::string table;
+      words >> table;
+      print_told(kr::check(bytes_of(table)));
+    } else if (word == "run") {
+      std::string table, script;
+      words >> table >> script;
+      print_told(kr::run(bytes_of(table), bytes_of(script)));
+    } else if (word == "purge") {
+      std::uint64_t key;
+      words >> key;
+      std::cout << "purge " << session->purge(key) << '\n';
     } else if (word == "script") {
       std::string table;
       std::size_t number;

@@ -36,8 +36,19 @@ static void steps() {
   HOLDS(thrown([&] { opened.step(1, KR_FETCH, 1); }).code() == KR_MISUSE);
 }
 
+static void ghosts() {
+  kr::session session("@record-gap", script);
+  HOLDS(session.step(1, KR_DELETE, 10).value == 1);
+  HOLDS(session.ghosts() == std::vector<std::uint64_t>{10} && !session.purge(10));
+  HOLDS(session.step(1, KR_COMMIT).kind == KR_COMMITTED);
+  HOLDS(session.purge(10) && !session.purge(10) && session.ghosts().empty() && session.index().size() == 2);
+  session.close();
+  HOLDS(thrown([&] { session.purge(10); }).code() == KR_CLOSED);
+}
+
 int main() {
   steps();
+  ghosts();
   HOLDS(kr::check("@kvl") && kr::is_safe("@kvl"));
   HOLDS(kr::explain("@kvl") && kr::explain("@kvl").text.rfind("accepted: ", 0) == 0 && !kr::explain_script("@kvl", 1));
   const kr::error table = thrown([] { kr::session("x", script); });

@@ -31,7 +31,14 @@ with table.open([(10, 1), (20, 2), (30, 3)]) as session:
     assert session.step(2, 'commit') == ['refused', 1, 'Ended']
     assert session.index() == [[10, 1], [15, 5], [20, 2], [30, 3]]
     assert session.verdict() == ['serial'] and session.is_serializable()
+    assert session.ghosts() == [] and not session.purge(10)
+with kr.Table('@record-gap').open([(10, 1), (20, 2)]) as session:
+    assert session.step(1, 'delete', 10) == ['deleted', 1] and session.ghosts() == [10]
+    assert not session.purge(10)
+    assert session.step(1, 'commit') == ['committed']
+    assert session.purge(10) and not session.purge(10) and session.ghosts() == []
 session.close()
+assert raised(kr.Closed, session.purge, 1).code == kr.CLOSED
 assert raised(kr.Closed, session.step, 1, 'fetch', 1).code == kr.CLOSED
 assert raised(kr.TableFault, kr.Table, 'x').line.startswith('table: fault 2')
 assert raised(kr.ScriptFault, table.run, 'x').line.startswith('script: fault 2')

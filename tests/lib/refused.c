@@ -16,10 +16,22 @@ static int is_refused(void) { return left >= 0 && left-- == 0; }
 void *__wrap_malloc(size_t size) { return is_refused() ? NULL : __real_malloc(size); }
 void *__wrap_realloc(void *at, size_t size) { return is_refused() ? NULL : __real_realloc(at, size); }
 
-static const char script[] = "{\"format\":2,\"opening\":[[10,1],[20,2],[30,3]],\"steps\":[[1,\"fetch\",15],[2,\"insert\",17,5],[1,\"commit\"]]}";
-static const struct { uint32_t txn, op; uint64_t first, second; } steps[] = {
-  {1, KR_FETCH, 15, 0}, {2, KR_INSERT, 17, 5}, {3, KR_SCAN, 25, 40}, {3, KR_GO, 0, 0}, {1, KR_COMMIT, 0, 0},  {2, KR_INSERT, 17, 5},
-  {2, KR_DELETE, 20, 0}, {3, KR_COMMIT, 0, 0}, {2, KR_INSERT, 40, 6}, {2, KR_BACK, 0, 0}, {2, KR_ABORT, 0, 0}, {4, KR_FETCH, 20, 0}};
+#define PURGE 99
+typedef struct { uint32_t txn, op; uint64_t first, second; } move;
+
+/* What is done, and what is there at the end: without ghosts, and with them. */
+static const struct given {
+  const char *table, *script;
+  size_t checked, count, index, ghosts, locks, unfinished;
+  move moves[16];
+} givens[] = {
+  {"@kvl", "{\"format\":2,\"opening\":[[10,1],[20,2],[30,3]],\"steps\":[[1,\"fetch\",15],[2,\"insert\",17,5],[1,\"commit\"]]}", 39, 12, 3, 0, 1, 1,
+   {{1, KR_FETCH, 15, 0}, {2, KR_INSERT, 17, 5}, {3, KR_SCAN, 25, 40}, {3, KR_GO, 0, 0}, {1, KR_COMMIT, 0, 0}, {2, KR_INSERT, 17, 5},
+    {2, KR_DELETE, 20, 0}, {3, KR_COMMIT, 0, 0}, {2, KR_INSERT, 40, 6}, {2, KR_BACK, 0, 0}, {2, KR_ABORT, 0, 0}, {4, KR_FETCH, 20, 0}}},
+  {"@record-gap", "{\"format\":3,\"opening\":[[10,1],[20,2],[30,3]],\"steps\":[[1,\"delete\",20],[1,\"commit\"],[\"purge\",20]]}", 42, 14, 3, 1, 4, 2,
+   {{1, KR_DELETE, 20, 0}, {2, KR_INSERT, 20, 5}, {0, PURGE, 20, 0}, {1, KR_COMMIT, 0, 0}, {3, KR_SCAN, 15, 30}, {3, KR_GO, 0, 0},
+    {0, PURGE, 20, 0}, {2, KR_INSERT, 17, 5}, {3, KR_COMMIT, 0, 0}, {2, KR_INSERT, 17, 5}, {2, KR_BACK, 0, 0}, {2, KR_ABORT, 0, 0},
+    {4, KR_FETCH, 30, 0}, {5, KR_SCAN, 5, 25}}}};
 
 static char state[4096], text[4096], first_text[4096];
 static long refused;
@@ -37,16 +49,21 @@ static size_t state_of(kr_session *session, char *into) {
   kr_pair pairs[16] = {{0, 0}};
   kr_lock locks[64];
   uint32_t txns[16] = {0};
+  uint64_t ghosts[16] = {0};
+  size_t g;
   memset(locks, 0, sizeof locks);
   left = -1;
   kr_index(session, pairs, 16, &n);
+  kr_ghosts(session, ghosts, 16, &g);
   kr_locks(session, locks, 64, &m);
   kr_unfinished(session, txns, 16, &k);
   left = kept;
+  memcpy(into, ghosts, g * sizeof *ghosts);
+  into += g * sizeof *ghosts;
   memcpy(into, pairs, n * sizeof *pairs);
   memcpy(into + n * sizeof *pairs, locks, m * sizeof *locks);
   memcpy(into + n * sizeof *pairs + m * sizeof *locks, txns, k * sizeof *txns);
-  return n * sizeof *pairs + m * sizeof *locks + k * sizeof *txns;
+  return g * sizeof *ghosts + n * sizeof *pairs + m * sizeof *locks + k * sizeof *txns;
 }
 
 /* Calls until the code isn't KR_NOMEM, which it is once at most. */
@@ -59,46 +76,69 @@ static size_t state_of(kr_session *session, char *into) {
     (code) = (call);                 \
   } while (0)
 
-static int all_with(long number) {
-  int code;
-  size_t n = 0, length = 0;
-  kr_session session = KR_SESSION;
-  left = number;
-  AGAIN(code, kr_check("@kvl", 4, text, sizeof text, &n));
-  if (code != KR_OK || n != 39) wrong("check", number);
-  AGAIN(code, kr_decide("@kvl", 4, text, sizeof text, &n));
-  if (code != KR_OK) wrong("decide", number);
-  AGAIN(code, kr_run("@kvl", 4, script, sizeof script - 1, text, sizeof text, &n));
-  if (number < 0) memcpy(first_text, text, length = n);
-  if (code != KR_OK || memcmp(text, first_text, n)) wrong("run", number);
-  AGAIN(code, kr_open(&session, "@kvl", 4, script, sizeof script - 1, text, sizeof text, &n));
-  if (code != KR_OK) wrong("open", number);
-  for (size_t i = 0; i < sizeof steps / sizeof *steps; i++) {
+/* Does a move, of whose reply only that memory was refused matters. */
+static int done(kr_session *session, const move *move, kr_reply *reply) {
+  uint32_t purged;
+  if (move->op == PURGE) return kr_purge(session, move->first, &purged);
+  return kr_step(session, move->txn, move->op, move->first, move->second, reply);
+}
+
+static void moves_with(kr_session *session, const struct given *given, long number) {
+  for (size_t i = 0; i < given->count; i++) {
     static char after[4096];
-    kr_reply reply;
-    size_t before = state_of(&session, state);
-    code = kr_step(&session, steps[i].txn, steps[i].op, steps[i].first, steps[i].second, &reply);
+    const move *move = &given->moves[i];
+    kr_reply reply = {KR_REFUSED, KR_OUT_OF_MEMORY, 0, 0};
+    size_t before = state_of(session, state);
+    int code = done(session, move, &reply);
     if (code == KR_NOMEM) {
       refused++;
       if (reply.kind != KR_REFUSED || reply.refusal != KR_OUT_OF_MEMORY) wrong("a reply", number);
-      if (state_of(&session, after) != before || memcmp(state, after, before)) wrong("a state", number);
-      code = kr_step(&session, steps[i].txn, steps[i].op, steps[i].first, steps[i].second, &reply);
+      if (state_of(session, after) != before || memcmp(state, after, before)) wrong("a state", number);
+      code = done(session, move, &reply);
     }
-    if (code != KR_OK || (reply.kind == KR_REFUSED && reply.refusal == KR_OUT_OF_MEMORY)) wrong("a step", number);
+    if (code != KR_OK || (move->op != PURGE && reply.kind == KR_REFUSED && reply.refusal == KR_OUT_OF_MEMORY)) wrong("a move", number);
   }
+}
+
+static int all_with(const struct given *given, long number) {
+  int code;
+  size_t n = 0, t = strlen(given->table), m = strlen(given->script);
+  kr_session session = KR_SESSION;
+  left = number;
+  AGAIN(code, kr_check(given->table, t, text, sizeof text, &n));
+  if (code != KR_OK || n != given->checked) wrong("check", number);
+  AGAIN(code, kr_decide(given->table, t, text, sizeof text, &n));
+  if (code != KR_OK) wrong("decide", number);
+  AGAIN(code, kr_run(given->table, t, given->script, m, text, sizeof text, &n));
+  if (number < 0) memcpy(first_text, text, n);
+  if (code != KR_OK || memcmp(text, first_text, n)) wrong("run", number);
+  AGAIN(code, kr_open(&session, given->table, t, given->script, m, text, sizeof text, &n));
+  if (code != KR_OK) wrong("open", number);
+  moves_with(&session, given, number);
   kr_pair pairs[8];
   kr_lock locks[8];
   uint32_t txns[8];
+  uint64_t ghosts[8];
   AGAIN(code, kr_index(&session, pairs, 8, &n));
-  if (code != KR_OK || n != 3) wrong("index", number);
+  if (code != KR_OK || n != given->index) wrong("index", number);
+  AGAIN(code, kr_ghosts(&session, ghosts, 8, &n));
+  if (code != KR_OK || n != given->ghosts) wrong("ghosts", number);
   AGAIN(code, kr_locks(&session, locks, 8, &n));
-  if (code != KR_OK || n != 1) wrong("locks", number);
+  if (code != KR_OK || n != given->locks) wrong("locks", number);
   AGAIN(code, kr_unfinished(&session, txns, 8, &n));
-  if (code != KR_OK || n != 1) wrong("unfinished", number);
+  if (code != KR_OK || n != given->unfinished) wrong("unfinished", number);
   AGAIN(code, kr_verdict(&session, text, sizeof text, &n));
   if (code != KR_OK) wrong("verdict", number);
   if (kr_close(&session) != KR_OK) wrong("close", number);
   return left >= 0;
+}
+
+/* Refuses each growth in turn until all pass; gives how many there were. */
+static long each_with(const struct given *given) {
+  long number = 0;
+  all_with(given, -1);
+  while (!all_with(given, number)) number++;
+  return number;
 }
 
 /* Explains a table with the growth of this number refused, or else with none. Gives how many growths there were. */
@@ -133,10 +173,8 @@ static void explanations(const char *name, long most) {
 }
 
 int main(int count, char **words) {
-  long number = 0;
   if (count != 3) return 2;
-  all_with(-1);
-  while (!all_with(number)) number++;
+  long number = each_with(&givens[0]) + each_with(&givens[1]);
   printf("%ld growths, each refused in turn; KR_NOMEM %ld times\n", number, refused);
   refused = 0;
   explanations(words[1], atol(words[2]));

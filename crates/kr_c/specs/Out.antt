@@ -1,5 +1,5 @@
 -- What a call writes into the caller's memory.
-use Rattle.std.specs.Prelude.{◌≡◌, ℕ, Bool, List, [], ◌++◌, length, take, drop, Option, Some, None, Result, Ok, Err, String, Vec, string_bytes}
+use Rattle.std.specs.Prelude.{◌≡◌, ℕ, Bool, List, [], ◌++◌, length, take, drop, Option, Some, None, Result, Ok, Err, String, Vec, cond, string_bytes}
 use Rattle.std.specs.Global.{Global}
 use Rattle.std.specs.declared.alloc.AllocError.{AllocError}
 use Rattle.kr_embed.specs.declared.faults.Fault.{Fault}
@@ -42,3 +42,9 @@ abbrev pub IsJudgement : Option (Result (Bool × String Global) AllocError) → 
 IsJudgement None code old new n = (code ≡ closed) × ((new ≡ old) × (n ≡ 0))
 IsJudgement (Some (Ok told)) code old new n = (code ≡ answer_code told.0) × Tells old new n (string_bytes told.1)
 IsJudgement (Some (Err e)) code old new n = (code ≡ no_memory) × ((new ≡ old) × (n ≡ 0))
+
+-- The code of a purge that was told, and the number, 1 where a ghost was purged and else 0; a closed session and refused memory write none.
+abbrev pub IsPurgeTold : Option (Result Bool AllocError) → ℕ → ℕ → ℕ → Type 0
+IsPurgeTold None code old new = (code ≡ closed) × (new ≡ old)
+IsPurgeTold (Some (Ok told)) code old new = (code ≡ ok) × (new ≡ cond told 1 0)
+IsPurgeTold (Some (Err e)) code old new = (code ≡ no_memory) × (new ≡ old)

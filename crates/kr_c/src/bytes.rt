@@ -53,7 +53,8 @@ pub extern "C" fn krr_explain(
     tell(explain_bytes(alloc, table), out, length)
 }
 
-/// Tells the script of the run that is shown of a cause of the table that the bytes are, of this number, from 1.
+/// Tells the script of the run that is shown of a cause of the table that the bytes are, of this number, from 1; of a table with
+/// ghosts one schedule is shown, of number 1.
 ///
 /// The code is 0 where there is one, and the text is its line; 1 where there is none, with no text; 2 and 4 as of a check.
 #[unsafe(no_mangle)]
@@ -71,7 +72,8 @@ pub extern "C" fn krr_explain_script(
     found(script_of_cause(alloc, table, number), out, length)
 }
 
-/// Runs the script that bytes are under the table that bytes are, and judges the run.
+/// Runs the script that bytes are under the table that bytes are, and judges the run. Under a table with ghosts the script may
+/// have purges.
 ///
 /// The code is 0 where the run is serializable in commit order and 1 where it isn't, and the text is the report of the run; 2 where
 /// the bytes of the table are no table, 3 where those of the script are no script, and the text is the line that tells their first

@@ -1,7 +1,7 @@
 //! What a call writes into the caller's memory.
 ghost use Rattle.std.specs.Prelude.{◌≡◌};
 ghost use Rattle.kr_c.specs.Codes.{answer_code, fault_code};
-ghost use Rattle.kr_c.specs.Out.{Tells, IsTold, IsFound, IsListed, IsJudgement, fault_line};
+ghost use Rattle.kr_c.specs.Out.{Tells, IsTold, IsFound, IsListed, IsJudgement, IsPurgeTold, fault_line};
 
 use crate::codes::{CLOSED, MEMORY, NO, OK, SCRIPT, TABLE};
 use kr_embed::Fault;
@@ -107,6 +107,20 @@ pub fn judgement(
         Some(Ok((is_serial, text))) => {
             fill(text.as_bytes(), out, length);
             answer_code(is_serial)
+        }
+        Some(Err(_)) => MEMORY,
+    }
+}
+
+/// The code of a purge, and 1 where a ghost was purged or else 0; a closed session and refused memory write no number.
+pub fn purge_code(told: Option<Result<bool, AllocError>>, purged: &mut u32) -> u32
+    ensures { IsPurgeTold told result purged.old purged.new }
+{
+    match told {
+        None => CLOSED,
+        Some(Ok(is_purged)) => {
+            *purged = u32::from(is_purged);
+            OK
         }
         Some(Err(_)) => MEMORY,
     }

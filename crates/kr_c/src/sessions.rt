@@ -10,10 +10,10 @@ ghost use Rattle.kr_embed.specs.Session.{Seen, IsOpened, rows_in};
 ghost use Rattle.kr_embed.specs.declared.faults.Fault.{Fault};
 ghost use Rattle.kr_c.specs.Codes.{ok, closed, is_open, misuse, fault_code};
 ghost use Rattle.kr_c.specs.Out.{Tells, IsListed, IsJudgement, fault_line};
-ghost use Rattle.kr_c.specs.Sessions.{Steps, reply_code};
+ghost use Rattle.kr_c.specs.Sessions.{Steps, Purges, reply_code};
 
 use crate::codes::{CLOSED, IS_OPEN, MEMORY, MISUSE, OK};
-use crate::out::{fault_code, judgement, list};
+use crate::out::{fault_code, judgement, list, purge_code};
 use kr_embed::{Handle, Lock, Pair, PlainReply, open_bytes, operation};
 use std::alloc::Global;
 
@@ -90,6 +90,17 @@ pub extern "C" fn krr_step(
     }
 }
 
+/// Purges a ghost, which is no step of a transaction: the last reply stays.
+///
+/// The code is 0, and the number is 1 where the key was a ghost and is purged, and else 0: always so where deletes leave no
+/// ghosts. It is 4 where a growth was refused, and 5 where the session is closed, and then nothing changes.
+#[unsafe(no_mangle)]
+pub extern "C" fn krr_purge(alloc: Global, session: &mut Handle, key: u64, purged: &mut u32) -> u32
+    ensures { Purges session.old.value key result purged.old purged.new session.new.value }
+{
+    purge_code(session.purge(alloc, key), purged)
+}
+
 /// The transactions that block the last step, rising; none where it isn't blocked.
 #[unsafe(no_mangle)]
 pub extern "C" fn krr_blockers(
@@ -129,10 +140,25 @@ pub extern "C" fn krr_index(
     length: &mut usize,
 ) -> u32
     ensures list { (told : Option (Result (Vec Pair Global) AllocError))
-        × (IsRead session.old.value (λ s. map pair_of s.state.map) told × IsListed told result out.old out.new length.new) }
+        × (IsRead session.old.value (λ s. map pair_of s.state.state.map) told × IsListed told result out.old out.new length.new) }
     ensures same { session.new.value ≡ session.old.value }
 {
     list(session.index(alloc), out, length)
+}
+
+/// The ghosts, rising; none where deletes leave none.
+#[unsafe(no_mangle)]
+pub extern "C" fn krr_ghosts(
+    alloc: Global,
+    session: &mut Handle,
+    out: &mut [u64],
+    length: &mut usize,
+) -> u32
+    ensures list { (told : Option (Result (Vec ℕ Global) AllocError))
+        × (IsRead session.old.value (λ s. s.state.ghosts) told × IsListed told result out.old out.new length.new) }
+    ensures same { session.new.value ≡ session.old.value }
+{
+    list(session.ghosts(alloc), out, length)
 }
 
 /// The locks that are held, by name, infinity last, and then by transaction.
@@ -144,7 +170,7 @@ pub extern "C" fn krr_locks(
     length: &mut usize,
 ) -> u32
     ensures list { (told : Option (Result (Vec Lock Global) AllocError))
-        × (IsRead session.old.value (λ s. map lock_of s.state.locks) told × IsListed told result out.old out.new length.new) }
+        × (IsRead session.old.value (λ s. map lock_of s.state.state.locks) told × IsListed told result out.old out.new length.new) }
     ensures same { session.new.value ≡ session.old.value }
 {
     list(session.locks(alloc), out, length)
@@ -159,7 +185,7 @@ pub extern "C" fn krr_unfinished(
     length: &mut usize,
 ) -> u32
     ensures list { (told : Option (Result (Vec ℕ Global) AllocError))
-        × (IsRead session.old.value (λ s. map (λ a. a.0) s.state.active) told × IsListed told result out.old out.new length.new) }
+        × (IsRead session.old.value (λ s. map (λ a. a.0) s.state.state.active) told × IsListed told result out.old out.new length.new) }
     ensures same { session.new.value ≡ session.old.value }
 {
     list(session.unfinished(alloc), out, length)

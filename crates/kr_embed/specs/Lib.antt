@@ -1,7 +1,10 @@
 pub mod Inputs
+pub mod Tables
 pub mod Reports
 pub mod Explanations
 pub mod Session
+pub mod Recorded
+pub mod Kinds
 pub mod Numbers
 pub mod Held
 pub mod Handles

@@ -2,7 +2,7 @@
 ghost use Rattle.std.specs.Prelude.{◌≡◌, ◌↔◌, Option, None, Some, map, IsTrue, is_some};
 ghost use Rattle.std.specs.Option.{MatchOption};
 ghost use Rattle.kr_model.specs.Step.{blockers_in};
-ghost use Rattle.kr_embed.specs.Handles.{IsStepped, IsRead, IsJudged};
+ghost use Rattle.kr_embed.specs.Handles.{IsStepped, IsPurged, IsRead, IsJudged};
 ghost use Rattle.kr_embed.specs.Held.{held, session_coded};
 ghost use Rattle.kr_embed.specs.Numbers.{pair_of, lock_of};
 ghost use Rattle.kr_embed.specs.Session.{Seen, rows_in};
@@ -91,6 +91,16 @@ impl Handle {
         Some(reply)
     }
 
+    /// Purges a ghost, and tells whether it did; or `None` where the handle is closed, and then nothing changes.
+    pub fn purge(&mut self, alloc: Global, key: u64) -> Option<Result<bool, Memory>>
+        ensures { IsPurged self.old.value key result self.new.value }
+    {
+        let mut session = self.take(alloc)?;
+        let told = session.purge(key);
+        self.put(session);
+        Some(told)
+    }
+
     /// The transactions that block the last step, rising; or `None` where the handle is closed.
     pub fn blockers(&mut self, alloc: Global) -> Option<Result<Vec<Txn>, Memory>>
         ensures read { IsRead self.old.value (λ s. blockers_in s.last) result }
@@ -115,7 +125,7 @@ impl Handle {
 
     /// The pairs of the index, keys rising; or `None` where the handle is closed.
     pub fn index(&mut self, alloc: Global) -> Option<Result<Vec<Pair>, Memory>>
-        ensures read { IsRead self.old.value (λ s. map pair_of s.state.map) result }
+        ensures read { IsRead self.old.value (λ s. map pair_of s.state.state.map) result }
         ensures same { self.new.value ≡ self.old.value }
     {
         let session = self.take(alloc)?;
@@ -124,9 +134,20 @@ impl Handle {
         Some(list)
     }
 
+    /// The ghosts, rising; or `None` where the handle is closed.
+    pub fn ghosts(&mut self, alloc: Global) -> Option<Result<Vec<u64>, Memory>>
+        ensures read { IsRead self.old.value (λ s. s.state.ghosts) result }
+        ensures same { self.new.value ≡ self.old.value }
+    {
+        let session = self.take(alloc)?;
+        let list = session.ghosts(alloc);
+        self.put(session);
+        Some(list)
+    }
+
     /// The locks that are held, by name, infinity last, and then by transaction; or `None` where the handle is closed.
     pub fn locks(&mut self, alloc: Global) -> Option<Result<Vec<Lock>, Memory>>
-        ensures read { IsRead self.old.value (λ s. map lock_of s.state.locks) result }
+        ensures read { IsRead self.old.value (λ s. map lock_of s.state.state.locks) result }
         ensures same { self.new.value ≡ self.old.value }
     {
         let session = self.take(alloc)?;
@@ -137,7 +158,7 @@ impl Handle {
 
     /// The active transactions, rising; or `None` where the handle is closed.
     pub fn unfinished(&mut self, alloc: Global) -> Option<Result<Vec<Txn>, Memory>>
-        ensures read { IsRead self.old.value (λ s. map (λ a. a.0) s.state.active) result }
+        ensures read { IsRead self.old.value (λ s. map (λ a. a.0) s.state.state.active) result }
         ensures same { self.new.value ≡ self.old.value }
     {
         let session = self.take(alloc)?;

@@ -95,8 +95,9 @@ def _load() -> ctypes.CDLL:
     arguments = {'check': text + out, 'decide': text + out, 'explain': text + out, 'explain_script': text + [c_size_t] + out,
                  'run': text * 2 + out, 'mode': text + [c_uint32] + out,
                  'open': [session] + text * 2 + out, 'close': [session],
-                 'step': [session, c_uint32, c_uint32, c_uint64, c_uint64, POINTER(_Reply)]}
-    arguments.update((name, [session] + out) for name in ('blockers', 'rows', 'index', 'locks', 'unfinished', 'verdict'))
+                 'step': [session, c_uint32, c_uint32, c_uint64, c_uint64, POINTER(_Reply)],
+                 'purge': [session, c_uint64, POINTER(c_uint32)]}
+    arguments.update((name, [session] + out) for name in ('blockers', 'rows', 'index', 'ghosts', 'locks', 'unfinished', 'verdict'))
     for name, types in arguments.items():
         call = getattr(lib, 'kr_' + name)
         call.argtypes, call.restype = types, c_int
@@ -223,9 +224,21 @@ class Session:
             return ['refused', reply.refusal, REFUSALS[reply.refusal]]
         return [REPLIES[kind]]
 
+    def purge(self, key: int) -> bool:
+        """Purges a ghost, and says whether it did: never where deletes leave no ghosts. OutOfMemory as in `step`."""
+        purged = c_uint32()
+        code = _lib.kr_purge(self._session, key, byref(purged))
+        if code:
+            raise _errors.get(code, Error)(code)
+        return purged.value == 1
+
     def index(self) -> List[List[int]]:
         """The pairs of the index, keys rising."""
         return [[it.key, it.value] for it in self._list(_lib.kr_index, _Pair, 64)]
+
+    def ghosts(self) -> List[int]:
+        """The ghosts, rising: deleted keys that aren't purged yet."""
+        return self._list(_lib.kr_ghosts, c_uint64, 64)
 
     def locks(self) -> List[List[Any]]:
         """The locks that are held: name, transaction and mode, as `kr run` reports them."""

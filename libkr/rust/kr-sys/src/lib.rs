@@ -60,9 +60,11 @@ extern "C" {
     pub fn kr_mode(table: *const u8, table_length: usize, mode: u32, text: *mut u8, room: usize, length: *mut usize) -> c_int;
     pub fn kr_open(session: *mut kr_session, table: *const u8, table_length: usize, script: *const u8, script_length: usize, text: *mut u8, room: usize, length: *mut usize) -> c_int;
     pub fn kr_step(session: *mut kr_session, txn: u32, op: u32, first: u64, second: u64, reply: *mut kr_reply) -> c_int;
+    pub fn kr_purge(session: *mut kr_session, key: u64, purged: *mut u32) -> c_int;
     pub fn kr_blockers(session: *mut kr_session, txns: *mut u32, room: usize, length: *mut usize) -> c_int;
     pub fn kr_rows(session: *mut kr_session, pairs: *mut kr_pair, room: usize, length: *mut usize) -> c_int;
     pub fn kr_index(session: *mut kr_session, pairs: *mut kr_pair, room: usize, length: *mut usize) -> c_int;
+    pub fn kr_ghosts(session: *mut kr_session, keys: *mut u64, room: usize, length: *mut usize) -> c_int;
     pub fn kr_locks(session: *mut kr_session, locks: *mut kr_lock, room: usize, length: *mut usize) -> c_int;
     pub fn kr_unfinished(session: *mut kr_session, txns: *mut u32, room: usize, length: *mut usize) -> c_int;
     pub fn kr_verdict(session: *mut kr_session, text: *mut u8, room: usize, length: *mut usize) -> c_int;

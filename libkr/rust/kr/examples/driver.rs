@@ -39,8 +39,9 @@ fn line_of(reply: &Reply) -> String {
 fn state(session: &mut Session) -> Result<String, kr::Error> {
     let locks = listed(&session.locks()?, |it| format!("{},{},{},{}", it.key, it.is_end, it.txn, it.mode));
     let (index, unfinished) = (pairs(&session.index()?), listed(&session.unfinished()?, u32::to_string));
+    let ghosts = listed(&session.ghosts()?, u64::to_string);
     let (is_serial, text) = session.verdict()?;
-    Ok(format!("index{index} locks{locks} unfinished{unfinished} verdict {} {text}", u32::from(!is_serial)))
+    Ok(format!("index{index} ghosts{ghosts} locks{locks} unfinished{unfinished} verdict {} {text}", u32::from(!is_serial)))
 }
 
 fn operation(kind: &str, first: u64, second: u64) -> Option<Op> {
@@ -58,6 +59,10 @@ fn operation(kind: &str, first: u64, second: u64) -> Option<Op> {
     })
 }
 
+fn told((is_yes, text): (bool, String)) -> String {
+    format!("{} {} {text}", u32::from(!is_yes), text.len())
+}
+
 fn main() -> Result<(), Box<dyn Error>> {
     let mut out = BufWriter::new(stdout());
     let mut session = None;
@@ -69,10 +74,10 @@ fn main() -> Result<(), Box<dyn Error>> {
                 session = Some(Session::open(&fs::read(table)?, &fs::read(script)?)?);
                 writeln!(out, "opened")?;
             }
-            (["explain", table], _) => {
-                let (is_safe, text) = kr::explain(&fs::read(table)?)?;
-                writeln!(out, "{} {} {text}", u32::from(!is_safe), text.len())?;
-            }
+            (["check", table], _) => writeln!(out, "{}", told(kr::check(&fs::read(table)?)?))?,
+            (["run", table, script], _) => writeln!(out, "{}", told(kr::run(&fs::read(table)?, &fs::read(script)?)?))?,
+            (["explain", table], _) => writeln!(out, "{}", told(kr::explain(&fs::read(table)?)?))?,
+            (["purge", key], Some(session)) => writeln!(out, "purge {}", u32::from(session.purge(key.parse()?)?))?,
             (["script", table, number], _) => {
                 let script = kr::explain_script(&fs::read(table)?, number.parse()?)?;
                 let line = script.as_deref().unwrap_or("");

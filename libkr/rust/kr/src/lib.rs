@@ -206,6 +206,16 @@ impl Session {
         }
     }
 
+    /// Purges a ghost, and says whether it did: never where deletes leave no ghosts. At `Error::Memory` nothing has changed.
+    pub fn purge(&mut self, key: u64) -> Result<bool, Error> {
+        let mut purged = 0;
+        // SAFETY: as in `step`.
+        match unsafe { sys::kr_purge(&mut *self.0, key, &mut purged) } {
+            sys::KR_OK => Ok(purged == 1),
+            code => Err(error(code)),
+        }
+    }
+
     /// The reply with its lists.
     fn reply(&mut self, reply: sys::kr_reply) -> Result<Reply, Error> {
         Ok(match reply.kind {
@@ -229,6 +239,11 @@ impl Session {
     /// The pairs of the index, keys rising.
     pub fn index(&mut self) -> Result<Vec<Pair>, Error> {
         self.list(64, sys::kr_index)
+    }
+
+    /// The ghosts, rising: deleted keys that aren't purged yet.
+    pub fn ghosts(&mut self) -> Result<Vec<u64>, Error> {
+        self.list(64, sys::kr_ghosts)
     }
 
     /// The locks that are held, by name, infinity last, and then by transaction.

@@ -21,6 +21,16 @@ fn a_phantom_is_blocked_until_the_reader_commits() -> Result<(), Error> {
 }
 
 #[test]
+fn a_ghost_stays_until_it_is_purged() -> Result<(), Error> {
+    let mut session = Session::open(b"@record-gap", SCRIPT)?;
+    assert_eq!(session.step(1, Op::Delete(10))?, Reply::Deleted(1));
+    assert_eq!((session.ghosts()?, session.purge(10)?), (vec![10], false));
+    assert_eq!(session.step(1, Op::Commit)?, Reply::Committed);
+    assert_eq!((session.purge(10)?, session.purge(10)?, session.ghosts()?), (true, false, vec![]));
+    Ok(())
+}
+
+#[test]
 fn faults_have_their_lines() {
     assert!(matches!(Session::open(b"x", SCRIPT), Err(Error::Table(line)) if line.starts_with("table: fault 2")));
     assert!(matches!(kr::run(b"@kvl", b"x"), Err(Error::Script(line)) if line.starts_with("script: fault 2")));

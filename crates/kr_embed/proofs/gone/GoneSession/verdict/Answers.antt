@@ -3,7 +3,7 @@ use Rattle.kr_model.specs.Difference.{first_difference}
 use Rattle.kr_judge.specs.Verdicts.{verdict_of}
 use Rattle.kr_judge.proofs.Wholes.{serial_exactly}
 use Rattle.kr_embed.specs.Session.{Seen}
-use Rattle.kr_embed.proofs.session.Session.verdict.Goals as goal
+use Rattle.kr_embed.proofs.gone.GoneSession.verdict.Goals as goal
 
 -- The programs that are judged are those that have committed, from the map that the session was opened on.
 pub returns-clause-serial : goal.returns-clause-serial

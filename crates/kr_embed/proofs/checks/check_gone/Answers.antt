@@ -3,7 +3,7 @@ use Rattle.std.specs.Prelude.{string_bytes}
 use Rattle.kr_model.specs.Covers.{failed_cases}
 use Rattle.kr_report.specs.CheckReport.{check_text}
 use Rattle.kr_cli.specs.Tables.{table_of, names_of}
-use Rattle.kr_embed.proofs.checks.check_table.Goals as goal
+use Rattle.kr_embed.proofs.checks.check_gone.Goals as goal
 
 -- An accepted table has no failed case, and the report is that of none.
 pub returns-in-Ok-clause-text : goal.returns-in-Ok-clause-text

@@ -1,0 +1,14 @@
+use Rattle.std.proofs.Common.{◌≡◌, List, ◌∙◌}
+use Rattle.kr_model.specs.Run.{Program, programs}
+use Rattle.kr_cli.specs.GhostScripts.{ghost_run_of}
+use Rattle.kr_cli.specs.GhostTables.{ghosts_of}
+use Rattle.kr_embed.proofs.GhostSerials.{serial_told}
+use Rattle.kr_embed.proofs.runs.run_ghost_script.Goals as goal
+
+-- The programs that are judged are those of the run.
+pub returns-clause-serial : goal.returns-clause-serial
+returns-clause-serial c =
+    let p = ghosts_of c.args.table.now in
+    let done : List Program = let r = ghost_run_of p c.args.script.now in programs r.history in
+    let are : c.as_slice.result.now ≡ done = c.as_slice.ensures ∙ (rw (c.opening.ensures.pairs, c.moves.ensures.moves) at c.in_ok-ran.ensures.ran.programs) in
+    serial_told p c.args.script.now c.in_ok-verdict.verdict c.is_serial-is_serial.result c.as_slice.result.now are (rw c.opening-2.ensures.pairs at c.in_ok-verdict.ensures) c.is_serial-is_serial.ensures
