@@ -28,7 +28,7 @@ static const struct given {
   {"@kvl", "{\"format\":2,\"opening\":[[10,1],[20,2],[30,3]],\"steps\":[[1,\"fetch\",15],[2,\"insert\",17,5],[1,\"commit\"]]}", 39, 12, 3, 0, 1, 1,
    {{1, KR_FETCH, 15, 0}, {2, KR_INSERT, 17, 5}, {3, KR_SCAN, 25, 40}, {3, KR_GO, 0, 0}, {1, KR_COMMIT, 0, 0}, {2, KR_INSERT, 17, 5},
     {2, KR_DELETE, 20, 0}, {3, KR_COMMIT, 0, 0}, {2, KR_INSERT, 40, 6}, {2, KR_BACK, 0, 0}, {2, KR_ABORT, 0, 0}, {4, KR_FETCH, 20, 0}}},
-  {"@record-gap", "{\"format\":3,\"opening\":[[10,1],[20,2],[30,3]],\"steps\":[[1,\"delete\",20],[1,\"commit\"],[\"purge\",20]]}", 42, 14, 3, 1, 4, 2,
+  {"@record-gap", "{\"format\":3,\"opening\":[[10,1],[20,2],[30,3]],\"steps\":[[1,\"delete\",20],[1,\"commit\"],[\"purge\",20]]}", 40, 14, 2, 1, 2, 2,
    {{1, KR_DELETE, 20, 0}, {2, KR_INSERT, 20, 5}, {0, PURGE, 20, 0}, {1, KR_COMMIT, 0, 0}, {3, KR_SCAN, 15, 30}, {3, KR_GO, 0, 0},
     {0, PURGE, 20, 0}, {2, KR_INSERT, 17, 5}, {3, KR_COMMIT, 0, 0}, {2, KR_INSERT, 17, 5}, {2, KR_BACK, 0, 0}, {2, KR_ABORT, 0, 0},
     {4, KR_FETCH, 30, 0}, {5, KR_SCAN, 5, 25}}}};
