@@ -146,9 +146,9 @@ int kr_explain(const void *table, size_t table_length, void *text, size_t room, 
 
 /* The script of the schedule that kr_explain shows of a cause, which has its number in that text, from 1. A table with ghosts has
    one schedule at most, of number 1. KR_OK: the text is the script, as a line of JSON without a line feed, which kr_run and
-   kr_open take. Its run under the table isn't serializable in
-   commit order, and each of its steps is granted. KR_NO, with no text: there is no such cause, or no schedule of it is shown.
-   Each call explains the table anew. Also KR_TABLE with the fault's line, KR_NOMEM, KR_MISUSE. */
+   kr_open take. Its run under the table isn't serializable in commit order, and each of its steps is granted. KR_NO, with no
+   text: there is no such cause, or no schedule of it is shown. Each call explains the table anew. Also KR_TABLE with the fault's
+   line, KR_NOMEM, KR_MISUSE. */
 int kr_explain_script(const void *table, size_t table_length, size_t number, void *text, size_t room, size_t *length);
 
 /* Runs a script under a table. KR_OK: the run is serializable in commit order. KR_NO: it isn't. The text is the line that `kr run`
@@ -161,9 +161,9 @@ int kr_run(const void *table, size_t table_length, const void *script, size_t sc
    Also KR_TABLE with the fault's line, KR_NOMEM, KR_MISUSE. */
 int kr_mode(const void *table, size_t table_length, uint32_t mode, void *text, size_t room, size_t *length);
 
-/* Opens a session: an index with the opening pairs of the script, under the table, with no transactions and no ghosts. None of the
-   script's steps is attempted, and no purge is done. KR_OK: close it by kr_close. Else the session is as it was: KR_TABLE and KR_SCRIPT with the fault's line, the
-   table's first, KR_NOMEM, KR_ISOPEN, KR_MISUSE. */
+/* Opens a session: an index with the opening pairs of the script, under the table, with no transactions and no ghosts. None of
+   the script's steps is attempted, and no purge is done. KR_OK: close it by kr_close. Else the session is as it was: KR_TABLE and
+   KR_SCRIPT with the fault's line, the table's first, KR_NOMEM, KR_ISOPEN, KR_MISUSE. */
 int kr_open(kr_session *session, const void *table, size_t table_length, const void *script, size_t script_length, void *text,
             size_t room, size_t *length);
 
