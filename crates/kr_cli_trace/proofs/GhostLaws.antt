@@ -1,5 +1,5 @@
 -- A part that is held against a table with ghosts.
-use Rattle.std.specs.Prelude.{◌≡◌, ℕ, Bool, List, [], ◌∷◌, ◌++◌, Option, Result, Ok, Err, IfOk, length}
+use Rattle.std.specs.Prelude.{◌≡◌, ℕ, Bool, List, [], ◌∷◌, ◌++◌, Option, Result, Ok, Err, IfOk}
 use Rattle.std.specs.BTreeMap.{BTreeMap}
 use Rattle.kr_cli.specs.declared.endings.Ending.{Ending}
 use Rattle.kr_cli.specs.Lawful.{lawful_of}
@@ -10,9 +10,7 @@ use Rattle.kr_cli.specs.declared.named.Named.TheVariants.{Table, Ghosts}
 use Rattle.kr_model.specs.declared.Event.{Event}
 use Rattle.kr_model.specs.Map.{Map}
 use Rattle.kr_ghost.specs.Protocol.{GhostProtocol}
-use Rattle.kr_ghost_follow.specs.Report.{ghost_part_text}
 use Rattle.kr_ghost_follow.specs.Stands.{Follows, HasFollowed}
-use Rattle.kr_trace_follow.specs.Lines.{Line}
 use Rattle.kr_trace_lines.specs.declared.deviation.Deviation.{Deviation}
 use Rattle.kr_trace_lines.specs.declared.observed.Observed.{Observed}
 use Rattle.kr_trace_lines.specs.declared.verdict.TraceVerdict.{TraceVerdict}

@@ -1,16 +1,11 @@
 -- What is known of a trace that was held.
-use Rattle.std.specs.Prelude.{◌≡◌, ℕ, List, Bool, Option, Some, Result, Ok, Err, IfOk, IfErr, ◌⊎◌, string_bytes}
+use Rattle.std.specs.Prelude.{◌≡◌, ℕ, List, Bool, Option, Some, Result, Ok, Err, IfOk, IfErr}
 use Rattle.std.proofs.Common.{subst, sym, inl, inr}
 use Rattle.kr_cli.specs.declared.endings.Ending.{Ending}
 use Rattle.kr_cli.specs.declared.endings.Ending.TheVariants.{NotUnderstood, Memory, Place, Output, Told}
-use Rattle.kr_cli.specs.Endings.{MemoryOrTold}
-use Rattle.kr_cli.specs.Named.{NamesTable}
-use Rattle.kr_cli.specs.Tables.{table_of}
-use Rattle.kr_cli.specs.declared.tables.AnyTable.{AnyTable}
-use Rattle.kr_model.specs.Protocol.{IsLawful}
 use Rattle.kr_trace_parts.specs.Endings.{IsStopped, IsThrough, StopsSo, TellsFault}
 use Rattle.kr_trace_parts.specs.Parts.{Part}
-use Rattle.kr_trace_parts.proofs.Stopping.{stops_more, word_stops, stops_silent}
+use Rattle.kr_trace_parts.proofs.Stopping.{stops_more}
 use Rattle.kr_cli_trace.specs.Program.{Answers, AnswersAsked, Explains, Holds, Tells, TellsTrace}
 use Rattle.kr_cli_trace.specs.Words.{AskNoTrace, IsAsked, words_of}
 use Rattle.kr_cli_trace.specs.declared.words.Asked.{Asked}
@@ -33,12 +28,6 @@ trace_stopped P may_name may_give trace old new (Ok read) found h = tt
 trace_stopped P may_name may_give trace old new (Err e) found h =
     stops_more (IsStopped P may_give trace old new) (TellsTrace P may_name trace old new) e
     (λ line s. inr (record { front = s.front; faultless = s.faultless; well = s.well; written = s.written; tells = tells_named may_name may_give trace found trace s.front line s.tells })) h
-
--- What is asked of a table that a word names.
-pub table_held : (may_give : List ℕ → Option (List ℕ) → Type 0) (table : List ℕ) (t : AnyTable) (Held : AnyTable → Bool → Type 0) (r : Result Bool Ending)
-    → NamesTable may_give table t → IsLawful (table_of t) → IfOk r (Held t) → IfOk r (λ well. (u : AnyTable) × (NamesTable may_give table u × (IsLawful (table_of u) × Held u well)))
-table_held may_give table t Held (Ok well) names lawful h = (t, (names, (lawful, h)))
-table_held may_give table t Held (Err e) names lawful h = tt
 
 pub if_err_more : (r : Result Bool Ending) (A B : List ℕ → Type 0) → ((line : List ℕ) → A line → B line) → IfErr r (StopsSo A) → IfErr r (StopsSo B)
 if_err_more (Ok well) A B by h = tt

@@ -1,10 +1,12 @@
 -- One part as a text, and one more line of it.
-use Rattle.std.specs.Prelude.{◌≡◌, ◌++◌, ◌∷◌, [], ℕ, List, Option, length, map, refl}
-use Rattle.std.proofs.Common.{◌∙◌, ap, append_assoc, arith, sym}
+use Rattle.std.specs.Prelude.{◌≡◌, ◌++◌, ◌∷◌, [], ℕ, List, Option, Some, length, map, refl}
+use Rattle.std.proofs.Common.{◌∙◌, ap, ap₂, append_assoc, arith, sym}
 use Rattle.std.proofs.lemmas.List.{map-append}
 use Rattle.kr_model.specs.declared.Event.{Event}
 use Rattle.kr_model.specs.Map.{Map}
 use Rattle.kr_model.specs.Protocol.{Protocol}
+use Rattle.kr_ghost.specs.Protocol.{GhostProtocol}
+use Rattle.kr_ghost_follow.specs.Stands.{Follows, HasFollowed}
 use Rattle.kr_trace_lines.specs.declared.deviation.Deviation.{Deviation}
 use Rattle.kr_trace_lines.specs.declared.observed.Observed.{Observed}
 use Rattle.kr_trace_follow.specs.Following.{Following, begun, next}
@@ -13,7 +15,7 @@ use Rattle.kr_trace_lines.specs.declared.verdict.TraceVerdict.{TraceVerdict}
 use Rattle.kr_trace_text.specs.declared.steps.LoggedStep.{LoggedStep}
 use Rattle.kr_trace_text.specs.Verdicts.{verdict_words}
 use Rattle.kr_trace_text.specs.Whole.{part_words}
-use Rattle.kr_cli_trace.specs.OnePart.{IsWatched, line_of, logged, shown_text}
+use Rattle.kr_cli_trace.specs.OnePart.{IsWatched, IsWatchedGhosts, cut_words, left_out_words, line_of, logged, shown_text}
 use Rattle.kr_trace_parts.specs.Parts.{Part, with_step}
 use Rattle.kr_trace_parts.proofs.FollowLaws.{lines_more}
 
@@ -57,3 +59,23 @@ text_shown names n s d v part broken whole verdict is_part is_broken is_whole is
     ∙ append_assoc (part_words names n s.opening (map logged s.steps) d ++ 10 ∷ []) verdict (10 ∷ [])
     ∙ append_assoc (part_words names n s.opening (map logged s.steps) d) (10 ∷ []) (verdict ++ 10 ∷ [])
     ∙ ap (λ (z : List ℕ). part_words names n s.opening (map logged s.steps) d ++ 10 ∷ (z ++ 10 ∷ [])) is_verdict
+
+-- A text with the sentence below it that states were left out.
+pub cut_shown : (text longer : List ℕ) (found : Option Deviation) (cut : Option ℕ) (d : Deviation) (line : ℕ) → found ≡ Some d → cut ≡ Some line → longer ≡ text ++ 10 ∷ left_out_words line
+    → longer ++ 10 ∷ [] ≡ (text ++ 10 ∷ []) ++ cut_words found cut
+cut_shown text longer found cut d line found_is cut_is is =
+    ap (λ (z : List ℕ). z ++ 10 ∷ []) is ∙ append_assoc text (10 ∷ left_out_words line) (10 ∷ []) ∙ sym (append_assoc text (10 ∷ []) (left_out_words line ++ 10 ∷ []))
+    ∙ ap₂ (λ (f : Option Deviation) (o : Option ℕ). (text ++ 10 ∷ []) ++ cut_words f o) (sym found_is) (sym cut_is)
+
+-- One more step is followed under a table with ghosts, and kept.
+pub step_watched_ghosts : {P : Type 0} (ghosts : P → GhostProtocol) (q : P) (s : Part) (n : ℕ) (e : Event) (o : Observed) (at new : Follows P) (d later : Option Deviation) (opening : Map) (steps more : List LoggedStep)
+    → IsWatchedGhosts ghosts q s at d opening steps → HasFollowed ghosts q s.opening (s.steps ++ record { number = n; event = e; observed = o } ∷ []) new → later ≡ new.found
+    → more ≡ steps ++ record { number = n; event = e; observed = o } ∷ [] → IsWatchedGhosts ghosts q (with_step n e o s) new later opening more
+step_watched_ghosts ghosts q s n e o at new d later opening steps more h is found_is kept =
+    let line : Line = record { number = n; event = e; observed = o } in
+    record {
+      followed = is;
+      deviates = found_is;
+      opens = h.opens;
+      keeps = kept ∙ ap (λ (ls : List LoggedStep). ls ++ logged line ∷ []) h.keeps ∙ sym (map-append logged s.steps (line ∷ []));
+    }

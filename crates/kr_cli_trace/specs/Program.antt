@@ -1,19 +1,14 @@
 -- What the program writes of the trace that a word names, what it answers, and why it ends before it is through.
 use Rattle.std.specs.Prelude.{◌≡◌, ◌⊎◌, ◌<◌, ◌≤◌, ℕ, Bool, List, ◌++◌, Option, Some, None, codes, decimal, string_bytes}
-use Rattle.kr_model.specs.Protocol.{IsLawful}
 use Rattle.kr_cli.specs.declared.endings.Ending.{Ending}
 use Rattle.kr_cli.specs.declared.endings.Ending.TheVariants.{NotUnderstood, Memory, Place, Output, Told}
-use Rattle.kr_cli.specs.declared.tables.AnyTable.{AnyTable}
 use Rattle.kr_cli.specs.Lines.{told_line, unreadable_line}
-use Rattle.kr_cli.specs.Named.{NamesTable}
-use Rattle.kr_cli.specs.Tables.{names_of, table_of}
-use Rattle.kr_cli.specs.NamedTables.{Names, NamesGhosts, TellsNone}
+use Rattle.kr_cli.specs.NamedTables.{Names, TellsNone}
 use Rattle.kr_cli.specs.declared.named.Named.{Named}
-use Rattle.kr_cli.specs.declared.ghost_tables.AnyGhostTable.{AnyGhostTable}
 use Rattle.kr_trace_parts.specs.Endings.{IsStopped, IsThrough}
 use Rattle.kr_trace_parts.specs.Parts.{Part}
-use Rattle.kr_cli_trace.specs.Ghosts.{IsLawfulNamed, question_of, untold_text}
-use Rattle.kr_cli_trace.specs.Printed.{IsPrinted, in_commit_order, in_some_order, one_part}
+use Rattle.kr_cli_trace.specs.Ghosts.{IsLawfulNamed, part_of, question_of}
+use Rattle.kr_cli_trace.specs.Printed.{IsPrinted, in_commit_order, in_some_order}
 use Rattle.kr_cli_trace.specs.Words.{AskNoTrace, IsAsked, words_of}
 use Rattle.kr_cli_trace.specs.declared.words.Asked.{Asked}
 use Rattle.kr_cli_trace.specs.declared.words.Asked.TheVariants as asked
@@ -31,7 +26,7 @@ abbrev pub Answers : (List ℕ → Option (List ℕ) → Type 0) → (List ℕ �
 Answers may_give may_name (asked.Both table trace) old new well =
     (t : Named) × (Names may_give table.now t × (IsLawfulNamed t × ((parts : ℕ) × Holds (IsPrinted (question_of t)) may_name trace.now old new parts well)))
 Answers may_give may_name (asked.OnePart table trace n) old new well =
-    (t : AnyTable) × (NamesTable may_give table.now t × (IsLawful (table_of t) × ((parts : ℕ) × ((n ≤ parts) × Holds (IsPrinted (one_part (table_of t) (names_of t) n)) may_name trace.now old new parts well))))
+    (t : Named) × (Names may_give table.now t × (IsLawfulNamed t × ((parts : ℕ) × ((n ≤ parts) × Holds (IsPrinted (part_of t n)) may_name trace.now old new parts well))))
 Answers may_give may_name (asked.Serial trace) old new well = (parts : ℕ) × Holds (IsPrinted in_commit_order) may_name trace.now old new parts well
 Answers may_give may_name (asked.SomeOrder trace) old new well = (parts : ℕ) × Holds (IsPrinted in_some_order) may_name trace.now old new parts well
 
@@ -61,8 +56,7 @@ Tells may_give may_name (asked.Both table trace) old new told =
     ⊎ ((t : Named) × (Names may_give table.now t × TellsTrace (IsPrinted (question_of t)) may_name trace.now old new told))
 Tells may_give may_name (asked.OnePart table trace n) old new told =
     (TellsNone may_give table.now told × (new ≡ old))
-    ⊎ (((t : AnyTable) × (NamesTable may_give table.now t × TellsOnePart (IsPrinted (one_part (table_of t) (names_of t) n)) may_name trace.now n old new told))
-    ⊎ ((t : AnyGhostTable) × (NamesGhosts may_give table.now t × ((told ≡ told_line table.now untold_text) × (new ≡ old)))))
+    ⊎ ((t : Named) × (Names may_give table.now t × TellsOnePart (IsPrinted (part_of t n)) may_name trace.now n old new told))
 Tells may_give may_name (asked.Serial trace) old new told = TellsTrace (IsPrinted in_commit_order) may_name trace.now old new told
 Tells may_give may_name (asked.SomeOrder trace) old new told = TellsTrace (IsPrinted in_some_order) may_name trace.now old new told
 

@@ -2,8 +2,10 @@
 #![tactic(auto)]
 
 mod ghosts;
+mod one_ghost_part;
 mod one_part;
 mod program;
+mod texts;
 mod words;
 
 pub use program::trace;

@@ -1,22 +1,20 @@
-//! One part of a trace as a text.
-ghost use Rattle.std.specs.Prelude.{◌≡◌, ℕ, List, [], Some, IfOk, IfSome, OnOk, map};
-ghost use Rattle.kr_model.specs.Map.{Map, IsMap};
+//! One part of a trace as a text, held against a table without ghosts.
+ghost use Rattle.std.specs.Prelude.{◌≡◌, ℕ, List, Some, IfOk, IfSome, OnOk};
+ghost use Rattle.kr_model.specs.Map.{IsMap};
 ghost use Rattle.kr_model.specs.Protocol.{Protocol as TableOf};
-ghost use Rattle.kr_trace_parts.specs.Committed.{IsVerdict};
-ghost use Rattle.kr_trace_parts.specs.Judged.{AreJudged};
-ghost use Rattle.kr_cli_trace.specs.OnePart.{IsKeptIfAsked, IsWatched, line_of, logged};
+ghost use Rattle.kr_cli_trace.specs.OnePart.{IsKeptIfAsked, IsWatched};
 ghost use Rattle.kr_trace_parts.specs.Parts as spec;
 ghost use Rattle.kr_trace_parts.specs.Parts.{begun, with_step};
-ghost use Rattle.kr_trace_parts.specs.Printed.{deviation_in, printed};
+ghost use Rattle.kr_trace_parts.specs.Printed.{printed};
 ghost use Rattle.kr_cli_trace.specs.Printed.{IsPrinted, one_part};
-ghost use Rattle.kr_trace_parts.specs.Tales.{committed_in};
 
+use crate::texts::text_of;
 use kr_model::{Event, Memory, Pairs, Txns};
 use kr_protocol::Protocol;
 use kr_trace_follow::{Follower, lines_are_followed};
-use kr_trace_lines::{Deviation, Observed, TraceVerdict};
-use kr_trace_parts::{Asks, Judging, Part, is_well, verdict_of};
-use kr_trace_text::{LoggedStep, part_text, verdict_text};
+use kr_trace_lines::{Deviation, Observed};
+use kr_trace_parts::{Asks, Part};
+use kr_trace_text::LoggedStep;
 use std::alloc::Global;
 
 /// Asks for one part as a text, held against a table. Nothing is printed of the others.
@@ -90,59 +88,6 @@ impl<'a, P: Protocol> Watched<'a, P> {
         lines_are_followed();
         text_of(alloc, protocol, part, &found, opening.as_slice(), steps)
     }
-}
-
-/// The text of a part of which this is the first line that deviates, and whether all is well with it.
-fn text_of<P: Protocol>(
-    alloc: Global,
-    protocol: &P,
-    part: u64,
-    found: &Option<Deviation>,
-    opening: &[(u64, u64)],
-    steps: Vec<LoggedStep>,
-) -> Result<(String, bool), Memory>
-    requires { IsMap opening.now }
-    ensures { (s : spec.Part) → found.now ≡ deviation_in (P.table protocol.now) s → opening.now ≡ s.opening → steps.items ≡ map logged s.steps
-        → IfOk result (λ end. IsPrinted (one_part (P.table protocol.now) (P.names protocol.now) part) part s (printed (Some end.0)) end.1) }
-{
-    let mut text = part_text(
-        alloc,
-        protocol,
-        part,
-        opening,
-        steps.as_slice(),
-        found.as_ref(),
-    )?;
-    let verdict = judged(alloc, opening, steps)?;
-    let sentence = verdict_text(alloc, &verdict)?;
-    text.push_str("\n")?;
-    text.push_str(sentence.as_str())?;
-    Ok((text, is_well(found, &verdict)))
-}
-
-/// Whether the committed answers of the steps are serializable in commit order.
-fn judged(
-    alloc: Global,
-    opening: &[(u64, u64)],
-    steps: Vec<LoggedStep>,
-) -> Result<TraceVerdict, Memory>
-    requires { IsMap opening.now }
-    ensures { IfOk result (IsVerdict opening.now (committed_in (map line_of steps.items))) }
-{
-    let mut judging = Judging::new(alloc, opening)?;
-    take_all(alloc, &mut judging, steps)?;
-    Ok(verdict_of(judging.found))
-}
-
-/// Judges the steps, of which none was judged before.
-fn take_all(alloc: Global, judging: &mut Judging, steps: Vec<LoggedStep>) -> Result<(), Memory>
-    ensures { (opening : Map) → AreJudged opening [] judging.old.tales judging.old.judge.map judging.old.found
-        → OnOk result (AreJudged opening (map line_of steps.items) judging.new.tales judging.new.judge.map judging.new.found) }
-{
-    for step in steps {
-        judging.take(alloc, step.event, step.observed)?;
-    }
-    Ok(())
 }
 
 impl<'a, P: Protocol> Asks for OnePart<'a, P> {

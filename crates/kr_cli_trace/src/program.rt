@@ -6,19 +6,18 @@ ghost use Rattle.kr_cli.specs.Endings.{MemoryOrTold, is_output};
 ghost use Rattle.kr_cli.specs.Lines.{told_line};
 ghost use Rattle.kr_cli.specs.declared.endings.Ending.{Ending};
 ghost use Rattle.kr_cli.specs.declared.endings.Ending.TheVariants as ending;
-ghost use Rattle.kr_cli.specs.Tables.{names_of, table_of};
-ghost use Rattle.kr_model.specs.Protocol.{IsLawful};
 ghost use Rattle.kr_trace_parts.specs.Endings.{StopsSo};
-ghost use Rattle.kr_cli_trace.specs.Ghosts.{question_of};
-ghost use Rattle.kr_cli_trace.specs.Printed.{IsPrinted, one_part};
+ghost use Rattle.kr_cli_trace.specs.Ghosts.{part_of, question_of};
+ghost use Rattle.kr_cli_trace.specs.Printed.{IsPrinted};
 ghost use Rattle.kr_cli_trace.specs.declared.words.Asked.TheVariants as asked;
 ghost use Rattle.kr_cli_trace.specs.Program.{Answers, AnswersAsked, Explains, Holds, Tells, TellsOnePart, TellsTrace, no_part_text};
 ghost use Rattle.kr_cli_trace.specs.Words.{AskNoTrace};
 
 use crate::ghosts::AgainstGhosts;
+use crate::one_ghost_part::OneGhostPart;
 use crate::one_part::OnePart;
 use crate::words::{Asked, read_words};
-use kr_cli::{AnyTable, Ending, FileFault, Files, Named, lemma_lawful, unreadable};
+use kr_cli::{Ending, FileFault, Files, Named, unreadable};
 use kr_cli_diagnosis::named_with_help;
 use kr_sink::Sink;
 use kr_trace_parts::{Against, Asks, InCommitOrder, InSomeOrder, Traces, read_trace};
@@ -151,35 +150,33 @@ fn print_part<F: Files + Traces, W: Sink>(
 {
     let (word, trace) = words;
     let table = named_with_help(alloc, word, files, help)?;
-    match table {
-        Named::Table(table) => print_part_of(alloc, &table, trace, number, files, out),
-        Named::Ghosts(_) => Err(Ending::told(alloc, word, UNTOLD)),
-    }
+    print_part_of(alloc, &table, trace, number, files, out)
 }
 
-/// What is told of a table with ghosts where one part is asked for as a text.
-const UNTOLD: &str = "--tell takes no table with ghosts yet";
-
-/// Prints the part of this number as a text, of the trace that a word names, held against a table without ghosts.
+/// Prints the part of this number as a text, of the trace that a word names, held against a table, with ghosts or without.
 fn print_part_of<F: Traces, W: Sink>(
     alloc: Global,
-    table: &AnyTable,
+    table: &Named,
     trace: &str,
     number: usize,
     files: &F,
     out: &mut W,
 ) -> Result<bool, Ending>
-    ensures lawful { IsLawful (table_of table.now) }
-    ensures holds { IfOk result (λ well. (parts : ℕ) × ((number ≤ parts) × Holds (IsPrinted (one_part (table_of table.now) (names_of table.now) number)) (F.may_name files.now) trace.now (W.taken out.old) (W.taken out.new) parts well)) }
-    ensures err { IfErr result (StopsSo (TellsOnePart (IsPrinted (one_part (table_of table.now) (names_of table.now) number)) (F.may_name files.now) trace.now number (W.taken out.old) (W.taken out.new))) }
+    ensures holds { IfOk result (λ well. (parts : ℕ) × ((number ≤ parts) × Holds (IsPrinted (part_of table.now number)) (F.may_name files.now) trace.now (W.taken out.old) (W.taken out.new) parts well)) }
+    ensures err { IfErr result (StopsSo (TellsOnePart (IsPrinted (part_of table.now number)) (F.may_name files.now) trace.now number (W.taken out.old) (W.taken out.new))) }
     ensures cause { IfErr result (λ e. IsTrue (is_output e) → HasCause (W.failures out.old) (W.failures out.new)) }
 {
-    lemma_lawful(table);
-    let asks = OnePart {
-        protocol: table,
-        asked: number as u64,
-    };
-    read_one(alloc, files, trace, number, &asks, out)
+    let asked = number as u64;
+    match table {
+        Named::Table(protocol) => {
+            let asks = OnePart { protocol, asked };
+            read_one(alloc, files, trace, number, &asks, out)
+        }
+        Named::Ghosts(protocol) => {
+            let asks = OneGhostPart { protocol, asked };
+            read_one(alloc, files, trace, number, &asks, out)
+        }
+    }
 }
 
 /// Prints what the words ask of a trace, and answers whether all is well with each of its parts. `help` gets what helps where a

@@ -4,7 +4,7 @@ use Rattle.std.specs.Vec.Iter.{into_iter_items, into_iter_len}
 use Rattle.kr_model.specs.Map.{Map}
 use Rattle.kr_trace_parts.specs.Judged.{AreJudged}
 use Rattle.kr_cli_trace.specs.OnePart.{line_of}
-use Rattle.kr_cli_trace.proofs.one_part.take_all.Given as goal
+use Rattle.kr_cli_trace.proofs.texts.take_all.Given as goal
 
 abbrev pub invariant-loop-step : goal.invariant-loop-step
 invariant-loop-step l = record {

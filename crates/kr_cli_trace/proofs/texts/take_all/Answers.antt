@@ -6,7 +6,7 @@ use Rattle.kr_trace_text.specs.declared.steps.LoggedStep.{LoggedStep}
 use Rattle.kr_trace_parts.specs.Judged.{AreJudged}
 use Rattle.kr_cli_trace.specs.OnePart.{line_of}
 use Rattle.kr_cli_trace.proofs.OnePartLaws.{nothing_left}
-use Rattle.kr_cli_trace.proofs.one_part.take_all.Goals as goal
+use Rattle.kr_cli_trace.proofs.texts.take_all.Goals as goal
 
 pub loop-step-preserved : goal.loop-step-preserved
 loop-step-preserved c =

@@ -1,7 +1,7 @@
 use Rattle.std.proofs.Common.{map}
 use Rattle.kr_cli_trace.specs.OnePart.{line_of}
 use Rattle.kr_trace_parts.specs.Tales.{committed_in}
-use Rattle.kr_cli_trace.proofs.one_part.judged.Goals as goal
+use Rattle.kr_cli_trace.proofs.texts.judged.Goals as goal
 
 pub returns : goal.returns
 returns c =
