@@ -4,7 +4,7 @@ use kr_ghost_index::GhostIndex;
 use kr_ghost_machine::GhostStepper;
 use kr_ghost_protocol::{GhostProtocol, RecordGap};
 use kr_locks::{Buckets, Holdings, List, Memory, Txn};
-use kr_model::{Op, Refusal};
+use kr_model::{Name, Op, Refusal};
 use kr_test_support::Answer;
 use std::process::Abort;
 use std::test::Fail;
@@ -73,5 +73,8 @@ fn a_copy_goes_on_by_itself(rt: HostRuntime) -> Result<(), Fail> {
     assert!(rt; copy.purge(25)?);
     shows(&rt, &machine, &[(20, 2), (25, 5), (30, 3)], &[], &[2, 3], 2)?;
     shows(&rt, &copy, &[(20, 2), (30, 3)], &[10], &[], 0)?;
+    assert!(rt; machine.name_from(5) == Name::Key(20));
+    assert!(rt; copy.name_from(5) == Name::Key(10));
+    assert!(rt; copy.name_from(31) == Name::End);
     Ok(())
 }
