@@ -23,9 +23,9 @@ SIZES = [10_000, 100_000]
 RUNS = 7
 
 
-def run(script):
-    """The processor time in seconds and the peak memory in KiB of one run, which is serial."""
-    child = subprocess.Popen([KR, "run", "@kvl", script], stdout=subprocess.DEVNULL)
+def run(script, table="@kvl"):
+    """The processor time in seconds and the peak memory in KiB of one run under a table, which is serial."""
+    child = subprocess.Popen([KR, "run", table, script], stdout=subprocess.DEVNULL)
     _, status, used = os.wait4(child.pid, 0)
     child.returncode = os.waitstatus_to_exitcode(status)
     if child.returncode != 0:
@@ -33,11 +33,17 @@ def run(script):
     return used.ru_utime + used.ru_stime, used.ru_maxrss
 
 
-def measure(kind, steps, folder):
-    """The least time and the greatest memory of the runs on the script of this kind and size."""
+def made(kind, steps, folder):
+    """The file of the script of this kind and size."""
     script = os.path.join(folder, f"{kind}-{steps}.json")
     with open(script, "w") as file:
         subprocess.run([sys.executable, SCRIPTS, kind, str(steps)], stdout=file, check=True)
+    return script
+
+
+def measure(kind, steps, folder):
+    """The least time and the greatest memory of the runs on the script of this kind and size."""
+    script = made(kind, steps, folder)
     runs = [run(script) for _ in range(RUNS)]
     return min(time for time, _ in runs), max(memory for _, memory in runs)
 
@@ -51,4 +57,5 @@ def main(kinds):
             print(f"| `{kind}` | {short * 1e3:.1f} | {long * 1e3:.0f} | {growth:.2f} | {memory / 1024:.1f} |", flush=True)
 
 
-main(sys.argv[1:])
+if __name__ == "__main__":
+    main(sys.argv[1:])

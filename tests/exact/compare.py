@@ -2,13 +2,14 @@
 """Holds that kr's decision is exact on the tables of corpus.py: what `kr check` and `kr explain` say of each is compared
 with condition.py, and for each table that is rejected a schedule has to go wrong.
 
-    compare.py KR [--count N | --all]   N tables spread over the kinds, 100 if nothing is said, or all
-    compare.py --self [N]               condition.py beside walks.py and schedules.py, on so many tables
+    compare.py KR [--count N | --all | --fixes N]   N tables spread over the kinds, 100 if nothing is said, or all
+    compare.py --self [N]                           condition.py beside walks.py and schedules.py, on so many tables
 
 Prints a line for each kind: how many tables, which of them `kr check` accepts and rejects, how many of those that are
 rejected are safe, and how many have a schedule; `undecided` are those that aren't safe and have none. A contradiction is
 whatever kr says otherwise than condition.py, and a schedule that doesn't go wrong, or of which a step is blocked
-or refused; each is printed with the table. Status 1 where there is one, or one that is undecided.
+or refused; each is printed with the table. Status 1 where there is one, or one that is undecided. With --fixes another is a fix
+that does something else than `kr explain` says, or is left out of those of its entry (mends.py).
 
 With `--self` kr is not run. A schedule is then what schedules.py makes, which the runner of tests/second runs, and what
 a search by random walks finds is counted beside it. A contradiction is also a wrong run under a table that is safe."""
@@ -25,9 +26,12 @@ import sys
 import tempfile
 
 sys.dont_write_bytecode = True
+sys.path.append(str(pathlib.Path(__file__).resolve().parents[1] / 'suite'))
 
 import corpus
 from condition import is_safe
+from fixes import NoText
+from mends import WrongFix, hold_fixes
 from replay import granted
 from schedules import schedule
 from table import Table
@@ -49,8 +53,8 @@ def expect(holds, what):
 
 
 class Program:
-    def __init__(self, program):
-        self.program = str(pathlib.Path(program).resolve())
+    def __init__(self, program, with_fixes=False):
+        self.program, self.with_fixes = str(pathlib.Path(program).resolve()), with_fixes
 
     def decide(self, entry):
         """Which columns the table counts in."""
@@ -77,6 +81,8 @@ class Program:
         is_open = wanted == 'rejected' and first == OPEN  # no schedule is known
         expect(is_open or first == wanted, f'{wanted}, and explained as {first}')
         expect(status == FIRST_WORDS[wanted], f'{wanted}, and status {status}')
+        if self.with_fixes:
+            self.expect_fixes(table, text)
         if is_accepted or safe:
             return ['accepted'] if is_accepted else ['rejected', 'safe']
         script = None if is_open else self.script(folder, text)
@@ -84,6 +90,13 @@ class Program:
             return ['rejected', 'undecided']
         self.expect_wrong(folder, script)
         return ['rejected', 'with a schedule']
+
+    @staticmethod
+    def expect_fixes(table, text):
+        try:
+            hold_fixes(table, text)
+        except (NoText, WrongFix) as it:
+            raise Contradiction(str(it)) from it
 
     def script(self, folder, text):
         """The script of the first cause that has one."""
@@ -155,12 +168,14 @@ def main(*words):
             entries = every
         case [program, '--count', count]:
             entries = corpus.sample(int(count))
+        case [program, '--fixes', count]:
+            entries = corpus.sample(int(count))
         case [program]:
             entries = corpus.sample(100)
         case _:
             sys.exit(__doc__)
     with concurrent.futures.ProcessPoolExecutor(workers) as pool:
-        return 0 if compare(Program(program).decide, entries, pool) else 1
+        return 0 if compare(Program(program, '--fixes' in words).decide, entries, pool) else 1
 
 
 if __name__ == '__main__':

@@ -83,10 +83,14 @@ def text_of(rng, table, names):
     return '\n'.join(lines) + '\n'
 
 
+def names_in(file):
+    """The names of a table's modes."""
+    return ['none', *tomllib.loads(file.read_text())['modes']]
+
+
 def read(file):
     """The table of a file of format 3 without faults."""
-    document = tomllib.loads(file.read_text())
-    names = ['none', *document['modes']]
+    document, names = tomllib.loads(file.read_text()), names_in(file)
     number, every = {it: at for at, it in enumerate(names)}, range(len(names))
     ok = [[not q or not h or names[h] in document['compatible'][names[q]] for h in every] for q in every]
     convert = [[h or q if not h or not q else number[document['convert'][names[h]][names[q]]] for q in every] for h in every]
@@ -118,7 +122,7 @@ def main():
     rng, counts, folder = random.Random(seed), collections.Counter(), pathlib.Path(tempfile.mkdtemp())
     for word, make in BUNDLED.items():
         file = TOP / f'tables/ghosts/{word[1:]}.toml'
-        names = ['none', *tomllib.loads(file.read_text())['modes']]
+        names = names_in(file)
         report = check_report(make(), names)
         if differs(program, folder, word, report) or differs(program, folder, str(file), report):
             return 1

@@ -4,7 +4,11 @@ bundled ones and others, written as files of format 3. It has to call each accep
 that aren't safe it has to print the script of a schedule, under which `kr judge` has to find the table not serial, but for one in
 fifty, of which it may find none.
 
-    explains.py KR [SEED [TABLES]]
+    explains.py KR [SEED [TABLES]] [--fixes]
+
+With --fixes the causes have to be those of causes.py, each with the changes of its entry that fix it: those modes of one entry and
+span with which by the second form the table is accepted, and those with which it is safe; or where there are none those with which
+the cause's cases hold, and no case fails that held; all of them, and no other.
 
 Status 1 where something differs, and then the folder that is printed has the table."""
 
@@ -18,8 +22,11 @@ import tempfile
 
 sys.dont_write_bytecode = True
 
+from causes import Blames, groups_of, outcome, tried_for
 from checks import names_of, text_of
 from compare import some_table
+from fixes import Edit, NoText, causes_of, edit_of
+from holding import Wrong, expect
 from model import failed_cases, is_safe
 
 
@@ -35,9 +42,52 @@ def ran(folder, *words):
     return subprocess.run([*map(str, words)], cwd=folder, capture_output=True, text=True)
 
 
-def differs(program, folder, table, counts):
+def best(found, is_wish):
+    """What is told of the values of an entry, each of which brings this about: the first alone, where no fix is needed."""
+    lists = {it: {value for value in found if found[value] == it} for it in ('accepted', 'safe', 'mended')}
+    some = [it for it in ('accepted', 'safe') if lists[it]] or [it for it in ['mended'] if lists[it]]
+    return [(it, lists[it]) for it in (some[:1] if is_wish else some)]
+
+
+def hold_cause(table, names, failed, told, blame, cases, counts):
+    """Holds the fixes that are told of a cause."""
+    edits = [edit_of(words, names) for words, _ in told.fixes]
+    tried = tried_for(blame, cases, table)
+    if edits:
+        kind, entry = edits[0].kind, edits[0].entry
+        expect(all((it.kind, it.entry) == (kind, entry) for it in edits), f'fixes of several entries: {told.fixes}')
+        same = entry[:2] == tried.entry[:2] if kind == 'request' else kind == 'heir' or entry == tried.entry
+        expect(kind == tried.kind and same, f'{told.fixes} is not of what {blame} blames')
+        tried = Edit(kind, entry, tried.values)
+    found = {value: outcome(table, failed, cases, tried, value) for value in tried.values}
+    claimed = [(claim, {*edit.values}) for edit, (_, claim) in zip(edits, told.fixes)]
+    wanted = best(found, told.is_wish)
+    expect(claimed == wanted or None in found.values(), f'{tried} gives {wanted}, and {told} is told of it')
+    counts.update(f'causes with a fix: {claim}' for claim, _ in claimed or [('none', 0)])
+
+
+def hold_fixes(table, names, text, counts):
+    """Holds the fixes that are told of a table of which cases fail."""
+    causes, told = Blames(table).causes(), causes_of(text)
+    groups = [groups_of(it) for it in causes.values()]
+    expect(groups == [it.groups for it in told], f'the causes are {groups}, and those told {[it.groups for it in told]}')
+    failed = failed_cases(table)[0]
+    for number, (one, (blame, cases)) in enumerate(zip(told, causes.items()), 1):
+        most = next((it.most for it in told if it.most is not None), len(told))
+        expect((one.most is None) == (number <= most), f'fixes of cause {number} of {len(told)}')
+        if one.most is None:
+            hold_cause(table, names, failed, one, blame, cases, counts)
+
+
+def differs(program, folder, table, names, counts, with_fixes):
     word, status = verdict(table)
     told = ran(folder, program, 'explain', 't.toml')
+    if with_fixes and word != 'accepted':
+        try:
+            hold_fixes(table, names, told.stdout, counts)
+        except (NoText, Wrong) as it:
+            print(f'ghosts: {folder} has a table with other fixes: {it}')
+            return True
     if word == 'rejected' and told.returncode == 1 and told.stdout.startswith('not known to be safe:'):
         counts['without a schedule'] += 1
         return False
@@ -56,15 +106,17 @@ def differs(program, folder, table, counts):
 
 
 def main():
-    program = pathlib.Path(sys.argv[1]).resolve()
-    seed, tables = (int(it) for it in [*sys.argv[2:], *('1', '100')[len(sys.argv) - 2 :]])
+    words = [it for it in sys.argv[1:] if it != '--fixes']
+    program, with_fixes = pathlib.Path(words[0]).resolve(), '--fixes' in sys.argv
+    seed, tables = (int(it) for it in [*words[1:], *('1', '100')[len(words) - 1 :]])
     rng, counts, folder = random.Random(seed), collections.Counter(), pathlib.Path(tempfile.mkdtemp())
     for _ in range(tables):
         table = some_table(rng)
         table.updates = True  # format 3 always offers updates; the row may request nothing
-        (folder / 't.toml').write_text(text_of(rng, table, names_of(rng, table.count)))
+        names = names_of(rng, table.count)
+        (folder / 't.toml').write_text(text_of(rng, table, names))
         counts[verdict(table)[0] or 'undecided'] += 1
-        if differs(program, folder, table, counts):
+        if differs(program, folder, table, names, counts, with_fixes):
             return 1
     print(f'ghosts: {tables} tables; ' + ', '.join(f'{n} {it}' for it, n in sorted(counts.items())))
     shutil.rmtree(folder)

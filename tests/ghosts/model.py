@@ -328,6 +328,13 @@ def quiet(present, x):
 
 def is_safe(table, limit=30000):
     """Whether each lock blocks what it has to keep out, of any two lock states that two can have on one name; None past the limit."""
+    found = lock_states(table, limit)
+    return found if found is None else bool(found)
+
+
+def lock_states(table, limit=30000):
+    """Which lock states one can have on a name beside each that another has there, by whether the key is present; False where a lock
+    doesn't block what it has to keep out, None past the limit."""
     beside, todo, inherited = {}, [], set()
 
     def add(present, x, y):
@@ -382,4 +389,4 @@ def is_safe(table, limit=30000):
             for z in beside[present, x] & beside[present, y]:
                 if any(not table.conflicts(it, z[0], x[0]) and not table.conflicts(it, z[0], y[0]) for it, _ in alters(present, z)):
                     add(not present, x, y)
-    return True
+    return beside

@@ -27,10 +27,10 @@ TOP = pathlib.Path(__file__).resolve().parents[2]
 sys.path += [str(TOP / 'tests' / it) for it in ('engines', 'exact', 'second', 'suite')]
 
 from changes import changes_of, text_of
-from condition import Closure, is_safe
+from condition import is_safe
 from holding import Wrong, expect, file_of
 from program import built
-from relaxations import outcome, relaxations, spots, unused
+from relaxations import Reach, unused
 from samples import Draft
 from table import Table
 
@@ -70,7 +70,7 @@ def hold_script(table, changed, words, script, folder):
 
 def hold_list(table, text, folder):
     """Holds the list, and says how many relaxations it has, and how many of them a script."""
-    found, tail = relaxations(table), unused(table)
+    found, tail = Reach(table).relaxations(), unused(table)
     expect(text.endswith(tail), f'the entries that nothing uses are {tail}')
     text = text[: len(text) - len(tail)]
     expect((text == TIGHT) == (not found), 'said to be tight')
@@ -91,8 +91,8 @@ def hold_why(table, word, entry, folder):
     out, err, status = said_of(word, '--why', entry)
     reasons = REASON.findall(out)
     expect(not err and ''.join(it[0] for it in REASON.finditer(out)) == out, f'--why {entry}: {err}{out}')
-    met = spots(Closure(table))
-    found = [(it.name, outcome(table, it, met)) for it in changes]
+    reach = Reach(table)
+    found = [(it.name, reach.outcome(it)) for it in changes]
     expect([it[:2] for it in reasons] == found, f'--why {entry}: {reasons}; found: {found}')
     expect(status == any(what.startswith('a rel') for _, what in found), f'--why {entry}: status {status}')
     for changed, (_, _, script) in zip(changes, reasons):
@@ -106,7 +106,7 @@ def hold_tightest(table, word):
     expect(status in (0, 1) and not err, f'--write: status {status} {err}')
     tightest = Table(out)
     expect(tightest.names == table.names and tightest.updates == table.updates, '--write: other modes')
-    expect(is_safe(tightest) and (not relaxations(tightest)) == (status == 0), f'--write: not safe, or not tight as status {status} says')
+    expect(is_safe(tightest) and (not Reach(tightest).relaxations()) == (status == 0), f'--write: not safe, or not tight as status {status} says')
     return sum(tightest.ask(*it) != table.ask(*it) for it in places_of(table))
 
 

@@ -22,59 +22,74 @@ def spots(closure):
     return found
 
 
-def twins(old, new, met):
-    """Of each mode, which modes the same requests give under the new table, all granted by the old one."""
-    found = {0: {0}}
-    alone = [it[:3] for it in met if it[3] == 0]
-    grows = True
-    while grows:
-        grows = False
-        for place, own, above in alone:
-            mode = old.mode_after(own, old.ask(*place, given(place, own, above)))
-            there = [
-                new.mode_after(own2, new.ask(*place, given(place, own2, above2)))
-                for own2 in found.get(own, ())
-                for above2 in found.get(above, ())
-            ]
-            grows |= not found.setdefault(mode, set()).issuperset(there)
-            found[mode].update(there)
-    return found
+class Reach:
+    """What schedules come to under a table, and what other tables grant there."""
 
+    def __init__(self, table):
+        self.table, self.met = table, self.spots(table)
+        self.alone = {it[:3] for it in self.met if it[3] == 0}  # beside nobody's lock
 
-def is_blocked(table, place, own, above, held):
-    asked = table.ask(*place, given(place, own, above))
-    return asked is not None and not table.ok(table.convert(own, asked[0]), held)
+    def spots(self, table):
+        return spots(Closure(table))
 
+    def mode_then(self, table, place, own, above):
+        """The mode after a request that is granted."""
+        return table.mode_after(own, table.ask(*place, given(place, own, above)))
 
-def granted_more(old, new, met):
-    """How many requests beside locks the new table grants that the old one blocks; none (None) where it blocks more somewhere."""
-    twin = twins(old, new, met)
-    more = 0
-    for place, own, above, held in met:
-        before = is_blocked(old, place, own, above, held)
-        after = {is_blocked(new, place, a, n, h) for a in twin[own] for n in twin[above] for h in twin[held]}
-        if not before and True in after:
-            return None
-        more += before and False in after
-    return more
+    def is_blocked(self, table, place, own, above, held):
+        asked = table.ask(*place, given(place, own, above))
+        return asked is not None and not table.ok(table.convert(own, asked[0]), held)
 
+    def is_safe(self, table):
+        return Closure(table).is_safe()
 
-def outcome(table, change, met):
-    """What a change does, in the program's words."""
-    more = granted_more(table, change, met)
-    if more is None:
-        return 'blocks more somewhere'
-    if more == 0:
-        return 'lets nothing more through'
-    return f'a relaxation, more granted: {more}' if Closure(change).is_safe() else 'not safe'
+    def changes(self):
+        return changes_of(self.table)
 
+    def steps(self, new, found):
+        """Each mode to which a granted request leads, with those to which it leads under another table from the modes that were found
+        there."""
+        for place, own, above in self.alone:
+            there = [self.mode_then(new, place, own2, above2) for own2 in found.get(own, ()) for above2 in found.get(above, ())]
+            yield self.mode_then(self.table, place, own, above), there
 
-def relaxations(table):
-    """The relaxations, the widest first, and how much more each grants."""
-    met = spots(Closure(table))
-    found = [(granted_more(table, it, met), it) for it in changes_of(table)]
-    found = [(more, it) for more, it in found if more and Closure(it).is_safe()]
-    return sorted(found, key=lambda it: -it[0])
+    def twins(self, new):
+        """Of each mode, which modes the same requests give under the new table, all granted by the old one."""
+        found = {0: {0}}
+        grows = True
+        while grows:
+            grows = False
+            for mode, there in self.steps(new, found):
+                grows |= not found.setdefault(mode, set()).issuperset(there)
+                found[mode].update(there)
+        return found
+
+    def granted_more(self, new):
+        """How many requests beside locks the new table grants that the old one blocks; none (None) where it blocks more somewhere."""
+        twin = self.twins(new)
+        more = 0
+        for place, own, above, held in self.met:
+            before = self.is_blocked(self.table, place, own, above, held)
+            after = {self.is_blocked(new, place, a, n, h) for a in twin[own] for n in twin[above] for h in twin[held]}
+            if not before and True in after:
+                return None
+            more += before and False in after
+        return more
+
+    def outcome(self, change):
+        """What a change does, in the program's words."""
+        more = self.granted_more(change)
+        if more is None:
+            return 'blocks more somewhere'
+        if more == 0:
+            return 'lets nothing more through'
+        return f'a relaxation, more granted: {more}' if self.is_safe(change) else 'not safe'
+
+    def relaxations(self):
+        """The relaxations, the widest first, and how much more each grants."""
+        found = [(self.granted_more(it), it) for it in self.changes()]
+        found = [(more, it) for more, it in found if more and self.is_safe(it)]
+        return sorted(found, key=lambda it: -it[0])
 
 
 def unused(table):

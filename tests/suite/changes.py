@@ -3,6 +3,7 @@
 import copy
 import json
 
+from others import other_conversions, other_pairs, other_requests, place_of
 from table import NONE, SIDES, Table
 
 MOVING = ('insert', 'delete')  # the rows whose requests may go by the own mode on the next name
@@ -22,35 +23,19 @@ class Changed(Table):
         return asked if place in ((row, side, own_next), (row, side, None)) else self.base.ask(row, side, own_next)
 
 
-def word_of(table, asked):
-    return f'{table.names[asked[0]]} {asked[1]}' if asked else 'nothing'
-
-
-def requests(table, row, side, own):
-    """The changes of what a row requests at a side with an own mode, or with all of them (None)."""
-    now = table.ask(row, side, own or NONE)
-    place = f'{row} {side}' if own is None else f'{row} {side} own {table.names[own]}'
-    for asked in [None, *((mode, span) for mode in table.modes for span in ('instant', 'commit'))]:
-        if asked != now:
-            yield Changed(table, f'{place}: {word_of(table, asked)}', request=((row, side, own), asked))
-
-
 def changes_of(table):
     names = table.names
-    for q in table.modes:
-        for h in table.modes:
-            yield Changed(table, f'{names[q]} beside {names[h]}: {"no" if table.ok(q, h) else "yes"}', pair=(q, h))
-    for h in table.modes:
-        for q in table.modes:
-            for mode in table.modes:
-                if mode != table.convert(h, q):
-                    name = f'{names[h]} held, {names[q]} asked: {names[mode]}'
-                    yield Changed(table, name, conversion={(h, q): mode})
+    for pair, name in other_pairs(names, table.ok):
+        yield Changed(table, name, pair=pair)
+    for (h, q, mode), name in other_conversions(names, table.convert):
+        yield Changed(table, name, conversion={(h, q): mode})
     for row, sides in SIDES.items():
         if row != 'update' or table.updates:
             for side in sides:
                 for own in table.with_none if row in MOVING else [None]:
-                    yield from requests(table, row, side, own)
+                    now = table.ask(row, side, own or NONE)
+                    for asked, name in other_requests(names, place_of(names, row, side, own), now):
+                        yield Changed(table, name, request=((row, side, own), asked))
 
 
 def text_of(table):

@@ -15,183 +15,54 @@ alone. KR in the environment is the program, or else the built one is taken.
   the status is 1 where some are left, and else 0
 Prints a line for each table. Status 1 where something doesn't hold."""
 
-import argparse
-import json
 import pathlib
-import random
-import subprocess
 import sys
-import tempfile
 
 sys.dont_write_bytecode = True
 TOP = pathlib.Path(__file__).resolve().parents[2]
 sys.path += [str(TOP / 'tests' / it) for it in ('engines', 'second')]
 
 from changes import changes_of, text_of
-from holding import Wrong, expect, file_of
-from parts import parts_of
-from program import built
+from held import Held, main
+from holding import file_of
 from runner import Run
 from samples import Draft, Script
 from table import Table
 
-SUITES = TOP / 'examples' / 'suites'
-BESIDE = ('line: ', 'habit: ')  # what tests begin with that is no entry
-UNREACHED = '. No schedule comes to it.'
-WHYS = (UNREACHED, '. No reply differs.')  # behind an entry that is alike
 
+class Plain(Held):
+    """A table without ghosts."""
 
-def said_of(word, is_stored):
-    """The suite, what it leaves, and the status."""
-    if is_stored:
-        paths = [SUITES / f'{word[1:]}{end}' for end in ('.suite', '.left')]
-        return *(it.read_text().splitlines() for it in paths), None
-    ran = [subprocess.run([built(), 'suite', word, *it], capture_output=True, text=True) for it in ([], ['--left'])]
-    expect(all(it.returncode in (0, 1) and not it.stderr for it in ran), [it.stderr for it in ran])
-    expect(ran[0].returncode == ran[1].returncode, 'two statuses')
-    return *(it.stdout.splitlines() for it in ran), ran[0].returncode
+    def read(self, word):
+        return Table(file_of(word).read_text())
 
+    def changes(self):
+        return changes_of(self.table)
 
-def name_of(line):
-    """The entry of a line of --left; behind one that is alike there is why."""
-    kind, _, said = line.partition(': ')
-    if kind == 'left':
-        return said
-    whys = [it for it in WHYS if said.endswith(it)]
-    expect(len(whys) == 1, f'nothing says why in {line}')
-    name = said.removesuffix(whys[0])
-    expect(whys[0] != UNREACHED or ' beside ' in name or ' held, ' in name, f'schedules come to {name}')
-    return name
+    def replies(self, table, opening, steps):
+        run = Run(table, opening)
+        return [run.step(*step) for step in steps]
 
+    def text(self, table):
+        return text_of(table)
 
-def replies_of(table, opening, steps):
-    run = Run(table, opening)
-    return [run.step(*step) for step in steps]
+    def script(self, rand):
+        script = Script(rand, lambda opening: Run(self.table, opening), 2 if self.table.updates else 1)
+        return script.opening, script.steps, [reply for _, reply in script.run.history]
 
-
-def is_granted(reply):
-    return reply[0] not in ('blocked', 'refused')
-
-
-def differ_last(one, other):
-    """Whether replies are the same up to the last, where one grants and the other blocks."""
-    return one[:-1] == other[:-1] and 'refused' not in (one[-1][0], other[-1][0]) and is_granted(one[-1]) != is_granted(other[-1])
-
-
-class Held:
-    """A table with its suite."""
-
-    def __init__(self, word, suite, left, status):
-        self.word, self.table = word, Table(file_of(word).read_text())
-        self.parts, self.lines, self.status = parts_of(suite), left, status
-        self.changes = {it.name: it for it in changes_of(self.table)}
-        self.lists = {kind: [name_of(it) for it in left if it.startswith(f'{kind}: ')] for kind in ('alike', 'left')}
-
-    def hold(self, rand, scripts, with_runs):
-        for part in self.parts:
-            self.hold_part(part)
-            if with_runs:
-                self.hold_run(self.word, part, [reply for _, reply in part.lines])
-        told = self.told(with_runs)
-        self.hold_counts(told)
-        self.hold_alike(rand, scripts)
-        return f'{self.word}: {len(told)} told apart by {len(self.entries())} parts, {", ".join(f"{len(its)} {kind}" for kind, its in self.lists.items())}'
-
-    def entries(self):
-        return [it for it in self.parts if not it.tests[0].startswith(BESIDE)]
-
-    def hold_part(self, part):
-        keys = [key for key, _ in part.opening]
-        expect(keys == sorted({*keys}), f'the keys of {part.head} do not rise')
-        replies = [reply for _, reply in part.lines]
-        expect(replies == replies_of(self.table, part.opening, part.script['steps']), f'the replies of {part}')
-        expect(all(map(is_granted, replies[:-1])) and replies[-1][0] != 'refused', f'a step of {part} before the last is not granted')
-
-    def hold_run(self, word, part, replies):
-        """That `kr run` answers so, under the table that a word names."""
-        with tempfile.NamedTemporaryFile('w', suffix='.json') as file:
-            file.write(json.dumps(part.script))
-            file.flush()
-            out = subprocess.run([built(), 'run', word, file.name], capture_output=True, text=True).stdout
-        expect(out and json.loads(out)['replies'] == replies, f'kr run answers {part} otherwise under {word}')
-
-    def hold_changed_run(self, change, part, replies):
-        """That `kr run` answers so, under a changed table."""
-        with tempfile.NamedTemporaryFile('w', suffix='.toml') as file:
-            file.write(text_of(change))
-            file.flush()
-            self.hold_run(file.name, part, replies)
-
-    def told(self, with_runs):
-        """The names of the changes that parts tell apart."""
-        told = set()
-        for part in self.entries():
-            for name in part.tests:
-                expect(name in self.changes, f'no entry is {name}')
-                told.add(name)
-                steps, plain = part.script['steps'], [reply for _, reply in part.lines]
-                changed = replies_of(self.changes[name], part.opening, steps)
-                expect(differ_last(plain, changed), f'{part} does not tell {name} apart')
-                if with_runs:
-                    self.hold_changed_run(self.changes[name], part, changed)
-        return told
-
-    def hold_counts(self, told):
-        names = [*told, *self.lists['alike'], *self.lists['left']]
-        expect(sorted(names) == sorted(self.changes), 'not each entry with another value is told apart, alike or left, once')
-        steps, (alike, left) = sum(len(it.lines) for it in self.entries()), map(len, self.lists.values())
-        expect(
-            self.lines[-1]
-            == f'{len(names)} entries with another value: {len(told)} told apart by {len(self.entries())} parts of {steps} steps, '
-            f'{alike} alike, {left} left',
-            f'the last line is {self.lines[-1]}',
-        )
-        expect(len(self.lines) == alike + left + 1, 'another line')
-        expect(self.status in (None, 1 if left else 0), f'the status is {self.status}')
-
-    def hold_alike(self, rand, scripts):
-        tried = [(it.opening, it.script['steps'], [reply for _, reply in it.lines]) for it in self.parts]
-        for _ in range(scripts):
-            script = Script(rand, lambda opening: Run(self.table, opening), 2 if self.table.updates else 1)
-            tried.append((script.opening, script.steps, [reply for _, reply in script.run.history]))
-        for name in self.lists['alike']:
-            for opening, steps, replies in tried:
-                expect(replies_of(self.changes[name], opening, steps) == replies, f'{name} is not alike: {opening} {steps}')
-
-
-def random_tables(rand, count, folder):
-    """Files with random tables: bundled ones, some of whose entries are changed, and a few of any entries."""
-    texts = [it.read_text() for it in sorted((TOP / 'tables').glob('*.toml')) if it.name != 'range-key.toml']
-    for number in range(count):
-        draft = Draft.of_text(rand.choice(texts)) if rand.random() < 0.8 else Draft.random(rand, rand.choice([1, 2]))
-        for _ in range(rand.choice([0, 1, 2, 4])):
-            draft.change(rand)
-        path = folder / f'{number}.toml'
-        path.write_text(draft.text())
-        if len(draft.modes) <= 6:
-            yield str(path)
-
-
-def main():
-    words = argparse.ArgumentParser(description=__doc__, formatter_class=argparse.RawDescriptionHelpFormatter)
-    words.add_argument('tables', nargs='*', metavar='TABLE')
-    words.add_argument('--stored', action='store_true')
-    words.add_argument('--runs', action='store_true')
-    words.add_argument('--scripts', type=int, default=20)
-    words.add_argument('--random', type=int, default=0)
-    words.add_argument('--seed', type=int, default=1)
-    given = words.parse_args()
-    rand, failed = random.Random(given.seed), 0
-    with tempfile.TemporaryDirectory() as folder:
-        for word in [*given.tables, *random_tables(rand, given.random, pathlib.Path(folder))]:
-            try:
-                held = Held(word, *said_of(word, given.stored))
-                print('compare:', held.hold(rand, given.scripts, given.runs), flush=True)
-            except Wrong as it:
-                print(f'compare: {word}: {it}', file_of(word).read_text() if given.random else '', flush=True)
-                failed = 1
-    return failed
+    @staticmethod
+    def random(rand, count, folder):
+        """Files with random tables: bundled ones, some of whose entries are changed, and a few of any entries."""
+        texts = [it.read_text() for it in sorted((TOP / 'tables').glob('*.toml')) if it.name != 'range-key.toml']
+        for number in range(count):
+            draft = Draft.of_text(rand.choice(texts)) if rand.random() < 0.8 else Draft.random(rand, rand.choice([1, 2]))
+            for _ in range(rand.choice([0, 1, 2, 4])):
+                draft.change(rand)
+            path = folder / f'{number}.toml'
+            path.write_text(draft.text())
+            if len(draft.modes) <= 6:
+                yield str(path)
 
 
 if __name__ == '__main__':
-    sys.exit(main())
+    sys.exit(main(__doc__, Plain))

@@ -16,4 +16,6 @@ def expect(holds, said):
 
 def file_of(word):
     """The file of the table that a word names."""
-    return TOP / 'tables' / f'{word[1:]}.toml' if word.startswith('@') else pathlib.Path(word)
+    if not word.startswith('@'):
+        return pathlib.Path(word)
+    return next(it for it in (TOP / 'tables').glob(f'**/{word[1:]}.toml'))

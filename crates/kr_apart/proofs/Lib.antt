@@ -1,2 +1,3 @@
 pub mod ScriptParts
 mod Same
+mod SameKind

@@ -5,13 +5,17 @@ use Rattle.kr_model.specs.declared.Reply.{Reply}
 use Rattle.kr_model.specs.declared.Reply.TheVariants as reply
 use Rattle.kr_model.specs.Protocol.{Protocol}
 use Rattle.kr_model.specs.Locks.{Locks}
-use Rattle.kr_model.specs.State.{State, start}
-use Rattle.kr_model.specs.Step.{Outcome, step}
 use Rattle.kr_model.specs.Map.{Map, IsMap}
-use Rattle.kr_model.specs.Run.{run, replies_of, is_granted}
-use Rattle.kr_apart.specs.Apart.{is_blocked, Differ, PartAtTheLast, TellsApart}
+use Rattle.kr_model.specs.Run.{is_granted}
+use Rattle.kr_ghost.specs.State.{GhostState, opened}
+use Rattle.kr_ghost.specs.Step.{Outcome}
+use Rattle.kr_kinds.specs.Kinds.{IndexProtocol, leaves_ghosts}
+use Rattle.kr_kinds.specs.Steps.{step}
+use Rattle.kr_stepping.specs.Played.{replies_from}
+use Rattle.kr_stepping.proofs.Replied.{of_steps}
+use Rattle.kr_apart.specs.Apart.{AreRepliesOfRun, is_blocked, Differ, PartAtTheLast, TellsApart}
 use Rattle.kr_apart.specs.Flags.{differ, part}
-use Rattle.kr_apart.proofs.Same.{with_locks, IsSame, step_same}
+use Rattle.kr_apart.proofs.SameKind.{with_locks, IsSame, step_same}
 
 either : (b c x y : Bool) → x ≡ false → y ≡ false → (if b then x else if c then y else false) ≡ false
 either true c x y ex ey = ex
@@ -54,29 +58,25 @@ in_front r s (y ∷ []) [] g e h = absurd h
 in_front r s (y ∷ x ∷ ys) [] g e h = absurd h
 in_front r s (y ∷ ys) (x ∷ xs) g e h = ((g, e), h)
 
--- The replies of a run.
-abbrev replies : Protocol → State → List Event → List Reply
-replies p s es = replies_of (run p s es).history
-
 both : (a b : Bool) → (a && b) ≡ true → (a ≡ true) × (b ≡ true)
 both true true h = (refl, refl)
 both true false h = absurd (cc)
 both false b h = absurd (cc)
 
 -- The first step and what comes after it.
-module _ (p q : Protocol) (es : List Event) (o u : Outcome) (same : IsTrue (is_granted o.0) → IsTrue (is_granted u.0) → IsSame o u) (further : (k : Locks) → part false (replies p o.1 es) (replies q (with_locks o.1 k) es) ≡ true → PartAtTheLast (replies p o.1 es) (replies q (with_locks o.1 k) es)) where
+module _ (p q : IndexProtocol) (es : List Event) (o u : Outcome) (same : IsTrue (is_granted o.0) → IsTrue (is_granted u.0) → IsSame o u) (further : (k : Locks) → part false (replies_from p o.1 es) (replies_from q (with_locks o.1 k) es) ≡ true → PartAtTheLast (replies_from p o.1 es) (replies_from q (with_locks o.1 k) es)) where
   abbrev left : List Reply
-  left = replies p o.1 es
+  left = replies_from p o.1 es
 
   abbrev left_there : List Reply
-  left_there = replies q u.1 es
+  left_there = replies_from q u.1 es
 
   go_on : IsSame o u → IsTrue (is_granted o.0) → part false left left_there ≡ true → PartAtTheLast (o.0 ∷ left) (u.0 ∷ left_there)
   go_on is g rest =
       let state : u.1 ≡ with_locks o.1 is.locks = ap (λ (x : Outcome). x.1) is.same in
       let reply : o.0 ≡ u.0 = sym (ap (λ (x : Outcome). x.0) is.same) in
-      let there : part false left (replies q (with_locks o.1 is.locks) es) ≡ true = subst (λ (z : State). part false left (replies q z es) ≡ true) state rest in
-      in_front o.0 u.0 left left_there g reply (subst (λ (z : State). PartAtTheLast left (replies q z es)) (sym state) (further is.locks there))
+      let there : part false left (replies_from q (with_locks o.1 is.locks) es) ≡ true = subst (λ (z : GhostState). part false left (replies_from q z es) ≡ true) state rest in
+      in_front o.0 u.0 left left_there g reply (subst (λ (z : GhostState). PartAtTheLast left (replies_from q z es)) (sym state) (further is.locks there))
 
   stop : differ o.0 u.0 ≡ true → (left ≡ []) × (left_there ≡ []) → PartAtTheLast (o.0 ∷ left) (u.0 ∷ left_there)
   stop d none = subst (λ (l : List Reply). PartAtTheLast (o.0 ∷ l) (u.0 ∷ left_there)) (sym none.0) (subst (λ (l : List Reply). PartAtTheLast (o.0 ∷ []) (u.0 ∷ l)) (sym none.1) (differs o.0 u.0 d))
@@ -90,9 +90,9 @@ module _ (p q : Protocol) (es : List Event) (o u : Outcome) (same : IsTrue (is_g
       by false false eb ec g = absurd (cc)
 
 -- By induction on the events.
-parts : (p q : Protocol) (es : List Event) (s : State) (k : Locks) → part false (replies p s es) (replies q (with_locks s k) es) ≡ true → PartAtTheLast (replies p s es) (replies q (with_locks s k) es)
-parts p q [] s k h = absurd (cc)
-parts p q (e ∷ es) s k h = let o = step p s e.txn e.op in first p q es o (step q (with_locks s k) e.txn e.op) (step_same p q s k e.txn e.op) (parts p q es o.1) h
+parts : (p q : IndexProtocol) → leaves_ghosts p ≡ leaves_ghosts q → (es : List Event) (s : GhostState) (k : Locks) → part false (replies_from p s es) (replies_from q (with_locks s k) es) ≡ true → PartAtTheLast (replies_from p s es) (replies_from q (with_locks s k) es)
+parts p q kind [] s k h = absurd (cc)
+parts p q kind (e ∷ es) s k h = let o = step p s e.txn e.op in first p q es o (step q (with_locks s k) e.txn e.op) (step_same p q s k e.txn e.op kind) (parts p q kind es o.1) h
 
 -- A blocked reply isn't granted.
 pub not_granted : (r : Reply) → is_blocked r ≡ true → is_granted r ≡ false
@@ -131,12 +131,16 @@ parted (r ∷ x ∷ rs) (s ∷ y ∷ ss) h =
     let rest = parted (x ∷ rs) (y ∷ ss) h.1 in
     rw (g, g2, rest)
 
--- What is looked at tells whether the script tells the tables apart.
-pub told : (p q : Protocol) (opening : Map) (events : List Event) (rs ss : List Reply) → IsMap opening → rs ≡ replies p (start opening) events → ss ≡ replies q (start opening) events → IsTrue (part false rs ss) ↔ TellsApart p q opening events
-told p q opening events rs ss is_map e f = rw (e, f) g
+-- What is looked at tells whether the script tells the tables apart, where they are of one kind.
+pub told : (p q : IndexProtocol) (opening : Map) (events : List Event) (rs ss : List Reply) → leaves_ghosts p ≡ leaves_ghosts q → IsMap opening → rs ≡ replies_from p (opened opening) events → ss ≡ replies_from q (opened opening) events → IsTrue (part false rs ss) ↔ TellsApart p q opening events
+told p q opening events rs ss kind is_map e f = rw (e, f) g
   where
-    g : IsTrue (part false (replies p (start opening) events) (replies q (start opening) events)) ↔ TellsApart p q opening events
+    g : IsTrue (part false (replies_from p (opened opening) events) (replies_from q (opened opening) events)) ↔ TellsApart p q opening events
     g = (
-      λ h. record { is_map = is_map; replies = parts p q events (start opening) [] h },
-      λ t. parted (replies p (start opening) events) (replies q (start opening) events) t.replies,
+      λ h. record { kind = kind; is_map = is_map; replies = parts p q kind events (opened opening) [] h },
+      λ t. parted (replies_from p (opened opening) events) (replies_from q (opened opening) events) t.replies,
     )
+
+-- Where a deleted key goes at once, the replies are those of the run.
+pub of_run : (p : Protocol) → AreRepliesOfRun p
+of_run p opening events = of_steps p (opened opening) events

@@ -148,7 +148,7 @@ fn put_told(
 ) -> Result<(), Memory> {
     let mut tables = Tables::new(flat);
     for (number, change) in changes.iter().enumerate() {
-        if matches!(marks.get(Entry::of(*change).number()), Some(true)) {
+        if is_marked(marks, *change) {
             tables.change(*change);
             if tells(&tables, script) {
                 told.push(number)?;
@@ -156,6 +156,14 @@ fn put_told(
         }
     }
     Ok(())
+}
+
+/// Whether the entry of a change is marked.
+fn is_marked(marks: &[bool], change: Change) -> bool {
+    match Entry::of(change) {
+        Some(entry) => matches!(marks.get(entry.number()), Some(true)),
+        None => false,
+    }
 }
 
 /// Scripts that together tell apart all that is told: again and again the best of them.

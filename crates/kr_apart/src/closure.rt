@@ -1,7 +1,7 @@
 //! The states that two transactions can come to.
 
 use crate::flat::Flat;
-use crate::keys::OPENINGS;
+use crate::keys::openings;
 use crate::moves::{MOST_MOVES, Move, Moves, changes_beside, put_usual};
 use crate::node::Node;
 use crate::seen::Seen;
@@ -23,14 +23,14 @@ pub(crate) struct Closure {
 }
 
 impl Closure {
-    /// The openings.
-    pub(crate) fn new(alloc: Global, backs: bool) -> Result<Closure, Memory> {
+    /// The openings of a table.
+    pub(crate) fn new(alloc: Global, flat: &Flat, backs: bool) -> Result<Closure, Memory> {
         let mut closure = Closure {
             backs,
             nodes: Vec::new(alloc),
             seen: Seen::new(alloc)?,
         };
-        for number in 0..OPENINGS {
+        for number in 0..openings(flat.leaves_ghosts()) {
             let node = Node::new(number);
             if closure.is_new(&node) {
                 closure.nodes.push(node)?;
@@ -99,7 +99,7 @@ pub(crate) fn probes(flat: &Flat, node: &Node, backs: bool) -> Moves {
 fn put_moves(list: &mut Moves, flat: &Flat, node: &Node, place: usize, backs: bool) {
     let seat = node.seat(place);
     if !seat.rolls_back() {
-        put_usual(list, place, &node.light, flat.updates());
+        put_usual(list, place, &node.light, flat);
     }
     if backs && seat.has_changes() {
         list.put(place, Move::one(Op::Back));

@@ -1,8 +1,8 @@
 //! Entries of a table.
 ghost use Rattle.std.specs.Prelude.{◌<◌};
 
-use crate::flat::{pair_number, request_number};
-use kr_change::Change;
+use crate::flat::{ghost_request_number, pair_number, request_number};
+use kr_change::{Change, GhostRow};
 use kr_model::{Mode, Row, Side};
 
 /// An entry of a table.
@@ -14,19 +14,22 @@ pub(crate) enum Entry {
     Convert(Mode, Mode),
     /// What a row requests at a side, by the own mode on the next name.
     Request(Row, Side, Mode),
+    /// What a row that only tables with ghosts have requests at a side.
+    GhostRequest(GhostRow, Side),
 }
 
 /// How many numbers entries have.
-pub(crate) const ENTRIES: usize = 736;
+pub(crate) const ENTRIES: usize = 744;
 
 /// The most entries that one step looks at: at each of two names the request, a conversion, and a compatibility with each of
 /// three others.
 const MOST: usize = 10;
 
 impl Entry {
-    /// The entry that a change is of. One of a request concerns the least own mode that it names, or 0.
-    pub(crate) fn of(change: Change) -> Entry {
-        match change {
+    /// The entry that a change is of. One of a request concerns the least own mode that it names, or 0. An heir is none of these: it
+    /// shows by a purge, and no script has one.
+    pub(crate) fn of(change: Change) -> Option<Entry> {
+        let entry = match change {
             Change::Compatible {
                 requested,
                 held,
@@ -43,17 +46,25 @@ impl Entry {
                 own_next,
                 request: _,
             } => Entry::Request(row, side, least(own_next)),
-        }
+            Change::GhostRequest {
+                row,
+                side,
+                request: _,
+            } => Entry::GhostRequest(row, side),
+            Change::Heir { .. } => return None,
+        };
+        Some(entry)
     }
 
     /// The number of the entry, below `ENTRIES`: entries that differ have different numbers, where modes are at most 15.
     pub(crate) fn number(self) -> usize
-        ensures { result < 736 }
+        ensures { result < 744 }
     {
         match self {
             Entry::Compatible(requested, held) => pair_number(requested, held),
             Entry::Convert(held, requested) => 256 + pair_number(held, requested),
             Entry::Request(row, side, own_next) => 512 + request_number(row, side, own_next),
+            Entry::GhostRequest(row, side) => 736 + ghost_request_number(row, side),
         }
     }
 }

@@ -1,7 +1,9 @@
 //! A table as arrays.
 ghost use Rattle.std.specs.Prelude.{◌≤◌, ◌<◌};
 
-use kr_change::Change;
+use kr_change::{Change, GhostRow};
+use kr_ghost_protocol::vain_request;
+use kr_kinds::{IndexProtocol, Vain};
 use kr_model::{Mode, Row, Side, Span, row_number, side_number};
 use kr_protocol::{Protocol, asked, converted};
 
@@ -22,6 +24,12 @@ pub struct Flat {
     convert: [Mode; PAIRS],
     /// What a row requests at a side, by the own mode on the next name.
     request: [Request; REQUESTS],
+    /// Whether a deleted key stays as a ghost.
+    leaves_ghosts: bool,
+    /// Whether it has the row of a vain step, in the order of the rows of ghosts. It has the first.
+    has_row: [bool; GHOST_ROWS],
+    /// What a row that only tables with ghosts have requests at a side.
+    ghost_request: [Request; GHOST_REQUESTS],
 }
 
 /// The rows, in the order of their numbers.
@@ -41,6 +49,12 @@ pub(crate) const PAIRS: usize = 256;
 /// How many requests there are: 7 rows, 2 sides, 16 own modes.
 pub(crate) const REQUESTS: usize = 224;
 
+/// How many rows only tables with ghosts have.
+const GHOST_ROWS: usize = 4;
+
+/// How many requests these rows have: one at each of 2 sides.
+const GHOST_REQUESTS: usize = 8;
+
 /// The number of a pair of modes, below `PAIRS`.
 pub(crate) fn pair_number(one: Mode, other: Mode) -> usize
     ensures { result < 256 }
@@ -55,15 +69,37 @@ pub(crate) fn request_number(row: Row, side: Side, own_next: Mode) -> usize
     (row_number(row) * 2 + side_number(side)) * 16 + (own_next % 16) as usize
 }
 
+/// The number of a row that only tables with ghosts have, below `GHOST_ROWS`.
+fn ghost_row_number(row: GhostRow) -> usize
+    ensures { result < 4 }
+{
+    match row {
+        GhostRow::Revive => 0,
+        GhostRow::InsertHit => 1,
+        GhostRow::DeleteMiss => 2,
+        GhostRow::UpdateMiss => 3,
+    }
+}
+
+/// The number of its request at a side, below `GHOST_REQUESTS`.
+pub(crate) fn ghost_request_number(row: GhostRow, side: Side) -> usize
+    ensures { result < 8 }
+{
+    ghost_row_number(row) * 2 + side_number(side)
+}
+
 impl Flat {
     /// What the protocol says.
-    pub fn of<P: Protocol>(protocol: &P) -> Flat {
+    pub fn of<P: IndexProtocol>(protocol: &P) -> Flat {
         let mut flat = Flat {
             count: protocol.count(),
             updates: protocol.updates(),
             compatible: [true; PAIRS],
             convert: [0; PAIRS],
             request: [None; REQUESTS],
+            leaves_ghosts: protocol.leaves_ghosts(),
+            has_row: has_rows(protocol),
+            ghost_request: ghost_requests(protocol),
         };
         for one in 0..16 {
             for other in 0..16 {
@@ -107,7 +143,22 @@ impl Flat {
         self.request[request_number(row, side, own_next)]
     }
 
-    /// Changes one entry.
+    /// Whether a deleted key stays as a ghost.
+    pub fn leaves_ghosts(&self) -> bool {
+        self.leaves_ghosts
+    }
+
+    /// Whether it has the row of a vain step, or of an insert of a ghost. Without ghosts it has none.
+    pub fn has_row(&self, row: GhostRow) -> bool {
+        self.leaves_ghosts && self.has_row[ghost_row_number(row)]
+    }
+
+    /// What a row that only tables with ghosts have requests at a side.
+    pub fn ghost_request(&self, row: GhostRow, side: Side) -> Request {
+        self.ghost_request[ghost_request_number(row, side)]
+    }
+
+    /// Changes one entry. That of an heir it doesn't have.
     pub fn change(&mut self, change: Change) {
         match change {
             Change::Compatible {
@@ -132,8 +183,36 @@ impl Flat {
                     }
                 }
             }
+            Change::GhostRequest { row, side, request } => {
+                self.ghost_request[ghost_request_number(row, side)] = request;
+            }
+            Change::Heir { .. } => {}
         }
     }
+}
+
+/// Which of the rows it has that only tables with ghosts have.
+fn has_rows<P: IndexProtocol>(protocol: &P) -> [bool; GHOST_ROWS] {
+    [
+        true,
+        protocol.vain(Vain::InsertHit).is_some(),
+        protocol.vain(Vain::DeleteMiss).is_some(),
+        protocol.vain(Vain::UpdateMiss).is_some(),
+    ]
+}
+
+/// What these rows request, on the key and on the next name.
+fn ghost_requests<P: IndexProtocol>(protocol: &P) -> [Request; GHOST_REQUESTS] {
+    [
+        protocol.revive(),
+        protocol.revive_next(),
+        vain_request(protocol, Vain::InsertHit),
+        protocol.insert_hit_next(),
+        None,
+        vain_request(protocol, Vain::DeleteMiss),
+        None,
+        vain_request(protocol, Vain::UpdateMiss),
+    ]
 }
 
 /// Whether a change is of what is requested with the own mode on the next name.

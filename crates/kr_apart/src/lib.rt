@@ -2,7 +2,7 @@
 //! blocked under the other, and a small set of such scripts that tells all of them apart.
 //!
 //! The search goes by a light machine, which does a few steps on a handful of keys under a table that is kept as arrays
-//! (`Flat`), so that one entry of it is changed in place.
+//! (`Flat`), so that one entry of it is changed in place. It purges no ghosts.
 //!
 //! Proved is that the search is safe and ends. No contract says what the light machine answers or what the search finds: not
 //! that a script is found, nor that it is the shortest. So whoever shows a script tries it first by `tells_apart`,
@@ -30,6 +30,7 @@ mod seat;
 mod seen;
 mod sight;
 mod signature;
+mod steps;
 mod tables;
 mod tells;
 mod trail;
@@ -38,4 +39,4 @@ pub use flat::Flat;
 pub use kr_change::Change;
 pub use part::Part;
 pub use search::parts;
-pub use tells::tells_apart;
+pub use tells::{replies_are_of_the_run, tells_apart};

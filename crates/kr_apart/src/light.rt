@@ -4,17 +4,38 @@ ghost use Rattle.std.specs.Prelude.{◌≤◌};
 use crate::flat::{Flat, Request};
 use crate::seat::{CHANGES, Change, PLACES, Place, SEATS, Seat};
 use crate::sight::Sight;
-use kr_model::{Op, Row, Side, Span};
+use kr_model::{Op, Side, Span};
+
+/// How the key of a place stands: it is present, a ghost, or no name.
+#[derive(Clone, Copy, PartialEq, Eq)]
+pub(crate) enum Stand {
+    Present,
+    Ghost,
+    Absent,
+}
+
+impl Stand {
+    /// That of a key that came, by whether it has a value.
+    fn of(flat: &Flat, has_value: bool) -> Stand {
+        if has_value {
+            Stand::Present
+        } else if flat.leaves_ghosts() {
+            Stand::Ghost
+        } else {
+            Stand::Absent
+        }
+    }
+}
 
 /// An index of at most 15 keys and the end, and four transactions, each with the modes that it holds and what it has
-/// changed. Keys have no values.
+/// changed. Keys have no values, and ghosts aren't purged.
 #[derive(Clone, Copy)]
 pub(crate) struct Light {
     /// The key of each place, in the order in which they came; that of the end, and of a place that is free, is the greatest
     /// number, which is no key here.
     keys: [u64; PLACES],
-    /// Whether a key stands at the place. The end does.
-    stands: [bool; PLACES],
+    /// How the key of the place stands. The end is present.
+    stands: [Stand; PLACES],
     /// How many places aren't free.
     places: usize,
     /// The transactions.
@@ -26,13 +47,13 @@ impl Light {
     pub(crate) fn new(opening: &[u64]) -> Light {
         let mut light = Light {
             keys: [u64::MAX; PLACES],
-            stands: [false; PLACES],
+            stands: [Stand::Absent; PLACES],
             places: 1,
             seats: [Seat::new(); SEATS],
         };
-        light.stands[0] = true;
+        light.stands[0] = Stand::Present;
         for key in opening {
-            light.put(*key, true);
+            light.put(*key, Stand::Present);
         }
         light
     }
@@ -61,7 +82,7 @@ impl Light {
         true
     }
 
-    /// The place of a key that came, whether it stands or not.
+    /// The place of a key that came, whether it is a name or not.
     pub(crate) fn place_of(&self, key: u64) -> Option<Place> {
         for place in 1..16 {
             if self.key(place) == key && (place as usize) < self.places {
@@ -71,10 +92,18 @@ impl Light {
         None
     }
 
-    /// The place of a key that stands.
-    pub(crate) fn standing(&self, key: u64) -> Option<Place> {
+    /// How a key stands.
+    pub(crate) fn stand(&self, key: u64) -> Stand {
+        match self.place_of(key) {
+            Some(place) => self.stand_at(place),
+            None => Stand::Absent,
+        }
+    }
+
+    /// The place of a key that is a name: present, or a ghost.
+    pub(crate) fn name(&self, key: u64) -> Option<Place> {
         let place = self.place_of(key)?;
-        if self.stands[(place % 16) as usize] {
+        if self.is_name(place) {
             Some(place)
         } else {
             None
@@ -82,100 +111,46 @@ impl Light {
     }
 
     /// The key at a place.
-    fn key(&self, place: Place) -> u64 {
+    pub(crate) fn key(&self, place: Place) -> u64 {
         self.keys[(place % 16) as usize]
     }
 
+    /// How the key at a place stands.
+    fn stand_at(&self, place: Place) -> Stand {
+        self.stands[(place % 16) as usize]
+    }
+
+    /// Whether there is a name at a place.
+    fn is_name(&self, place: Place) -> bool {
+        self.stand_at(place) != Stand::Absent
+    }
+
     /// The place of the least name from this key on.
-    fn at(&self, from: u64) -> Place {
+    pub(crate) fn at(&self, from: u64) -> Place {
         let mut best = 0;
         for place in 1..16 {
             let key = self.key(place);
-            if self.stands[place as usize] && from <= key && key < self.key(best) {
+            if self.is_name(place) && from <= key && key < self.key(best) {
                 best = place;
             }
         }
         best
     }
 
-    /// The greatest key that stands below this one; or 0.
+    /// The greatest key below this one that is a name; or 0.
     pub(crate) fn below(&self, key: u64) -> u64 {
         let mut best = 0;
         for place in 1..16 {
             let other = self.key(place);
-            if self.stands[place as usize] && best < other && other < key {
+            if self.is_name(place) && best < other && other < key {
                 best = other;
             }
         }
         best
     }
 
-    /// What a step finds. There is none where it would need a place or a note that there is no room for, and none of an end, a
-    /// change taken back, or a scan that goes on.
-    pub(crate) fn look(&self, seat: usize, op: Op) -> Option<Sight> {
-        match op {
-            Op::Fetch(key) => Some(self.looked_up(Row::FetchHit, key)),
-            Op::Update(key, _) => Some(self.looked_up(Row::Update, key)),
-            Op::Insert(key, _) => match self.standing(key) {
-                Some(place) => Some(Sight::of_key(Row::FetchHit, place)),
-                None => self.inserted(seat, key),
-            },
-            Op::Delete(key) => match self.standing(key) {
-                Some(place) => self.deleted(seat, key, place),
-                None => Some(Sight::of_gap(Row::FetchMiss, self.at(key))),
-            },
-            Op::Scan(lo, hi) => {
-                let next = self.at(lo);
-                if self.key(next) <= hi {
-                    Some(Sight::of_key(Row::ScanKey, next))
-                } else {
-                    Some(Sight::of_gap(Row::ScanStop, next))
-                }
-            }
-            _ => None,
-        }
-    }
-
-    /// What finds a key finds by its row, and what misses it by that of reads.
-    fn looked_up(&self, row: Row, key: u64) -> Sight {
-        match self.standing(key) {
-            Some(place) => Sight::of_key(row, place),
-            None => Sight::of_gap(Row::FetchMiss, self.at(key)),
-        }
-    }
-
-    /// What the insert of an absent key finds.
-    fn inserted(&self, seat: usize, key: u64) -> Option<Sight> {
-        let place = match self.place_of(key) {
-            Some(place) => place,
-            None => self.free()?,
-        };
-        if !self.seat(seat).has_room() {
-            return None;
-        }
-        Some(Sight {
-            row: Row::Insert,
-            current: Some(place),
-            next: Some(self.at(key)),
-            change: Some((key, true)),
-        })
-    }
-
-    /// What the delete of a key finds.
-    fn deleted(&self, seat: usize, key: u64, place: Place) -> Option<Sight> {
-        if !self.seat(seat).has_room() {
-            return None;
-        }
-        Some(Sight {
-            row: Row::Delete,
-            current: Some(place),
-            next: Some(self.at(key.saturating_add(1))),
-            change: Some((key, false)),
-        })
-    }
-
     /// The first free place.
-    fn free(&self) -> Option<Place> {
+    pub(crate) fn free(&self) -> Option<Place> {
         if self.places < PLACES {
             Some(self.places as u8)
         } else {
@@ -217,18 +192,18 @@ impl Light {
         let own = sight.own_next(self, seat);
         self.take(flat, seat, sight.at(flat, Side::Current, own));
         self.take(flat, seat, sight.at(flat, Side::Next, own));
-        if let Some((key, stands)) = sight.change {
-            if let Some(place) = self.put(key, stands) {
+        if let Some((key, is_present)) = sight.change {
+            if let Some(place) = self.put(key, Stand::of(flat, is_present)) {
                 self.seats[seat % 4].note(Change {
                     place,
-                    stood: !stands,
+                    stood: !is_present,
                 });
             }
         }
     }
 
-    /// Lets a key stand or go: its place, if there is one or room for it.
-    fn put(&mut self, key: u64, stands: bool) -> Option<Place> {
+    /// Lets a key stand so: its place, if there is one or room for it.
+    fn put(&mut self, key: u64, stand: Stand) -> Option<Place> {
         let place = match self.place_of(key) {
             Some(place) => place,
             None => {
@@ -238,24 +213,27 @@ impl Light {
                 place
             }
         };
-        self.stands[(place % 16) as usize] = stands;
+        self.stands[(place % 16) as usize] = stand;
         Some(place)
     }
 
-    /// Ends a transaction. One that aborts takes all its changes back first.
-    fn end(&mut self, seat: usize, aborts: bool) {
-        if aborts {
-            for _ in 0..CHANGES {
-                self.back(seat);
-            }
+    /// Ends a transaction that aborts: it takes all its changes back first.
+    fn abort(&mut self, flat: &Flat, seat: usize) {
+        for _ in 0..CHANGES {
+            self.back(flat, seat);
         }
+        self.commit(seat);
+    }
+
+    /// Ends a transaction.
+    fn commit(&mut self, seat: usize) {
         self.seats[seat % 4] = Seat::new();
     }
 
-    /// Takes the newest change of a transaction back, if there is one.
-    fn back(&mut self, seat: usize) {
+    /// Takes the newest change of a transaction back, if there is one. A key that has no value then is a ghost, if deletes leave any.
+    fn back(&mut self, flat: &Flat, seat: usize) {
         if let Some(change) = self.seats[seat % 4].take_back() {
-            self.stands[(change.place % 16) as usize] = change.stood;
+            self.stands[(change.place % 16) as usize] = Stand::of(flat, change.stood);
         }
     }
 
@@ -263,11 +241,11 @@ impl Light {
     /// with a scan.
     pub(crate) fn step(&mut self, flat: &Flat, seat: usize, op: Op) -> Option<bool> {
         match op {
-            Op::Commit => self.end(seat, false),
-            Op::Abort => self.end(seat, true),
-            Op::Back => self.back(seat),
+            Op::Commit => self.commit(seat),
+            Op::Abort => self.abort(flat, seat),
+            Op::Back => self.back(flat, seat),
             _ => {
-                let sight = self.look(seat, op)?;
+                let sight = self.look(flat, seat, op)?;
                 if !self.grants(flat, seat, &sight) {
                     return Some(false);
                 }

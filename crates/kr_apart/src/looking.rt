@@ -105,7 +105,7 @@ impl Search<'_> {
             let Some(op) = op else {
                 break;
             };
-            if let Some(sight) = light.look(seat, op) {
+            if let Some(sight) = light.look(&self.tables.one, seat, op) {
                 let stand = Stand {
                     node,
                     light: &light,

@@ -1,7 +1,9 @@
 //! What a transaction may do next.
 
+use crate::flat::Flat;
 use crate::keys::{A, Y, Z};
-use crate::light::Light;
+use crate::light::{Light, Stand};
+use kr_change::GhostRow;
 use kr_model::{Op, is_end};
 
 /// One or two steps of a transaction.
@@ -52,13 +54,13 @@ impl Move {
     }
 }
 
-/// A key that doesn't stand, right below this one: in the middle between it and the key below.
+/// A key that is no name, right below this one: in the middle between it and the name below.
 fn between(light: &Light, key: u64) -> u64 {
     light.below(key).saturating_add(key) / 2
 }
 
-/// How many moves there is room for: at most 21 of each of three transactions are tried at a state.
-pub(crate) const MOST_MOVES: usize = 64;
+/// How many moves there is room for: at most 28 of each of three transactions are tried at a state.
+pub(crate) const MOST_MOVES: usize = 96;
 
 /// Moves, each with the seat of the transaction that takes it.
 #[derive(Clone, Copy)]
@@ -92,11 +94,12 @@ impl Moves {
 }
 
 /// Puts what a transaction may do that isn't rolling back into the list.
-pub(crate) fn put_usual(list: &mut Moves, seat: usize, light: &Light, with_updates: bool) {
+pub(crate) fn put_usual(list: &mut Moves, seat: usize, light: &Light, flat: &Flat) {
     put_below(list, seat, light);
-    put_at(list, seat, light, A, with_updates);
-    put_at(list, seat, light, Y, with_updates);
-    put_gaps(list, seat, light);
+    put_vain(list, seat, between(light, A), flat);
+    put_at(list, seat, light, A, flat);
+    put_at(list, seat, light, Y, flat);
+    put_gaps(list, seat, light, flat);
 }
 
 /// What it may do below the first landmark.
@@ -109,40 +112,61 @@ fn put_below(list: &mut Moves, seat: usize, light: &Light) {
     if low > 0 {
         list.put(seat, Move::one(Op::Delete(low)));
     }
+    if light.stand(low) == Stand::Ghost {
+        list.put(seat, Move::one(Op::Fetch(low)));
+        list.put(seat, Move::one(Op::Insert(low, 0)));
+    }
+}
+
+/// What it may do in vain at a key that is no name, where the table has a row for that.
+fn put_vain(list: &mut Moves, seat: usize, gap: u64, flat: &Flat) {
+    if flat.has_row(GhostRow::DeleteMiss) {
+        list.put(seat, Move::one(Op::Delete(gap)));
+    }
+    if flat.has_row(GhostRow::UpdateMiss) {
+        list.put(seat, Move::one(Op::Update(gap, 0)));
+    }
 }
 
 /// What it may do at a landmark.
-fn put_at(list: &mut Moves, seat: usize, light: &Light, key: u64, with_updates: bool) {
-    if light.standing(key).is_none() {
+fn put_at(list: &mut Moves, seat: usize, light: &Light, key: u64, flat: &Flat) {
+    let stand = light.stand(key);
+    if stand != Stand::Present || flat.has_row(GhostRow::InsertHit) {
         list.put(seat, Move::one(Op::Insert(key, 0)));
+    }
+    if stand == Stand::Absent {
         return;
     }
     list.put(seat, Move::one(Op::Fetch(key)));
     list.put(seat, Move::one(Op::Scan(between(light, key), key)));
     list.put(seat, Move::one(Op::Delete(key)));
-    if with_updates {
+    if flat.updates() {
         list.put(seat, Move::one(Op::Update(key, 0)));
     }
 }
 
-/// What it may do above a landmark, if that stands: it leaves the gap empty.
-fn put_gaps(list: &mut Moves, seat: usize, light: &Light) {
-    if light.standing(A).is_some() {
-        put_gap(list, seat, between(light, Y));
+/// What it may do above a landmark, if that is a name: without ghosts it leaves the gap empty.
+fn put_gaps(list: &mut Moves, seat: usize, light: &Light, flat: &Flat) {
+    if light.name(A).is_some() {
+        put_gap(list, seat, between(light, Y), flat);
     }
-    if light.standing(Y).is_some() {
+    if light.name(Y).is_some() {
         let gap = between(light, Z);
-        put_gap(list, seat, gap);
+        put_gap(list, seat, gap, flat);
         list.put(seat, Move::one(Op::Fetch(Z)));
         list.put(seat, Move::one(Op::Scan(gap, Z)));
     }
 }
 
-/// What it may do in a gap.
-fn put_gap(list: &mut Moves, seat: usize, gap: u64) {
+/// What it may do in a gap. Where deletes leave ghosts, what it inserts stays.
+fn put_gap(list: &mut Moves, seat: usize, gap: u64, flat: &Flat) {
     list.put(seat, Move::one(Op::Fetch(gap)));
     list.put(seat, Move::one(Op::Scan(gap, gap)));
-    list.put(seat, Move::two(Op::Insert(gap, 0), Op::Delete(gap)));
+    if flat.leaves_ghosts() {
+        list.put(seat, Move::one(Op::Insert(gap, 0)));
+    } else {
+        list.put(seat, Move::two(Op::Insert(gap, 0), Op::Delete(gap)));
+    }
 }
 
 /// What one more transaction may do and commit at once.
@@ -154,9 +178,9 @@ pub(crate) fn changes_beside(light: &Light) -> [Move; 3] {
     ]
 }
 
-/// The delete of a key that stands, or the insert of one that doesn't.
+/// The delete of a present key, or the insert of one that isn't.
 fn turned(light: &Light, key: u64) -> Op {
-    if light.standing(key).is_some() {
+    if light.stand(key) == Stand::Present {
         Op::Delete(key)
     } else {
         Op::Insert(key, 0)

@@ -23,9 +23,14 @@ impl Open {
         Ok(Open { lists, count: 0 })
     }
 
-    /// Puts the change of this number in.
+    /// The changes of the entry that a change is of.
+    fn list(&mut self, change: Change) -> Option<&mut Vec<usize>> {
+        self.lists.get_mut(Entry::of(change)?.number())
+    }
+
+    /// Puts the change of this number in; one of no entry stays out.
     pub(crate) fn put(&mut self, change: Change, number: usize) -> Result<(), Memory> {
-        if let Some(list) = self.lists.get_mut(Entry::of(change).number()) {
+        if let Some(list) = self.list(change) {
             list.push(number)?;
             self.count = self.count.saturating_add(1);
         }
@@ -34,7 +39,7 @@ impl Open {
 
     /// Takes the change of this number out.
     pub(crate) fn take(&mut self, change: Change, number: usize) {
-        if let Some(list) = self.lists.get_mut(Entry::of(change).number()) {
+        if let Some(list) = self.list(change) {
             list.retain(|open| *open != number);
             self.count = self.count.saturating_sub(1);
         }

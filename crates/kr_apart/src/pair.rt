@@ -72,7 +72,7 @@ impl Pair {
             return None;
         }
         let light = &self.node.light;
-        let sight = light.look(seat, by.first)?;
+        let sight = light.look(&tables.one, seat, by.first)?;
         let one = light.grants(&tables.one, seat, &sight);
         if one != self.other.grants(&tables.other, seat, &sight) {
             Some(by)

@@ -53,7 +53,7 @@ impl Replay {
         let Some(seat) = self.seat_of(event.txn) else {
             return;
         };
-        let Some(sight) = self.light.look(seat, event.op) else {
+        let Some(sight) = self.light.look(flat, seat, event.op) else {
             return;
         };
         let entries = sight.entries(flat, &self.light, seat);

@@ -80,7 +80,7 @@ impl<'a> Search<'a> {
 
     /// Looks at the states of the table as they are found; then, for each change that is left, at the states under both.
     fn pass(&mut self, most_pairs: usize) -> Result<(), Memory> {
-        let mut closure = Closure::new(self.alloc, self.backs)?;
+        let mut closure = Closure::new(self.alloc, &self.tables.one, self.backs)?;
         let mut looking = self.looking()?;
         for place in 0..MOST_NODES {
             if self.open.count() == 0 {

@@ -4,24 +4,61 @@ use crate::entry::{Entries, Entry};
 use crate::flat::{Flat, Request};
 use crate::light::Light;
 use crate::seat::Place;
+use kr_change::GhostRow;
 use kr_model::{Mode, Row, Side};
+
+/// A row of a table.
+#[derive(Clone, Copy, PartialEq, Eq)]
+pub(crate) enum AnyRow {
+    /// One that every table has.
+    Each(Row),
+    /// One that only tables with ghosts have.
+    Ghosts(GhostRow),
+}
+
+impl AnyRow {
+    /// That of a vain step: its own where the table has it, and else that of a fetch.
+    pub(crate) fn of_vain(flat: &Flat, own: GhostRow, fetch: Row) -> AnyRow {
+        if flat.has_row(own) {
+            AnyRow::Ghosts(own)
+        } else {
+            AnyRow::Each(fetch)
+        }
+    }
+
+    /// What it requests at a side.
+    fn request(self, flat: &Flat, side: Side, own_next: Mode) -> Request {
+        match self {
+            AnyRow::Each(row) => flat.request(row, side, own_next),
+            AnyRow::Ghosts(row) => flat.ghost_request(row, side),
+        }
+    }
+
+    /// The entry that says so.
+    fn entry(self, side: Side, own_next: Mode) -> Entry {
+        match self {
+            AnyRow::Each(row) => Entry::Request(row, side, own_next),
+            AnyRow::Ghosts(row) => Entry::GhostRequest(row, side),
+        }
+    }
+}
 
 /// What a step finds: its row, the places of its names, and what it changes.
 #[derive(Clone, Copy)]
 pub(crate) struct Sight {
     /// The row of the table.
-    pub row: Row,
+    pub row: AnyRow,
     /// The place of the key that the step names, where it requests a lock on it.
     pub current: Option<Place>,
     /// The place of the next name, where it requests a lock on it.
     pub next: Option<Place>,
-    /// The key that it changes, and whether the key stands then.
+    /// The key that it changes, and whether the key is present then.
     pub change: Option<(u64, bool)>,
 }
 
 impl Sight {
-    /// A step that reads or updates the key at a place.
-    pub(crate) fn of_key(row: Row, place: Place) -> Sight {
+    /// A step that reads or updates the key at a place, or doesn't find it present.
+    pub(crate) fn of_key(row: AnyRow, place: Place) -> Sight {
         Sight {
             row,
             current: Some(place),
@@ -31,7 +68,7 @@ impl Sight {
     }
 
     /// A step that reads the gap below a name.
-    pub(crate) fn of_gap(row: Row, next: Place) -> Sight {
+    pub(crate) fn of_gap(row: AnyRow, next: Place) -> Sight {
         Sight {
             row,
             current: None,
@@ -43,7 +80,7 @@ impl Sight {
     /// The mode by which the row's requests go.
     pub(crate) fn own_next(&self, light: &Light, seat: usize) -> Mode {
         match (self.row, self.next) {
-            (Row::Insert | Row::Delete, Some(next)) => light.seat(seat).held(next),
+            (AnyRow::Each(Row::Insert | Row::Delete), Some(next)) => light.seat(seat).held(next),
             _ => 0,
         }
     }
@@ -54,7 +91,7 @@ impl Sight {
             Side::Current => self.current,
             Side::Next => self.next,
         };
-        (place, flat.request(self.row, side, own_next))
+        (place, self.row.request(flat, side, own_next))
     }
 
     /// The entries that the step of a transaction looks at.
@@ -63,7 +100,7 @@ impl Sight {
         let own_next = self.own_next(light, seat);
         for side in [Side::Current, Side::Next] {
             if let (Some(place), request) = self.at(flat, side, own_next) {
-                entries.put(Entry::Request(self.row, side, own_next));
+                entries.put(self.row.entry(side, own_next));
                 if let Some((mode, _)) = request {
                     looked_up(flat, light, seat, place, mode, &mut entries);
                 }

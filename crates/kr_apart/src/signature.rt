@@ -1,7 +1,7 @@
 //! When two states are taken for the same.
 
 use crate::keys::{A, LOW, Y, Z};
-use crate::light::Light;
+use crate::light::{Light, Stand};
 use crate::node::Node;
 use crate::seat::{Place, Seat};
 use kr_model::Mode;
@@ -82,12 +82,21 @@ impl Landmarks {
     }
 }
 
-/// Which landmarks stand, and whether the key below A is one of the opening: 3 bits.
+/// Which landmarks are present, and whether the name below A is a key of the opening; and before these bits, which of the three are
+/// ghosts: 6 bits.
 fn of_index(light: &Light) -> u64 {
-    let a = light.standing(A).is_some();
-    let y = light.standing(Y).is_some();
-    let low = LOW.contains(&light.below(A));
-    u64::from(a) << 2 | u64::from(y) << 1 | u64::from(low)
+    let low = light.below(A);
+    let ghosts = [A, Y, low].map(|key| u64::from(light.stand(key) == Stand::Ghost));
+    let [a_ghost, y_ghost, low_ghost] = ghosts;
+    let a = light.stand(A) == Stand::Present;
+    let y = light.stand(Y) == Stand::Present;
+    let is_of_opening = LOW.contains(&low);
+    a_ghost << 5
+        | y_ghost << 4
+        | low_ghost << 3
+        | u64::from(a) << 2
+        | u64::from(y) << 1
+        | u64::from(is_of_opening)
 }
 
 /// What a transaction holds and has changed at the landmarks: 27 bits.

@@ -8,8 +8,9 @@ use Rattle.kr_model.specs.declared.Side.{Side}
 use Rattle.kr_model.specs.declared.Span.{Span}
 use Rattle.kr_model.specs.Protocol.{Protocol, IsLawful, IsMode, MovesNoKey}
 use Rattle.kr_model.proofs.Tested.{and_first, and_second}
+use Rattle.kr_change.specs.declared.change.GhostRow.{GhostRow}
 use Rattle.kr_change.specs.declared.change.Change.{Change}
-use Rattle.kr_change.specs.declared.change.Change.TheVariants.{Request, Convert, Compatible}
+use Rattle.kr_change.specs.declared.change.Change.TheVariants.{Request, GhostRequest, Convert, Heir, Compatible}
 use Rattle.kr_model.specs.Words.{row_number, side_number}
 use Rattle.kr_change.specs.Changes.{changed, is_change, is_mode, is_request, is_offered, has_side, is_same_place, concerns, moves_keys}
 
@@ -33,7 +34,7 @@ mode_in (Some (q, span)) = q
 some_by_test : (m : ℕ) → nat_lt 0 m ≡ true → 0 < m
 some_by_test m h = grind (arith, nat_tests)
 
-low_by_test : (m n : ℕ) → nat_le m n ≡ true → m ≤ n
+pub low_by_test : (m n : ℕ) → nat_le m n ≡ true → m ≤ n
 low_by_test m n h = grind (arith, nat_tests)
 
 pub mode_by_test : (p : Protocol) (m : ℕ) → is_mode p m ≡ true → IsMode p m
@@ -43,7 +44,7 @@ mode_by_test p m h = record {
 }
 
 -- a mode of p is one of the changed p, and the other way round
-to_changed : (p : Protocol) (c : Change) (m : ℕ) → IsMode p m → IsMode (changed p c) m
+pub to_changed : (p : Protocol) (c : Change) (m : ℕ) → IsMode p m → IsMode (changed p c) m
 to_changed p c m is = record { some = is.some; in_range = is.in_range }
 
 from_changed : (p : Protocol) (c : Change) (m : ℕ) → IsMode (changed p c) m → IsMode p m
@@ -52,7 +53,7 @@ from_changed p c m is = record { some = is.some; in_range = is.in_range }
 -- Asks --
 
 -- what is requested is a mode, whichever of two is requested
-asked_is_mode : (p : Protocol) (b : Bool) (q : ℕ) (s : Span) (one other : Option (ℕ × Span)) → is_request p one ≡ true → (other ≡ Some (q, s) → IsMode p q)
+pub asked_is_mode : (p : Protocol) (b : Bool) (q : ℕ) (s : Span) (one other : Option (ℕ × Span)) → is_request p one ≡ true → (other ≡ Some (q, s) → IsMode p q)
     → cond b one other ≡ Some (q, s) → IsMode p q
 asked_is_mode p true q s None other is h e = absurd (cc)
 asked_is_mode p true q s (Some (m, span)) other is h e = subst (IsMode p) (ap mode_in e) (mode_by_test p m is)
@@ -113,7 +114,46 @@ either : (p : Protocol) (b : Bool) (x y : ℕ) → IsMode p x → IsMode p y →
 either p true x y first second = first
 either p false x y first second = second
 
-pub changed_lawful : (p : Protocol) (c : Change) → IsLawful p → is_change p c ≡ true → IsLawful (changed p c)
+-- a table of which no entry is changed keeps the laws
+ghost_request_lawful : (p : Protocol) (row : GhostRow) (side : Side) (one : Option (ℕ × Span)) → IsLawful p → IsLawful (changed p (GhostRequest row side one))
+ghost_request_lawful p row side one laws = record {
+  few = laws.few;
+  ok-none_held = laws.ok-none_held;
+  ok-none_asked = laws.ok-none_asked;
+  convert-none_held = laws.convert-none_held;
+  convert-none_asked = laws.convert-none_asked;
+  convert-modes = λ h q first second. to_changed p (GhostRequest row side one) (p.convert h q)
+      (laws.convert-modes h q (from_changed p (GhostRequest row side one) h first) (from_changed p (GhostRequest row side one) q second));
+  ask-mode = λ r s own q sp low e. to_changed p (GhostRequest row side one) q (laws.ask-mode r s own q sp low e);
+  ask-no_move = laws.ask-no_move;
+  ask-no_update = laws.ask-no_update;
+}
+
+heir_lawful : (p : Protocol) (held mode : ℕ) → IsLawful p → IsLawful (changed p (Heir held mode))
+heir_lawful p held mode laws = record {
+  few = laws.few;
+  ok-none_held = laws.ok-none_held;
+  ok-none_asked = laws.ok-none_asked;
+  convert-none_held = laws.convert-none_held;
+  convert-none_asked = laws.convert-none_asked;
+  convert-modes = λ h q first second. to_changed p (Heir held mode) (p.convert h q)
+      (laws.convert-modes h q (from_changed p (Heir held mode) h first) (from_changed p (Heir held mode) q second));
+  ask-mode = λ r s own q sp low e. to_changed p (Heir held mode) q (laws.ask-mode r s own q sp low e);
+  ask-no_move = laws.ask-no_move;
+  ask-no_update = laws.ask-no_update;
+}
+
+-- whether a change of a table's modes, matrices and rows is one of the table's; another changes nothing there
+abbrev pub IsFine : Protocol → Change → Type 0
+IsFine p (Request row side own_next request) = is_change p (Request row side own_next request) ≡ true
+IsFine p (Convert held requested mode) = is_change p (Convert held requested mode) ≡ true
+IsFine p (Compatible requested held b) = is_change p (Compatible requested held b) ≡ true
+IsFine p (GhostRequest row side request) = Unit {0}
+IsFine p (Heir held mode) = Unit {0}
+
+pub changed_lawful : (p : Protocol) (c : Change) → IsLawful p → IsFine p c → IsLawful (changed p c)
+changed_lawful p (GhostRequest row side one) laws is = ghost_request_lawful p row side one laws
+changed_lawful p (Heir held mode) laws is = heir_lawful p held mode laws
 changed_lawful p (Request row side owns one) laws is = record {
   few = laws.few;
   ok-none_held = laws.ok-none_held;

@@ -1,3 +1,4 @@
 pub mod Lawful
+pub mod GhostLawful
 pub mod Rows
 pub mod Listed

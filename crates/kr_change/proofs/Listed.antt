@@ -1,14 +1,16 @@
 -- What a list of lists gives, while it is gone over.
-use Rattle.std.proofs.Common.{◌≡◌, ◌≢◌, ◌==◌, false, true, cond, ℕ, zero, suc, ◌+◌, ◌-◌, ◌<◌, List, [], ◌∷◌, ◌++◌, refl, ap, sym, ◌∙◌, append_assoc, arith}
+use Rattle.std.proofs.Common.{◌≡◌, ◌≢◌, ◌==◌, false, true, cond, ℕ, zero, suc, ◌+◌, ◌-◌, ◌<◌, ◌^◌, List, [], ◌∷◌, ◌++◌, refl, ap, sym, ◌∙◌, append_assoc, arith}
 use Rattle.std.specs.List.{flat_map}
 use Rattle.std.proofs.lemmas.Bool.Decides.{nat_tests}
 use Rattle.std.proofs.lemmas.List.{append-nil}
 use Rattle.std.proofs.lemmas.Grind.{flat_map-append}
 use Rattle.kr_model.specs.Protocol.{Protocol}
+use Rattle.kr_ghost.specs.Protocol.{GhostProtocol, heir_of}
 use Rattle.kr_model.specs.Covers.{count_up, modes, modes_or_none}
 use Rattle.kr_change.specs.declared.change.Change.{Change}
-use Rattle.kr_change.specs.declared.change.Change.TheVariants.{Convert}
+use Rattle.kr_change.specs.declared.change.Change.TheVariants.{Convert, Heir}
 use Rattle.kr_change.specs.Every.{converted_to}
+use Rattle.kr_change.specs.GhostEvery.{heir_to}
 
 module _ {A K : Type 0} (g : K → List A) where
   -- what the lists so far give, and then what one more gives
@@ -57,3 +59,11 @@ other_is_one p h q m now e o = ap (λ b. cond b [] (Convert h q m ∷ [])) (not_
 -- one to the same mode is none
 pub same_is_none : (p : Protocol) (h q m now : ℕ) (xs : List Change) → now ≡ p.convert h q → m ≡ now → xs ≡ xs ++ converted_to p h q m
 same_is_none p h q m now xs e s = sym (append-nil xs) ∙ ap (λ ys. xs ++ ys) (sym (ap (λ b. cond b [] (Convert h q m ∷ [])) (same m (p.convert h q) (s ∙ e))))
+
+-- another mode that is inherited is one change
+pub other_heir_is_one : (p : GhostProtocol) (h m now : ℕ) → now ≡ heir_of p.purges h → m ≢ now → heir_to p h m ≡ Heir (2 ^ h) m ∷ []
+other_heir_is_one p h m now e o = ap (λ b. cond b [] (Heir (2 ^ h) m ∷ [])) (not_same m (heir_of p.purges h) (λ s. o (s ∙ sym e)))
+
+-- the same is none
+pub same_heir_is_none : (p : GhostProtocol) (h m now : ℕ) (xs : List Change) → now ≡ heir_of p.purges h → m ≡ now → xs ≡ xs ++ heir_to p h m
+same_heir_is_none p h m now xs e s = sym (append-nil xs) ∙ ap (λ ys. xs ++ ys) (sym (ap (λ b. cond b [] (Heir (2 ^ h) m ∷ [])) (same m (heir_of p.purges h) (s ∙ e))))

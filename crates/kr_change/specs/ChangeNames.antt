@@ -8,8 +8,17 @@ use Rattle.kr_model.specs.Protocol.{Protocol}
 use Rattle.kr_model.specs.Covers.{modes_or_none}
 use Rattle.kr_model.specs.ModeNames.{name_of}
 use Rattle.kr_model.specs.Words.{row_word, side_word, span_word}
+use Rattle.kr_change.specs.declared.change.GhostRow.{GhostRow}
+use Rattle.kr_change.specs.declared.change.GhostRow.TheVariants.{Revive, InsertHit, DeleteMiss, UpdateMiss}
 use Rattle.kr_change.specs.declared.change.Change.{Change}
-use Rattle.kr_change.specs.declared.change.Change.TheVariants.{Request, Convert, Compatible}
+use Rattle.kr_change.specs.declared.change.Change.TheVariants.{Request, GhostRequest, Convert, Heir, Compatible}
+
+-- A row that only tables with ghosts have, as tables name it.
+abbrev pub ghost_row_word : GhostRow → List ℕ
+ghost_row_word Revive = codes "revive"
+ghost_row_word InsertHit = codes "insert-hit"
+ghost_row_word DeleteMiss = codes "delete-miss"
+ghost_row_word UpdateMiss = codes "update-miss"
 
 -- Entries --
 
@@ -38,11 +47,17 @@ owns_words p names (Some modes) = listed_words p names (codes " own") modes
 unfoldable pub place_words : Protocol → List (List ℕ) → Row → Side → Option ℕ → List ℕ
 place_words p names row side own_next = row_word row ++ (codes " " ++ (side_word side ++ owns_words p names own_next))
 
+-- A row that only tables with ghosts have, at a side.
+unfoldable pub ghost_place_words : GhostRow → Side → List ℕ
+ghost_place_words row side = ghost_row_word row ++ (codes " " ++ side_word side)
+
 -- The name of the entry that a change is of.
 abbrev pub entry_words : Protocol → List (List ℕ) → Change → List ℕ
 entry_words p names (Compatible requested held is_compatible) = pair_words names requested held
 entry_words p names (Convert held requested mode) = conversion_words names held requested
 entry_words p names (Request row side own_next request) = place_words p names row side own_next
+entry_words p names (GhostRequest row side request) = ghost_place_words row side
+entry_words p names (Heir held mode) = listed_words p names (codes "heir of") held
 
 -- Values --
 
@@ -56,11 +71,17 @@ unfoldable pub request_words : List (List ℕ) → Option (ℕ × Span) → List
 request_words names None = codes "nothing"
 request_words names (Some (mode, span)) = name_of names mode ++ (codes " " ++ span_word span)
 
+-- A mode that is inherited.
+unfoldable pub heir_words : List (List ℕ) → ℕ → List ℕ
+heir_words names mode = if mode == 0 then codes "none" else name_of names mode
+
 -- The value that the entry has with a change.
 abbrev pub value_words : List (List ℕ) → Change → List ℕ
 value_words names (Compatible requested held is_compatible) = yes_or_no is_compatible
 value_words names (Convert held requested mode) = name_of names mode
 value_words names (Request row side own_next request) = request_words names request
+value_words names (GhostRequest row side request) = request_words names request
+value_words names (Heir held mode) = heir_words names mode
 
 -- The name of a change of p, whose modes have these names.
 unfoldable pub change_words : Protocol → List (List ℕ) → Change → List ℕ

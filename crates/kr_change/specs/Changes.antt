@@ -9,20 +9,32 @@ use Rattle.kr_model.specs.declared.Span.{Span}
 use Rattle.kr_model.specs.Protocol.{Protocol}
 use Rattle.kr_model.specs.Words.{row_number, side_number}
 use Rattle.kr_change.specs.declared.change.Change.{Change}
-use Rattle.kr_change.specs.declared.change.Change.TheVariants.{Request, Convert, Compatible}
+use Rattle.kr_change.specs.declared.change.Change.TheVariants.{Request, GhostRequest, Convert, Heir, Compatible}
+
+-- The mode that is requested, if any is.
+abbrev pub requested_mode : Option (ℕ × Span) → Option ℕ
+requested_mode (Some (mode, span)) = Some mode
+requested_mode None = None
 
 -- The mode that the changed entry has, if it has one.
 abbrev pub mode_of : Change → Option ℕ
-mode_of (Request row side own_next (Some (mode, span))) = Some mode
-mode_of (Request row side own_next None) = None
+mode_of (Request row side own_next request) = requested_mode request
+mode_of (GhostRequest row side request) = requested_mode request
 mode_of (Convert held requested mode) = Some mode
+mode_of (Heir held mode) = Some mode
 mode_of (Compatible requested held is_compatible) = None
+
+-- The same request, if it is any, of another mode.
+abbrev pub request_of_mode : ℕ → Option (ℕ × Span) → Option (ℕ × Span)
+request_of_mode m (Some (mode, span)) = Some (m, span)
+request_of_mode m None = None
 
 -- The same change to another mode. One whose entry has none stays as it is.
 abbrev pub with_mode : ℕ → Change → Change
-with_mode m (Request row side own_next (Some (mode, span))) = Request row side own_next (Some (m, span))
-with_mode m (Request row side own_next None) = Request row side own_next None
+with_mode m (Request row side own_next request) = Request row side own_next (request_of_mode m request)
+with_mode m (GhostRequest row side request) = GhostRequest row side (request_of_mode m request)
 with_mode m (Convert held requested mode) = Convert held requested m
+with_mode m (Heir held mode) = Heir held m
 with_mode m (Compatible requested held is_compatible) = Compatible requested held is_compatible
 
 -- Whether two places of a table are the same.
@@ -39,18 +51,24 @@ abbrev pub ok_after : Protocol → Change → ℕ → ℕ → Bool
 ok_after p (Compatible requested held is_compatible) q h = if (q == requested) && (h == held) then is_compatible else p.ok q h
 ok_after p (Request row side own_next request) q h = p.ok q h
 ok_after p (Convert held requested mode) q h = p.ok q h
+ok_after p (GhostRequest row side request) q h = p.ok q h
+ok_after p (Heir held mode) q h = p.ok q h
 
 -- What modes convert to after a change.
 abbrev pub convert_after : Protocol → Change → ℕ → ℕ → ℕ
 convert_after p (Convert held requested mode) h q = if (h == held) && (q == requested) then mode else p.convert h q
 convert_after p (Request row side own_next request) h q = p.convert h q
 convert_after p (Compatible requested held is_compatible) h q = p.convert h q
+convert_after p (GhostRequest row side request) h q = p.convert h q
+convert_after p (Heir held mode) h q = p.convert h q
 
 -- What is requested after a change.
 abbrev pub ask_after : Protocol → Change → Row → Side → ℕ → Option (ℕ × Span)
 ask_after p (Request row side own_next request) r s o = if is_same_place row side r s && concerns own_next o then request else p.ask r s o
 ask_after p (Convert held requested mode) r s o = p.ask r s o
 ask_after p (Compatible requested held is_compatible) r s o = p.ask r s o
+ask_after p (GhostRequest row side request) r s o = p.ask r s o
+ask_after p (Heir held mode) r s o = p.ask r s o
 
 -- The table p with one entry changed.
 abbrev pub changed : Protocol → Change → Protocol
@@ -96,8 +114,10 @@ abbrev pub is_request : Protocol → Option (ℕ × Span) → Bool
 is_request p None = true
 is_request p (Some (m, span)) = is_mode p m
 
--- Whether a change is one of p's: it is of modes of p; of a row that is offered, at a side where it requests a lock; and by own modes only where the row moves keys.
+-- Whether a change is one of p's, whose deletes leave no ghosts: it is of modes of p; of a row that is offered, at a side where it requests a lock; and by own modes only where the row moves keys.
 abbrev pub is_change : Protocol → Change → Bool
 is_change p (Request row side own_next request) = is_request p request && ((moves_keys row || is_none own_next) && (is_offered p row && has_side row side))
 is_change p (Convert held requested mode) = is_mode p held && (is_mode p requested && is_mode p mode)
 is_change p (Compatible requested held is_compatible) = is_mode p requested && is_mode p held
+is_change p (GhostRequest row side request) = false
+is_change p (Heir held mode) = false

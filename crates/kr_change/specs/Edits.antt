@@ -6,9 +6,10 @@ use Rattle.kr_model.specs.declared.Span.{Span}
 use Rattle.kr_model.specs.Protocol.{Protocol}
 use Rattle.kr_model.specs.ModeNames.{name_of}
 use Rattle.kr_model.specs.Words.{row_word, side_word, span_word}
+use Rattle.kr_change.specs.declared.change.GhostRow.{GhostRow}
 use Rattle.kr_change.specs.declared.change.Change.{Change}
-use Rattle.kr_change.specs.declared.change.Change.TheVariants.{Request, Convert, Compatible}
-use Rattle.kr_change.specs.ChangeNames.{listed_words}
+use Rattle.kr_change.specs.declared.change.Change.TheVariants.{Request, GhostRequest, Convert, Heir, Compatible}
+use Rattle.kr_change.specs.ChangeNames.{ghost_row_word, heir_words, listed_words}
 
 -- Whether a mode comes into a list, or leaves it.
 abbrev pub add_or_remove : Bool → List ℕ
@@ -37,8 +38,18 @@ where_words p names (Some modes) = listed_words p names (codes " where the own m
 unfoldable pub request_edit : Protocol → List (List ℕ) → Row → Side → Option ℕ → Option (ℕ × Span) → List ℕ
 request_edit p names row side own_next request = codes "in [rules." ++ (row_word row ++ (codes "], " ++ (side_word side ++ (codes ": request " ++ (asked_words names request ++ where_words p names own_next)))))
 
+-- An edit of what a row that only tables with ghosts have requests at a side.
+unfoldable pub ghost_request_edit : List (List ℕ) → GhostRow → Side → Option (ℕ × Span) → List ℕ
+ghost_request_edit names row side request = codes "in [rules." ++ (ghost_row_word row ++ (codes "], " ++ (side_word side ++ (codes ": request " ++ asked_words names request))))
+
+-- An edit of what is inherited by who has one of these modes.
+unfoldable pub heir_edit : Protocol → List (List ℕ) → ℕ → ℕ → List ℕ
+heir_edit p names held mode = listed_words p names (codes "in [purge],") held ++ (codes ": " ++ heir_words names mode)
+
 -- The edit that makes a change of p, whose modes have these names.
 abbrev pub edit_words : Protocol → List (List ℕ) → Change → List ℕ
 edit_words p names (Compatible requested held is_compatible) = pair_edit names requested held is_compatible
 edit_words p names (Convert held requested mode) = convert_edit names held requested mode
 edit_words p names (Request row side own_next request) = request_edit p names row side own_next request
+edit_words p names (GhostRequest row side request) = ghost_request_edit names row side request
+edit_words p names (Heir held mode) = heir_edit p names held mode

@@ -10,7 +10,7 @@ use Rattle.kr_model.specs.declared.Span.TheVariants.{Instant, Commit}
 use Rattle.kr_model.specs.Protocol.{Protocol}
 use Rattle.kr_model.specs.Covers.{if_updating, modes, modes_or_none}
 use Rattle.kr_change.specs.declared.change.Change.{Change}
-use Rattle.kr_change.specs.declared.change.Change.TheVariants.{Request, Convert, Compatible}
+use Rattle.kr_change.specs.declared.change.Change.TheVariants.{Request, GhostRequest, Convert, Heir, Compatible}
 use Rattle.kr_change.specs.declared.every.Entry.{Entry}
 use Rattle.kr_change.specs.Changes.{moves_keys}
 
@@ -51,9 +51,17 @@ is_same_request None None = true
 is_same_request (Some (m, s)) (Some (n, t)) = (m == n) && is_same_span s t
 is_same_request _ _ = false
 
+-- The change with another request, if it is of one.
+abbrev pub with_request : Option (ℕ × Span) → Change → Change
+with_request q (Request row side own_next request) = Request row side own_next q
+with_request q (GhostRequest row side request) = GhostRequest row side q
+with_request q (Convert held requested mode) = Convert held requested mode
+with_request q (Heir held mode) = Heir held mode
+with_request q (Compatible requested held is_compatible) = Compatible requested held is_compatible
+
 -- An entry with another request.
 abbrev pub offered : Entry → Option (ℕ × Span) → List Change
-offered e r = if is_same_request r e.now then [] else Request e.row e.side e.own_next r ∷ []
+offered e r = if is_same_request r e.now then [] else with_request r e.change ∷ []
 
 -- An entry with each other request: nothing, or a mode, for an instant and to commit.
 abbrev pub requests_in : Entry → ℕ → List Change
@@ -62,15 +70,19 @@ requests_in e m = offered e (Some (m, Instant)) ++ offered e (Some (m, Commit))
 abbrev pub requests_to : Protocol → Entry → List Change
 requests_to p e = offered e None ++ flat_map (requests_in e) (modes p)
 
+-- What a row requests at a side, with these own modes on the next name, and now this.
+abbrev pub entry_of : Row → Side → Option ℕ → Option (ℕ × Span) → Entry
+entry_of r s own_next now = record { change = Request r s own_next None; now = now }
+
 -- A row that moves keys, with one own mode on the next name.
 abbrev pub requests_with : Protocol → Row → Side → ℕ → List Change
-requests_with p r s o = requests_to p (record { row = r; side = s; own_next = Some (2 ^ o); now = p.ask r s o })
+requests_with p r s o = requests_to p (entry_of r s (Some (2 ^ o)) (p.ask r s o))
 
 abbrev pub requests_by_own : Protocol → Row → Side → List Change
 requests_by_own p r s = flat_map (requests_with p r s) (modes_or_none p)
 
 abbrev pub requests_at : Protocol → Row × Side → List Change
-requests_at p (r, s) = if moves_keys r then requests_by_own p r s else requests_to p (record { row = r; side = s; own_next = None; now = p.ask r s 0 })
+requests_at p (r, s) = if moves_keys r then requests_by_own p r s else requests_to p (entry_of r s None (p.ask r s 0))
 
 -- Each row, at each side at which it requests a lock.
 abbrev pub places : Protocol → List (Row × Side)
@@ -79,6 +91,6 @@ places p = (FetchHit, Current) ∷ (FetchMiss, Next) ∷ (ScanKey, Current) ∷ 
 abbrev pub requests : Protocol → List Change
 requests p = flat_map (requests_at p) (places p)
 
--- All changes of one entry.
+-- All changes of one entry, where deletes leave no ghosts.
 abbrev pub changes_of : Protocol → List Change
 changes_of p = compatibles p ++ (conversions p ++ requests p)

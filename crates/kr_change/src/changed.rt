@@ -1,93 +1,62 @@
 //! A protocol with one entry changed.
 ghost use Rattle.std.specs.Prelude.{◌≡◌, ◌≤◌, IsTrue, IfSome, is_some};
 ghost use Rattle.kr_model.specs.Protocol.{IsLawful};
-ghost use Rattle.kr_change.specs.Changes.{changed, concerns, has_side, is_change, is_mode, is_offered, is_same_place, is_request, moves_keys};
+ghost use Rattle.kr_change.specs.Changes.{changed, concerns, is_same_place};
+ghost use Rattle.kr_change.specs.GhostChanges.{changed_ghosts, changed_index, ghost_ask_after, is_index_change, is_same_ghost_place, vain_ask_after};
+ghost use Rattle.kr_change.specs.ChangedTables.{AsksModes, index_changed, lawful_changed, table_changed};
 
-use crate::change::Change;
+use crate::allowed::is_index_change;
+use crate::change::{Change, GhostRow};
+use kr_ghost::Vain;
+use kr_ghost_protocol::GhostProtocol;
+use kr_kinds::IndexProtocol;
 use kr_model::{Mode, Row, Side, Span};
 use kr_protocol::Protocol;
 
-/// A protocol with one entry changed. It answers from the change and the protocol below, and takes no memory.
+/// A protocol of either kind with one entry changed. It answers from the change and the protocol below, and takes no memory.
 #[derive(Drop)]
-pub struct Changed<'a, P: Protocol> {
+pub struct Changed<'a, P: IndexProtocol> {
     base: &'a P,
     change: Change,
-    ghost allowed: { IsTrue (is_change (P.table base.now) change) },
+    ghost allowed: { IsTrue (is_index_change (P.index base.now) change) },
     ghost lawful: { IsLawful (changed (P.table base.now) change) },
+    ghost asks: { AsksModes (changed_ghosts (P.ghosts base.now) change) },
 }
 
-/// Whether a number is a mode.
-fn is_mode<P: Protocol>(protocol: &P, mode: Mode) -> bool
-    ensures { result ≡ is_mode (P.table protocol.now) mode }
+/// Whether two such places are the same.
+fn is_same_ghost_place(row: GhostRow, side: Side, other: GhostRow, other_side: Side) -> bool
+    ensures { result ≡ is_same_ghost_place row side other other_side }
 {
-    mode > 0 && mode <= protocol.count()
+    row == other && side == other_side
 }
 
-/// Whether nothing is requested, or a mode.
-fn is_request<P: Protocol>(protocol: &P, request: Option<(Mode, Span)>) -> bool
-    ensures { result ≡ is_request (P.table protocol.now) request }
-{
-    match request {
-        Some((mode, _)) => is_mode(protocol, mode),
-        None => true,
-    }
-}
-
-/// Whether what a row requests may go by the own mode on the next name.
-pub(crate) fn moves_keys(row: Row) -> bool
-    ensures { result ≡ moves_keys row }
-{
-    matches!(row, Row::Insert | Row::Delete)
-}
-
-/// Whether a row requests a lock at the side.
-fn has_side(row: Row, side: Side) -> bool
-    ensures { result ≡ has_side row side }
-{
-    match row {
-        Row::FetchHit | Row::ScanKey | Row::Update => side == Side::Current,
-        Row::FetchMiss | Row::ScanStop => side == Side::Next,
-        Row::Insert | Row::Delete => true,
-    }
-}
-
-/// Whether a row is offered.
-fn is_offered<P: Protocol>(protocol: &P, row: Row) -> bool
-    ensures { result ≡ is_offered (P.table protocol.now) row }
-{
-    match row {
-        Row::Update => protocol.updates(),
-        _ => true,
-    }
-}
-
-/// Whether a change is one of the protocol's: of its modes; of a row that it offers, at a side where the row requests a
-/// lock; and by own modes only where the row moves keys.
-fn is_change<P: Protocol>(protocol: &P, change: Change) -> bool
-    ensures { result ≡ is_change (P.table protocol.now) change }
+/// What is requested at such a place after a change, where this was.
+fn ghost_ask_after(
+    change: Change,
+    row: GhostRow,
+    side: Side,
+    now: Option<(Mode, Span)>,
+) -> Option<(Mode, Span)>
+    ensures { result ≡ ghost_ask_after change row side now }
 {
     match change {
-        Change::Request {
-            row,
-            side,
-            own_next,
+        Change::GhostRequest {
+            row: changed_row,
+            side: changed_side,
             request,
-        } => {
-            is_request(protocol, request)
-                && (moves_keys(row) || own_next.is_none())
-                && is_offered(protocol, row)
-                && has_side(row, side)
-        }
-        Change::Convert {
-            held,
-            requested,
-            mode,
-        } => is_mode(protocol, held) && is_mode(protocol, requested) && is_mode(protocol, mode),
-        Change::Compatible {
-            requested,
-            held,
-            is_compatible: _,
-        } => is_mode(protocol, requested) && is_mode(protocol, held),
+        } if is_same_ghost_place(changed_row, changed_side, row, side) => request,
+        _ => now,
+    }
+}
+
+/// The same at the row of a vain step.
+fn vain_ask_after(change: Change, vain: Vain, now: Option<(Mode, Span)>) -> Option<(Mode, Span)>
+    ensures { result ≡ vain_ask_after change vain now }
+{
+    match vain {
+        Vain::InsertHit => ghost_ask_after(change, GhostRow::InsertHit, Side::Current, now),
+        Vain::DeleteMiss => ghost_ask_after(change, GhostRow::DeleteMiss, Side::Next, now),
+        Vain::UpdateMiss => ghost_ask_after(change, GhostRow::UpdateMiss, Side::Next, now),
     }
 }
 
@@ -109,16 +78,16 @@ fn concerns(own_next: Option<u16>, own: Mode) -> bool
     }
 }
 
-impl<'a, P: Protocol> Changed<'a, P> {
+impl<'a, P: IndexProtocol> Changed<'a, P> {
     /// The protocol with the change, or `None` where the change isn't one of the protocol's: a number in it is no mode; or
-    /// it is of an update where none is offered, of a side where the row requests no lock, or by own modes at a row that
-    /// moves no key.
+    /// it is of an update where none is offered, of a row that the table doesn't have, of a side where the row requests no lock,
+    /// by own modes at a row that doesn't go by them, or of an heir where nothing is inherited.
     pub fn new(base: &'a P, change: Change) -> Option<Changed<'a, P>>
-        ensures exactly { is_some result ≡ is_change (P.table base.now) change }
+        ensures exactly { is_some result ≡ is_index_change (P.index base.now) change }
         ensures base { IfSome result (λ c. c.base.now ≡ base.now) }
         ensures change { IfSome result (λ c. c.change ≡ change) }
     {
-        if is_change(base, change) {
+        if is_index_change(base, change) {
             Some(Changed { base, change })
         } else {
             None
@@ -126,7 +95,7 @@ impl<'a, P: Protocol> Changed<'a, P> {
     }
 }
 
-impl<P: Protocol> Protocol for Changed<'_, P> {
+impl<P: IndexProtocol> Protocol for Changed<'_, P> {
     ghost table = { λ c. changed (P.table c.base.now) c.change };
 
     ghost names = { λ c. P.names c.base.now };
@@ -147,8 +116,7 @@ impl<P: Protocol> Protocol for Changed<'_, P> {
                 }
                 self.base.ok(requested, held)
             }
-            Change::Request { .. } => self.base.ok(requested, held),
-            Change::Convert { .. } => self.base.ok(requested, held),
+            _ => self.base.ok(requested, held),
         }
     }
 
@@ -168,8 +136,7 @@ impl<P: Protocol> Protocol for Changed<'_, P> {
                 }
                 row
             }
-            Change::Request { .. } => row,
-            Change::Convert { .. } => row,
+            _ => row,
         }
     }
 
@@ -185,8 +152,7 @@ impl<P: Protocol> Protocol for Changed<'_, P> {
                 }
                 self.base.convert(held, requested)
             }
-            Change::Request { .. } => self.base.convert(held, requested),
-            Change::Compatible { .. } => self.base.convert(held, requested),
+            _ => self.base.convert(held, requested),
         }
     }
 
@@ -209,8 +175,7 @@ impl<P: Protocol> Protocol for Changed<'_, P> {
                 }
                 self.base.ask(row, side, own_next)
             }
-            Change::Convert { .. } => self.base.ask(row, side, own_next),
-            Change::Compatible { .. } => self.base.ask(row, side, own_next),
+            _ => self.base.ask(row, side, own_next),
         }
     }
 
@@ -221,4 +186,55 @@ impl<P: Protocol> Protocol for Changed<'_, P> {
     ghost lawful = { λ c. c.lawful };
 
     ghost named = { λ c. P.named c.base.now };
+}
+
+impl<P: IndexProtocol> GhostProtocol for Changed<'_, P> {
+    ghost ghosts = { λ c. changed_ghosts (P.ghosts c.base.now) c.change };
+
+    fn revive(&self) -> Option<(Mode, Span)> {
+        let now = self.base.revive();
+        ghost_ask_after(self.change, GhostRow::Revive, Side::Current, now)
+    }
+
+    fn revive_next(&self) -> Option<(Mode, Span)> {
+        let now = self.base.revive_next();
+        ghost_ask_after(self.change, GhostRow::Revive, Side::Next, now)
+    }
+
+    fn vain(&self, vain: Vain) -> Option<Option<(Mode, Span)>> {
+        match self.base.vain(vain) {
+            Some(now) => Some(vain_ask_after(self.change, vain, now)),
+            None => None,
+        }
+    }
+
+    fn insert_hit_next(&self) -> Option<(Mode, Span)> {
+        let now = self.base.insert_hit_next();
+        ghost_ask_after(self.change, GhostRow::InsertHit, Side::Next, now)
+    }
+
+    fn inherits(&self) -> bool {
+        self.base.inherits()
+    }
+
+    fn heir(&self, mode: Mode) -> Mode {
+        match self.change {
+            Change::Heir { held, mode: heir } if self.inherits() && held >> mode & 1 == 1 => heir,
+            _ => self.base.heir(mode),
+        }
+    }
+
+    ghost tables = { λ c. table_changed (P.table c.base.now) (P.ghosts c.base.now) (P.tables c.base.now) c.change };
+
+    ghost lawful_ghosts = { λ c. lawful_changed (P.table c.base.now) (P.ghosts c.base.now) (P.tables c.base.now) c.change c.lawful c.asks };
+}
+
+impl<P: IndexProtocol> IndexProtocol for Changed<'_, P> {
+    ghost index = { λ c. changed_index (P.index c.base.now) c.change };
+
+    fn leaves_ghosts(&self) -> bool {
+        self.base.leaves_ghosts()
+    }
+
+    ghost has_tables = { λ c. index_changed (P.index c.base.now) (P.table c.base.now) (P.ghosts c.base.now) (P.has_tables c.base.now) c.change };
 }

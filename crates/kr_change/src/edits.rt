@@ -1,9 +1,10 @@
 //! A change as an edit of the table's file.
 ghost use Rattle.std.specs.Prelude.{◌≡◌, IfOk, string_bytes};
-ghost use Rattle.kr_change.specs.Edits.{add_or_remove, asked_words, convert_edit, edit_words, pair_edit, request_edit, where_words};
+ghost use Rattle.kr_change.specs.Edits.{add_or_remove, asked_words, convert_edit, edit_words, ghost_request_edit, heir_edit, pair_edit, request_edit, where_words};
 
-use crate::Change;
+use crate::change::{Change, GhostRow, ghost_row_word};
 use crate::entries::own_text;
+use crate::names::heir_word;
 use kr_model::{Memory, Mode, Row, Side, Span, row_word, side_word, span_word};
 use kr_protocol::{Protocol, name_or_empty};
 use std::alloc::Global;
@@ -30,6 +31,10 @@ pub fn edit_text<P: Protocol>(alloc: Global, protocol: &P, change: Change) -> Re
             own_next,
             request,
         } => request_text(alloc, protocol, row, side, own_next, request),
+        Change::GhostRequest { row, side, request } => {
+            ghost_request_text(alloc, protocol, row, side, request)
+        }
+        Change::Heir { held, mode } => heir_text(alloc, protocol, held, mode),
     }
 }
 
@@ -91,6 +96,38 @@ fn request_text<P: Protocol>(
     let asked = asked_text(alloc, protocol, request)?;
     let with = where_text(alloc, protocol, own_next)?;
     format!(in alloc; "in [rules.{row}], {side}: request {asked}{with}")
+}
+
+/// An edit of what a row that only tables with ghosts have requests at a side.
+#[tactic(auto, unfolding(crate::specs::Edits::ghost_request_edit))]
+fn ghost_request_text<P: Protocol>(
+    alloc: Global,
+    protocol: &P,
+    row: GhostRow,
+    side: Side,
+    request: Option<(Mode, Span)>,
+) -> Result<String, Memory>
+    ensures { IfOk result (λ text. string_bytes text ≡ ghost_request_edit (P.names protocol.now) row side request) }
+{
+    let row = ghost_row_word(row);
+    let side = side_word(side);
+    let asked = asked_text(alloc, protocol, request)?;
+    format!(in alloc; "in [rules.{row}], {side}: request {asked}")
+}
+
+/// An edit of what is inherited by who has one of these modes.
+#[tactic(auto, unfolding(crate::specs::Edits::heir_edit))]
+fn heir_text<P: Protocol>(
+    alloc: Global,
+    protocol: &P,
+    held: u16,
+    mode: Mode,
+) -> Result<String, Memory>
+    ensures { IfOk result (λ text. string_bytes text ≡ heir_edit (P.table protocol.now) (P.names protocol.now) held mode) }
+{
+    let modes = own_text(alloc, protocol, "in [purge],", held)?;
+    let heir = heir_word(protocol, mode);
+    format!(in alloc; "{modes}: {heir}")
 }
 
 /// What is requested: a mode, and for how long.

@@ -1,8 +1,8 @@
 //! The name of an entry of a table.
 ghost use Rattle.std.specs.Prelude.{◌≡◌, ◌≤◌, IfOk, string_bytes};
-ghost use Rattle.kr_change.specs.ChangeNames.{conversion_words, entry_words, listed_words, own_word, owns_words, pair_words, place_words};
+ghost use Rattle.kr_change.specs.ChangeNames.{conversion_words, entry_words, ghost_place_words, listed_words, own_word, owns_words, pair_words, place_words};
 
-use crate::Change;
+use crate::change::{Change, GhostRow, ghost_row_word};
 use kr_model::{Memory, Mode, Row, Side, row_word, side_word};
 use kr_protocol::{Protocol, name_or_empty};
 use std::alloc::Global;
@@ -32,7 +32,19 @@ pub fn entry_text<P: Protocol>(
             own_next,
             ..
         } => place_text(alloc, protocol, row, side, own_next),
+        Change::GhostRequest { row, side, .. } => ghost_place_text(alloc, row, side),
+        Change::Heir { held, .. } => own_text(alloc, protocol, "heir of", held),
     }
+}
+
+/// The name of the entry that says what a row that only tables with ghosts have requests at a side.
+#[tactic(auto, unfolding(crate::specs::ChangeNames::ghost_place_words))]
+fn ghost_place_text(alloc: Global, row: GhostRow, side: Side) -> Result<String, Memory>
+    ensures { IfOk result (λ text. string_bytes text ≡ ghost_place_words row side) }
+{
+    let row = ghost_row_word(row);
+    let side = side_word(side);
+    format!(in alloc; "{row} {side}")
 }
 
 /// The name of the entry that says whether a requested mode is compatible with another transaction's held one. The error is
@@ -98,7 +110,7 @@ fn owns_text<P: Protocol>(
     }
 }
 
-/// A text, and behind it the own modes on the next name whose bits are set.
+/// A text, and behind it the modes whose bits are set.
 pub(crate) fn own_text<P: Protocol>(
     alloc: Global,
     protocol: &P,

@@ -2,21 +2,66 @@
 //!
 //! The functions put the changes of their entries behind those so far, in order.
 ghost use Rattle.std.specs.Prelude.{◌≡◌, ◌≤◌, ◌++◌, ◌^◌, IfOk, OnOk};
-ghost use Rattle.kr_change.specs.Every.{changes_of, compatibles, compatibles_of, conversions, conversions_from, conversions_of, is_same_request, offered, places, requests, requests_at, requests_by_own, requests_to};
+ghost use Rattle.kr_change.specs.Every.{changes_of, compatibles, compatibles_of, conversions, conversions_from, conversions_of, entry_of, is_same_request, offered, places, requests, requests_at, requests_by_own, requests_to, with_request};
 
+use crate::allowed::moves_keys;
 use crate::change::Change;
-use crate::changed::moves_keys;
 use kr_model::{Memory, Mode, Row, Side, Span};
 use kr_protocol::Protocol;
 use std::alloc::Global;
 
-/// An entry of a table: what a row requests at a side, with some own modes on the next name.
+/// An entry of a table: what a row requests at a side.
 #[derive(Clone, Copy)]
-struct Entry {
+pub(crate) struct Entry {
+    /// A change of it, whichever its request is.
+    pub change: Change,
+    /// What is requested now.
+    pub now: Option<(Mode, Span)>,
+}
+
+/// What a row requests at a side, with these own modes on the next name, and now this.
+pub(crate) fn entry_of(
     row: Row,
     side: Side,
     own_next: Option<u16>,
     now: Option<(Mode, Span)>,
+) -> Entry
+    ensures { result ≡ entry_of row side own_next now }
+{
+    Entry {
+        change: Change::Request {
+            row,
+            side,
+            own_next,
+            request: None,
+        },
+        now,
+    }
+}
+
+/// The change with another request, if it is of one.
+fn with_request(request: Option<(Mode, Span)>, change: Change) -> Change
+    ensures { result ≡ with_request request change }
+{
+    match change {
+        Change::Request {
+            row,
+            side,
+            own_next,
+            request: _,
+        } => Change::Request {
+            row,
+            side,
+            own_next,
+            request,
+        },
+        Change::GhostRequest {
+            row,
+            side,
+            request: _,
+        } => Change::GhostRequest { row, side, request },
+        other => other,
+    }
 }
 
 /// The places at which a protocol requests locks, in order.
@@ -50,7 +95,7 @@ fn places<P: Protocol>(protocol: &P) -> &'static [(Row, Side)]
 }
 
 /// The own mode alone, as a bit.
-fn only(own: Mode) -> u16
+pub(crate) fn only(own: Mode) -> u16
     requires { own ≤ 15 }
     ensures { result ≡ 2 ^ own }
 {
@@ -79,18 +124,13 @@ fn offer(
     ensures { OnOk result (changes.new.items ≡ changes.old.items ++ offered entry request) }
 {
     if !is_same_request(request, entry.now) {
-        changes.push(Change::Request {
-            row: entry.row,
-            side: entry.side,
-            own_next: entry.own_next,
-            request,
-        })?;
+        changes.push(with_request(request, entry.change))?;
     }
     Ok(())
 }
 
 /// The entry with each other request.
-fn requests_to<P: Protocol>(
+pub(crate) fn requests_to<P: Protocol>(
     protocol: &P,
     changes: &mut Vec<Change>,
     entry: Entry,
@@ -106,7 +146,7 @@ fn requests_to<P: Protocol>(
 }
 
 /// The requests of a row that moves keys, for each own mode on the next name.
-fn requests_by_own<P: Protocol>(
+pub(crate) fn requests_by_own<P: Protocol>(
     protocol: &P,
     changes: &mut Vec<Change>,
     row: Row,
@@ -115,12 +155,8 @@ fn requests_by_own<P: Protocol>(
     ensures { OnOk result (changes.new.items ≡ changes.old.items ++ requests_by_own (P.table protocol.now) row side) }
 {
     for own in 0..protocol.count() + 1 {
-        let entry = Entry {
-            row,
-            side,
-            own_next: Some(only(own)),
-            now: protocol.ask(row, side, own),
-        };
+        let now = protocol.ask(row, side, own);
+        let entry = entry_of(row, side, Some(only(own)), now);
         requests_to(protocol, changes, entry)?;
     }
     Ok(())
@@ -138,13 +174,8 @@ fn requests_at<P: Protocol>(
     if moves_keys(row) {
         requests_by_own(protocol, changes, row, side)
     } else {
-        let entry = Entry {
-            row,
-            side,
-            own_next: None,
-            now: protocol.ask(row, side, 0),
-        };
-        requests_to(protocol, changes, entry)
+        let now = protocol.ask(row, side, 0);
+        requests_to(protocol, changes, entry_of(row, side, None, now))
     }
 }
 
@@ -199,7 +230,10 @@ fn conversions_of<P: Protocol>(
 }
 
 /// All conversions.
-fn conversions<P: Protocol>(protocol: &P, changes: &mut Vec<Change>) -> Result<(), Memory>
+pub(crate) fn conversions<P: Protocol>(
+    protocol: &P,
+    changes: &mut Vec<Change>,
+) -> Result<(), Memory>
     ensures { OnOk result (changes.new.items ≡ changes.old.items ++ conversions (P.table protocol.now)) }
 {
     for held in 1..protocol.count() + 1 {
@@ -228,7 +262,10 @@ fn compatibles_of<P: Protocol>(
 }
 
 /// All pairs.
-fn compatibles<P: Protocol>(protocol: &P, changes: &mut Vec<Change>) -> Result<(), Memory>
+pub(crate) fn compatibles<P: Protocol>(
+    protocol: &P,
+    changes: &mut Vec<Change>,
+) -> Result<(), Memory>
     ensures { OnOk result (changes.new.items ≡ changes.old.items ++ compatibles (P.table protocol.now)) }
 {
     for requested in 1..protocol.count() + 1 {
@@ -237,7 +274,7 @@ fn compatibles<P: Protocol>(protocol: &P, changes: &mut Vec<Change>) -> Result<(
     Ok(())
 }
 
-/// All changes of one entry, each once, and none that changes nothing: each pair of modes made compatible, or not; each
+/// All changes of one entry of a table whose deletes leave no ghosts, each once, and none that changes nothing: each pair of modes made compatible, or not; each
 /// conversion to each other mode; and at each place, for rows that move keys with each own mode on the next name, each
 /// other request. They come in this order, rows and modes rising. The only fault is that a growth was refused.
 pub fn changes_of<P: Protocol>(alloc: Global, protocol: &P) -> Result<Vec<Change>, Memory>

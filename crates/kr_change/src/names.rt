@@ -1,6 +1,6 @@
 //! The name of a change: the entry of the table, with its other value.
 ghost use Rattle.std.specs.Prelude.{◌≡◌, IfOk, string_bytes};
-ghost use Rattle.kr_change.specs.ChangeNames.{change_words, request_words, value_words, yes_or_no};
+ghost use Rattle.kr_change.specs.ChangeNames.{change_words, heir_words, request_words, value_words, yes_or_no};
 
 use crate::Change;
 use crate::entries::entry_text;
@@ -31,7 +31,22 @@ fn value_text<P: Protocol>(alloc: Global, protocol: &P, change: Change) -> Resul
             String::from_str(alloc, yes_or_no(is_compatible))
         }
         Change::Convert { mode, .. } => String::from_str(alloc, name_or_empty(protocol, mode)),
-        Change::Request { request, .. } => request_text(alloc, protocol, request),
+        Change::Request { request, .. } | Change::GhostRequest { request, .. } => {
+            request_text(alloc, protocol, request)
+        }
+        Change::Heir { mode, .. } => String::from_str(alloc, heir_word(protocol, mode)),
+    }
+}
+
+/// A mode that is inherited, or that none is.
+#[tactic(auto, unfolding(crate::specs::ChangeNames::heir_words))]
+pub(crate) fn heir_word<P: Protocol>(protocol: &P, mode: Mode) -> &str
+    ensures { result.now ≡ heir_words (P.names protocol.now) mode }
+{
+    if mode == 0 {
+        "none"
+    } else {
+        name_or_empty(protocol, mode)
     }
 }
 

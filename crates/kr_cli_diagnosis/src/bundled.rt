@@ -9,9 +9,9 @@ use std::alloc::{AllocError, Global};
 /// Which bundled tables a command takes.
 #[derive(Clone, Copy)]
 pub enum Bundled {
-    /// Those without ghosts, as `kr suite` and `kr relax` do.
+    /// Those without ghosts, as `kr relax` does.
     WithoutGhosts,
-    /// All, as explain, view and trace do.
+    /// All, as explain, view, trace and suite do.
     All,
 }
 

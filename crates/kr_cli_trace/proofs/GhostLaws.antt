@@ -25,7 +25,7 @@ pub step_followed : {P : Type 0} (ghosts : P → GhostProtocol) (q : P) (s : Par
     → AreFollowed ghosts q s at d tests tales m found → HasFollowed ghosts q s.opening (s.steps ++ record { number = n; event = e; observed = o } ∷ []) new → later ≡ new.found
     → AreJudged s.opening (s.steps ++ record { number = n; event = e; observed = o } ∷ []) told left now
     → AreFollowed ghosts q (with_step n e o s) new later tests told left now
-step_followed ghosts q s n e o at new d later tests tales told m left found now h is found_is judged = record { followed = is; deviates = found_is; texts = h.texts; judged = judged }
+step_followed ghosts q s n e o at new d later tests tales told m left found now h is found_is judged = record { rising = h.rising; followed = is; deviates = found_is; texts = h.texts; judged = judged }
 
 -- Each table that a word names is lawful.
 pub lawful_named : (t : Named) → IsLawfulNamed t

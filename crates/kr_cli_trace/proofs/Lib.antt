@@ -1,3 +1,4 @@
 mod OnePartLaws
 mod HeldLaws
+mod SerialLaws
 pub mod GhostLaws

@@ -74,6 +74,7 @@ pub step_watched_ghosts : {P : Type 0} (ghosts : P → GhostProtocol) (q : P) (s
 step_watched_ghosts ghosts q s n e o at new d later opening steps more h is found_is kept =
     let line : Line = record { number = n; event = e; observed = o } in
     record {
+      rising = h.rising;
       followed = is;
       deviates = found_is;
       opens = h.opens;

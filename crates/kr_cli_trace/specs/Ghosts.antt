@@ -1,7 +1,7 @@
 -- Tables with ghosts beside those without, and how far a part has been held against one.
 use Rattle.std.specs.Prelude.{◌≡◌, ℕ, List, Option}
 use Rattle.std.specs.BTreeMap.{BTreeMap}
-use Rattle.kr_model.specs.Map.{Map}
+use Rattle.kr_model.specs.Map.{Map, IsMap}
 use Rattle.kr_model.specs.Protocol.{IsLawful}
 use Rattle.kr_cli.specs.Tables as plain
 use Rattle.kr_cli.specs.GhostTables as ghost
@@ -31,8 +31,9 @@ abbrev pub IsLawfulNamed : Named → Type 0
 IsLawfulNamed (Table t) = IsLawful (plain.table_of t)
 IsLawfulNamed (Ghosts t) = IsLawfulGhost (ghost.ghosts_of t)
 
--- The steps were followed under the table, and what was found is known; the texts are those of the part's head; and the steps are judged.
+-- The keys of the opening rise; the steps were followed under the table, and what was found is known; the texts are those of the part's head; and the steps are judged.
 pub record AreFollowed {P : Type 0} (ghosts : P → GhostProtocol) (q : P) (s : Part) (at : Follows P) (deviation : Option Deviation) (tests : List (List ℕ)) (tales : BTreeMap ℕ Tale) (map : Map) (found : Option TraceVerdict) : Type 0 where
+  pub rising : IsMap s.opening
   pub followed : HasFollowed ghosts q s.opening s.steps at
   pub deviates : deviation ≡ at.found
   pub texts : tests ≡ s.tests

@@ -1,7 +1,7 @@
 -- One part of a trace as a text.
 use Rattle.std.specs.Prelude.{◌≡◌, ◌≢◌, ◌↔◌, ℕ, Bool, IsTrue, List, [], ◌∷◌, ◌++◌, Option, Some, None, codes, decimal, map}
 use Rattle.kr_model.specs.Protocol.{Protocol}
-use Rattle.kr_model.specs.Map.{Map}
+use Rattle.kr_model.specs.Map.{Map, IsMap}
 use Rattle.kr_trace_lines.specs.declared.deviation.Deviation.{Deviation}
 use Rattle.kr_trace_follow.specs.Following.{Following, after_lines, begun}
 use Rattle.kr_trace_follow.specs.Lines.{Line}
@@ -55,8 +55,9 @@ pub record IsWatched (p : Protocol) (s : Part) (own : Protocol) (at : Following)
   pub opens : opening ≡ s.opening
   pub keeps : steps ≡ map logged s.steps
 
--- The same under a table with ghosts.
+-- The same under a table with ghosts, and the keys of the opening rise.
 pub record IsWatchedGhosts {P : Type 0} (ghosts : P → GhostProtocol) (q : P) (s : Part) (at : Follows P) (deviation : Option Deviation) (opening : Map) (steps : List LoggedStep) : Type 0 where
+  pub rising : IsMap s.opening
   pub followed : HasFollowed ghosts q s.opening s.steps at
   pub deviates : deviation ≡ at.found
   pub opens : opening ≡ s.opening

@@ -4,3 +4,4 @@ pub mod Three
 pub mod InOrder
 pub mod Named
 pub mod Tried
+pub mod Found

@@ -1,5 +1,5 @@
 -- Changes that mend failed cases.
-use Rattle.std.specs.Prelude.{◌≡◌, ◌≢◌, ◌≤◌, ◌⊎◌, [], ◌++◌, List, true, All, length}
+use Rattle.std.specs.Prelude.{◌≡◌, ◌≢◌, ◌≤◌, ◌⊎◌, [], ◌∷◌, ◌++◌, List, true, All, length}
 use Rattle.std.specs.List.{Any}
 use Rattle.kr_model.specs.declared.FailedCase.{FailedCase}
 use Rattle.kr_model.specs.Protocol.{Protocol}
@@ -58,29 +58,55 @@ IsOf _ _ = ⊥
 abbrev pub AreAlike : Change → Change → Type 0
 AreAlike c d = with_mode 0 c ≡ with_mode 0 d
 
+-- A change was put behind the others of its verdict.
+abbrev pub IsPut : Change → Verdict → Mend → Mend → Type 0
+IsPut c Accepted old new = (new.accepted.items ≡ old.accepted.items ++ c ∷ []) × ((new.safe.items ≡ old.safe.items) × (new.mended.items ≡ old.mended.items))
+IsPut c Safe old new = (new.accepted.items ≡ old.accepted.items) × ((new.safe.items ≡ old.safe.items ++ c ∷ []) × (new.mended.items ≡ old.mended.items))
+IsPut c Mended old new = (new.accepted.items ≡ old.accepted.items) × ((new.safe.items ≡ old.safe.items) × (new.mended.items ≡ old.mended.items ++ c ∷ []))
+IsPut c Neither old new = (new.accepted.items ≡ old.accepted.items) × ((new.safe.items ≡ old.safe.items) × (new.mended.items ≡ old.mended.items))
+
 -- All changes that are named.
 abbrev pub changes_of : Mend → List Change
 changes_of m = m.accepted.items ++ (m.safe.items ++ m.mended.items)
 
--- The changes that are told mend.
-pub record AreMends (p : Protocol) (cases failed : List FailedCase) (m : Mend) : Type 0 where
-  pub accepted : All (Accepts p) m.accepted.items
-  pub safe : All (MakesSafe p) m.safe.items
-  pub mended : All (Mends p cases failed) m.mended.items
+-- What is said of the changes that are told: one thing of those with which the table is accepted, one of those with which it is safe, and one of the others.
+pub record AreTold (A S M : Change → Type 0) (m : Mend) : Type 0 where
+  pub accepted : All A m.accepted.items
+  pub safe : All S m.safe.items
+  pub mended : All M m.mended.items
 
--- The changes that are named are of one entry, which is to blame.
-pub record AreOfOneEntry (blame : Blame) (m : Mend) : Type 0 where
+-- The changes that are named are of one entry.
+pub record AreOfEntry (Is : Change → Type 0) (m : Mend) : Type 0 where
   -- those that only mend are named where there are no others
   pub last : (m.mended.items ≡ []) ⊎ ((m.accepted.items ≡ []) × (m.safe.items ≡ []))
-  -- each is of the entry that is to blame, and any two of them differ in their mode alone
-  pub of_blamed : All (IsOf blame) (changes_of m)
+  -- each is of the entry, and any two of them differ in their mode alone
+  pub of_entry : All Is (changes_of m)
   pub alike : All (λ c. All (AreAlike c) (changes_of m)) (changes_of m)
   -- there are at most 15
   pub few : length (changes_of m) ≤ 15
 
+-- The same of one change by its verdict.
+abbrev pub TellsBy : (Change → Type 0) → (Change → Type 0) → (Change → Type 0) → Change → Verdict → Type 0
+TellsBy A S M c Accepted = A c
+TellsBy A S M c Safe = S c
+TellsBy A S M c Mended = M c
+TellsBy A S M c Neither = Unit {0}
+
+-- The changes that are told mend.
+abbrev pub AreMends : Protocol → List FailedCase → List FailedCase → Mend → Type 0
+AreMends p cases failed m = AreTold (Accepts p) (MakesSafe p) (Mends p cases failed) m
+
+-- The changes that are named are of one entry, which is to blame.
+abbrev pub AreOfOneEntry : Blame → Mend → Type 0
+AreOfOneEntry blame m = AreOfEntry (IsOf blame) m
+
 -- What is said of a change.
 abbrev pub Tells : Protocol → List FailedCase → List FailedCase → Change → Verdict → Type 0
-Tells p cases failed c Accepted = Accepts p c
-Tells p cases failed c Safe = MakesSafe p c
-Tells p cases failed c Mended = Mends p cases failed c
-Tells p cases failed c Neither = Unit {0}
+Tells p cases failed c v = TellsBy (Accepts p) (MakesSafe p) (Mends p cases failed) c v
+
+-- What is said of the table p that a change made.
+abbrev pub IsVerdict : Protocol → List FailedCase → List FailedCase → Verdict → Type 0
+IsVerdict p cases failed Accepted = IsCovered p
+IsVerdict p cases failed Safe = (failed_cases p ≢ []) × IsSafe p
+IsVerdict p cases failed Mended = (failed_cases p ≢ []) × AreMended cases failed (failed_cases p)
+IsVerdict p cases failed Neither = Unit {0}

@@ -11,5 +11,5 @@ pub use blame::Blame;
 pub use cause::{Cause, causes};
 pub use kr_cases::{Memory, must_conflict};
 pub use kr_model::{FailedCase, Mode, Row, Side, Span};
-pub use mend::{Mend, mends};
+pub use mend::{MOST_MENDED, Mend, Verdict, mends};
 pub use reasons::own_next;

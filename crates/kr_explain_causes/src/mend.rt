@@ -1,19 +1,22 @@
 //! Changes that mend the cases of a cause.
-ghost use Rattle.std.specs.Prelude.{◌≡◌, ◌≤◌, ◌⊎◌, ◌↔◌, [], IsTrue, IfOk, IfSome, All, false, true, map};
+ghost use Rattle.std.specs.Prelude.{◌≡◌, ◌≤◌, ◌⊎◌, ◌↔◌, [], IsTrue, IfOk, IfSome, OnOk, All, false, true, map};
 ghost use Rattle.std.specs.List.{Any};
 ghost use Rattle.kr_model.specs.Covers.{failed_cases, IsCovered};
 ghost use Rattle.kr_model.specs.Safe.{IsSafe};
-ghost use Rattle.kr_change.specs.Changes.{changed};
-ghost use Rattle.kr_explain_causes.specs.Mends.{IsSameCase, IsAmong, AreMended, AreMends, AreOfOneEntry, Tells};
+ghost use Rattle.kr_explain_causes.specs.Mends.{IsSameCase, IsAmong, AreMended, AreMends, AreOfOneEntry, IsPut, IsVerdict, Tells};
 
 use crate::cause::Cause;
 use crate::trials::{change_of, trials};
 use kr_cases::{Memory, Rejected, WhyRejected, check};
 use kr_change::{Change, Changed};
 use kr_decide::{Decision, decide};
+use kr_kinds::Gone;
 use kr_model::FailedCase;
 use kr_protocol::Protocol;
 use std::alloc::{AllocError, Global};
+
+/// Changes are tried for so many causes of a table at most.
+pub const MOST_MENDED: usize = 16;
 
 /// Changes that mend the cases of a cause, each by itself: at most 15, which differ in their mode alone.
 #[derive(Drop)]
@@ -27,7 +30,8 @@ pub struct Mend {
 }
 
 /// What a change makes of the table.
-enum Verdict {
+#[derive(Clone, Copy)]
+pub enum Verdict {
     /// With the change the table is accepted.
     Accepted,
     /// With the change the table isn't accepted, but safe.
@@ -36,6 +40,60 @@ enum Verdict {
     Mended,
     /// None of these.
     Neither,
+}
+
+impl Mend {
+    /// No changes.
+    pub fn none(alloc: Global) -> Mend
+        ensures accepted { result.accepted.items ≡ [] }
+        ensures safe { result.safe.items ≡ [] }
+        ensures mended { result.mended.items ≡ [] }
+    {
+        Mend {
+            accepted: Vec::new(alloc),
+            safe: Vec::new(alloc),
+            mended: Vec::new(alloc),
+        }
+    }
+
+    /// Puts a change behind the others of its verdict. The only fault is that a growth was refused.
+    pub fn put(&mut self, change: Change, verdict: Verdict) -> Result<(), Memory>
+        ensures { OnOk result (IsPut change verdict self.old self.new) }
+    {
+        match verdict {
+            Verdict::Accepted => self.accepted.push(change)?,
+            Verdict::Safe => self.safe.push(change)?,
+            Verdict::Mended => self.mended.push(change)?,
+            Verdict::Neither => {}
+        }
+        Ok(())
+    }
+
+    /// The changes that are named: those that only mend where there are no others.
+    pub fn best(self, alloc: Global) -> Mend
+        ensures accepted { result.accepted.items ≡ self.accepted.items }
+        ensures safe { result.safe.items ≡ self.safe.items }
+        ensures mended { (result.mended.items ≡ []) ⊎ ((result.mended.items ≡ self.mended.items) × ((self.accepted.items ≡ []) × (self.safe.items ≡ []))) }
+    {
+        let Mend {
+            accepted,
+            safe,
+            mended,
+        } = self;
+        if accepted.is_empty() && safe.is_empty() {
+            Mend {
+                accepted,
+                safe,
+                mended,
+            }
+        } else {
+            Mend {
+                accepted,
+                safe,
+                mended: Vec::new(alloc),
+            }
+        }
+    }
 }
 
 /// Whether two failures are of one case.
@@ -85,9 +143,9 @@ fn are_mended(cases: &[FailedCase], failed: &[FailedCase], after: &[FailedCase])
     none_is_among(after, cases) && each_is_among(after, failed)
 }
 
-/// Whether a change makes the table safe.
-fn is_made_safe<P: Protocol>(alloc: Global, table: &Changed<'_, P>) -> Result<bool, Memory>
-    ensures { IfOk result (λ is. IsTrue is → IsSafe (changed (P.table table.now.base.now) table.now.change)) }
+/// Whether a table is safe.
+fn is_made_safe<P: Protocol>(alloc: Global, table: &P) -> Result<bool, Memory>
+    ensures { IfOk result (λ is. IsTrue is → IsSafe (P.table table.now)) }
 {
     match decide(alloc, table)? {
         Decision::Safe => Ok(true),
@@ -95,33 +153,24 @@ fn is_made_safe<P: Protocol>(alloc: Global, table: &Changed<'_, P>) -> Result<bo
     }
 }
 
-/// Asks the checker about a change, and where the table isn't accepted then, the decision; of a table that is safe the
-/// checker alone.
-fn judged<P: Protocol>(
+/// What a change made that gave this table. The checker says it, and where the table isn't accepted, the decision; of a table that
+/// was safe before the checker alone.
+fn verdict_on<P: Protocol>(
     alloc: Global,
-    protocol: &P,
+    table: &P,
     failed: &[FailedCase],
     cases: &[FailedCase],
-    change: Change,
     is_safe: bool,
 ) -> Result<Verdict, Memory>
-    ensures { IfOk result (Tells (P.table protocol.now) cases.now failed.now change) }
+    ensures { IfOk result (IsVerdict (P.table table.now) cases.now failed.now) }
 {
-    let Some(changed) = Changed::new(protocol, change) else {
-        return Ok(Verdict::Neither);
-    };
-    match check(alloc, changed) {
+    match check(alloc, table) {
         Ok(_) => Ok(Verdict::Accepted),
-        Err(
-            Rejected {
-                protocol: changed,
-                cause,
-            },
-        ) => match cause {
+        Err(Rejected { protocol: _, cause }) => match cause {
             WhyRejected::Failed(after) => {
                 if is_safe {
                     Ok(Verdict::Neither)
-                } else if is_made_safe(alloc, &changed)? {
+                } else if is_made_safe(alloc, table)? {
                     Ok(Verdict::Safe)
                 } else if are_mended(cases, failed, &after) {
                     Ok(Verdict::Mended)
@@ -134,24 +183,21 @@ fn judged<P: Protocol>(
     }
 }
 
-/// The changes that are named: those that only mend where there are no others.
-fn best(alloc: Global, accepted: Vec<Change>, safe: Vec<Change>, mended: Vec<Change>) -> Mend
-    ensures accepted { result.accepted.items ≡ accepted.items }
-    ensures safe { result.safe.items ≡ safe.items }
-    ensures mended { (result.mended.items ≡ []) ⊎ ((result.mended.items ≡ mended.items) × ((accepted.items ≡ []) × (safe.items ≡ []))) }
+/// What a change makes of the table.
+fn judged<P: Protocol>(
+    alloc: Global,
+    protocol: &P,
+    failed: &[FailedCase],
+    cases: &[FailedCase],
+    change: Change,
+    is_safe: bool,
+) -> Result<Verdict, Memory>
+    ensures { IfOk result (Tells (P.table protocol.now) cases.now failed.now change) }
 {
-    if accepted.is_empty() && safe.is_empty() {
-        Mend {
-            accepted,
-            safe,
-            mended,
-        }
-    } else {
-        Mend {
-            accepted,
-            safe,
-            mended: Vec::new(alloc),
-        }
+    let gone = Gone(protocol);
+    match Changed::new(&gone, change) {
+        Some(changed) => verdict_on(alloc, &changed, failed, cases, is_safe),
+        None => Ok(Verdict::Neither),
     }
 }
 
@@ -169,18 +215,12 @@ pub fn mends<P: Protocol>(
     ensures mends { IfOk result (AreMends (P.table protocol.now) cause.now.cases.items failed.now) }
     ensures of_one_entry { IfOk result (AreOfOneEntry cause.now.blame) }
 {
-    let mut accepted = Vec::new(alloc);
-    let mut safe = Vec::new(alloc);
-    let mut mended = Vec::new(alloc);
+    let mut mend = Mend::none(alloc);
     let to_any = change_of(protocol, cause);
     for mode in &trials(alloc, protocol, cause.blame)? {
         let change = to_any.with_mode(*mode);
-        match judged(alloc, protocol, failed, &cause.cases, change, is_safe)? {
-            Verdict::Accepted => accepted.push(change)?,
-            Verdict::Safe => safe.push(change)?,
-            Verdict::Mended => mended.push(change)?,
-            Verdict::Neither => {}
-        }
+        let verdict = judged(alloc, protocol, failed, &cause.cases, change, is_safe)?;
+        mend.put(change, verdict)?;
     }
-    Ok(best(alloc, accepted, safe, mended))
+    Ok(mend.best(alloc))
 }

@@ -16,9 +16,6 @@ pub const MOST_STAGED: usize = 100;
 /// Of these, so many are run for one case at most.
 pub const MOST_STAGED_RUNS: usize = 10;
 
-/// Changes are tried for so many causes of a table at most.
-pub const MOST_MENDED: usize = 16;
-
 /// What may still be tried for the cases of a cause.
 #[derive(Clone, Copy, PartialEq, Eq)]
 pub struct Effort {

@@ -7,13 +7,13 @@ ghost use Rattle.kr_decide.specs.Survey.{IsSurvey};
 ghost use Rattle.kr_explain_core.specs.Explained.{AreFailures, IsExplained, IsTold, causes_of};
 ghost use Rattle.kr_explain_core.specs.Telling.{AreToldInOrder, AreWithin, IsUntold};
 
-use crate::effort::{Effort, MOST_MENDED};
+use crate::effort::Effort;
 use crate::explanation::{Explained, Explanation, Failures};
 use crate::harmless::{is_harmless, why_harmless};
 use crate::told_run::{ToldRun, told_run};
 use kr_cases::{Memory, WhyRejected, cases, check};
 use kr_decide::{Survey, is_ordered};
-use kr_explain_causes::{Blame, Cause, Mend, causes, mends};
+use kr_explain_causes::{Blame, Cause, MOST_MENDED, Mend, causes, mends};
 use kr_explain_runs::{Closure, Scenes};
 use kr_model::FailedCase;
 use kr_protocol::Protocol;

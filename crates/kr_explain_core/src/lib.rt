@@ -17,5 +17,5 @@ pub use explanation::{Explained, Explanation, Failures};
 pub use harmless::Harmless;
 pub use kr_cases::Memory;
 pub use run::Run;
-pub use text::{fixes_text, prose_text, title_text};
+pub use text::{prose_text, title_text};
 pub use verdict::verdict_text;

@@ -1,20 +1,18 @@
 //! The text of an explanation.
 ghost use Rattle.std.specs.Prelude.{◌≡◌, ◌++◌, IfOk, string_bytes, vec_len};
-ghost use Rattle.kr_explain_text.specs.Edits.{IsMending};
 ghost use Rattle.kr_explain_text.specs.Steps.{IsSchedule};
 ghost use Rattle.kr_explain_text.specs.Titles.{IsTitle};
 ghost use Rattle.kr_explain_core.specs.Blocks.{AreBlocks, IsBlock, IsSaid, TellsAll, TellsCauses, end_words};
 ghost use Rattle.kr_explain_core.specs.Told.{IsText};
 
-use crate::effort::MOST_MENDED;
 use crate::explanation::{Explained, Explanation, Failures};
 use crate::harmless::Harmless;
 use crate::run::Run;
 use crate::verdict::verdict_text;
 use kr_cases::Memory;
-use kr_explain_causes::{Cause, Mend};
+use kr_explain_causes::Cause;
 use kr_explain_text::{
-    Tries, command_text, write_body, write_case, write_mend, write_never_held, write_never_let_in,
+    Tries, command_text, fixes_text, write_body, write_case, write_never_held, write_never_let_in,
     write_no_run, write_run, write_title,
 };
 use kr_protocol::Protocol;
@@ -131,20 +129,6 @@ pub fn title_text<P: Protocol>(
 {
     let mut out = String::new(alloc);
     write_title(alloc, protocol, &mut out, number, cause)?;
-    Ok(out)
-}
-
-/// The fixes of a cause, which is harmless or isn't. The only fault is that a growth was refused.
-pub fn fixes_text<P: Protocol>(
-    alloc: Global,
-    protocol: &P,
-    mend: &Option<Mend>,
-    is_harmless: bool,
-) -> Result<String, Memory>
-    ensures { IfOk result (λ text. IsMending (P.names protocol.now) is_harmless mend.now (string_bytes text)) }
-{
-    let mut out = String::new(alloc);
-    write_mend(alloc, protocol, &mut out, mend, MOST_MENDED, is_harmless)?;
     Ok(out)
 }
 

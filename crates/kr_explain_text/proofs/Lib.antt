@@ -4,3 +4,4 @@ pub mod Listed
 pub mod FourTexts
 pub mod Rowed
 pub mod Schedule
+pub mod Sets

@@ -1,13 +1,15 @@
 -- The fixes of a cause, as edits of the table's file.
-use Rattle.std.specs.Prelude.{◌≡◌, ℕ, List, [], ◌∷◌, ◌++◌, Bool, true, false, ◌&&◌, Option, Some, None, MatchOption, MatchBool, if◌then◌else◌, codes, slice_get, length, ◌==◌}
+use Rattle.std.specs.Prelude.{◌≡◌, ℕ, List, [], ◌∷◌, ◌++◌, Bool, true, false, ◌&&◌, Option, Some, None, MatchOption, MatchBool, if◌then◌else◌, codes, slice_get, length, ◌==◌, filter}
+use Rattle.std.specs.Int.{bit_at}
 use Rattle.std.specs.List.{filter_map}
-use Rattle.kr_model.specs.declared.Row.{Row}
 use Rattle.kr_model.specs.declared.Side.{Side}
 use Rattle.kr_model.specs.declared.Span.{Span}
+use Rattle.kr_model.specs.Covers.{count_up}
 use Rattle.kr_model.specs.ModeNames.{name_of}
 use Rattle.kr_change.specs.declared.change.Change.{Change}
-use Rattle.kr_change.specs.declared.change.Change.TheVariants.{Request, Convert, Compatible}
+use Rattle.kr_change.specs.declared.change.Change.TheVariants.{Request, GhostRequest, Convert, Heir, Compatible}
 use Rattle.kr_explain_causes.specs.declared.mend.Mend.{Mend}
+use Rattle.kr_change.specs.ChangeNames.{ghost_row_word}
 use Rattle.kr_change.specs.Changes.{mode_of}
 use Rattle.kr_change.specs.Edits.{pair_edit}
 use Rattle.kr_explain_text.specs.Lines.{IsParagraph}
@@ -18,23 +20,34 @@ use Rattle.kr_model.specs.Words.{row_word, side_word, span_word}
 abbrev pub modes_of : List Change → List ℕ
 modes_of changes = filter_map mode_of changes
 
--- An edit of what a row requests at a side: in one of these modes, for this long.
-unfoldable pub request_words : List (List ℕ) → Row → Side → List ℕ → Span → List ℕ
-request_words names r s modes held = codes "in [rules." ++ (row_word r ++ (codes "], " ++ (side_word s ++ (codes ": request " ++ (modes_listed names false modes ++ (codes " for " ++ (span_word held ++ codes " duration")))))))
+-- An edit of what a row of this word requests at a side: in one of these modes, for this long.
+unfoldable pub request_words : List (List ℕ) → List ℕ → Side → List ℕ → Span → List ℕ
+request_words names row s modes held = codes "in [rules." ++ (row ++ (codes "], " ++ (side_word s ++ (codes ": request " ++ (modes_listed names false modes ++ (codes " for " ++ (span_word held ++ codes " duration")))))))
+
+-- The modes of a set, which has bit m for the mode m, rising: of 15 at most.
+unfoldable pub modes_in : ℕ → List ℕ
+modes_in set = filter (λ m. bit_at set m == 1) (count_up 0 16)
 
 -- An edit of a conversion: a held and a requested mode make one of these modes.
 unfoldable pub convert_words : List (List ℕ) → ℕ → ℕ → List ℕ → List ℕ
 convert_words names held requested modes = codes "in [convert], " ++ (name_of names held ++ (codes ": " ++ (name_of names requested ++ (codes " = " ++ modes_listed names true modes))))
 
--- An edit by which a row requests nothing at a side.
-unfoldable pub nothing_words : Row → Side → List ℕ
-nothing_words r s = codes "in [rules." ++ (row_word r ++ (codes "], " ++ (side_word s ++ codes ": request nothing")))
+-- An edit of what is inherited by who has one of the modes of a set on a ghost that is purged: one of these modes.
+unfoldable pub heir_words : List (List ℕ) → ℕ → List ℕ → List ℕ
+heir_words names held modes = codes "in [purge]: inherit " ++ (modes_listed names false modes ++ (codes " where the mode on the ghost is " ++ modes_listed names false (modes_in held)))
+
+-- An edit by which a row of this word requests nothing at a side.
+unfoldable pub nothing_words : List ℕ → Side → List ℕ
+nothing_words row s = codes "in [rules." ++ (row ++ (codes "], " ++ (side_word s ++ codes ": request nothing")))
 
 -- An edit to one of these modes, of the entry that a change is of. Behind a request it may say for which own modes that is.
 abbrev pub IsEdit : List (List ℕ) → Change → List ℕ → List ℕ → Type 0
-IsEdit names (Request r s own_next (Some (mode, held))) modes text = (owns : List ℕ) × (text ≡ request_words names r s modes held ++ owns)
-IsEdit names (Request r s own_next None) modes text = text ≡ nothing_words r s
+IsEdit names (Request r s own_next (Some (mode, held))) modes text = (owns : List ℕ) × (text ≡ request_words names (row_word r) s modes held ++ owns)
+IsEdit names (Request r s own_next None) modes text = text ≡ nothing_words (row_word r) s
+IsEdit names (GhostRequest r s (Some (mode, held))) modes text = text ≡ request_words names (ghost_row_word r) s modes held
+IsEdit names (GhostRequest r s None) modes text = text ≡ nothing_words (ghost_row_word r) s
 IsEdit names (Convert held requested mode) modes text = text ≡ convert_words names held requested modes
+IsEdit names (Heir held mode) modes text = text ≡ heir_words names held modes
 IsEdit names (Compatible requested held is_compatible) modes text = text ≡ pair_edit names requested held is_compatible
 
 -- The words of a fix: how it begins, the edit, and what holds then.

@@ -32,7 +32,7 @@ pub use groups::{cases_word, counted, is_none_yet};
 pub use harmless::{write_never_held, write_never_let_in};
 pub use kr_cases::Memory;
 pub use lists::{joined, modes_listed};
-pub use mending::write_mend;
+pub use mending::fixes_text;
 pub use programs::{committed, operation_of, operation_words};
 pub use requested::{early_sentence, nothing_sentence, weak_sentence};
 pub use rows::write_rows;

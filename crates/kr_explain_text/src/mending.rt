@@ -7,32 +7,46 @@ use crate::edits::edit_words;
 use crate::wrap::{INDENT, paragraph};
 use kr_cases::Memory;
 use kr_change::Change;
-use kr_explain_causes::Mend;
+use kr_explain_causes::{MOST_MENDED, Mend};
 use kr_protocol::Protocol;
 use std::alloc::Global;
 
-/// Writes the changes that fix a cause, which is harmless or isn't; or that none was tried, where they are tried for so many
-/// causes at most. The only fault is that a growth was refused.
-pub fn write_mend<P: Protocol>(
+/// The changes that fix a cause, which is harmless or isn't; or that none was tried, where they are tried for so many causes at
+/// most. The only fault is that a growth was refused.
+pub fn fixes_text<P: Protocol>(
+    alloc: Global,
+    protocol: &P,
+    mend: &Option<Mend>,
+    is_harmless: bool,
+) -> Result<String, Memory>
+    ensures { IfOk result (λ text. IsMending (P.names protocol.now) is_harmless mend.now (string_bytes text)) }
+{
+    let mut out = String::new(alloc);
+    write_mend(alloc, protocol, &mut out, mend, is_harmless)?;
+    Ok(out)
+}
+
+/// Writes the same.
+fn write_mend<P: Protocol>(
     alloc: Global,
     protocol: &P,
     out: &mut String,
     mend: &Option<Mend>,
-    most: usize,
     is_harmless: bool,
 ) -> Result<(), Memory>
     ensures { OnOk result (Adds (IsMending (P.names protocol.now) is_harmless mend.now) (string_bytes out.old) (string_bytes out.new)) }
 {
     let text = match mend {
         Some(mend) => changes(alloc, protocol, mend, is_harmless)?,
-        None => untried(alloc, most)?,
+        None => untried(alloc)?,
     };
     out.push_str("\n")?;
     out.push_str(text.as_str())
 }
 
-/// That no change was tried, where they are tried for so many causes at most.
-fn untried(alloc: Global, most: usize) -> Result<String, Memory> {
+/// That no change was tried.
+fn untried(alloc: Global) -> Result<String, Memory> {
+    let most = MOST_MENDED;
     let text = format!(in alloc; "No fix was tried: fixes are tried for the first {most} causes.")?;
     paragraph(alloc, text.as_str(), INDENT, INDENT)
 }

@@ -1,2 +1,5 @@
 pub mod Sharing
 pub mod Judged
+pub mod Given
+pub mod Tried
+pub mod Repairs

@@ -1,5 +1,5 @@
--- What is explained of a table with ghosts: whether it is accepted, or else safe; and where cases fail, what is to blame, and a schedule that goes wrong.
-use Rattle.std.specs.Prelude.{◌≡◌, ◌↔◌, ℕ, ◌==◌, length, Bool, true, false, Option, None, IfSome, if◌then◌else◌}
+-- What is explained of a table with ghosts: whether it is accepted, or else safe; and where cases fail, what is to blame and what mends it, and a schedule that goes wrong.
+use Rattle.std.specs.Prelude.{◌≡◌, ◌↔◌, ℕ, ◌==◌, length, All, Bool, true, false, Option, None, IfSome, if◌then◌else◌}
 use Rattle.kr_ghost.specs.Protocol.{GhostProtocol}
 use Rattle.kr_ghost.specs.Covers.{cases, failed_cases, IsCoveredGhost}
 use Rattle.kr_ghost.specs.Safe.{IsSafeGhost}
@@ -8,6 +8,7 @@ use Rattle.kr_ghost_explain.specs.declared.explanation.GhostFailures.{GhostFailu
 use Rattle.kr_ghost_explain.specs.declared.explanation.GhostExplanation.{GhostExplanation}
 use Rattle.kr_ghost_explain.specs.declared.explanation.GhostExplanation.TheVariants as told
 use Rattle.kr_ghost_explain.specs.Blames.{AreGhostCauses}
+use Rattle.kr_ghost_explain.specs.Mends.{IsMended, causes_of}
 use Rattle.kr_ghost_explain.specs.Wrong.{GoesWrongBy}
 
 -- The script of a schedule goes wrong under p.
@@ -20,7 +21,9 @@ pub record AreGhostFailures (p : GhostProtocol) (f : GhostFailures) : Type 0 whe
   pub has_cases : f.cases ≡ length (cases p)
   pub has_failed : f.failed ≡ length (failed_cases p)
   -- each failed case is in exactly one of the causes
-  pub causes : AreGhostCauses p (failed_cases p) f.causes.items
+  pub causes : AreGhostCauses p (failed_cases p) (causes_of f.causes.items)
+  -- each change that is named for a cause mends it
+  pub mended : All (IsMended p (failed_cases p)) f.causes.items
   -- the schedule, if there is one, goes wrong
   pub wrong : IfSome f.schedule (IsWrong p)
 

@@ -3,3 +3,4 @@ pub mod Lines
 pub mod Blames
 pub mod Blamed
 pub mod Explained
+pub mod Mends

@@ -4,6 +4,7 @@ ghost use Rattle.kr_ghost_explain.specs.Explained.{is_safe, schedule_at};
 
 use crate::causes::GhostCause;
 use crate::schedule::GhostSchedule;
+use kr_explain_causes::Mend;
 use kr_model::Memory;
 use std::alloc::Global;
 
@@ -24,10 +25,18 @@ pub struct GhostFailures {
     pub cases: usize,
     /// How many of them fail.
     pub failed: usize,
-    /// What is to blame, with each failed case in exactly one of them.
-    pub causes: Vec<GhostCause>,
+    /// What is to blame, with each failed case in exactly one of them, and what mends it.
+    pub causes: Vec<MendedCause>,
     /// A schedule that goes wrong, if one was found. None is sought where the table is safe.
     pub schedule: Option<GhostSchedule>,
+}
+
+/// A cause, with what mends it.
+#[derive(Drop)]
+pub struct MendedCause {
+    pub cause: GhostCause,
+    /// The changes that mend it, of those that were tried; or `None` where none was tried, since so many causes come before it.
+    pub mend: Option<Mend>,
 }
 
 impl GhostExplanation {

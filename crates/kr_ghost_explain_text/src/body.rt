@@ -9,17 +9,36 @@ use kr_model::{Memory, Mode};
 use kr_protocol::name_or_empty;
 use std::alloc::Global;
 
-/// What the lock of a failed case has to protect, which mode it has, and who gets past it, each on lines of its own.
+/// What the lock of a failed case has to protect, which mode it has, and who gets past it, each on lines of its own; `can` says
+/// whether another transaction can, or only could.
 pub(crate) fn body<P: GhostProtocol>(
     alloc: Global,
     protocol: &P,
     case: &FailedCase,
+    can: &str,
 ) -> Result<String, Memory> {
     let must = must_protect(alloc, step_words(case.case), protected_words(case))?;
     let held = held_words(alloc, protocol, case.mode)?;
     let request = request_words(alloc, protocol, case)?;
     let deed = deed_words(case.hole.access);
-    body_of(alloc, must.as_str(), held.as_str(), request.as_str(), deed)
+    body_of(
+        alloc,
+        must.as_str(),
+        held.as_str(),
+        request.as_str(),
+        can,
+        deed,
+    )
+}
+
+/// The same of a table that is safe, and that nothing comes of it.
+pub(crate) fn harmless_body<P: GhostProtocol>(
+    alloc: Global,
+    protocol: &P,
+    case: &FailedCase,
+) -> Result<String, Memory> {
+    let could = body(alloc, protocol, case, "could")?;
+    format!(in alloc; "{could}\n\n   Harmless: the table is safe, so no schedule leads to that.")
 }
 
 /// What a transaction must protect after a step.
@@ -36,12 +55,13 @@ fn must_protect(alloc: Global, step: &str, protected: &str) -> Result<String, Me
     )
 }
 
-/// What must be protected, by which mode, and which request that doesn't block, so that a transaction can do this.
+/// What must be protected, by which mode, and which request that doesn't block, so that a transaction can do this, or could.
 fn body_of(
     alloc: Global,
     must: &str,
     held: &str,
     request: &str,
+    can: &str,
     deed: &str,
 ) -> Result<String, Memory> {
     joined(
@@ -51,7 +71,9 @@ fn body_of(
             held,
             " ",
             request,
-            ":\n   another transaction can ",
+            ":\n   another transaction ",
+            can,
+            " ",
             deed,
             ".",
         ],

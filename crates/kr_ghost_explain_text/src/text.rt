@@ -1,20 +1,20 @@
 //! The text of what is explained of a table with ghosts.
 ghost use Rattle.std.specs.Prelude.{◌≡◌, ◌<◌, ◌+◌, ◌++◌, ◌^◌, IfOk, length, string_bytes};
-ghost use Rattle.kr_ghost_explain_text.specs.Told.{AreTitled, IsEnd, IsGhostText, TellsGhostCauses, TellsGhosts, replay_words};
+ghost use Rattle.kr_ghost_explain_text.specs.Told.{AreGhostBlocks, IsEnd, IsGhostBlock, IsGhostText, TellsGhostCauses, TellsGhosts, replay_words};
 
-use crate::body::body;
+use crate::body::{body, harmless_body};
 use crate::run::run_text;
 use crate::titles::title;
 use crate::verdict::verdict_text;
-use kr_explain_text::joined;
-use kr_ghost_explain::{GhostCause, GhostExplanation, GhostFailures, GhostSchedule};
+use kr_explain_text::{fixes_text, joined};
+use kr_ghost_explain::{GhostCause, GhostExplanation, GhostFailures, GhostSchedule, MendedCause};
 use kr_ghost_protocol::GhostProtocol;
 use kr_model::Memory;
 use std::alloc::Global;
 
-/// The text for a person, each line ended by a line feed: the verdict, and where cases fail, each cause, and a schedule that goes
-/// wrong where one was found, with the commands that run it, in which `word` names the table. The table is to be the one that was explained. The only
-/// fault is that a growth was refused.
+/// The text for a person, each line ended by a line feed: the verdict, and where cases fail, each cause with its fixes, and a
+/// schedule that goes wrong where one was found, with the commands that run it, in which `word` names the table. The table is to be
+/// the one that was explained. The only fault is that a growth was refused.
 pub fn ghost_text<P: GhostProtocol>(
     alloc: Global,
     protocol: &P,
@@ -40,49 +40,68 @@ fn telling<P: GhostProtocol>(
     match explanation {
         GhostExplanation::Accepted { .. } => Ok(String::new(alloc)),
         GhostExplanation::Safe(failures) => {
-            let text = causes_text(alloc, protocol, failures, "")?;
+            let text = causes_text(alloc, protocol, failures, true, "")?;
             Ok(text)
         }
         GhostExplanation::Rejected(failures) => {
             let end = end_text(alloc, protocol, &failures.schedule, word)?;
-            let text = causes_text(alloc, protocol, failures, end.as_str())?;
+            let text = causes_text(alloc, protocol, failures, false, end.as_str())?;
             Ok(text)
         }
     }
 }
 
-/// What is said of each cause, and behind that an end.
+/// What is said of each cause, which is harmless or isn't, and behind that an end.
 fn causes_text<P: GhostProtocol>(
     alloc: Global,
     protocol: &P,
     failures: &GhostFailures,
+    is_harmless: bool,
     end: &str,
 ) -> Result<String, Memory>
-    ensures { IfOk result (λ text. TellsGhostCauses (P.names protocol.now) failures.now.causes.items end.now (string_bytes text)) }
+    ensures { IfOk result (λ text. TellsGhostCauses (P.names protocol.now) is_harmless failures.now.causes.items end.now (string_bytes text)) }
 {
-    let blocks = blocks(alloc, protocol, 1, failures.causes.as_slice())?;
+    let blocks = blocks(alloc, protocol, is_harmless, 1, failures.causes.as_slice())?;
     format!(in alloc; "{blocks}{end}")
 }
 
-/// Each of these causes with its title, of which the first has this number.
+/// A block for each of these causes, which are harmless or aren't; the first has this number.
 fn blocks<P: GhostProtocol>(
     alloc: Global,
     protocol: &P,
+    is_harmless: bool,
     number: usize,
-    causes: &[GhostCause],
+    causes: &[MendedCause],
 ) -> Result<String, Memory>
     requires { number + length causes.now < 2 ^ 64 }
-    ensures { IfOk result (λ text. AreTitled (P.names protocol.now) number causes.now (string_bytes text)) }
+    ensures { IfOk result (λ text. AreGhostBlocks (P.names protocol.now) is_harmless number causes.now (string_bytes text)) }
 {
     match causes {
         [] => Ok(String::new(alloc)),
         [cause, others @ ..] => {
-            let title = title(alloc, protocol, number, cause)?;
-            let said = said(alloc, protocol, cause)?;
-            let rest = blocks(alloc, protocol, number + 1, others)?;
-            format!(in alloc; "\n\n{title}{said}{rest}")
+            let block = block(alloc, protocol, is_harmless, number, cause)?;
+            let rest = blocks(alloc, protocol, is_harmless, number + 1, others)?;
+            format!(in alloc; "{block}{rest}")
         }
     }
+}
+
+/// The block of the cause of this number, which is harmless or isn't: its title behind an empty line, what is said of it, and its
+/// fixes.
+fn block<P: GhostProtocol>(
+    alloc: Global,
+    protocol: &P,
+    is_harmless: bool,
+    number: usize,
+    mended: &MendedCause,
+) -> Result<String, Memory>
+    ensures { IfOk result (λ text. IsGhostBlock (P.names protocol.now) is_harmless number mended.now (string_bytes text)) }
+{
+    let title = title(alloc, protocol, number, &mended.cause)?;
+    let said = said(alloc, protocol, &mended.cause, is_harmless)?;
+    let fixes = fixes_text(alloc, protocol, &mended.mend, is_harmless)?;
+    let text = format!(in alloc; "\n\n{title}{said}{fixes}")?;
+    Ok(text)
 }
 
 /// What is said of a cause below its title: that of its first case.
@@ -90,9 +109,11 @@ fn said<P: GhostProtocol>(
     alloc: Global,
     protocol: &P,
     cause: &GhostCause,
+    is_harmless: bool,
 ) -> Result<String, Memory> {
     match cause.cases.first() {
-        Some(case) => body(alloc, protocol, case),
+        Some(case) if is_harmless => harmless_body(alloc, protocol, case),
+        Some(case) => body(alloc, protocol, case, "can"),
         None => Ok(String::new(alloc)),
     }
 }

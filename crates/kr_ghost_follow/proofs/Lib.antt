@@ -3,4 +3,13 @@ pub mod GoneOn
 pub mod DownwardLaws
 pub mod Standing
 pub mod RunLaws
+pub mod StepLeaves
+pub mod PartLaws
+pub mod GivenTales
+pub mod GivenScans
+pub mod GivenSteps
+pub mod GivenLogs
+pub mod GivenDownwards
+pub mod GivenLines
+pub mod SerialRuns
 pub mod Braces

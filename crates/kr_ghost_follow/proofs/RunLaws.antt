@@ -4,27 +4,20 @@ use Rattle.std.proofs.Common.{ap, ◌∙◌}
 use Rattle.kr_model.specs.declared.Op.{Op}
 use Rattle.kr_model.specs.declared.Op.TheVariants as op
 use Rattle.kr_model.specs.Locks.{Locks}
-use Rattle.kr_model.specs.Map.{Map, IsMap}
-use Rattle.kr_model.specs.Run.{programs}
-use Rattle.kr_model.specs.Serial.{AreSerial, IsSerialRun}
-use Rattle.kr_ghost.specs.Covers.{IsCoveredGhost}
+use Rattle.kr_model.specs.Map.{Map}
 use Rattle.kr_ghost.specs.declared.moves.Move.{Move}
 use Rattle.kr_ghost.specs.declared.moves.Move.TheVariants.{Attempt, Purge}
-use Rattle.kr_ghost.specs.Protocol.{GhostProtocol, IsLawfulGhost}
+use Rattle.kr_ghost.specs.Protocol.{GhostProtocol}
 use Rattle.kr_ghost.specs.Run.{run}
-use Rattle.kr_ghost.specs.Safe.{IsSafeGhost}
 use Rattle.kr_ghost.specs.State.{GhostState, opened}
 use Rattle.kr_ghost.specs.Step.{step, purged}
-use Rattle.kr_ghost.proofs.AllCases.{covered_is_safe}
-use Rattle.kr_ghost.proofs.Runs.{safe_runs_are_serial}
 use Rattle.kr_trace_lines.specs.Fits.{fits}
 use Rattle.kr_trace_follow.specs.Deviates.{is_queued}
 use Rattle.kr_trace_follow.specs.Lines.{Line}
 use Rattle.kr_trace_follow.specs.Steps.{queue_for}
 use Rattle.kr_trace_follow.proofs.ConformLaws.{kind_fits}
-use Rattle.kr_ghost_follow.specs.Conforms.{IsSerialRunOf}
 use Rattle.kr_ghost_follow.specs.Points.{Moment, Point, Tried, ahead_of, conflicts_of, falling, first_op, gone_on, is_falling, is_passed, is_read, last_of, last_tried, left_after, moment_at, more_steps, read_down, read_on, tried, unread}
-use Rattle.kr_ghost_follow.specs.Reached.{Agrees, IsReached, Leads, start, purge, line, all_done, all_read, done_by, moves_of, steps_of}
+use Rattle.kr_ghost_follow.specs.Reached.{Agrees, Leads, start, purge, line, all_done, all_read, done_by, moves_of, steps_of}
 
 -- The state that moves lead to.
 abbrev after : GhostProtocol → GhostState → List Move → GhostState
@@ -97,22 +90,3 @@ leads_run p opening _ _ _ (line l lines moves at h agrees) =
 pub agrees_fit : (p : GhostProtocol) (at : Point) (l : Line) → Agrees p at l → is_queued (last_tried p at l).ahead (last_tried p at l).reply ≡ false → fits (last_tried p at l).reply l.observed ≡ true
 agrees_fit p at l h unqueued =
     let y : Tried = last_tried p at l in kind_fits (conflicts_of p h.0 l.event.txn y.left.state y.op) y.ahead y.reply l.observed h.1 unqueued
-
--- What commits in a run under a safe protocol is serializable.
-safe_programs : (p : GhostProtocol) → IsLawfulGhost p → IsSafeGhost p → (opening : Map) (moves : List Move) → IsMap opening → AreSerial opening (let r = run p (opened opening) moves in programs r.history)
-safe_programs p laws safe opening moves sorted =
-    let r = run p (opened opening) moves in
-    let last = r.last in
-    let serial : IsSerialRun opening (record { history = r.history; state = last.state }) = safe_runs_are_serial p laws safe opening moves sorted in
-    serial.0
-
-pub serial_run : (p : GhostProtocol) → IsLawfulGhost p → IsSafeGhost p → (opening : Map) → IsMap opening → (lines : List Line) (at : Point) → IsReached p opening lines at → IsSerialRunOf p opening lines at
-serial_run p laws safe opening sorted lines at h = record {
-  moves = h.0;
-  leads = h.1;
-  state = leads_run p opening lines h.0 at h.1;
-  serial = safe_programs p laws safe opening h.0 sorted;
-}
-
-pub covered_run : (p : GhostProtocol) → IsLawfulGhost p → IsCoveredGhost p → (opening : Map) → IsMap opening → (lines : List Line) (at : Point) → IsReached p opening lines at → IsSerialRunOf p opening lines at
-covered_run p laws covered = serial_run p laws (covered_is_safe p laws covered)

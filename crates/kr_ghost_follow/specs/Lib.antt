@@ -1,4 +1,5 @@
 pub mod Points
+pub mod Parts
 pub mod Reached
 pub mod Following
 pub mod Tries

@@ -26,7 +26,9 @@ pub fn agreeing_fits()
 {}
 
 /// An engine beside whose lines a state stands did a run under the table, with purges. Where the table is safe, its committed
-/// transactions are serializable in commit order, with the answers of the table. A covered table is safe.
+/// transactions are serializable in commit order, with the answers of the table; and so are the programs put together from the
+/// lines, with the answers that were given, each scan downwards as the one upwards of its range: a judge that is given these, in
+/// commit order, finds no difference. A covered table is safe.
 pub fn standing_is_serial()
     ensures safe { (p : GhostProtocol) → IsLawfulGhost p → IsSafeGhost p → (opening : Map) → IsMap opening → (lines : List Line) (at : Point) → IsReached p opening lines at → IsSerialRunOf p opening lines at }
     ensures covered { (p : GhostProtocol) → IsLawfulGhost p → IsCoveredGhost p → (opening : Map) → IsMap opening → (lines : List Line) (at : Point) → IsReached p opening lines at → IsSerialRunOf p opening lines at }

@@ -5,4 +5,4 @@ mod answers;
 mod reports;
 
 pub use answers::{write_answer, write_ghosts};
-pub use reports::report_ghost_run;
+pub use reports::{report_ghost_played, report_ghost_run};

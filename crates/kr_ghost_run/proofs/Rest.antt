@@ -13,3 +13,8 @@ pub record IsRest (p : GhostProtocol) (first : GhostState) (begun : Log) (all : 
   pub told : given ++ answers p now left ≡ answers p first all
   pub last : (let r = run p now left in r.last) ≡ (let r = run p first all in r.last)
   pub log : (let r = run p now left in log_after so_far r.history) ≡ (let r = run p first all in log_after begun r.history)
+
+-- The same of a run of which no log is kept.
+pub record IsLeft (p : GhostProtocol) (first : GhostState) (all : List Move) (now : GhostState) (left : List Move) (given : List Answer) : Type 0 where
+  pub told : given ++ answers p now left ≡ answers p first all
+  pub last : (let r = run p now left in r.last) ≡ (let r = run p first all in r.last)

@@ -2,9 +2,11 @@
 #![tactic(auto)]
 
 mod noted;
+mod played;
 mod ran;
 mod runs;
 
 pub use kr_judge::{Triples, Verdict};
-pub use ran::{Answer, GhostRan};
+pub use played::play_moves;
+pub use ran::{Answer, GhostPlayed, GhostRan};
 pub use runs::{judge_moves, run_moves};

@@ -28,3 +28,18 @@ pub struct GhostRan {
     /// The transactions that are active after the last move, rising.
     pub unfinished: Txns,
 }
+
+/// A run at its end, without what its transactions did.
+#[derive(Debug, Drop)]
+pub struct GhostPlayed {
+    /// The answer to each move, in the order of the moves.
+    pub answers: Items<Answer>,
+    /// The index after the last move, keys rising.
+    pub index: Pairs,
+    /// The ghosts after the last move, rising.
+    pub ghosts: Items<u64>,
+    /// The locks that are held after the last move: holders rise by name, then by transaction.
+    pub locks: Triples,
+    /// The transactions that are active after the last move, rising.
+    pub unfinished: Txns,
+}

@@ -11,7 +11,8 @@ ghost use Rattle.kr_ghost.specs.State.{opened};
 ghost use Rattle.kr_ghost_run.specs.Ran.{IsGhostRan, answers, verdict_of_moves};
 
 use crate::noted::{Noted, note_all};
-use crate::{GhostRan, Triples, Verdict};
+use crate::played::show;
+use crate::{GhostRan, Verdict};
 use kr_ghost::Move;
 use kr_ghost_index::GhostIndex;
 use kr_ghost_machine::GhostStepper;
@@ -55,17 +56,14 @@ fn ran_on<P: GhostProtocol, L: Holdings>(
     ensures unfinished { IfOk result (λ ran. let r = run (P.ghosts stepper.old.protocol) stepper.old.state moves.now in let s = r.last in ran.unfinished ≡ map (λ a. a.0) s.state.active) }
 {
     let Noted { answers, programs } = note_all(alloc, stepper, moves)?;
-    let index = stepper.index()?;
-    let ghosts = stepper.ghosts()?;
-    let locks = Triples::from_vec(stepper.locks()?);
-    let unfinished = stepper.unfinished()?;
+    let played = show(stepper, answers)?;
     Ok(GhostRan {
-        answers,
+        answers: played.answers,
         programs,
-        index,
-        ghosts,
-        locks,
-        unfinished,
+        index: played.index,
+        ghosts: played.ghosts,
+        locks: played.locks,
+        unfinished: played.unfinished,
     })
 }
 

@@ -1,2 +1,3 @@
 pub mod Firsts
 pub mod Kept
+pub mod SameReading

@@ -1,7 +1,9 @@
 -- Scripts with purges, as contracts see them.
-use Rattle.std.specs.Prelude.{◌≤◌, List, length}
+use Rattle.std.specs.Prelude.{◌≤◌, List, length, map}
 use Rattle.kr_model.specs.Map.{Map, IsMap}
 use Rattle.kr_ghost.specs.declared.moves.Move.{Move}
+use Rattle.kr_ghost.specs.declared.moves.Move.TheVariants.{Attempt}
+use Rattle.kr_script.specs.Script.{Script}
 
 -- An opening index, and the moves in the order in which they are done.
 pub record GhostScript : Type 0 where
@@ -13,3 +15,7 @@ pub record IsGhostScript (s : GhostScript) : Type 0 where
   pub rising : IsMap s.opening
   pub few_pairs : length s.opening ≤ 100000
   pub few_moves : length s.moves ≤ 100000
+
+-- A script without purges as one that may have them.
+abbrev pub with_moves : Script → GhostScript
+with_moves s = record { opening = s.opening; moves = map Attempt s.steps }

@@ -2,6 +2,7 @@
 #![tactic(auto)]
 
 mod moves;
+mod plain;
 mod reading;
 mod script;
 

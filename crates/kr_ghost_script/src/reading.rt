@@ -8,10 +8,11 @@ ghost use Rattle.kr_ghost_script.specs.Reading as spec;
 ghost use Rattle.kr_ghost_script.specs.Reading.{Gives, format_faults, format_in, move_faults, reading, reading_of};
 
 use crate::moves::move_of;
+use crate::plain::{begins_with_three, with_moves};
 use crate::{GhostScript, ScriptFault};
 use kr_ghost::Move;
-use kr_script::pairs_of;
 use kr_script::reading::{MAX_BYTES, field, list_at, test_names, test_size};
+use kr_script::{pairs_of, read_script};
 use serde_json::Value;
 use std::alloc::Global;
 
@@ -68,8 +69,24 @@ fn script_of(alloc: Global, value: &Value) -> Result<GhostScript, ScriptFault>
     Ok(GhostScript::new(opening, moves))
 }
 
+/// The script that the bytes are, of format 1, 2 or 3, or the first of their faults, by way of a value of the document.
+fn read_value(alloc: Global, bytes: &[u8]) -> Result<GhostScript, ScriptFault>
+    requires { length bytes.now ≤ 16777216 }
+    ensures reads { Gives result (reading bytes.now) }
+    ensures memory { (result ≡ Err told_as.Memory) → 0 < length bytes.now }
+{
+    match Value::from_slice(alloc, bytes) {
+        Ok(value) => script_of(alloc, &value),
+        Err(e) if e.is_memory() => Err(ScriptFault::Memory),
+        Err(_) => Err(ScriptFault::NotJson),
+    }
+}
+
 /// The script that the bytes are, of format 1, 2 or 3, or the first of their faults; `Format` comes at a whole number other than
 /// these. `Memory` comes only where a growth was refused, and so at no empty text and at none that is too long.
+///
+/// One of format 1 or 2 is read as fast as where there are no ghosts. What may be of format 3 is read by way of a value of the
+/// document, and isn't read as one without purges before.
 pub fn read_ghost_script(alloc: Global, bytes: &[u8]) -> Result<GhostScript, ScriptFault>
     ensures reads { Gives result (reading bytes.now) }
     ensures memory { (result ≡ Err told_as.Memory) → (0 < length bytes.now) × (length bytes.now ≤ 16777216) }
@@ -77,9 +94,12 @@ pub fn read_ghost_script(alloc: Global, bytes: &[u8]) -> Result<GhostScript, Scr
     if bytes.len() > MAX_BYTES {
         return Err(ScriptFault::TooLong);
     }
-    match Value::from_slice(alloc, bytes) {
-        Ok(value) => script_of(alloc, &value),
-        Err(e) if e.is_memory() => Err(ScriptFault::Memory),
-        Err(_) => Err(ScriptFault::NotJson),
+    if begins_with_three(bytes) {
+        return read_value(alloc, bytes);
+    }
+    match read_script(alloc, bytes) {
+        Ok(script) => with_moves(alloc, &script).or(Err(ScriptFault::Memory)),
+        Err(fault) if fault.number() == 3 => read_value(alloc, bytes),
+        Err(fault) => Err(fault),
     }
 }

@@ -11,7 +11,8 @@ use Rattle.kr_ghost.specs.declared.cases.Requester.{Requester}
 use Rattle.kr_ghost.specs.Protocol.{GhostProtocol}
 use Rattle.kr_ghost.specs.Covers.{open_requesters}
 use Rattle.kr_view_scenes.specs.Escape.{escaped}
-use Rattle.kr_ghost_view_table.specs.declared.covers.TheConstants.{COVERS, WHOLE, OPEN}
+use Rattle.kr_view_table.specs.Covers.{open_cell, whole_cell}
+use Rattle.kr_ghost_view_table.specs.declared.covers.TheConstants.{COVERS}
 
 -- What another transaction does.
 abbrev pub deed_words : Access → List ℕ
@@ -33,8 +34,8 @@ requester_words names x = deed_words x.access ++ holding names x.own
 
 -- The cell of a mode and a cover, by the first requester that the mode lets through.
 abbrev pub cover_cell : List (List ℕ) → Option Requester → List ℕ
-cover_cell names None = WHOLE.now
-cover_cell names (Some x) = OPEN.now ++ (requester_words names x ++ codes "</td>")
+cover_cell names None = whole_cell
+cover_cell names (Some x) = open_cell ++ (requester_words names x ++ codes "</td>")
 
 -- The cell of a cover.
 abbrev pub cell : GhostProtocol → List (List ℕ) → ℕ → Cover → List ℕ

@@ -1,7 +1,7 @@
 //! What each mode of a table protects.
 ghost use Rattle.std.specs.Prelude.{◌≡◌, ◌≤◌, IfOk, flat_map, string_bytes};
 ghost use Rattle.kr_model.specs.Covers.{modes};
-ghost use Rattle.kr_ghost_view_table.specs.declared.covers.TheConstants.{COVERS, OPEN};
+ghost use Rattle.kr_ghost_view_table.specs.declared.covers.TheConstants.{COVERS};
 ghost use Rattle.kr_ghost_view_table.specs.Covers.{cell, cover_cell, covers_words, deed_words, holding, mode_row, requester_words};
 
 use kr_ghost::{Access, Cover, Requester};
@@ -10,6 +10,7 @@ use kr_ghost_protocol::GhostProtocol;
 use kr_model::{Memory, Mode};
 use kr_protocol::{Protocol, name_or_empty};
 use kr_view_scenes::escape;
+use kr_view_table::{open_cell, whole_cell};
 use std::alloc::Global;
 
 /// What stands before the rows.
@@ -19,12 +20,6 @@ pub const COVERS: &str = "<h2>What each mode protects</h2>
 <thead><tr><th scope=\"col\">mode</th><th scope=\"col\">RK: a key that it has read, present or not</th><th scope=\"col\">RG: a gap that it has read</th><th scope=\"col\">CK: a key that it has changed</th></tr></thead>
 <tbody>
 ";
-
-/// The cell of a mode that protects what it must.
-pub const WHOLE: &str = "<td class=\"whole\">✓</td>";
-
-/// The beginning of the cell of a mode that doesn't.
-pub const OPEN: &str = "<td>✗ ";
 
 /// What the modes protect, with a row for each mode and a column for each cover.
 pub fn covers<P: GhostProtocol>(alloc: Global, protocol: &P) -> Result<String, Memory>
@@ -98,20 +93,13 @@ fn cover_cell<P: Protocol>(
     ensures { IfOk result (λ text. string_bytes text ≡ cover_cell (P.names protocol.now) let_in) }
 {
     match let_in {
-        None => String::from_str(alloc, WHOLE),
+        None => String::from_str(alloc, whole_cell()),
         Some(requester) => {
-            let opening = open();
+            let opening = open_cell();
             let words = requester_text(alloc, protocol, requester)?;
             format!(in alloc; "{opening}{words}</td>")
         }
     }
-}
-
-/// The beginning of the cell of a mode that lets a requester through.
-fn open() -> &'static str
-    ensures { result.now ≡ OPEN.now }
-{
-    OPEN
 }
 
 /// What a requester does, and what it holds.

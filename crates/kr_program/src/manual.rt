@@ -105,7 +105,9 @@ status: 0 all is well with each part; 1 it isn't; 2 a fault
 
 pub const SUITE_USAGE: &str = "usage: kr suite TABLE [--left]\n";
 
-pub const SUITE_WORDS: &str = r#"  TABLE       @kvl, @kvl-update, @im, @range-key, or a file in TOML
+pub const SUITE_WORDS: &str =
+    r#"  TABLE       @kvl, @kvl-update, @im, @range-key, @record-gap, @range-ghost,
+              @next-key-ghost, or a file in TOML
   --left      print the entries that no part tells apart, and how many
   -h, --help  print this text
   --version   print the version

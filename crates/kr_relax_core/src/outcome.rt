@@ -10,6 +10,7 @@ use crate::met::{Spot, is_blocked_at, spots_of};
 use crate::twins::{Twin, twins_of};
 use kr_change::{Change, Changed};
 use kr_decide::{Decision, decide};
+use kr_kinds::Gone;
 use kr_model::Memory;
 use kr_protocol::Protocol;
 use std::alloc::Global;
@@ -67,7 +68,8 @@ fn outcome_of<P: Protocol>(
     requires apart { AreApart spots.now }
     ensures { IfOk result (IsOutcome (P.table protocol.now) change) }
 {
-    let Some(changed) = Changed::new(protocol, change) else {
+    let table = Gone(protocol);
+    let Some(changed) = Changed::new(&table, change) else {
         return Ok(Outcome::NoChange);
     };
     let twins = twins_of(alloc, protocol, &changed, spots)?;

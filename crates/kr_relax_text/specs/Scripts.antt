@@ -7,6 +7,7 @@ use Rattle.kr_model.specs.Protocol.{Protocol}
 use Rattle.kr_model.specs.Map.{Map}
 use Rattle.kr_model.specs.State.{start}
 use Rattle.kr_model.specs.Run.{run, replies_of, is_granted}
+use Rattle.kr_kinds.specs.Kinds.{Gone}
 use Rattle.kr_change.specs.declared.change.Change.{Change}
 use Rattle.kr_change.specs.Changes.{changed}
 use Rattle.kr_relax_core.specs.declared.relax.Relaxed.{Relaxed}
@@ -20,7 +21,7 @@ last_is kind replies = option_map_or kind (slice_get replies (length replies - 1
 
 -- The script's replies under p and q are the same and granted up to the last, which p blocks and q grants.
 pub record LetsThrough (p q : Protocol) (opening : Map) (events : List Event) : Type 0 where
-  pub tells : TellsApart p q opening events
+  pub tells : TellsApart (Gone p) (Gone q) opening events
   pub before : last_is is_blocked (replies_of (run p (start opening) events).history) ≡ true
   pub after : last_is is_granted (replies_of (run q (start opening) events).history) ≡ true
 

@@ -6,6 +6,7 @@ ghost use Rattle.kr_relax_text.specs.Reasons.{AreReasons, HasWrong, IsRelaxing, 
 
 use kr_change::{Change, Changed, changes_of, entry_text};
 use kr_explain_core::{Explanation, explain};
+use kr_kinds::Gone;
 use kr_model::Memory;
 use kr_protocol::Protocol;
 use kr_relax_core::{Judged, Outcome, outcomes_of};
@@ -96,7 +97,8 @@ fn wrong_with<P: Protocol>(
 ) -> Result<Option<String>, Memory>
     ensures { IfOk result (λ line. HasWrong (P.table protocol.now) change line) }
 {
-    match Changed::new(protocol, change) {
+    let table = Gone(protocol);
+    match Changed::new(&table, change) {
         Some(changed) => wrong_under(alloc, &changed),
         None => Ok(None),
     }

@@ -5,6 +5,7 @@ ghost use Rattle.kr_relax_text.specs.Scripts.{AreShown, IsShown, LetsThrough, Sh
 use crate::replies::{ends_blocked, ends_granted};
 use kr_apart::{Flat, Part, parts, tells_apart};
 use kr_change::{Change, Changed};
+use kr_kinds::Gone;
 use kr_model::{Event, Memory};
 use kr_protocol::Protocol;
 use kr_relax_core::Relaxed;
@@ -38,7 +39,7 @@ fn lets_through<P: Protocol, Q: Protocol>(
 ) -> Result<bool, Memory>
     ensures { IfOk result (λ is. IsTrue is ↔ LetsThrough (P.table one.now) (Q.table other.now) opening.now events.now) }
 {
-    if !is_map(opening) || !tells_apart(alloc, one, other, opening, events)? {
+    if !is_map(opening) || !tells_apart(alloc, &Gone(one), &Gone(other), opening, events)? {
         return Ok(false);
     }
     let before = play(alloc, one, opening, events)?;
@@ -66,7 +67,8 @@ fn if_shows<P: Protocol>(
 ) -> Result<Option<Shown>, Memory>
     ensures { IfOk result (λ script. IfSome script (Shows (P.table protocol.now) change)) }
 {
-    let Some(changed) = Changed::new(protocol, change) else {
+    let gone = Gone(protocol);
+    let Some(changed) = Changed::new(&gone, change) else {
         return Ok(None);
     };
     if !lets_through(alloc, protocol, &changed, &shown.opening, &shown.events)? {
@@ -103,7 +105,7 @@ fn search<P: Protocol>(
     for relaxed in relaxations {
         changes.push(relaxed.change)?;
     }
-    parts(alloc, &Flat::of(protocol), &changes)
+    parts(alloc, &Flat::of(&Gone(protocol)), &changes)
 }
 
 /// The relaxations, each with a script that shows it, if one is found: under the table with the change the script's last step is

@@ -31,6 +31,11 @@ pub is_lawful : (x : IndexProtocol) (p : Protocol) (g : GhostProtocol) → HasTa
 is_lawful (Gone q) p g same laws more = subst (λ z. IsLawful z) (sym same) laws
 is_lawful (Leaves q) p g same laws more = subst (λ z. IsLawfulGhost z) (sym same) more
 
+-- Its table is that which the protocol has.
+pub same_table : (x : IndexProtocol) (p : Protocol) (g : GhostProtocol) → HasTables x p g → g.table ≡ p → table_of x ≡ p
+same_table (Gone q) p g has same = has
+same_table (Leaves q) p g has same = ap (λ (h : GhostProtocol). h.table) has ∙ same
+
 -- The committed programs of a log that went along with a run are those of the run.
 abbrev LogTells : GhostTrace → Type 0
 LogTells r = let log = log_after no_log r.history in log.committed ≡ programs r.history

@@ -2,3 +2,4 @@ pub mod Rest
 pub mod GoneSteps
 pub mod Answered
 pub mod EitherRuns
+pub mod Replied

@@ -3,47 +3,48 @@ use Rattle.std.proofs.Common.{◌≡◌, ◌∙◌, inl, inr, zero, suc, refl, s
 use Rattle.std.specs.List.{Any, Contains}
 use Rattle.std.proofs.lemmas.List.Elements.{All-contains, Contains-append_right}
 use Rattle.kr_model.specs.declared.Reply.{Reply}
-use Rattle.kr_model.specs.Protocol.{Protocol}
 use Rattle.kr_model.specs.Map.{IsMap}
 use Rattle.kr_model.specs.Run.{replies_of}
+use Rattle.kr_kinds.specs.Kinds.{IndexProtocol}
 use Rattle.kr_change.specs.declared.change.Change.{Change}
 use Rattle.kr_change.specs.declared.change.Change.TheVariants.{Compatible}
-use Rattle.kr_change.specs.Changes.{changed}
-use Rattle.kr_change.specs.Every.{changes_of}
-use Rattle.kr_alike.specs.Coming.{AlikeOnMaps}
+use Rattle.kr_change.specs.GhostChanges.{changed_index}
+use Rattle.kr_change.specs.GhostEvery.{index_changes_of}
+use Rattle.kr_stepping.specs.Played.{attempts}
 use Rattle.kr_apart.specs.Apart.{PartAtTheLast, TellsApart}
-use Rattle.kr_suite_core.specs.Suite.{IsTested, IsTold, IsSharedOut, IsSuite, Passes, Fails, replies_under}
+use Rattle.kr_suite_core.specs.Alike.{AlikeIndexes}
+use Rattle.kr_suite_core.specs.Suite.{IsTested, IsTold, IsSharedOut, IsSuite, Passes, Fails, replies_to}
 use Rattle.kr_suite_core.specs.declared.tested.Tested.{Tested}
 use Rattle.kr_suite_core.specs.declared.classes.Suite.{Suite}
 use Rattle.kr_suite_core.proofs.Shared.{never_same}
 
-pub same_passes : (p : Protocol) (s : Suite) → IsSuite p s → All (Passes p) s.parts.items
+pub same_passes : (p : IndexProtocol) (s : Suite) → IsSuite p s → All (Passes p) s.parts.items
 same_passes p s is k d lt = sym (is.parts k d lt).replies
 
 -- The index with which a part begins is a map.
-on_map : (p : Protocol) (t : Tested) → IsTested p t → IsMap t.opening.items
+on_map : (p : IndexProtocol) (t : Tested) → IsTested p t → IsMap t.opening.items
 on_map p t tested = (tested.tells zero (Compatible 0 0 true) tested.some).is_map
 
-pub alike_passes : (p : Protocol) (s : Suite) → IsSuite p s → (c : Change) → Contains s.alike.items c → All (Passes (changed p c)) s.parts.items
+pub alike_passes : (p : IndexProtocol) (s : Suite) → IsSuite p s → (c : Change) → Contains s.alike.items c → All (Passes (changed_index p c)) s.parts.items
 alike_passes p s is c has k d lt = passes (is.parts k d lt)
   where
-    passes : {t : Tested} → IsTested p t → Passes (changed p c) t
+    passes : {t : Tested} → IsTested p t → Passes (changed_index p c) t
     passes {t} tested =
-        let alike : AlikeOnMaps p (changed p c) = All-contains (λ c. AlikeOnMaps p (changed p c)) s.alike.items c is.alike has in
-        sym (ap replies_of (alike t.opening.items t.events.items (on_map p t tested)).history) ∙ sym tested.replies
+        let alike : AlikeIndexes p (changed_index p c) = All-contains (λ c. AlikeIndexes p (changed_index p c)) s.alike.items c is.alike has in
+        sym (ap replies_of (alike t.opening.items (attempts t.events.items) (on_map p t tested)).history) ∙ sym tested.replies
 
 -- A part that names a change is failed by an engine with that table.
-fails : (p : Protocol) (c : Change) (t : Tested) → IsTested p t → Contains t.tells.items c → Fails (changed p c) t
+fails : (p : IndexProtocol) (c : Change) (t : Tested) → IsTested p t → Contains t.tells.items c → Fails (changed_index p c) t
 fails p c t tested names = record {
   last = last;
   differ = λ e. never_same t.replies.items (subst (λ (rs : List Reply). PartAtTheLast t.replies.items rs) e last);
 }
   where
-    tells : TellsApart p (changed p c) t.opening.items t.events.items
-    tells = All-contains (λ c. TellsApart p (changed p c) t.opening.items t.events.items) t.tells.items c tested.tells names
+    tells : TellsApart p (changed_index p c) t.opening.items t.events.items
+    tells = All-contains (λ c. TellsApart p (changed_index p c) t.opening.items t.events.items) t.tells.items c tested.tells names
 
-    last : PartAtTheLast t.replies.items (replies_under (changed p c) t)
-    last = subst (λ (rs : List Reply). PartAtTheLast rs (replies_under (changed p c) t)) (sym tested.replies) tells.replies
+    last : PartAtTheLast t.replies.items (replies_to (changed_index p c) t)
+    last = subst (λ (rs : List Reply). PartAtTheLast rs (replies_to (changed_index p c) t)) (sym tested.replies) tells.replies
 
 -- The first of a list, and the others.
 first : (x : Change) (xs : List Change) → Contains (x ∷ xs) x
@@ -67,7 +68,7 @@ module _ (Told : Change → Type 0) (c : Change) where
   is_told (x ∷ cs) alike left (inr (never, inl (others, is, rest))) (suc k, lt, e) not_alike not_left = is_told cs others left rest (k, omega arith, e) (λ h. not_alike (subst (λ (ds : List Change). Contains ds c) (sym is) (later x others c h))) not_left
   is_told (x ∷ cs) alike left (inr (never, inr (others, is, rest))) (suc k, lt, e) not_alike not_left = is_told cs alike others rest (k, omega arith, e) not_alike (λ h. not_left (subst (λ (ds : List Change). Contains ds c) (sym is) (later x others c h)))
 
-pub differs_fails : (p : Protocol) (s : Suite) → IsSuite p s → (c : Change) → Contains (changes_of p) c → (Contains s.alike.items c → ⊥) → (Contains s.left.items c → ⊥) → Any (Fails (changed p c)) s.parts.items
+pub differs_fails : (p : IndexProtocol) (s : Suite) → IsSuite p s → (c : Change) → Contains (index_changes_of p) c → (Contains s.alike.items c → ⊥) → (Contains s.left.items c → ⊥) → Any (Fails (changed_index p c)) s.parts.items
 differs_fails p s is c has not_alike not_left =
-    let told : IsTold s.parts.items c = is_told (IsTold s.parts.items) c (changes_of p) s.alike.items s.left.items is.shared has not_alike not_left in
+    let told : IsTold s.parts.items c = is_told (IsTold s.parts.items) c (index_changes_of p) s.alike.items s.left.items is.shared has not_alike not_left in
     (told.0, told.1, told.2, told.3, fails p c told.1 (All-contains (IsTested p) s.parts.items told.1 is.parts (told.0, told.2, told.3)) told.4)

@@ -9,7 +9,10 @@ use Rattle.kr_model.specs.declared.Side.TheVariants.{Current, Next}
 use Rattle.kr_model.specs.declared.Span.{Span}
 use Rattle.kr_model.specs.declared.Span.TheVariants.{Instant, Commit}
 use Rattle.kr_change.specs.declared.change.Change.{Change}
-use Rattle.kr_change.specs.declared.change.Change.TheVariants.{Request, Convert, Compatible}
+use Rattle.kr_change.specs.declared.change.Change.TheVariants.{Request, GhostRequest, Convert, Heir, Compatible}
+use Rattle.kr_change.specs.declared.change.GhostRow.{GhostRow}
+use Rattle.kr_change.specs.declared.change.GhostRow.TheVariants.{Revive, InsertHit, DeleteMiss, UpdateMiss}
+use Rattle.kr_change.specs.GhostChanges.{ghost_row_number}
 use Rattle.kr_model.specs.Words.{row_number, side_number}
 use Rattle.kr_change.specs.Every.{is_same_request, is_same_span}
 use Rattle.kr_suite_core.specs.Equal.{is_equal, is_same_bool, is_same_own}
@@ -34,6 +37,18 @@ row_back Update = refl
 
 row_same : (r s : Row) → (row_number r == row_number s) ≡ true → r ≡ s
 row_same r s h = sym (row_back r) ∙ ap row_of (nat_same (row_number r) (row_number s) h) ∙ row_back s
+
+abbrev ghost_row_of : ℕ → GhostRow
+ghost_row_of n = cond (n == 0) Revive (cond (n == 1) InsertHit (cond (n == 2) DeleteMiss UpdateMiss))
+
+ghost_row_back : (r : GhostRow) → ghost_row_of (ghost_row_number r) ≡ r
+ghost_row_back Revive = refl
+ghost_row_back InsertHit = refl
+ghost_row_back DeleteMiss = refl
+ghost_row_back UpdateMiss = refl
+
+ghost_row_same : (r s : GhostRow) → (ghost_row_number r == ghost_row_number s) ≡ true → r ≡ s
+ghost_row_same r s h = sym (ghost_row_back r) ∙ ap ghost_row_of (nat_same (ghost_row_number r) (ghost_row_number s) h) ∙ ghost_row_back s
 
 side_same : (r s : Side) → (side_number r == side_number s) ≡ true → r ≡ s
 side_same Current Current h = refl
@@ -93,6 +108,18 @@ equal_same (Request r s o a) (Request t u n b) h =
     let own = own_same o n rest.0 in
     let request = request_same a b rest.1 in
     cc
+equal_same (GhostRequest r s a) (GhostRequest t u b) h =
+    let places = and_parts ((ghost_row_number r == ghost_row_number t) && (side_number s == side_number u)) (is_same_request a b) h in
+    let place = and_parts (ghost_row_number r == ghost_row_number t) (side_number s == side_number u) places.0 in
+    let row = ghost_row_same r t place.0 in
+    let side = side_same s u place.1 in
+    let request = request_same a b places.1 in
+    cc
+equal_same (Heir h m) (Heir i n) e =
+    let rest = and_parts (h == i) (m == n) e in
+    let held = nat_same h i rest.0 in
+    let mode = nat_same m n rest.1 in
+    cc
 equal_same (Convert h q m) (Convert i r n) e =
     let helds = and_parts (h == i) ((q == r) && (m == n)) e in
     let rest = and_parts (q == r) (m == n) helds.1 in
@@ -113,8 +140,24 @@ equal_same (Convert h q m) (Request t u n b) e = absurd (cc)
 equal_same (Convert h q m) (Compatible r i c) e = absurd (cc)
 equal_same (Compatible q h b) (Request t u n a) e = absurd (cc)
 equal_same (Compatible q h b) (Convert i r n) e = absurd (cc)
+equal_same (GhostRequest r s a) (Request t u n b) h = absurd (cc)
+equal_same (GhostRequest r s a) (Convert i q n) h = absurd (cc)
+equal_same (GhostRequest r s a) (Heir i n) h = absurd (cc)
+equal_same (GhostRequest r s a) (Compatible q i c) h = absurd (cc)
+equal_same (Heir h m) (Request t u n b) e = absurd (cc)
+equal_same (Heir h m) (GhostRequest t u b) e = absurd (cc)
+equal_same (Heir h m) (Convert i r n) e = absurd (cc)
+equal_same (Heir h m) (Compatible r i c) e = absurd (cc)
+equal_same (Request r s o a) (GhostRequest t u b) h = absurd (cc)
+equal_same (Request r s o a) (Heir i n) h = absurd (cc)
+equal_same (Convert h q m) (GhostRequest t u b) e = absurd (cc)
+equal_same (Convert h q m) (Heir i n) e = absurd (cc)
+equal_same (Compatible q h b) (GhostRequest t u a) e = absurd (cc)
+equal_same (Compatible q h b) (Heir i n) e = absurd (cc)
 
 pub equal_self : (c : Change) → is_equal c c ≡ true
 equal_self (Request r s o a) = rw (nat_self (row_number r), nat_self (side_number s), own_self o, request_self a) refl
+equal_self (GhostRequest r s a) = rw (nat_self (ghost_row_number r), nat_self (side_number s), request_self a) refl
+equal_self (Heir h m) = rw (nat_self h, nat_self m) refl
 equal_self (Convert h q m) = rw (nat_self h, nat_self q, nat_self m) refl
 equal_self (Compatible q h b) = rw (nat_self q, nat_self h, bool_self b) refl

@@ -1,3 +1,4 @@
+pub mod AlikeKind
 pub mod EqualChanges
 pub mod Engines
 pub mod Shared

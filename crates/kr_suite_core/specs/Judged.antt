@@ -1,17 +1,17 @@
 -- Changes of which it is known whether they are alike, and what becomes of them.
 use Rattle.std.specs.Prelude.{Bool, IsTrue, List, Option, Some, None, map, if◌then◌else◌}
 use Rattle.std.specs.List.{list_any}
-use Rattle.kr_model.specs.Protocol.{Protocol}
+use Rattle.kr_kinds.specs.Kinds.{IndexProtocol}
 use Rattle.kr_change.specs.declared.change.Change.{Change}
-use Rattle.kr_change.specs.Changes.{changed}
-use Rattle.kr_alike.specs.Coming.{AlikeOnMaps}
+use Rattle.kr_change.specs.GhostChanges.{changed_index}
+use Rattle.kr_suite_core.specs.Alike.{AlikeIndexes}
 use Rattle.kr_suite_core.specs.Equal.{is_equal}
 use Rattle.kr_suite_core.specs.declared.judged.Judged.{Judged}
 use Rattle.kr_suite_core.specs.declared.tested.Tested.{Tested}
 
 -- What is said to be alike is.
-abbrev pub IsJudged : Protocol → Judged → Type 0
-IsJudged p j = IsTrue j.is_alike → AlikeOnMaps p (changed p j.change)
+abbrev pub IsJudged : IndexProtocol → Judged → Type 0
+IsJudged p j = IsTrue j.is_alike → AlikeIndexes p (changed_index p j.change)
 
 -- The changes.
 abbrev pub changes_in : List Judged → List Change

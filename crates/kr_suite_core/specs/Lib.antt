@@ -1,3 +1,4 @@
+pub mod Alike
 pub mod Equal
 pub mod Judged
 pub mod Suite

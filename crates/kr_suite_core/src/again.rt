@@ -1,7 +1,8 @@
 //! A second look at the changes that no part names, where the table is safe.
 ghost use Rattle.std.specs.Prelude.{◌≡◌, IsTrue, IfOk, All};
-ghost use Rattle.kr_change.specs.Changes.{changed};
-ghost use Rattle.kr_alike.specs.Coming.{AlikeOnMaps};
+ghost use Rattle.kr_change.specs.GhostChanges.{changed_index};
+ghost use Rattle.kr_kinds.specs.Kinds as kind;
+ghost use Rattle.kr_suite_core.specs.Alike.{AlikeIndexes};
 ghost use Rattle.kr_suite_core.specs.Judged.{IsJudged, changes_in};
 
 use crate::judged::Judged;
@@ -10,22 +11,26 @@ use crate::tested::Tested;
 use kr_alike::alike_if_safe;
 use kr_change::{Change, Changed};
 use kr_decide::{Rejected, Safe, WhyRejected};
+use kr_kinds::{Gone, IndexProtocol};
 use kr_model::Memory;
-use kr_protocol::{Protocol, SafeProtocol};
+use kr_protocol::SafeProtocol;
 use std::alloc::{AllocError, Global};
 
 /// The changes as they were judged, and where the table is safe those as alike too that no part names and that are so by the
-/// requests that may come under it.
-pub(crate) fn judge_again<P: Protocol>(
+/// requests that may come under it. Where deletes leave ghosts, all stays as it was judged.
+pub(crate) fn judge_again<P: IndexProtocol>(
     alloc: Global,
     protocol: &P,
     parts: &[Tested],
     judged: &[Judged],
 ) -> Result<Vec<Judged>, Memory>
-    requires { All (IsJudged (P.table protocol.now)) judged.now }
+    requires { All (IsJudged (P.index protocol.now)) judged.now }
     ensures changes { IfOk result (λ js. changes_in js.items ≡ changes_in judged.now) }
-    ensures alike { IfOk result (λ js. All (IsJudged (P.table protocol.now)) js.items) }
+    ensures alike { IfOk result (λ js. All (IsJudged (P.index protocol.now)) js.items) }
 {
+    if protocol.leaves_ghosts() {
+        return copy_of(alloc, judged);
+    }
     match Safe::new(alloc, protocol) {
         Ok(safe) => look_at_all(alloc, &safe, parts, judged),
         Err(
@@ -52,9 +57,9 @@ fn look_at_all<P: SafeProtocol>(
     parts: &[Tested],
     judged: &[Judged],
 ) -> Result<Vec<Judged>, Memory>
-    requires { All (IsJudged (P.table protocol.now)) judged.now }
+    requires { All (IsJudged (kind.Gone (P.table protocol.now))) judged.now }
     ensures changes { IfOk result (λ js. changes_in js.items ≡ changes_in judged.now) }
-    ensures alike { IfOk result (λ js. All (IsJudged (P.table protocol.now)) js.items) }
+    ensures alike { IfOk result (λ js. All (IsJudged (kind.Gone (P.table protocol.now))) js.items) }
 {
     let mut again = Vec::new(alloc);
     for one in judged {
@@ -70,9 +75,9 @@ fn look_at<P: SafeProtocol>(
     parts: &[Tested],
     one: Judged,
 ) -> Result<Judged, Memory>
-    requires { IsJudged (P.table protocol.now) one }
+    requires { IsJudged (kind.Gone (P.table protocol.now)) one }
     ensures change { IfOk result (λ j. j.change ≡ one.change) }
-    ensures alike { IfOk result (IsJudged (P.table protocol.now)) }
+    ensures alike { IfOk result (IsJudged (kind.Gone (P.table protocol.now))) }
 {
     if one.is_alike || is_told(parts, one.change) {
         return Ok(one);
@@ -90,9 +95,10 @@ fn is_alike_if_safe<P: SafeProtocol>(
     protocol: &P,
     change: Change,
 ) -> Result<bool, Memory>
-    ensures { IfOk result (λ yes. IsTrue yes → AlikeOnMaps (P.table protocol.now) (changed (P.table protocol.now) change)) }
+    ensures { IfOk result (λ yes. IsTrue yes → AlikeIndexes (kind.Gone (P.table protocol.now)) (changed_index (kind.Gone (P.table protocol.now)) change)) }
 {
-    match Changed::new(protocol, change) {
+    let gone = Gone(protocol);
+    match Changed::new(&gone, change) {
         Some(changed) => alike_if_safe(alloc, protocol, &changed),
         None => Ok(false),
     }

@@ -38,6 +38,14 @@ pub(crate) fn is_equal(one: Change, other: Change) -> bool
                 && (is_same_own(own_next, other_own) && is_same_request(request, other_request))
         }
         (
+            Change::GhostRequest { row, side, request },
+            Change::GhostRequest {
+                row: other_row,
+                side: other_side,
+                request: other_request,
+            },
+        ) => row == other_row && side == other_side && is_same_request(request, other_request),
+        (
             Change::Convert {
                 held,
                 requested,
@@ -49,6 +57,13 @@ pub(crate) fn is_equal(one: Change, other: Change) -> bool
                 mode: other_mode,
             },
         ) => held == other_held && (requested == other_requested && mode == other_mode),
+        (
+            Change::Heir { held, mode },
+            Change::Heir {
+                held: other_held,
+                mode: other_mode,
+            },
+        ) => held == other_held && mode == other_mode,
         (
             Change::Compatible {
                 requested,

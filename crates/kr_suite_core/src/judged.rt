@@ -1,14 +1,14 @@
 //! Which changed tables are alike.
 ghost use Rattle.std.specs.Prelude.{◌≡◌, IsTrue, IfOk, All};
 ghost use Rattle.std.specs.List.{filter_map};
-ghost use Rattle.kr_change.specs.Changes.{changed};
-ghost use Rattle.kr_alike.specs.Coming.{AlikeOnMaps};
+ghost use Rattle.kr_change.specs.GhostChanges.{changed_index};
+ghost use Rattle.kr_suite_core.specs.Alike.{AlikeIndexes};
 ghost use Rattle.kr_suite_core.specs.Judged.{IsJudged, alike_of, changes_in, other_of};
 
 use kr_alike::alike;
 use kr_change::{Change, Changed};
+use kr_kinds::IndexProtocol;
 use kr_model::Memory;
-use kr_protocol::Protocol;
 use std::alloc::Global;
 
 /// A change, and whether the table with it is known to be alike.
@@ -18,10 +18,13 @@ pub(crate) struct Judged {
     pub is_alike: bool,
 }
 
-/// Whether the table with this change is known to give the same replies in every schedule.
-fn is_alike<P: Protocol>(alloc: Global, protocol: &P, change: Change) -> Result<bool, Memory>
-    ensures { IfOk result (λ yes. IsTrue yes → AlikeOnMaps (P.table protocol.now) (changed (P.table protocol.now) change)) }
+/// Whether the table with this change is known to give the same replies in every schedule. Where deletes leave ghosts, none is.
+fn is_alike<P: IndexProtocol>(alloc: Global, protocol: &P, change: Change) -> Result<bool, Memory>
+    ensures { IfOk result (λ yes. IsTrue yes → AlikeIndexes (P.index protocol.now) (changed_index (P.index protocol.now) change)) }
 {
+    if protocol.leaves_ghosts() {
+        return Ok(false);
+    }
     match Changed::new(protocol, change) {
         Some(changed) => alike(alloc, protocol, &changed),
         None => Ok(false),
@@ -29,13 +32,13 @@ fn is_alike<P: Protocol>(alloc: Global, protocol: &P, change: Change) -> Result<
 }
 
 /// Each change, and whether the table with it is known to be alike.
-pub(crate) fn judge_all<P: Protocol>(
+pub(crate) fn judge_all<P: IndexProtocol>(
     alloc: Global,
     protocol: &P,
     changes: &[Change],
 ) -> Result<Vec<Judged>, Memory>
     ensures changes { IfOk result (λ js. changes_in js.items ≡ changes.now) }
-    ensures alike { IfOk result (λ js. All (IsJudged (P.table protocol.now)) js.items) }
+    ensures alike { IfOk result (λ js. All (IsJudged (P.index protocol.now)) js.items) }
 {
     let mut judged = Vec::new(alloc);
     for change in changes {

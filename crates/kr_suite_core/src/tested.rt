@@ -1,17 +1,17 @@
 //! Parts of a suite: scripts that were tried.
 ghost use Rattle.std.specs.Prelude.{◌≡◌, ◌<◌, ◌↔◌, IsTrue, IfOk, IfSome, OnOk, All, length};
 ghost use Rattle.std.specs.List.{Contains};
-ghost use Rattle.kr_change.specs.Changes.{changed};
-ghost use Rattle.kr_change.specs.Every.{changes_of};
+ghost use Rattle.kr_change.specs.GhostChanges.{changed_index};
+ghost use Rattle.kr_change.specs.GhostEvery.{index_changes_of};
 ghost use Rattle.kr_apart.specs.Apart.{TellsApart};
 ghost use Rattle.kr_suite_core.specs.Tried.{IsNamed};
 ghost use Rattle.kr_suite_core.specs.Suite.{IsTested};
 
 use kr_apart::{Part, tells_apart};
 use kr_change::{Change, Changed};
+use kr_kinds::IndexProtocol;
 use kr_model::{Event, Memory, Reply};
-use kr_protocol::Protocol;
-use kr_serial::play;
+use kr_stepping::play_any;
 use std::alloc::Global;
 
 /// A script with the table's replies, all of which but the last are granted, and changes that it tells apart: under the
@@ -23,21 +23,21 @@ pub struct Tested {
     pub opening: Vec<(u64, u64)>,
     /// The steps.
     pub events: Vec<Event>,
-    /// The table's reply to each.
+    /// The table's reply to each, with no purge between them.
     pub replies: Vec<Reply>,
     /// The changes that it tells apart; there is at least one. Which of all these are listed no contract says.
     pub tells: Vec<Change>,
 }
 
 /// Of the scripts that a search found those that tell a change apart, as tried under both tables.
-pub(crate) fn try_all<P: Protocol>(
+pub(crate) fn try_all<P: IndexProtocol>(
     alloc: Global,
     protocol: &P,
     others: &[Change],
     found: &[Part],
 ) -> Result<Vec<Tested>, Memory>
-    requires { All (Contains (changes_of (P.table protocol.now))) others.now }
-    ensures { IfOk result (λ parts. All (IsTested (P.table protocol.now)) parts.items) }
+    requires { All (Contains (index_changes_of (P.index protocol.now))) others.now }
+    ensures { IfOk result (λ parts. All (IsTested (P.index protocol.now)) parts.items) }
 {
     let mut parts = Vec::new(alloc);
     for part in found {
@@ -47,16 +47,16 @@ pub(crate) fn try_all<P: Protocol>(
 }
 
 /// Tries a script, and puts it behind the parts if it tells a change apart.
-fn try_part<P: Protocol>(
+fn try_part<P: IndexProtocol>(
     alloc: Global,
     protocol: &P,
     others: &[Change],
     part: &Part,
     parts: &mut Vec<Tested>,
 ) -> Result<(), Memory>
-    requires others { All (Contains (changes_of (P.table protocol.now))) others.now }
-    requires parts { All (IsTested (P.table protocol.now)) parts.old.items }
-    ensures { OnOk result (All (IsTested (P.table protocol.now)) parts.new.items) }
+    requires others { All (Contains (index_changes_of (P.index protocol.now))) others.now }
+    requires parts { All (IsTested (P.index protocol.now)) parts.old.items }
+    ensures { OnOk result (All (IsTested (P.index protocol.now)) parts.new.items) }
 {
     let tells = named_by(alloc, protocol, others, part)?;
     if tells.is_empty() {
@@ -68,14 +68,14 @@ fn try_part<P: Protocol>(
 }
 
 /// The changes that a script tells apart, of those of which a search says so.
-fn named_by<P: Protocol>(
+fn named_by<P: IndexProtocol>(
     alloc: Global,
     protocol: &P,
     others: &[Change],
     part: &Part,
 ) -> Result<Vec<Change>, Memory>
-    requires { All (Contains (changes_of (P.table protocol.now))) others.now }
-    ensures { IfOk result (λ named. All (IsNamed (P.table protocol.now) part.now.opening.items part.now.events.items) named.items) }
+    requires { All (Contains (index_changes_of (P.index protocol.now))) others.now }
+    ensures { IfOk result (λ named. All (IsNamed (P.index protocol.now) part.now.opening.items part.now.events.items) named.items) }
 {
     let mut named = Vec::new(alloc);
     for number in part.tells.iter() {
@@ -87,15 +87,15 @@ fn named_by<P: Protocol>(
 }
 
 /// The change of this number, if the script tells it apart.
-fn named_at<P: Protocol>(
+fn named_at<P: IndexProtocol>(
     alloc: Global,
     protocol: &P,
     others: &[Change],
     part: &Part,
     number: usize,
 ) -> Result<Option<Change>, Memory>
-    requires { All (Contains (changes_of (P.table protocol.now))) others.now }
-    ensures { IfOk result (λ named. IfSome named (IsNamed (P.table protocol.now) part.now.opening.items part.now.events.items)) }
+    requires { All (Contains (index_changes_of (P.index protocol.now))) others.now }
+    ensures { IfOk result (λ named. IfSome named (IsNamed (P.index protocol.now) part.now.opening.items part.now.events.items)) }
 {
     let Some(change) = others.get(number).copied() else {
         return Ok(None);
@@ -108,13 +108,13 @@ fn named_at<P: Protocol>(
 }
 
 /// Whether a script tells a change apart.
-fn is_told_apart<P: Protocol>(
+fn is_told_apart<P: IndexProtocol>(
     alloc: Global,
     protocol: &P,
     change: Change,
     part: &Part,
 ) -> Result<bool, Memory>
-    ensures { IfOk result (λ tells. IsTrue tells → TellsApart (P.table protocol.now) (changed (P.table protocol.now) change) part.now.opening.items part.now.events.items) }
+    ensures { IfOk result (λ tells. IsTrue tells → TellsApart (P.index protocol.now) (changed_index (P.index protocol.now) change) part.now.opening.items part.now.events.items) }
 {
     match Changed::new(protocol, change) {
         Some(changed) => tells_apart(alloc, protocol, &changed, &part.opening, &part.events),
@@ -123,19 +123,19 @@ fn is_told_apart<P: Protocol>(
 }
 
 /// The part of a script, with the table's replies.
-fn part_of<P: Protocol>(
+fn part_of<P: IndexProtocol>(
     alloc: Global,
     protocol: &P,
     part: &Part,
     tells: Vec<Change>,
 ) -> Result<Tested, Memory>
     requires some { 0 < length tells.items }
-    requires named { All (IsNamed (P.table protocol.now) part.now.opening.items part.now.events.items) tells.items }
-    ensures { IfOk result (IsTested (P.table protocol.now)) }
+    requires named { All (IsNamed (P.index protocol.now) part.now.opening.items part.now.events.items) tells.items }
+    ensures { IfOk result (IsTested (P.index protocol.now)) }
 {
     let opening = part.opening.to_vec(alloc)?;
     let events = part.events.to_vec(alloc)?;
-    let replies = play(alloc, protocol, &opening, &events)?.replies.into_vec();
+    let replies = play_any(alloc, protocol, &opening, &events)?;
     Ok(Tested {
         opening,
         events,

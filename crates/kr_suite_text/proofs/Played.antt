@@ -4,23 +4,22 @@ use Rattle.std.specs.Prelude.{Result, Ok, Err, IfOk}
 use Rattle.kr_model.specs.declared.Event.{Event}
 use Rattle.kr_model.specs.declared.Reply.{Reply}
 use Rattle.kr_model.specs.Map.{Map}
-use Rattle.kr_model.specs.Protocol.{Protocol}
-use Rattle.kr_model.specs.State.{start}
-use Rattle.kr_model.specs.Run.{run, replies_of}
+use Rattle.kr_kinds.specs.Kinds.{IndexProtocol}
+use Rattle.kr_apart.specs.Apart.{replies_under}
 use Rattle.kr_suite_text.specs.declared.habits.Habit.{Habit}
 use Rattle.kr_suite_text.specs.Habits.{habit_steps, habit_words, opening}
 use Rattle.kr_suite_text.specs.Parts.{part_text}
 use Rattle.kr_suite_text.specs.Whole.{habit_text}
 
-module _ (p : Protocol) (h : Habit) (o o2 : Map) (tests : List (List ℕ)) (steps : List Event) (replies : List Reply)
+module _ (p : IndexProtocol) (h : Habit) (o o2 : Map) (tests : List (List ℕ)) (steps : List Event) (replies : List Reply)
     (is_opening : o ≡ opening) (is_opening2 : o2 ≡ opening) (is_tests : tests ≡ habit_words h ∷ []) (is_steps : steps ≡ habit_steps h)
-    (is_replies : replies ≡ replies_of (run p (start o) steps).history) where
+    (is_replies : replies ≡ replies_under p o steps) where
   -- its replies are those of the script
-  same_replies : replies ≡ replies_of (run p (start opening) (habit_steps h)).history
+  same_replies : replies ≡ replies_under p opening (habit_steps h)
   same_replies =
       is_replies
-      ∙ ap (λ (m : Map). replies_of (run p (start m) steps).history) is_opening
-      ∙ ap (λ (es : List Event). replies_of (run p (start opening) es).history) is_steps
+      ∙ ap (λ (m : Map). replies_under p m steps) is_opening
+      ∙ ap (λ (es : List Event). replies_under p opening es) is_steps
 
   same_text : part_text o2 tests steps replies ≡ habit_text p h
   same_text =

@@ -1,5 +1,5 @@
 -- What an engine decides beside the entries of a table, each with a script by which it shows.
-use Rattle.std.specs.Prelude.{ℕ, List, [], ◌∷◌, Bool, true, codes}
+use Rattle.std.specs.Prelude.{ℕ, List, [], ◌∷◌, Bool, true, not, ◌&&◌, codes}
 use Rattle.kr_model.specs.declared.Op.{Op}
 use Rattle.kr_model.specs.declared.Op.TheVariants.{Fetch, Scan, Go, Insert, Delete, Update, Commit, Abort, Back}
 use Rattle.kr_model.specs.declared.Event.{Event}
@@ -33,11 +33,12 @@ all_habits =
 abbrev pub opening : Map
 opening = (10, 1) ∷ (20, 2) ∷ (30, 3) ∷ []
 
--- Whether a script is tried: those with updates where the table offers updates.
-abbrev pub is_tried : Habit → Bool → Bool
-is_tried habit.UpdateAbsent updates = updates
-is_tried habit.InstantReleases updates = updates
-is_tried _ updates = true
+-- Whether a script is tried, by whether the table offers updates, and whether a deleted key stays as a ghost: one with updates where they are offered; where deletes leave ghosts none that shows that a deleted key stays, nor one that rests on a lock for an instant on a key that is deleted.
+abbrev pub is_tried : Habit → Bool → Bool → Bool
+is_tried habit.UpdateAbsent updates ghosts = updates
+is_tried habit.InstantReleases updates ghosts = updates && not ghosts
+is_tried habit.DeletedStays updates ghosts = not ghosts
+is_tried _ updates ghosts = true
 
 -- What a script is for.
 abbrev pub habit_words : Habit → List ℕ

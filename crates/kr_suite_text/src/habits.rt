@@ -61,11 +61,16 @@ pub(crate) fn opening() -> &'static [(u64, u64)]
     &[(10, 1), (20, 2), (30, 3)]
 }
 
-/// Whether a script is tried under a table that offers updates, or offers none.
-pub(crate) fn is_tried(habit: Habit, updates: bool) -> bool
-    ensures { result ≡ is_tried habit updates }
+/// Whether a script is tried under a table that offers updates, or offers none, and whose deleted keys stay as ghosts, or go at once.
+pub(crate) fn is_tried(habit: Habit, updates: bool, leaves_ghosts: bool) -> bool
+    ensures { result ≡ is_tried habit updates leaves_ghosts }
 {
-    updates || !matches!(habit, Habit::UpdateAbsent | Habit::InstantReleases)
+    match habit {
+        Habit::UpdateAbsent => updates,
+        Habit::InstantReleases => updates && !leaves_ghosts,
+        Habit::DeletedStays => !leaves_ghosts,
+        _ => true,
+    }
 }
 
 /// What a script is for.

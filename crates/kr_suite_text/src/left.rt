@@ -1,11 +1,13 @@
 //! What is said of the changes that no part of a suite tells apart.
 ghost use Rattle.std.specs.Prelude.{◌≡◌, IfOk, string_bytes, length};
-ghost use Rattle.kr_suite_text.specs.Whole.{change_line, change_lines, counts_words, is_unreached, left_text, parts_words, rest_words, steps_from, told_count, told_words, verdict_end, verdict_word, why_words};
+ghost use Rattle.kr_kinds.specs.Kinds.{table_of};
+ghost use Rattle.kr_suite_text.specs.Whole.{change_line, change_lines, counts_words, is_unreached, is_unsurveyed, left_text, parts_words, rest_words, steps_from, told_count, told_words, verdict_end, verdict_word, why_words};
 
-use kr_change::{Change, change_text, changes_of};
+use crate::either::name_of;
+use kr_change::{Change, index_changes_of};
 use kr_decide::Survey;
+use kr_kinds::IndexProtocol;
 use kr_model::Memory;
-use kr_protocol::Protocol;
 use kr_suite_core::{Suite, Tested};
 use std::alloc::Global;
 
@@ -18,9 +20,9 @@ enum Verdict {
     Left,
 }
 
-/// Whether no schedule comes to the entry that a change is of. Of requests the survey says nothing.
-fn is_unreached(survey: &Survey, change: Change) -> bool
-    ensures { result ≡ is_unreached survey.now change }
+/// Whether no schedule comes to the entry that a change is of, by a survey. Of requests and heirs it says nothing.
+fn is_unsurveyed(survey: &Survey, change: Change) -> bool
+    ensures { result ≡ is_unsurveyed survey.now change }
 {
     match change {
         Change::Compatible {
@@ -33,12 +35,22 @@ fn is_unreached(survey: &Survey, change: Change) -> bool
             requested,
             ..
         } => !survey.is_asked(held, requested),
-        Change::Request { .. } => false,
+        Change::Request { .. } | Change::GhostRequest { .. } | Change::Heir { .. } => false,
+    }
+}
+
+/// The same, if there is a survey.
+fn is_unreached(survey: &Option<Survey>, change: Change) -> bool
+    ensures { result ≡ is_unreached survey.now change }
+{
+    match survey {
+        Some(survey) => is_unsurveyed(survey, change),
+        None => false,
     }
 }
 
 /// Why the replies of each schedule are the same with a change.
-fn why_text(survey: &Survey, change: Change) -> &'static str
+fn why_text(survey: &Option<Survey>, change: Change) -> &'static str
     ensures { result.now ≡ why_words survey.now change }
 {
     if is_unreached(survey, change) {
@@ -59,7 +71,7 @@ fn verdict_word(verdict: Verdict) -> &'static str
 }
 
 /// And behind it.
-fn verdict_end(survey: &Survey, verdict: Verdict, change: Change) -> &'static str
+fn verdict_end(survey: &Option<Survey>, verdict: Verdict, change: Change) -> &'static str
     ensures { result.now ≡ verdict_end survey.now verdict change }
 {
     match verdict {
@@ -69,30 +81,30 @@ fn verdict_end(survey: &Survey, verdict: Verdict, change: Change) -> &'static st
 }
 
 /// A change that no part tells apart, on a line.
-fn change_line<P: Protocol>(
+fn change_line<P: IndexProtocol>(
     alloc: Global,
     protocol: &P,
-    survey: &Survey,
+    survey: &Option<Survey>,
     verdict: Verdict,
     change: Change,
 ) -> Result<String, Memory>
-    ensures { IfOk result (λ text. string_bytes text ≡ change_line (P.table protocol.now) (P.names protocol.now) survey.now verdict change) }
+    ensures { IfOk result (λ text. string_bytes text ≡ change_line (table_of (P.index protocol.now)) (P.names protocol.now) survey.now verdict change) }
 {
-    let name = change_text(alloc, protocol, change)?;
+    let name = name_of(alloc, protocol, change)?;
     let word = verdict_word(verdict);
     let end = verdict_end(survey, verdict, change);
     format!(in alloc; "{word}: {name}{end}\n")
 }
 
 /// Changes, each on a line.
-fn change_lines<P: Protocol>(
+fn change_lines<P: IndexProtocol>(
     alloc: Global,
     protocol: &P,
-    survey: &Survey,
+    survey: &Option<Survey>,
     verdict: Verdict,
     changes: &[Change],
 ) -> Result<String, Memory>
-    ensures { IfOk result (λ text. string_bytes text ≡ change_lines (P.table protocol.now) (P.names protocol.now) survey.now verdict changes.now) }
+    ensures { IfOk result (λ text. string_bytes text ≡ change_lines (table_of (P.index protocol.now)) (P.names protocol.now) survey.now verdict changes.now) }
 {
     let mut out = String::new(alloc);
     for change in changes {
@@ -114,10 +126,10 @@ fn steps_of(parts: &[Tested]) -> usize
 }
 
 /// How many entries with another value there are, and how many of them the parts tell apart.
-fn told_text<P: Protocol>(alloc: Global, protocol: &P, suite: &Suite) -> Result<String, Memory>
-    ensures { IfOk result (λ text. string_bytes text ≡ told_words (P.table protocol.now) suite.now) }
+fn told_text<P: IndexProtocol>(alloc: Global, protocol: &P, suite: &Suite) -> Result<String, Memory>
+    ensures { IfOk result (λ text. string_bytes text ≡ told_words (P.index protocol.now) suite.now) }
 {
-    let all = changes_of(alloc, protocol)?.len();
+    let all = index_changes_of(alloc, protocol)?.len();
     let told = all
         .saturating_sub(suite.alike.len())
         .saturating_sub(suite.left.len());
@@ -143,8 +155,12 @@ fn rest_text(alloc: Global, suite: &Suite) -> Result<String, Memory>
 }
 
 /// How many changes there are of each kind.
-fn counts_text<P: Protocol>(alloc: Global, protocol: &P, suite: &Suite) -> Result<String, Memory>
-    ensures { IfOk result (λ text. string_bytes text ≡ counts_words (P.table protocol.now) suite.now) }
+fn counts_text<P: IndexProtocol>(
+    alloc: Global,
+    protocol: &P,
+    suite: &Suite,
+) -> Result<String, Memory>
+    ensures { IfOk result (λ text. string_bytes text ≡ counts_words (P.index protocol.now) suite.now) }
 {
     let told = told_text(alloc, protocol, suite)?;
     let parts = parts_text(alloc, suite)?;
@@ -153,14 +169,15 @@ fn counts_text<P: Protocol>(alloc: Global, protocol: &P, suite: &Suite) -> Resul
 }
 
 /// The changes that give the same replies in every schedule, each with why, those that are left, each on a line, and a line
-/// with how many there are of each kind. The survey is that of the protocol. The error is memory alone.
-pub fn left_text<P: Protocol>(
+/// with how many there are of each kind. The survey is that of the protocol; where deletes leave ghosts there is none. The error is
+/// memory alone.
+pub fn left_text<P: IndexProtocol>(
     alloc: Global,
     protocol: &P,
     suite: &Suite,
-    survey: &Survey,
+    survey: &Option<Survey>,
 ) -> Result<String, Memory>
-    ensures { IfOk result (λ text. string_bytes text ≡ left_text (P.table protocol.now) (P.names protocol.now) suite.now survey.now) }
+    ensures { IfOk result (λ text. string_bytes text ≡ left_text (P.index protocol.now) (P.names protocol.now) suite.now survey.now) }
 {
     let alike = change_lines(alloc, protocol, survey, Verdict::Alike, &suite.alike)?;
     let left = change_lines(alloc, protocol, survey, Verdict::Left, &suite.left)?;

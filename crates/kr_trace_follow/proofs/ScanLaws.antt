@@ -23,7 +23,7 @@ forgot_same_by : (x : Progress) (xs : List Progress) (t : ℕ) (b : Bool) → (x
 forgot_same_by x xs t true e h = h
 forgot_same_by x xs t false e h = ap (λ b. cond b (Some x) (noted_of (forgotten xs t) t)) e ∙ h
 
-forgot_same : (xs : List Progress) (t : ℕ) → noted_of (forgotten xs t) t ≡ None
+pub forgot_same : (xs : List Progress) (t : ℕ) → noted_of (forgotten xs t) t ≡ None
 forgot_same [] t = refl
 forgot_same (x ∷ xs) t = forgot_same_by x xs t (x.txn == t) refl (forgot_same xs t)
 
@@ -49,7 +49,7 @@ last_same_by y ys x t true f none h = let is : Some y ≡ None = sym (ap (λ b. 
 last_same_by y ys x t false f none h =
     ap (λ b. cond b (Some y) (noted_of (ys ++ x ∷ []) t)) f ∙ h (sym (ap (λ b. cond b (Some y) (noted_of ys t)) f) ∙ none)
 
-last_same : (xs : List Progress) (x : Progress) (t : ℕ) → (x.txn == t) ≡ true → noted_of xs t ≡ None → noted_of (xs ++ x ∷ []) t ≡ Some x
+pub last_same : (xs : List Progress) (x : Progress) (t : ℕ) → (x.txn == t) ≡ true → noted_of xs t ≡ None → noted_of (xs ++ x ∷ []) t ≡ Some x
 last_same [] x t e none = ap (λ b. cond b (Some x) None) e
 last_same (y ∷ ys) x t e none = last_same_by y ys x t (y.txn == t) refl none (last_same ys x t e)
 
@@ -58,7 +58,7 @@ read_other xs t u None k d = refl
 read_other xs t u (Some (lo, hi)) k d =
     last_other (forgotten xs t) (record { txn = t; lo = lo; hi = hi; read = k }) u (untied t u (λ is. d (sym is))) ∙ forgot_other xs t u d
 
-other_noted : (xs : List Progress) (t u : ℕ) (o : Op) (a : Reply) → (u ≡ t → ⊥) → noted_of (noted_after xs t o a) u ≡ noted_of xs u
+pub other_noted : (xs : List Progress) (t u : ℕ) (o : Op) (a : Reply) → (u ≡ t → ⊥) → noted_of (noted_after xs t o a) u ≡ noted_of xs u
 other_noted xs t u o (reply.Going k) d = read_other xs t u (range_of xs t o) k d
 other_noted xs t u o (reply.Blocked us) d = refl
 other_noted xs t u o (reply.Refused r) d = refl

@@ -27,7 +27,7 @@ granted_allowed : (p : Protocol) (s : State) (t : ℕ) (o : Op) (r : Option Refu
 granted_allowed p s t o (Some r) h = absurd (cc)
 granted_allowed p s t o None h = refl
 
-no_scan : (c : Option Scan) (goes : Bool) → (is_some c && not goes) ≡ false → goes ≡ false → c ≡ None
+pub no_scan : (c : Option Scan) (goes : Bool) → (is_some c && not goes) ≡ false → goes ≡ false → c ≡ None
 no_scan None goes h e = refl
 no_scan (Some c) true h e = absurd (cc)
 no_scan (Some c) false h e = let no : true ≡ false = h in absurd (cc)
@@ -42,7 +42,7 @@ rests p s t o g e =
     let busy = not_refused (is_scanning s t && not (goes_on o)) refusal.Busy _ rolls.1 in
     no_scan (standing s t).scan (goes_on o) busy.0 e
 
-a_scan : (c : Option Scan) → (not (is_some c) && true) ≡ false → (b : Scan) × (c ≡ Some b)
+pub a_scan : (c : Option Scan) → (not (is_some c) && true) ≡ false → (b : Scan) × (c ≡ Some b)
 a_scan None h = absurd (let no : true ≡ false = h in cc)
 a_scan (Some c) h = (c, refl)
 

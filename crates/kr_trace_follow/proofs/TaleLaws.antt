@@ -49,7 +49,7 @@ no_tale_more (w ∷ xs) (z ∷ ys) x (inl h) g = inl (h.0, no_tale_more xs ys x 
 no_tale_more (w ∷ xs) (z ∷ ys) x (inr h) g = inr (h.0, no_tale_more xs (z ∷ ys) x h.1 g)
 
 -- A scan leaves the map.
-scan_leaves : (m : Map) (o : Op) → IsScan o → (whole m o).1 ≡ m
+pub scan_leaves : (m : Map) (o : Op) → IsScan o → (whole m o).1 ≡ m
 scan_leaves m (op.Scan lo hi) h = refl
 scan_leaves m _ h = absurd h
 
@@ -94,7 +94,7 @@ tale_more was now os x o a b none still f h =
     let k : IsTale None os x = tale_at was None os x none h in
     tale_at None now (os ++ (o, a) ∷ []) (given x (o, b)) (sym still) (given_more os x.done (o, a) (o, b) k.0 (refl, f), refl)
 
-last_one : (a : Reply) (front : List Answered) (y : Answered) → last_answered a (front ++ y ∷ []) ≡ front ++ (y.0, a) ∷ []
+pub last_one : (a : Reply) (front : List Answered) (y : Answered) → last_answered a (front ++ y ∷ []) ≡ front ++ (y.0, a) ∷ []
 last_one a [] y = refl
 last_one a (x ∷ []) y = refl
 last_one a (x ∷ z ∷ xs) y = ap (λ l. x ∷ l) (last_one a (z ∷ xs) y)

@@ -51,7 +51,7 @@ record IsBefore (p : Protocol) (queue : Locks) (t : ℕ) (said : Op) (lg : Log) 
   says : IsSaid said last.op (standing last.before t).scan
   log_is : log_run p from lg steps ≡ log_run p last.before log (cond (is_behind p queue t last) [] (event t last.op ∷ []))
 
-going_is : (r : Reply) → is_going r ≡ true → (k : ℕ) × (r ≡ reply.Going k)
+pub going_is : (r : Reply) → is_going r ≡ true → (k : ℕ) × (r ≡ reply.Going k)
 going_is (reply.Going k) e = (k, refl)
 going_is _ e = absurd (cc)
 
@@ -96,7 +96,7 @@ before_last p queue t said (suc n) a lg w k say =
 -- A line --
 
 -- Nobody waits ahead of a step that the engine doesn't block.
-none_of_none : (p : Protocol) (qs : List Tested) → flat_map (waits_ahead p []) qs ≡ []
+pub none_of_none : (p : Protocol) (qs : List Tested) → flat_map (waits_ahead p []) qs ≡ []
 none_of_none p [] = refl
 none_of_none p (q ∷ qs) = by (q.tested == q.own) (none_of_none p qs)
   where
@@ -111,7 +111,7 @@ behind_blocked : (p : Protocol) (waiting : Locks) (t : ℕ) (a : Attempt) (o : O
 behind_blocked p waiting t a (observed.Blocked named) e = (named, refl)
 behind_blocked p waiting t a _ e = absurd (let no = none_behind p t a in cc)
 
-same_number : (a b : ℕ) → (a == b) ≡ true → a ≡ b
+pub same_number : (a b : ℕ) → (a == b) ≡ true → a ≡ b
 same_number a b e = grind (arith, nat_tests)
 
 -- The first step of a line is what it says, or goes on with the scan that it says.
@@ -126,7 +126,7 @@ first_said (Some c) (op.Scan lo hi) = by (c.lo == lo) (c.hi == hi) refl refl
 first_said (Some c) _ = inl refl
 
 -- Of an abort in place of an operation the operation isn't given.
-taken_given : (w : Tales) (t : ℕ) (o : Op) (b : Observed) → tales_after w t (taken o b) b ≡ tales_after w t o b
+pub taken_given : (w : Tales) (t : ℕ) (o : Op) (b : Observed) → tales_after w t (taken o b) b ≡ tales_after w t o b
 taken_given w t o observed.Aborted = refl
 taken_given w t o _ = refl
 
@@ -189,11 +189,11 @@ lines_given p at (l ∷ ls) lg w none k =
 
 -- Programs --
 
-front_answered : (m : Map) (xs ys : List Answered) → AreAnswered m (xs ++ ys) → AreAnswered m xs
+pub front_answered : (m : Map) (xs ys : List Answered) → AreAnswered m (xs ++ ys) → AreAnswered m xs
 front_answered m [] ys h = tt
 front_answered m ((o, a) ∷ xs) ys h = (h.0, front_answered (whole m o).1 xs ys h.1)
 
-back_answered : (m : Map) (xs ys : List Answered) → AreAnswered m (xs ++ ys) → AreAnswered (map_left m xs) ys
+pub back_answered : (m : Map) (xs ys : List Answered) → AreAnswered m (xs ++ ys) → AreAnswered (map_left m xs) ys
 back_answered m [] ys h = h
 back_answered m ((o, a) ∷ xs) ys h = back_answered (whole m o).1 xs ys h.1
 

@@ -58,10 +58,10 @@ kept_tale s new lg after f g u now ops same are r =
     (subst (λ z. IsTale (standing s u).scan (operations_so_far lg u) z) (sym same)
     (are u (sym (ap (λ z. (unwrap_or z idle).rolling) now) ∙ r))))
 
-with_same : (f : ℕ → Tale) (t : ℕ) (x : Tale) → with_tale f t x t ≡ x
+pub with_same : (f : ℕ → Tale) (t : ℕ) (x : Tale) → with_tale f t x t ≡ x
 with_same f t x = ap (λ b. cond b x (f t)) (tied t)
 
-with_other : (f : ℕ → Tale) (t u : ℕ) (x : Tale) → (u ≡ t → ⊥) → with_tale f t x u ≡ f u
+pub with_other : (f : ℕ → Tale) (t u : ℕ) (x : Tale) → (u ≡ t → ⊥) → with_tale f t x u ≡ f u
 with_other f t u x d = ap (λ b. cond b x (f u)) (untied u t d)
 
 -- After a step that is granted and ends no transaction.
@@ -108,7 +108,7 @@ back_tales s new lg f t o a k are u r = by (cases_eq u t)
 
 -- What lines say after a step --
 
-given_plain : (w : Tales) (t : ℕ) (said : Op) (a : Reply) (b : Observed) → is_plain a ≡ true → fits a b ≡ true → tales_after w t said b ≡ record { of = with_tale w.of t (tale_after (w.of t) said b); committed = w.committed }
+pub given_plain : (w : Tales) (t : ℕ) (said : Op) (a : Reply) (b : Observed) → is_plain a ≡ true → fits a b ≡ true → tales_after w t said b ≡ record { of = with_tale w.of t (tale_after (w.of t) said b); committed = w.committed }
 given_plain w t said reply.Committed observed.Committed g f = absurd (cc)
 given_plain w t said _ observed.Committed g f = absurd (cc)
 given_plain w t said reply.Aborted observed.Aborted g f = absurd (cc)
@@ -119,21 +119,21 @@ given_plain w t said (reply.Undone n) (observed.Undone m) g f = absurd (cc)
 given_plain w t said _ (observed.Undone m) g f = absurd (cc)
 given_plain w t said a _ g f = refl
 
-given_silent : (w : Tales) (t : ℕ) (said : Op) (a : Reply) (b : Observed) → is_granted a ≡ false → fits a b ≡ true → tales_after w t said b ≡ w
+pub given_silent : (w : Tales) (t : ℕ) (said : Op) (a : Reply) (b : Observed) → is_granted a ≡ false → fits a b ≡ true → tales_after w t said b ≡ w
 given_silent w t said (reply.Blocked us) (observed.Blocked named) g f = refl
 given_silent w t said (reply.Blocked us) _ g f = absurd (cc)
 given_silent w t said (reply.Refused r) _ g f = absurd (cc)
 given_silent w t said _ b g f = absurd (cc)
 
-given_committed : (b : Observed) → fits reply.Committed b ≡ true → b ≡ observed.Committed
+pub given_committed : (b : Observed) → fits reply.Committed b ≡ true → b ≡ observed.Committed
 given_committed observed.Committed f = refl
 given_committed _ f = absurd (cc)
 
-given_aborted : (b : Observed) → fits reply.Aborted b ≡ true → b ≡ observed.Aborted
+pub given_aborted : (b : Observed) → fits reply.Aborted b ≡ true → b ≡ observed.Aborted
 given_aborted observed.Aborted f = refl
 given_aborted _ f = absurd (cc)
 
-given_undone : (w : Tales) (t : ℕ) (said : Op) (n : ℕ) (b : Observed) → fits (reply.Undone n) b ≡ true → tales_after w t said b ≡ w
+pub given_undone : (w : Tales) (t : ℕ) (said : Op) (n : ℕ) (b : Observed) → fits (reply.Undone n) b ≡ true → tales_after w t said b ≡ w
 given_undone w t said n (observed.Undone m) f = refl
 given_undone w t said n _ f = absurd (cc)
 

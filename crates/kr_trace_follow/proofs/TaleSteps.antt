@@ -63,16 +63,16 @@ said_same : (said o : Op) (was : Option Scan) → (o ≡ op.Go → ⊥) → IsSa
 said_same said o was goes (inl e) = e
 said_same said o was goes (inr h) = absurd (goes h.0)
 
-going_given : (k : ℕ) (b : Observed) → fits (reply.Going k) b ≡ true → (j : ℕ) × (b ≡ observed.Going j)
+pub going_given : (k : ℕ) (b : Observed) → fits (reply.Going k) b ≡ true → (j : ℕ) × (b ≡ observed.Going j)
 going_given k (observed.Going j) f = (j, refl)
 going_given k _ f = absurd (cc)
 
-scan_done : (x : Tale) (lo hi : ℕ) (a : Reply) (b : Observed) → is_going a ≡ false → fits a b ≡ true → tale_after x (op.Scan lo hi) b ≡ given x (op.Scan lo hi, b)
+pub scan_done : (x : Tale) (lo hi : ℕ) (a : Reply) (b : Observed) → is_going a ≡ false → fits a b ≡ true → tale_after x (op.Scan lo hi) b ≡ given x (op.Scan lo hi, b)
 scan_done x lo hi (reply.Going j) (observed.Going k) g f = absurd (cc)
 scan_done x lo hi _ (observed.Going k) g f = absurd (cc)
 scan_done x lo hi a _ g f = refl
 
-go_done : (x : Tale) (a : Reply) (b : Observed) → is_going a ≡ false → fits a b ≡ true → tale_after x op.Go b ≡ scan_given x x.scan b
+pub go_done : (x : Tale) (a : Reply) (b : Observed) → is_going a ≡ false → fits a b ≡ true → tale_after x op.Go b ≡ scan_given x x.scan b
 go_done x (reply.Going j) (observed.Going k) g f = absurd (cc)
 go_done x _ (observed.Going k) g f = absurd (cc)
 go_done x a _ g f = refl

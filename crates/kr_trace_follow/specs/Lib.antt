@@ -6,6 +6,7 @@ pub mod Following
 pub mod Judged
 pub mod Lines
 pub mod Programs
+pub mod Upwards
 pub mod Scans
 pub mod Since
 pub mod Steps

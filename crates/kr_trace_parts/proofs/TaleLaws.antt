@@ -10,7 +10,8 @@ use Rattle.kr_trace_lines.specs.declared.observed.Observed.{Observed}
 use Rattle.kr_trace_lines.specs.declared.observed.Observed.TheVariants as observed
 use Rattle.kr_trace_follow.specs.Lines.{Line}
 use Rattle.kr_trace_follow.specs.Programs.{Tale, tale_after, no_tale}
-use Rattle.kr_trace_parts.specs.Tales.{answer_upwards, committed_from, committed_with, noted, program_committed, rows_upwards, tale_in, told_after, told_of, upwards}
+use Rattle.kr_trace_follow.specs.Upwards.{answer_upwards, rows_upwards, upwards}
+use Rattle.kr_trace_parts.specs.Tales.{committed_from, committed_with, noted, program_committed, tale_in, told_after, told_of}
 use Rattle.kr_trace_parts.specs.declared.tales.Tale.{Tale as Noted}
 
 -- a tale of t beside the others

@@ -1,15 +1,14 @@
 -- The committed transactions of steps, in commit order, each with its program.
-use Rattle.std.specs.Prelude.{ℕ, nat_lt, min, max, List, [], ◌∷◌, ◌++◌, reverse, Option, Some, None, if◌then◌else◌}
+use Rattle.std.specs.Prelude.{ℕ, List, [], ◌∷◌, ◌++◌, Option, Some, None}
 use Rattle.std.specs.BTreeMap.{BTreeMap, get}
 use Rattle.std.specs.Ordering.{nat_cmp}
 use Rattle.kr_model.specs.declared.Event.{Event}
-use Rattle.kr_model.specs.declared.Op.{Op}
-use Rattle.kr_model.specs.declared.Op.TheVariants as op
 use Rattle.kr_trace_lines.specs.declared.observed.Observed.{Observed}
 use Rattle.kr_trace_lines.specs.declared.observed.Observed.TheVariants as observed
 use Rattle.kr_trace_follow.specs.Lines.{Line}
 use Rattle.kr_trace_follow.specs.Programs.{Tale, tales_after, no_tale}
 use Rattle.kr_trace_follow.specs.Given.{Given}
+use Rattle.kr_trace_follow.specs.Upwards.{answer_upwards, upwards}
 use Rattle.kr_trace_parts.specs.Committed.{Committed}
 use Rattle.kr_trace_parts.specs.declared.tales.Tale.{Tale as Noted}
 
@@ -24,20 +23,6 @@ tale_in (Some x) = shown x
 
 abbrev pub noted : BTreeMap ℕ Noted → ℕ → Tale
 noted tales t = tale_in (get nat_cmp tales t)
-
--- A scan downwards as the scan upwards of its range.
-abbrev pub upwards : Op → Op
-upwards (op.Scan a b) = op.Scan (min a b) (max a b)
-upwards o = o
-
--- Its rows as those of the scan upwards.
-abbrev pub rows_upwards : Op → List (ℕ × ℕ) → List (ℕ × ℕ)
-rows_upwards (op.Scan a b) rows = if nat_lt b a then reverse rows else rows
-rows_upwards o rows = rows
-
-abbrev pub answer_upwards : Op → Observed → Observed
-answer_upwards o (observed.Rows rows) = observed.Rows (rows_upwards o rows)
-answer_upwards o a = a
 
 -- What each transaction has done after a step of t with this reply, where f is what it had done before. A scan is noted as one upwards.
 abbrev pub told_of : (ℕ → Tale) → Event → Observed → ℕ → Tale

@@ -3,7 +3,7 @@ ghost use Rattle.std.specs.Prelude.{◌≡◌, ◌==◌, ℕ, IfOk, OnOk, if◌t
 ghost use Rattle.std.specs.Option.{option_map};
 ghost use Rattle.kr_trace_follow.specs.Programs as spec;
 ghost use Rattle.kr_trace_follow.specs.Programs.{no_tale};
-ghost use Rattle.kr_trace_parts.specs.Tales as tales;
+ghost use Rattle.kr_trace_follow.specs.Upwards as turned;
 ghost use Rattle.kr_trace_parts.specs.Tales.{noted, program_committed, shown, told_of};
 
 use kr_model::{Event, Memory, Op, Pairs, Txn};
@@ -25,7 +25,7 @@ pub struct Tale {
 
 /// A scan downwards as the scan upwards of its range.
 fn upwards(op: Op) -> Op
-    ensures { result ≡ tales.upwards op }
+    ensures { result ≡ turned.upwards op }
 {
     match op {
         Op::Scan(first, last) => Op::Scan(first.min(last), first.max(last)),
@@ -35,7 +35,7 @@ fn upwards(op: Op) -> Op
 
 /// Its rows as those of the scan upwards.
 fn rows_upwards(op: Op, rows: Pairs) -> Pairs
-    ensures { result ≡ tales.rows_upwards op rows }
+    ensures { result ≡ turned.rows_upwards op rows }
 {
     match op {
         Op::Scan(first, last) if last < first => {
@@ -49,7 +49,7 @@ fn rows_upwards(op: Op, rows: Pairs) -> Pairs
 
 /// Its answer as that of the scan upwards.
 fn answer_upwards(op: Op, answer: Observed) -> Observed
-    ensures { result ≡ tales.answer_upwards op answer }
+    ensures { result ≡ turned.answer_upwards op answer }
 {
     match answer {
         Observed::Rows(rows) => Observed::Rows(rows_upwards(op, rows)),

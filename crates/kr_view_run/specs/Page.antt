@@ -6,7 +6,8 @@ use Rattle.kr_view_scenes.specs.Escape.{escaped, unescaped}
 use Rattle.kr_view_scenes.specs.Parts.{IsMadeOfParts}
 use Rattle.kr_view_scenes.specs.Scenes.{NumberedStep}
 use Rattle.kr_view_scenes.specs.Words.{op_words, reply_words, kind_word}
-use Rattle.kr_view_run.specs.declared.frame.TheConstants.{HEAD, STYLE, LOOK, BODY, NAME, BEHIND_NAME, RUN, SERIAL, NOT_SERIAL, STEP_IDS, BAND_END, END}
+use Rattle.kr_view_run.specs.Signs.{serial_words}
+use Rattle.kr_view_run.specs.declared.frame.TheConstants.{HEAD, STYLE, LOOK, BODY, NAME, BEHIND_NAME, RUN, STEP_IDS, BAND_END, END}
 
 -- Which step of which transaction asks for an operation, whose words these are.
 abbrev pub asked_words : ℕ → ℕ → List ℕ → List ℕ
@@ -49,7 +50,7 @@ page_head kind look name =
 -- The page of a run with a name in its title and its heading, then the first words of the verdict, then what is told before the bands, the bands, and what is told behind them.
 abbrev pub page_of : List ℕ → Bool → List ℕ → List ℕ → List ℕ → List ℕ
 page_of name serial before bands behind =
-    page_head RUN.now [] name ++ (if serial then SERIAL.now else NOT_SERIAL.now) ++ before ++ bands ++ behind ++ END.now
+    page_head RUN.now [] name ++ serial_words serial ++ before ++ bands ++ behind ++ END.now
 
 -- A whole page whose name is this one, escaped, and reads as it; whose verdict is this; and that has a band of each of these steps, in their order, and no other. All else that it tells is made of parts.
 abbrev pub IsPage : List ℕ → List NumberedStep → Bool → List ℕ → Type 0

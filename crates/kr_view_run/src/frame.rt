@@ -2,6 +2,7 @@
 ghost use Rattle.std.specs.Prelude.{◌≡◌, IfOk, OnOk, string_bytes};
 ghost use Rattle.kr_view_scenes.specs.Parts.{IsMadeOfParts};
 ghost use Rattle.kr_view_run.specs.Page.{page_head, page_of};
+ghost use Rattle.kr_view_run.specs.Signs.{serial_words};
 
 use kr_view_scenes::Html;
 use std::alloc::{AllocError, Global};
@@ -74,12 +75,6 @@ pub const END: &str = "</body>\n</html>\n";
 /// What the title and the heading of the page of a run say before the table's name.
 pub const RUN: &str = "A run under ";
 
-/// How the verdict on a run that is serializable begins.
-pub const SERIAL: &str = "<p class=\"verdict yes\"><b>✓ Serial.</b> ";
-
-/// How the verdict on a run that isn't serializable begins.
-pub const NOT_SERIAL: &str = "<p class=\"verdict no\"><b>✗ Not serial.</b> ";
-
 /// What the ids of the bands of the steps begin with, to which links lead.
 pub const STEP_IDS: &str = "s";
 
@@ -118,6 +113,17 @@ pub fn page_head(alloc: Global, kind: &str, look: &str, name: &str) -> Result<St
     .concat(alloc)
 }
 
+/// How the verdict on a run begins.
+fn serial_words(is_serial: bool) -> &'static str
+    ensures { result.now ≡ serial_words is_serial }
+{
+    if is_serial {
+        "<p class=\"verdict yes\"><b>✓ Serial.</b> "
+    } else {
+        "<p class=\"verdict no\"><b>✗ Not serial.</b> "
+    }
+}
+
 /// The page of a run under this name, which has been escaped.
 pub fn framed(alloc: Global, name: &str, is_serial: bool, body: &Body) -> Result<String, AllocError>
     ensures page { IfOk result (λ page. string_bytes page
@@ -126,7 +132,7 @@ pub fn framed(alloc: Global, name: &str, is_serial: bool, body: &Body) -> Result
     ensures behind { OnOk result (IsMadeOfParts body.now.behind) }
 {
     let mut page = page_head(alloc, RUN, "", name)?;
-    page.push_str(if is_serial { SERIAL } else { NOT_SERIAL })?;
+    page.push_str(serial_words(is_serial))?;
     page.push_str(body.before.as_str())?;
     page.push_str(body.bands.as_str())?;
     page.push_str(body.behind.as_str())?;

@@ -4,7 +4,8 @@ ghost use Rattle.kr_view_scenes.specs.Parts.{IsMadeOfParts};
 ghost use Rattle.kr_view_table.specs.Causes.{AreCauses, IsCauseBlock, causes_heading};
 
 use crate::schedule::schedule;
-use kr_explain_core::{Explained, fixes_text, prose_text, title_text};
+use kr_explain_core::{Explained, prose_text, title_text};
+use kr_explain_text::fixes_text;
 use kr_model::Memory;
 use kr_protocol::Protocol;
 use kr_view_scenes::{Html, Mark, Part, escape};

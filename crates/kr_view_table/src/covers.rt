@@ -2,8 +2,8 @@
 ghost use Rattle.std.specs.Prelude.{◌≡◌, ◌≤◌, IfOk, flat_map, string_bytes};
 ghost use Rattle.kr_model.specs.Covers.{all_covers, modes};
 ghost use Rattle.kr_cases.specs.Holes.{first_open};
-ghost use Rattle.kr_view_table.specs.declared.covers.TheConstants.{COVERS, OPEN};
-ghost use Rattle.kr_view_table.specs.Covers.{cover_cell, cover_head, covers_words, holding, mode_row};
+ghost use Rattle.kr_view_table.specs.declared.covers.TheConstants.{COVERS};
+ghost use Rattle.kr_view_table.specs.Covers.{cover_cell, cover_head, covers_words, holding, mode_row, open_cell, whole_cell};
 
 use kr_cases::{all_covers, first_open};
 use kr_explain_text::{cover_words, deed_words};
@@ -17,12 +17,6 @@ pub const COVERS: &str = "<h2>What each mode protects</h2>
 <p class=\"note\">✓: a lock in this mode blocks all that it must where its transaction has to protect what the column says. ✗: it lets another transaction do this, which holds the mode that is named, if one is.</p>
 <div class=\"grid\"><table class=\"covers\">
 <thead><tr><th scope=\"col\">mode</th>";
-
-/// The cell of a mode that protects what it must.
-pub const WHOLE: &str = "<td class=\"whole\">✓</td>";
-
-/// The beginning of the cell of a mode that doesn't.
-pub const OPEN: &str = "<td>✗ ";
 
 /// What the modes protect, with a row for each mode and a column for each cover.
 pub fn covers<P: Protocol>(alloc: Global, protocol: &P) -> Result<String, Memory>
@@ -105,9 +99,9 @@ fn cover_cell<P: Protocol>(
     ensures { IfOk result (λ text. string_bytes text ≡ cover_cell (P.names protocol.now) let_in) }
 {
     match let_in {
-        None => String::from_str(alloc, WHOLE),
+        None => String::from_str(alloc, whole_cell()),
         Some(requester) => {
-            let opening = open();
+            let opening = open_cell();
             let deed = deed_words(requester.row, requester.side);
             let holding = holding(alloc, protocol, requester.own)?;
             format!(in alloc; "{opening}{deed}{holding}</td>")
@@ -115,11 +109,18 @@ fn cover_cell<P: Protocol>(
     }
 }
 
-/// The beginning of the cell of a mode that lets a requester in.
-fn open() -> &'static str
-    ensures { result.now ≡ OPEN.now }
+/// The cell of a mode that protects what it must. Takes no memory.
+pub fn whole_cell() -> &'static str
+    ensures { result.now ≡ whole_cell }
 {
-    OPEN
+    "<td class=\"whole\">✓</td>"
+}
+
+/// The beginning of the cell of a mode that lets a requester through. Takes no memory.
+pub fn open_cell() -> &'static str
+    ensures { result.now ≡ open_cell }
+{
+    "<td>✗ "
 }
 
 /// The own mode of a requester, if it has one.

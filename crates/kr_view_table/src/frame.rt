@@ -1,6 +1,6 @@
 //! What stands around the tables of a page: the look of the tables, the verdict, and the causes behind them.
 ghost use Rattle.std.specs.Prelude.{◌≡◌, IfOk, string_bytes};
-ghost use Rattle.kr_view_table.specs.Page.{page_of};
+ghost use Rattle.kr_view_table.specs.Page.{page_of, safe_words};
 
 use kr_view_run::{END, page_head};
 use std::alloc::{AllocError, Global};
@@ -32,14 +32,19 @@ summary{cursor:pointer;font-weight:700;padding:4px 0}
 @media print{.grid{overflow:visible;max-height:none}.grid th{position:static}.cause{break-inside:auto}}
 ";
 
-/// How the verdict on a table that is safe begins.
-pub const SAFE: &str = "<p class=\"verdict yes\"><b>✓</b> ";
-
-/// How the verdict on a table that isn't safe begins.
-pub const UNSAFE: &str = "<p class=\"verdict no\"><b>✗</b> ";
-
 /// From the verdict to the tables.
 pub const BEHIND_VERDICT: &str = "</p>\n";
+
+/// How the verdict on a table begins.
+fn safe_words(is_safe: bool) -> &'static str
+    ensures { result.now ≡ safe_words is_safe }
+{
+    if is_safe {
+        "<p class=\"verdict yes\"><b>✓</b> "
+    } else {
+        "<p class=\"verdict no\"><b>✗</b> "
+    }
+}
 
 /// The page under this name, with this verdict, both escaped, and with what is told of the table behind it. The only error is that a
 /// growth was refused.
@@ -54,7 +59,7 @@ pub fn framed(
     ensures { IfOk result (λ page. string_bytes page ≡ page_of name.now is_safe verdict.now tables.now causes.now) }
 {
     let mut page = page_head(alloc, TABLE, TABLE_LOOK, name)?;
-    page.push_str(if is_safe { SAFE } else { UNSAFE })?;
+    page.push_str(safe_words(is_safe))?;
     page.push_str(verdict)?;
     page.push_str(BEHIND_VERDICT)?;
     page.push_str(tables)?;

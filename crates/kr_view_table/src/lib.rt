@@ -12,6 +12,7 @@ mod rules;
 mod schedule;
 mod told;
 
+pub use covers::{open_cell, whole_cell};
 pub use frame::framed;
 pub use kr_model::Memory;
 pub use matrices::{Matrix, matrix_text};

@@ -5,6 +5,7 @@ ghost use Rattle.kr_relax_core.specs.Relaxations.{IsRelaxation, IsTight};
 
 use kr_change::{Change, Changed};
 use kr_decide::{Decision, decide};
+use kr_kinds::Gone;
 use kr_model::Memory;
 use kr_protocol::Protocol;
 use kr_relax_core::relaxations;
@@ -45,7 +46,8 @@ fn take(alloc: Global, table: &Table, change: Change) -> Result<Taken, Memory>
     requires { IsRelaxation (protocol_in table.now) change }
     ensures { IfOk result (IsTaken table.now) }
 {
-    let Some(changed) = Changed::new(table, change) else {
+    let gone = Gone(table);
+    let Some(changed) = Changed::new(&gone, change) else {
         return Ok(Taken::Unwritten);
     };
     match copy_of(alloc, &changed)? {

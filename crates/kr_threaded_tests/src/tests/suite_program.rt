@@ -6,7 +6,7 @@ use kr_cli_test_support::{Shelf, owned};
 use std::test::Fail;
 
 /// A table that is named `nothing`, and a text that is none.
-const SHELF: Shelf = Shelf(&[("nothing", ASKS_NOTHING), ("bad", "format = 3")]);
+const SHELF: Shelf = Shelf(&[("nothing", ASKS_NOTHING), ("bad", "format = 4")]);
 
 /// The first part of the suite of the table that requests nothing.
 const FIRST_PART: &str =

@@ -3,12 +3,14 @@
 use kr_ghost::Move;
 use kr_ghost_index::GhostIndex;
 use kr_ghost_protocol::RecordGap;
-use kr_ghost_run::run_moves;
+use kr_ghost_report::{report_ghost_played, report_ghost_run};
+use kr_ghost_run::{play_moves, run_moves};
 use kr_index::Sorted;
 use kr_kinds::{Gone, IndexProtocol, Leaves, Stepping};
 use kr_locks::{List, Memory};
 use kr_model::{Event, Op, Txn};
 use kr_protocol::Kvl;
+use kr_serial::Verdict;
 use kr_stepping::{Answer, GhostRan, GoneStepper, LeavingStepper, note_all, run_any};
 use kr_test_support::Answer as Told;
 use std::alloc::Global;
@@ -96,6 +98,26 @@ fn a_script_runs_as_with_ghosts(rt: HostRuntime) -> Result<(), Fail> {
     let (one, two) = (
         format!(in alloc; "{ran:?}")?,
         format!(in alloc; "{other:?}")?,
+    );
+    same!(rt; one.as_str(), two.as_str());
+    Ok(())
+}
+
+/// The same run, of which no programs are kept, has the same answers and the same report.
+#[test]
+fn a_script_is_played_with_ghosts(rt: HostRuntime) -> Result<(), Fail> {
+    let alloc = rt.alloc();
+    let moves = moves_of(alloc)?;
+    let played = play_moves(alloc, &RecordGap, &[(10, 1), (20, 2), (30, 3)], &moves)?;
+    assert!(rt; are_the_scripts(played.answers.as_slice(), true));
+    same!(rt; played.index.as_slice(), [(10, 1), (25, 5)].as_slice());
+    same!(rt; played.ghosts.as_slice(), [30].as_slice());
+    same!(rt; played.unfinished.as_slice(), [4].as_slice());
+    let ran = run_moves(alloc, &RecordGap, &[(10, 1), (20, 2), (30, 3)], &moves)?;
+    same!(rt; played.locks.as_slice(), ran.locks.as_slice());
+    let (one, two) = (
+        report_ghost_played(alloc, &RecordGap, &played, &Verdict::Serial)?,
+        report_ghost_run(alloc, &RecordGap, &ran, &Verdict::Serial)?,
     );
     same!(rt; one.as_str(), two.as_str());
     Ok(())

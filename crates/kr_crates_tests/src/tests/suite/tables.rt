@@ -1,8 +1,8 @@
 //! The tests for a table: how many parts and steps they have, and how many of the tables that differ in one entry are told apart,
 //! alike and left.
 use super::asks_nothing;
-use kr_change::{Change, changes_of};
-use kr_protocol::Protocol;
+use kr_change::{Change, index_changes_of};
+use kr_kinds::{Gone, IndexProtocol};
 use kr_suite_core::{Suite, suite};
 use std::alloc::Global;
 use std::process::Abort;
@@ -27,7 +27,7 @@ fn is_told(suite: &Suite, change: Change) -> bool {
 }
 
 /// The counts of the tests for a table; and each change is told apart, alike or left.
-fn counted<P: Protocol>(rt: &impl Abort, alloc: Global, protocol: &P) -> Result<Counts, Fail> {
+fn counted<P: IndexProtocol>(rt: &impl Abort, alloc: Global, protocol: &P) -> Result<Counts, Fail> {
     let suite = suite(alloc, protocol)?;
     let mut steps: usize = 0;
     for part in suite.parts.iter() {
@@ -35,7 +35,7 @@ fn counted<P: Protocol>(rt: &impl Abort, alloc: Global, protocol: &P) -> Result<
         steps = steps.saturating_add(part.events.len());
     }
     let mut told: usize = 0;
-    for change in changes_of(alloc, protocol)?.iter() {
+    for change in index_changes_of(alloc, protocol)?.iter() {
         let is_told = is_told(&suite, *change);
         let is_alike = suite.alike.contains(change);
         let is_left = suite.left.contains(change);
@@ -59,6 +59,6 @@ fn counted<P: Protocol>(rt: &impl Abort, alloc: Global, protocol: &P) -> Result<
 fn a_table_has_a_suite(rt: HostRuntime) -> Result<(), Fail> {
     #[rattlefmt::skip]
     let expected = Counts { parts: 7, steps: 18, told: 8, alike: 17, left: 0 };
-    same!(rt; counted(&rt, rt.alloc(), &asks_nothing(rt.alloc())?)?, expected);
+    same!(rt; counted(&rt, rt.alloc(), &Gone(asks_nothing(rt.alloc())?))?, expected);
     Ok(())
 }

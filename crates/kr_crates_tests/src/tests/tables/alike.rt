@@ -4,6 +4,7 @@
 use kr_alike::{alike, alike_if_safe};
 use kr_change::{Change, Changed, changes_of};
 use kr_decide::Safe;
+use kr_kinds::Gone;
 use kr_model::{Row, Side, Span};
 use kr_protocol::{Im, Kvl, KvlUpdate, Protocol};
 use std::alloc::Global;
@@ -47,7 +48,8 @@ fn is_alike<P: Protocol>(
     protocol: &P,
     change: Change,
 ) -> Result<bool, Fail> {
-    let Some(changed) = Changed::new(protocol, change) else {
+    let gone = Gone(protocol);
+    let Some(changed) = Changed::new(&gone, change) else {
         panic!(rt; "no change of the table");
     };
     Ok(alike(alloc, protocol, &changed)?)
@@ -86,8 +88,9 @@ fn counts<P: Protocol>(
         panic!(rt; "not safe");
     };
     let (mut all, mut coming): (usize, usize) = (0, 0);
+    let gone = Gone(&safe);
     for change in &changes_of(alloc, &safe)? {
-        let Some(changed) = Changed::new(&safe, *change) else {
+        let Some(changed) = Changed::new(&gone, *change) else {
             panic!(rt; "no change of the table");
         };
         if alike(alloc, &safe, &changed)? {

@@ -5,6 +5,7 @@ mod ample;
 
 use kr_cases::{FailedCase, Rejected, WhyRejected, cases, check, first_open, must_conflict};
 use kr_change::{Change, Changed};
+use kr_kinds::{Gone, IndexProtocol};
 use kr_model::{Cover, Mode, Origin, Requester, Row, Rule, Side, Span};
 use kr_protocol::{Covered, Im, Kvl, KvlUpdate, Protocol, RangeKey};
 use std::alloc::Global;
@@ -24,7 +25,7 @@ const NEXT_INSTANT: Change = Change::Request { row: Row::Delete, side: Side::Nex
 const UNDER_IX: Change = Change::Request { row: Row::Update, side: Side::Current, own_next: None, request: Some((2, Span::Commit)) };
 
 /// A protocol with one entry changed.
-fn with_change<'a, P: Protocol>(
+fn with_change<'a, P: IndexProtocol>(
     rt: &impl Abort,
     protocol: &'a P,
     change: Change,
@@ -143,7 +144,7 @@ fn open_split() -> FailedCase {
 
 #[test]
 fn insert_always_ix(rt: HostRuntime) -> Result<(), Fail> {
-    let failed = rejected(&rt, rt.alloc(), with_change(&rt, &Kvl, ALWAYS_IX))?;
+    let failed = rejected(&rt, rt.alloc(), with_change(&rt, &Gone(Kvl), ALWAYS_IX))?;
     same!(rt; failed.len(), 15);
     let first = open_split();
     same!(rt; failed.first(), Some(&first));
@@ -166,7 +167,7 @@ fn open_gap(own: Mode, row: Row) -> FailedCase {
 
 #[test]
 fn deletes_next_instant(rt: HostRuntime) -> Result<(), Fail> {
-    let failed = rejected(&rt, rt.alloc(), with_change(&rt, &Kvl, NEXT_INSTANT))?;
+    let failed = rejected(&rt, rt.alloc(), with_change(&rt, &Gone(Kvl), NEXT_INSTANT))?;
     same!(rt;
         failed.as_slice(),
         [
@@ -193,7 +194,11 @@ fn open_key(case: Rule, cover: Cover, from: Origin) -> FailedCase {
 
 #[test]
 fn update_under_ix(rt: HostRuntime) -> Result<(), Fail> {
-    let failed = rejected(&rt, rt.alloc(), with_change(&rt, &KvlUpdate, UNDER_IX))?;
+    let failed = rejected(
+        &rt,
+        rt.alloc(),
+        with_change(&rt, &Gone(KvlUpdate), UNDER_IX),
+    )?;
     assert_eq!(rt; failed.len(), 12);
     let first = open_key(Rule::Insert, Cover::InsertedKey, HOLDS_NOTHING);
     same!(rt; failed.first(), Some(&first));

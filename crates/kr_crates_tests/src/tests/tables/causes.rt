@@ -2,6 +2,7 @@
 use kr_cases::{Rejected, check};
 use kr_change::{Change, Changed, is_same_place, is_same_request};
 use kr_explain_causes::{Blame, causes, mends, own_next};
+use kr_kinds::Gone;
 use kr_model::{Cover, FailedCase, Mode, Origin, Requester, Row, Rule, Side, Span};
 use kr_protocol::{Kvl, KvlUpdate, Protocol, RangeKey};
 use kr_table::read;
@@ -48,9 +49,10 @@ fn each_is_told<P: Protocol>(
     base: &P,
     rows: &[Refused],
 ) -> Result<(), Fail> {
+    let gone = Gone(base);
     for row in rows {
         let (name, told) = (row.name, row.told);
-        let Some(table) = Changed::new(base, row.change) else {
+        let Some(table) = Changed::new(&gone, row.change) else {
             panic!(rt; "no change of the table: {name}");
         };
         let failed = failed(rt, alloc, &table);
@@ -172,16 +174,16 @@ fn asks(row: Row, side: Side, mode: Mode, span: Span) -> Change {
 #[test]
 fn changes_that_are_none(rt: HostRuntime) {
     let no_mode = asks(Row::Insert, Side::Current, 0, Span::Commit);
-    assert!(rt; Changed::new(&Kvl, no_mode).is_none());
+    assert!(rt; Changed::new(&Gone(Kvl), no_mode).is_none());
     let no_updates = asks(Row::Update, Side::Current, 5, Span::Commit);
-    assert!(rt; Changed::new(&Kvl, no_updates).is_none());
-    assert!(rt; Changed::new(&KvlUpdate, no_updates).is_some());
+    assert!(rt; Changed::new(&Gone(Kvl), no_updates).is_none());
+    assert!(rt; Changed::new(&Gone(KvlUpdate), no_updates).is_some());
     let apart = Change::Compatible {
         requested: 1,
         held: 6,
         is_compatible: false,
     };
-    assert!(rt; Changed::new(&Kvl, apart).is_none());
+    assert!(rt; Changed::new(&Gone(Kvl), apart).is_none());
 }
 
 /// A failed case of this rule, whose lock was taken so.

@@ -3,6 +3,7 @@
 //! Modes of key-value locking: IS is 1, IX 2, S 3, SIX 4, X 5.
 use kr_change::{Change, Changed};
 use kr_decide::{Decision, Hole, Rejected, Safe, Survey, Way, WhyRejected, decide};
+use kr_kinds::Gone;
 use kr_model::{Cover, GapUse, KeyUse, LockState, Row, Side, Span};
 use kr_protocol::{Im, Kvl, KvlUpdate, Protocol, RangeKey, SafeProtocol};
 use kr_table::read;
@@ -65,8 +66,8 @@ const NOTHING: LockState = LockState { mode: 0, key: KeyUse::Free, gap: GapUse::
 const UNPROTECTED: LockState = LockState { mode: 0, key: KeyUse::Free, gap: GapUse::Deleted, deleted: false };
 
 /// Key-value locking with one entry changed.
-fn changed(rt: &impl Abort, change: Change) -> Changed<'static, Kvl> {
-    let Some(changed) = Changed::new(&Kvl, change) else {
+fn changed<'a>(rt: &impl Abort, kvl: &'a Gone<Kvl>, change: Change) -> Changed<'a, Gone<Kvl>> {
+    let Some(changed) = Changed::new(kvl, change) else {
         panic!(rt; "no change of the table");
     };
     changed
@@ -110,7 +111,8 @@ fn bundled_protocols_are_safe(rt: HostRuntime) -> Result<(), Fail> {
 #[test]
 fn safe_though_cases_fail(rt: HostRuntime) -> Result<(), Fail> {
     let alloc = rt.alloc();
-    let protocol = changed(&rt, SIX_TO_IS);
+    let kvl = Gone(Kvl);
+    let protocol = changed(&rt, &kvl, SIX_TO_IS);
     same!(rt; is_decided_safe(alloc, &protocol)?, true);
     match Safe::new(alloc, protocol) {
         Ok(safe) => {
@@ -140,11 +142,11 @@ fn safe_as_no_idle_lock_is_on_an_absent_key(rt: HostRuntime) -> Result<(), Fail>
 #[test]
 fn unsafe_by_an_unlocked_delete(rt: HostRuntime) -> Result<(), Fail> {
     let alloc = rt.alloc();
-    match decide(alloc, &changed(&rt, NEXT_INSTANT))? {
+    match decide(alloc, &changed(&rt, &Gone(Kvl), NEXT_INSTANT))? {
         Decision::Safe => panic!(rt; "safe"),
         Decision::Unsafe(hole) => is_unlocked_delete(&rt, &hole),
     }
-    match Safe::new(alloc, changed(&rt, NEXT_INSTANT)) {
+    match Safe::new(alloc, changed(&rt, &Gone(Kvl), NEXT_INSTANT)) {
         Ok(_) => panic!(rt; "safe"),
         Err(Rejected { protocol, cause }) => {
             same!(rt; protocol.count(), 5);
@@ -184,7 +186,7 @@ fn surveys(rt: HostRuntime) -> Result<(), Fail> {
     same!(rt; survey.is_held(Cover::UpdatedKey, 5), false);
     same!(rt; survey.is_held(Cover::ReadKey, 16), false);
     same!(rt; survey.into_hole().is_none(), true);
-    let survey = Survey::of(alloc, &changed(&rt, NEXT_INSTANT))?;
+    let survey = Survey::of(alloc, &changed(&rt, &Gone(Kvl), NEXT_INSTANT))?;
     same!(rt; survey.is_safe(), false);
     let told_instant = told(&survey);
     same!(rt; told_instant[2], [true, false, true, true, true, true]);

@@ -1,6 +1,8 @@
 //! Tables whose deletes leave ghosts: the bundled ones, as protocols and as texts that are read and written, and one that is read, with
 //! their checks.
 
+mod changes;
+mod mends;
 mod safe;
 mod texts;
 

@@ -3,6 +3,7 @@
 //! Modes of key-value locking: IS is 1, IX 2, S 3, SIX 4, X 5.
 use kr_change::{Change, Changed};
 use kr_decide::{is_at_least, is_ordered};
+use kr_kinds::Gone;
 use kr_model::{Row, Side, Span};
 use kr_protocol::{Im, Kvl, KvlUpdate, RangeKey};
 use std::process::Abort;
@@ -30,7 +31,8 @@ const NEXT_INSTANT: Change = Change::Request { row: Row::Delete, side: Side::Nex
 
 /// Whether key-value locking with one entry changed is ordered.
 fn is_changed_ordered(rt: &impl Abort, change: Change) -> bool {
-    let Some(changed) = Changed::new(&Kvl, change) else {
+    let kvl = Gone(Kvl);
+    let Some(changed) = Changed::new(&kvl, change) else {
         panic!(rt; "no change of the table");
     };
     is_ordered(&changed)

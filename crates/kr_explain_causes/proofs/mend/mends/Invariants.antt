@@ -1,5 +1,5 @@
-use Rattle.std.specs.Prelude.{◌+◌, ◌≤◌, All, length}
-use Rattle.kr_explain_causes.specs.Mends.{Accepts, MakesSafe, Mends}
+use Rattle.kr_explain_causes.specs.Mends.{Accepts, IsOf, MakesSafe, Mends}
+use Rattle.kr_explain_causes.proofs.Found.{AreFound}
 use Rattle.kr_explain_causes.proofs.Tried.{IsMadeOf}
 use Rattle.kr_explain_causes.proofs.mend.mends.Given as goal
 
@@ -7,12 +7,4 @@ use Rattle.kr_explain_causes.proofs.mend.mends.Given as goal
 abbrev pub invariant-loop-mode : goal.invariant-loop-mode
 invariant-loop-mode g l =
     let p = g.P.Protocol.table l.protocol in
-    record {
-      accepted : All (Accepts p) l.accepted.items;
-      safe : All (MakesSafe p) l.safe.items;
-      mended : All (Mends p l.cause.cases.items l.failed) l.mended.items;
-      made_accepted : All (IsMadeOf l.cause.blame l.to_any) l.accepted.items;
-      made_safe : All (IsMadeOf l.cause.blame l.to_any) l.safe.items;
-      made_mended : All (IsMadeOf l.cause.blame l.to_any) l.mended.items;
-      few : length l.accepted.items + (length l.safe.items + length l.mended.items) ≤ l.mode-index;
-    }
+    AreFound (Accepts p) (MakesSafe p) (Mends p l.cause.cases.items l.failed) (IsMadeOf (IsOf l.cause.blame) l.to_any) l.mode-index l.mend

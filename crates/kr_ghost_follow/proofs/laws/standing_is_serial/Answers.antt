@@ -1,4 +1,4 @@
-use Rattle.kr_ghost_follow.proofs.RunLaws.{serial_run, covered_run}
+use Rattle.kr_ghost_follow.proofs.SerialRuns.{serial_run, covered_run}
 use Rattle.kr_ghost_follow.proofs.laws.standing_is_serial.Goals as goal
 
 pub returns-clause-safe : goal.returns-clause-safe

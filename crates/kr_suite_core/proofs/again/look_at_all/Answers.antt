@@ -2,6 +2,7 @@ use Rattle.std.proofs.Common.{◌≡◌, ◌+◌, sym, subst, take, All, List, a
 use Rattle.std.proofs.lemmas.Grind.{common_steps}
 use Rattle.std.proofs.lemmas.List.{map-append}
 use Rattle.std.proofs.lemmas.List.Elements.{All-push}
+use Rattle.kr_kinds.specs.Kinds.{Gone}
 use Rattle.kr_suite_core.specs.Judged.{IsJudged, changes_in}
 use Rattle.kr_suite_core.specs.declared.judged.Judged.{Judged}
 use Rattle.kr_suite_core.proofs.again.look_at_all.Goals as goal
@@ -9,7 +10,7 @@ use Rattle.kr_suite_core.proofs.again.look_at_all.Goals as goal
 -- one change more
 pub loop-one-preserved : goal.loop-one-preserved
 loop-one-preserved g c =
-    let p = g.P.Protocol.table c.args.protocol.now in
+    let p = Gone (g.P.Protocol.table c.args.protocol.now) in
     let again = c.loop-one.invariant.1 in
     let items = c.in_ok-push.ensures.items in
     let so_far = c.loop-one.invariant.0 in

@@ -9,7 +9,7 @@ use Rattle.kr_suite_core.proofs.judged.judge_all.Goals as goal
 -- one change more
 pub loop-change-preserved : goal.loop-change-preserved
 loop-change-preserved g c =
-    let p = g.P.Protocol.table c.args.protocol.now in
+    let p = g.P.IndexProtocol.index c.args.protocol.now in
     let judged = c.loop-change.invariant.1 in
     let items = c.in_ok-push.ensures.items in
     let so_far = c.loop-change.invariant.0 in

@@ -8,7 +8,7 @@ use Rattle.kr_suite_core.proofs.tested.named_by.Goals as goal
 -- one change more, or none
 pub loop-number-preserved : goal.loop-number-preserved
 loop-number-preserved g c =
-    let Named = IsNamed (g.P.Protocol.table c.args.protocol.now) c.args.part.now.opening.items c.args.part.now.events.items in
+    let Named = IsNamed (g.P.IndexProtocol.index c.args.protocol.now) c.args.part.now.opening.items c.args.part.now.events.items in
     elim c.match-branch-2.branch [
       | in-Some+in_ok-push w ↦
           subst (λ (v : Vec Change Global). All Named v.items) (sym w.named-is)

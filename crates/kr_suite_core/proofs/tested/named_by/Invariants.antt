@@ -4,4 +4,4 @@ use Rattle.kr_suite_core.proofs.tested.named_by.Given as goal
 
 -- the script tells those apart that it names so far
 abbrev pub invariant-loop-number : goal.invariant-loop-number
-invariant-loop-number g l = All (IsNamed (g.P.Protocol.table l.protocol) l.part.opening.items l.part.events.items) l.named.items
+invariant-loop-number g l = All (IsNamed (g.P.IndexProtocol.index l.protocol) l.part.opening.items l.part.events.items) l.named.items

@@ -6,5 +6,5 @@ use Rattle.kr_suite_core.proofs.tested.try_part.Goals as goal
 
 pub returns : goal.returns
 returns g c =
-    let p = g.P.Protocol.table c.args.protocol.now in
+    let p = g.P.IndexProtocol.index c.args.protocol.now in
     subst (λ (ts : List Tested). All (IsTested p) ts) (sym c.in_ok-push.ensures.items) (All-push (IsTested p) c.args.parts.now.items c.in_ok-part.part c.requires.parts c.in_ok-part.ensures)

@@ -4,11 +4,11 @@ use Rattle.kr_suite_text.proofs.whole.habit_text.Goals as goal
 
 pub returns : goal.returns
 returns g c =
-    played_is (g.P.Protocol.table c.args.protocol.now) c.args.habit c.opening.result.now c.opening-2.result.now (map string_bytes c.as_slice.result.now) c.habit_steps-steps.result.now c.as_slice-2.result.now
+    played_is (g.P.IndexProtocol.index c.args.protocol.now) c.args.habit c.opening.result.now c.opening-2.result.now (map string_bytes c.as_slice.result.now) c.habit_steps-steps.result.now c.as_slice-2.result.now
     c.opening.ensures
     c.opening-2.ensures
     (ap (map string_bytes) c.as_slice.ensures.value ∙ c.in_ok-tests.ensures)
     c.habit_steps-steps.ensures
-    (c.as_slice-2.ensures ∙ c.in_ok-played.ensures.replies)
+    (c.as_slice-2.ensures.value ∙ c.in_ok-replies.ensures)
     c.part_text.result
     c.part_text.ensures

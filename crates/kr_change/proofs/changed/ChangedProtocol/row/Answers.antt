@@ -6,6 +6,8 @@ use Rattle.kr_protocol.specs.Rows.{IsRow}
 use Rattle.kr_change.specs.declared.change.Change.{Change}
 use Rattle.kr_change.specs.declared.change.Change.TheVariants.{Compatible}
 use Rattle.kr_change.specs.Changes.{changed, is_change, is_mode}
+use Rattle.kr_change.specs.GhostChanges.{is_index_change}
+use Rattle.kr_change.proofs.GhostLawful.{allowed_of, pair_fine}
 use Rattle.kr_change.proofs.Lawful.{mode_by_test}
 use Rattle.kr_change.proofs.Rows.{row_apart, row_beside}
 use Rattle.kr_change.proofs.changed.ChangedProtocol.row.Goals as goal
@@ -19,7 +21,12 @@ returns-then-is_compatible g c =
     let held = c.in-Compatible.held in
     let b = c.in-Compatible.is_compatible in
     let row : ℕ = bit_and c.row-row.result (bit_not w16 (1 * 2 ^ held % 2 ^ 16)) in
-    let allowed : is_change p (Compatible one held b) ≡ true = subst (λ (h : Change). is_change p h ≡ true) c.in-Compatible.is c.args.self.now.allowed in
+    let base = c.args.self.now.base.now in
+    let i = g.P.IndexProtocol.index base in
+    let ghosts = g.P.GhostProtocol.ghosts base in
+    let same = g.met.P.GhostProtocol.tables base in
+    let is : is_index_change i (Compatible one held b) ≡ true = subst (λ (h : Change). is_index_change i h ≡ true) c.in-Compatible.is c.args.self.now.allowed in
+    let allowed : is_change p (Compatible one held b) ≡ true = pair_fine p ghosts one held b same (allowed_of i p ghosts (g.met.P.IndexProtocol.has_tables base) same (Compatible one held b) is) in
     let mode : is_mode p held ≡ true = and_second (is_mode p one) (is_mode p held) allowed in
     let low : held ≤ p.count = (mode_by_test p held mode).in_range in
     let few : p.count ≤ 15 = c.args.self.now.lawful.few in
@@ -37,7 +44,12 @@ returns-then-requested-one-2 g c =
     let held = c.in-Compatible.held in
     let b = c.in-Compatible.is_compatible in
     let row : ℕ = bit_or c.row-row.result (1 * 2 ^ held % 2 ^ 16) in
-    let allowed : is_change p (Compatible one held b) ≡ true = subst (λ (h : Change). is_change p h ≡ true) c.in-Compatible.is c.args.self.now.allowed in
+    let base = c.args.self.now.base.now in
+    let i = g.P.IndexProtocol.index base in
+    let ghosts = g.P.GhostProtocol.ghosts base in
+    let same = g.met.P.GhostProtocol.tables base in
+    let is : is_index_change i (Compatible one held b) ≡ true = subst (λ (h : Change). is_index_change i h ≡ true) c.in-Compatible.is c.args.self.now.allowed in
+    let allowed : is_change p (Compatible one held b) ≡ true = pair_fine p ghosts one held b same (allowed_of i p ghosts (g.met.P.IndexProtocol.has_tables base) same (Compatible one held b) is) in
     let mode : is_mode p held ≡ true = and_second (is_mode p one) (is_mode p held) allowed in
     let low : held ≤ p.count = (mode_by_test p held mode).in_range in
     let few : p.count ≤ 15 = c.args.self.now.lawful.few in

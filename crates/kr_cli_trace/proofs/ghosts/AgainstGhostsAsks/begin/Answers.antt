@@ -8,6 +8,7 @@ returns-clause-begun g c =
     let q = c.args.self.now.protocol.now in
     let j = c.in_ok-judging.judging in
     record {
+      rising = c.requires;
       followed = subst (λ m. HasFollowed g.P.GhostProtocol.ghosts q m [] c.in_ok-follower.follower) c.as_slice-2.ensures c.in_ok-follower.ensures.followed;
       deviates = sym c.in_ok-follower.ensures.found;
       texts = refl;

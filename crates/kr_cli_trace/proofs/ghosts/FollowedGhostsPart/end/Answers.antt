@@ -7,6 +7,7 @@ use Rattle.kr_ghost_follow.specs.Stands.{points_of}
 use Rattle.kr_ghost_follow.proofs.Standing.{followed_points}
 use Rattle.kr_trace_lines.specs.declared.deviation.Deviation.{Deviation}
 use Rattle.kr_trace_parts.specs.Tales.{committed_in}
+use Rattle.kr_cli_trace.proofs.SerialLaws.{well_where_safe}
 use Rattle.kr_cli_trace.proofs.ghosts.FollowedGhostsPart.end.Goals as goal
 
 pub returns : goal.returns
@@ -24,6 +25,7 @@ returns g c s h _ =
     (subst (λ (d : Option Deviation). Stand (ghosts q) s.opening s.steps points f.queued d) (sym h.deviates) (followed_points ghosts q s.opening s.steps f.first f.others f.queued f.found h.followed)) in
     let texts : map string_bytes c.as_slice.result.now ≡ s.tests = ap (map string_bytes) c.as_slice.ensures.value ∙ h.texts in
     let text = ap (λ n. told n (map string_bytes c.as_slice.result.now)) c.states.ensures ∙ ap (λ ts. told (length points) ts) texts in
+    let verdict = c.verdict_of-verdict.ensures s.opening (committed_in s.steps) h.judged.first in
     IfOk-weaker c.told.result _ _
-    (λ end k. (points, c.queued.result, found, c.cut.result, v, stands, c.verdict_of-verdict.ensures s.opening (committed_in s.steps) h.judged.first, k.0 ∙ text, k.1))
+    (λ end k. (points, c.queued.result, found, c.cut.result, v, stands, verdict, k.0 ∙ text, k.1, well_where_safe (ghosts q) s h.rising points c.queued.result found stands v verdict end.1 k.1))
     c.told.ensures

@@ -4,6 +4,7 @@ use super::{
     ALWAYS_IX, HOLDS_NOTHING, NEXT_INSTANT, UNDER_IX, open_gap, open_key, open_split, with_change,
 };
 use kr_cases::{FailedCase, Rejected, WhyRejected, check};
+use kr_kinds::Gone;
 use kr_model::{Cover, Row, Rule};
 use kr_protocol::{Im, Kvl, KvlUpdate, Protocol, RangeKey};
 use std::alloc::Global;
@@ -41,7 +42,7 @@ fn rejected_again_and_again(rt: HostRuntime) {
     let split = open_split();
     let gap = open_gap(0, Row::FetchMiss);
     let key = open_key(Rule::Insert, Cover::InsertedKey, HOLDS_NOTHING);
-    let (plain, updating) = (Kvl, KvlUpdate);
+    let (plain, updating) = (Gone(Kvl), Gone(KvlUpdate));
     for _ in 0..20 {
         let always_ix = with_change(&rt, &plain, ALWAYS_IX);
         let under_ix = with_change(&rt, &updating, UNDER_IX);
