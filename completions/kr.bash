@@ -27,7 +27,7 @@ _kr() {
   3.view.*) _kr_words @kvl @kvl-update @im @range-key @record-gap @range-ghost @next-key-ghost -h --help --version; _kr_files .toml ;;
   3.trace.*) _kr_words @kvl @kvl-update @im @range-key @record-gap @range-ghost @next-key-ghost --serial --some-order -h --help --version; _kr_files .toml ;;
   3.suite.*) _kr_words @kvl @kvl-update @im @range-key @record-gap @range-ghost @next-key-ghost -h --help --version; _kr_files .toml ;;
-  3.relax.*) _kr_words @kvl @kvl-update @im @range-key -h --help --version; _kr_files .toml ;;
+  3.relax.*) _kr_words @kvl @kvl-update @im @range-key @record-gap @range-ghost @next-key-ghost -h --help --version; _kr_files .toml ;;
   3.help.*) _kr_words check run judge threads explain view trace suite relax help version ;;
   4.trace.--serial) _kr_files .trace ;;
   4.trace.--some-order) _kr_files .trace ;;

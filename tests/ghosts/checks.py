@@ -85,12 +85,20 @@ def text_of(rng, table, names):
 
 def names_in(file):
     """The names of a table's modes."""
-    return ['none', *tomllib.loads(file.read_text())['modes']]
+    return names_said(file.read_text())
+
+
+def names_said(text):
+    return ['none', *tomllib.loads(text)['modes']]
 
 
 def read(file):
     """The table of a file of format 3 without faults."""
-    document, names = tomllib.loads(file.read_text()), names_in(file)
+    return read_text(file.read_text())
+
+
+def read_text(text):
+    document, names = tomllib.loads(text), names_said(text)
     number, every = {it: at for at, it in enumerate(names)}, range(len(names))
     ok = [[not q or not h or names[h] in document['compatible'][names[q]] for h in every] for q in every]
     convert = [[h or q if not h or not q else number[document['convert'][names[h]][names[q]]] for q in every] for h in every]

@@ -327,7 +327,8 @@ def quiet(present, x):
 
 
 def is_safe(table, limit=30000):
-    """Whether each lock blocks what it has to keep out, of any two lock states that two can have on one name; None past the limit."""
+    """Whether each lock blocks what it has to keep out, of any two lock states that two can have on one name; None past the limit, if
+    there is one."""
     found = lock_states(table, limit)
     return found if found is None else bool(found)
 
@@ -383,7 +384,7 @@ def lock_states(table, limit=30000):
                     purged(there, a, b, both)
             for both in inherited:
                 purged(present, x, y, both)
-            if sum(map(len, beside.values())) > limit:
+            if limit and sum(map(len, beside.values())) > limit:
                 return None
         for present, x, y in [(present, x, y) for (present, x), others in beside.items() for y in others if y not in beside.get((not present, x), ())]:
             for z in beside[present, x] & beside[present, y]:

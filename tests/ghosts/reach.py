@@ -1,19 +1,15 @@
-#!/usr/bin/env python3
-"""The relaxations of a table with ghosts, as tests/relax has those of one without: which requests schedules bring beside which
-locks is by crates/kr_ghost/specs/Safe.antt, and a purge leads to a mode as a request does.
-
-    reach.py FILE     prints the relaxations of a safe table of format 3, and how much more each grants"""
+"""The relaxations of a table with ghosts, as tests/relax/relaxations.py has those of one without, and the entries that no schedule
+comes to: which requests schedules bring beside which locks is by crates/kr_ghost/specs/Safe.antt, and a purge leads to a mode as a
+request does."""
 
 import pathlib
 import sys
 
-sys.dont_write_bytecode = True
 sys.path += [str(pathlib.Path(__file__).resolve().parents[1] / it) for it in ('exact', 'relax', 'second')]
 
 from changed import changes_of
-from checks import names_in, read
 from model import NOTHING, READ, is_safe, lock_states, requests
-from relaxations import Reach
+from relaxations import Reach, lines_of
 
 NEW = 'insert'  # what an insert requests on its new key, where nobody has a lock
 
@@ -22,7 +18,7 @@ class GhostReach(Reach):
     """The same, of a table with ghosts that is safe; `names` has those of its modes."""
 
     def __init__(self, table, names):
-        self.names, self.states = names, lock_states(table)
+        self.names, self.states = names, lock_states(table, None)
         super().__init__(table)
         free = [(there, x) for (there, x), others in self.states.items() if NOTHING in others and not x[3]]
         ghosts = {x[0] for there, x in free if not there and x[1] <= READ} if table.heir else ()
@@ -44,7 +40,7 @@ class GhostReach(Reach):
         return table.conflicts(table.ask(row, above if row == NEW else own), own, held)
 
     def is_safe(self, table):
-        return is_safe(table)
+        return is_safe(table, None)
 
     def changes(self):
         return changes_of(self.table, self.names)
@@ -55,17 +51,14 @@ class GhostReach(Reach):
             there = [new.convert[own2][new.heir[mode2]] for own2 in found.get(own, ()) for mode2 in found.get(mode, ())]
             yield self.table.convert[own][self.table.heir[mode]], there
 
-
-def main():
-    file = pathlib.Path(sys.argv[1])
-    table = read(file)
-    if not is_safe(table):
-        print(f'{file}: not safe')
-        return 1
-    for more, it in GhostReach(table, names_in(file)).relaxations():
-        print(f'{it.name}: {more} more granted')
-    return 0
-
-
-if __name__ == '__main__':
-    sys.exit(main())
+    def unused(self):
+        tested, asked, requested = set(), {(own, self.table.heir[mode]) for own, mode in self.purges}, set()
+        for row, own, above, held in self.met:
+            own_next = above if row == NEW else own
+            requested.add((row, own_next))
+            if request := self.table.ask(row, own_next):
+                tested.add((self.table.convert[own][request[0]], held))
+                asked.add((own, request[0]))
+        sides = {'insert': ('insert', 'current'), 'insert-next': ('insert', 'next')}
+        requested = {(*sides[row], own) for row, own in requested if row in sides}
+        return lines_of(self.names, tested, asked, requested, sides.values())

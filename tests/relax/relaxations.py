@@ -1,6 +1,6 @@
 """The relaxations of a table, from the definitions alone: crates/kr_change/specs/Every.antt lists the changes of one entry, and
-crates/kr_relax_core/specs says which of them let more through and keep the table safe, and which entries nothing uses. Tables are those of tests/second, and changed
-ones those of tests/suite."""
+crates/kr_relax_core/specs says which of them let more through and keep the table safe, and which entries nothing uses. Tables are
+those of tests/second, and changed ones those of tests/suite."""
 
 from changes import changes_of
 from condition import BY_NEXT, DELETE_NEXT, INSERT, INSERT_NEXT, Closure, bits
@@ -9,6 +9,23 @@ from condition import BY_NEXT, DELETE_NEXT, INSERT, INSERT_NEXT, Closure, bits
 def given(place, own, above):
     """The own mode by which a request goes, of one who holds `own` on the name and `above` on the next one."""
     return above if place in BY_NEXT else own if place in (INSERT_NEXT, DELETE_NEXT) else 0
+
+
+def lines_of(names, tested, asked, requested, places):
+    """The lines of the entries that no schedule comes to, by those that they come to: pairs of a tested and a held mode, of a held and
+    an asked one, and requests at these places by the own mode on the next name. `names` has those of the modes, `none` first."""
+    modes, lines = range(1, len(names)), []
+    listed = lambda them: ''.join(f' {names[it]}' for it in them)
+    for q in modes:
+        if there := listed(h for h in modes if (q, h) not in tested):
+            lines.append(f'unused: {names[q]} beside{there}\n')
+    for h in modes:
+        if there := listed(q for q in modes if (h, q) not in asked):
+            lines.append(f'unused: {names[h]} held,{there} asked\n')
+    for row, side in places:
+        if there := listed(o for o in range(len(names)) if (row, side, o) not in requested):
+            lines.append(f'unused: {row} {side} own{there}\n')
+    return ''.join(lines)
 
 
 def spots(closure):
@@ -91,26 +108,14 @@ class Reach:
         found = [(more, it) for more, it in found if more and self.is_safe(it)]
         return sorted(found, key=lambda it: -it[0])
 
-
-def unused(table):
-    """The lines of the entries that no schedule comes to."""
-    tested, asked, requested = set(), set(), set()
-    for place, own, above, held in spots(Closure(table)):
-        own_next = given(place, own, above)
-        requested.add((*place, own_next))
-        if request := table.ask(*place, own_next):
-            tested.add((table.convert(own, request[0]), held))
-            asked.add((own, request[0]))
-    names, lines = table.names, []
-    listed = lambda modes: ''.join(f' {names[it]}' for it in modes)
-    for q in table.modes:
-        if there := listed(h for h in table.modes if (q, h) not in tested):
-            lines.append(f'unused: {names[q]} beside{there}\n')
-    for h in table.modes:
-        if there := listed(q for q in table.modes if (h, q) not in asked):
-            lines.append(f'unused: {names[h]} held,{there} asked\n')
-    for row in ('insert', 'delete'):
-        for side in ('current', 'next'):
-            if there := listed(o for o in table.with_none if (row, side, o) not in requested):
-                lines.append(f'unused: {row} {side} own{there}\n')
-    return ''.join(lines)
+    def unused(self):
+        """The lines of the entries that no schedule comes to."""
+        tested, asked, requested = set(), set(), set()
+        for place, own, above, held in self.met:
+            own_next = given(place, own, above)
+            requested.add((*place, own_next))
+            if request := self.table.ask(*place, own_next):
+                tested.add((self.table.convert(own, request[0]), held))
+                asked.add((own, request[0]))
+        places = [(row, side) for row in ('insert', 'delete') for side in ('current', 'next')]
+        return lines_of(self.table.names, tested, asked, requested, places)

@@ -1,5 +1,4 @@
 //! What a step of a light machine finds.
-ghost use Rattle.std.specs.Prelude.{◌≤◌};
 
 use crate::flat::Flat;
 use crate::light::{Light, Stand};

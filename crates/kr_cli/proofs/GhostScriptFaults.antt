@@ -9,7 +9,7 @@ use Rattle.kr_cli.specs.declared.endings.Ending.TheVariants.{NotUnderstood, Memo
 use Rattle.kr_cli.specs.Endings.{MemoryOrTold}
 use Rattle.kr_cli.specs.Files.{MayBeScript}
 use Rattle.kr_cli.specs.Lines.{told_line, script_fault_text}
-use Rattle.kr_ghost_script.specs.Reading.{reading}
+use Rattle.kr_script.specs.GhostReading.{reading}
 use Rattle.kr_cli.specs.GhostScripts.{TellsNoGhostScript}
 
 -- a fault is that memory ran out, or one of the bytes

@@ -7,8 +7,8 @@ use Rattle.kr_script.specs.Faults.{Fault, fault_of}
 use Rattle.kr_ghost.specs.Protocol.{GhostProtocol}
 use Rattle.kr_ghost.specs.State.{opened}
 use Rattle.kr_ghost.specs.Run.{GhostTrace, run}
-use Rattle.kr_ghost_script.specs.Script.{GhostScript}
-use Rattle.kr_ghost_script.specs.Reading.{reading}
+use Rattle.kr_script.specs.GhostScript.{GhostScript}
+use Rattle.kr_script.specs.GhostReading.{reading}
 use Rattle.kr_cli.specs.Files.{MayBeScript}
 use Rattle.kr_cli.specs.Lines.{told_line, script_fault_text}
 use Rattle.kr_cli.specs.Named.{TellsUnreadable}

@@ -5,7 +5,7 @@ ghost use Rattle.kr_cli.specs.GhostScripts.{NamesGhostScript, TellsNoGhostScript
 
 use crate::endings::Ending;
 use crate::files::{Files, SCRIPT_BYTES, at_fault, whole};
-use kr_ghost_script::{GhostScript, read_ghost_script};
+use kr_script::{GhostScript, read_ghost_script};
 use std::alloc::Global;
 
 /// The script in the file that a word names, or how the program ends: its file can't be read, or its bytes are no script, and

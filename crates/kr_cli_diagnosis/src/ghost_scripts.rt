@@ -9,7 +9,7 @@ ghost use Rattle.kr_cli_diagnosis.specs.Repeated.{HasNoMemberTwice};
 use crate::finding::add;
 use crate::repeated::repeated_help;
 use kr_cli::{Ending, Files, SCRIPT_BYTES, at_fault, whole};
-use kr_ghost_script::{GhostScript, read_ghost_script};
+use kr_script::{GhostScript, read_ghost_script};
 use std::alloc::Global;
 
 /// The script that a word names, which may have purges, as `kr_cli::ghost_script_at` finds it. Its file is read once. Where it

@@ -27,7 +27,7 @@ writing_ends may_give words (Ok complete) ends = tt
 writing_ends may_give words (Err e) ends = ends_at may_give words e ends
 
 -- a table that a word names is lawful
-lawful_index : (t : Named) → IsLawfulIndex (index_of t)
+pub lawful_index : (t : Named) → IsLawfulIndex (index_of t)
 lawful_index (Table t) = lawful_of t
 lawful_index (Ghosts t) = lawful_ghosts_of t
 

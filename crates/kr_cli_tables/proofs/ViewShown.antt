@@ -25,7 +25,7 @@ use Rattle.kr_cli.specs.GhostTables.{ghosts_of}
 use Rattle.kr_cli.specs.GhostTables as ghost
 use Rattle.kr_ghost.specs.Protocol.{GhostProtocol}
 use Rattle.kr_ghost_view_table.specs.Page.{IsGhostTablePage}
-use Rattle.kr_ghost_script.specs.Script.{GhostScript}
+use Rattle.kr_script.specs.GhostScript.{GhostScript}
 use Rattle.kr_cli_tables.specs.View.{Ends, EndsSo, IsSerialScript, Shows, ShowsAsked, ShowsGhostScript, ShowsGhostTable, ShowsNamed, ShowsPage, ShowsScript, ShowsTable, ShowsTableOf, ShowsUnder, TellsAsked, drawn_of_ghosts, drawn_of_script}
 
 -- the page of a lawful table was written, with the verdict on it

@@ -22,7 +22,7 @@ use Rattle.kr_cli.specs.GhostTables.{ghosts_of}
 use Rattle.kr_cli.specs.GhostTables as ghost
 use Rattle.kr_ghost_view_table.specs.Page.{IsGhostTablePage}
 use Rattle.kr_ghost.specs.Protocol.{GhostProtocol, IsLawfulGhost}
-use Rattle.kr_ghost_script.specs.Script.{GhostScript}
+use Rattle.kr_script.specs.GhostScript.{GhostScript}
 use Rattle.kr_ghost_view.specs.Moves.{drawn_moves}
 use Rattle.kr_cli_diagnosis.specs.Repeated.{HasNoMemberTwice}
 use Rattle.kr_view_scenes.specs.Scenes.{NumberedStep, drawn_steps}

@@ -1,12 +1,12 @@
 //! `kr relax`: from words to what the table that they name blocks needlessly.
 ghost use Rattle.std.specs.Prelude.{◌≡◌, ◌⊎◌, Err, IfOk, IfErr, OnOk, IsTrue, map, string_bytes};
-ghost use Rattle.kr_model.specs.Protocol.{IsLawful};
 ghost use Rattle.kr_sink.specs.Puts.{HasCause};
 ghost use Rattle.kr_cli_diagnosis.specs.Finding.{AddsLines};
 ghost use Rattle.kr_cli.specs.Endings.{is_output};
 ghost use Rattle.kr_cli.specs.declared.endings.Ending.{Ending};
 ghost use Rattle.kr_cli.specs.declared.endings.Ending.TheVariants as ending;
-ghost use Rattle.kr_cli_tables.specs.Relax.{Answers, Ends};
+ghost use Rattle.kr_cli_tables.specs.Relax.{Answers, Ends, EndsWriting, Writes};
+ghost use Rattle.kr_cli_tables.specs.Suite.{index_of, mode_names};
 ghost use Rattle.kr_cli_tables.specs.RelaxWords.{AskNothingOfTables};
 
 mod making;
@@ -14,22 +14,34 @@ mod tightest;
 mod words;
 mod writing;
 
-use kr_cli::{Ending, Files};
-use kr_cli_diagnosis::table_at;
-use kr_protocol::Protocol;
+use kr_cli::{Ending, Files, Named};
+use kr_cli_diagnosis::named_with_help;
+use kr_kinds::{Gone, Leaves};
 use kr_sink::Sink;
 use std::alloc::Global;
 pub use words::{Asked, Wanted, read_words};
 pub use writing::write_relaxed;
 
-/// Does nothing: a protocol is lawful.
-fn are_laws_kept<P: Protocol>(protocol: &P)
-    ensures { IsLawful (P.table protocol.now) }
+/// Writes what is wanted of a table, with ghosts or without, and answers whether it, or the one that was written, is tight.
+fn write_named<W: Sink>(
+    alloc: Global,
+    word: &str,
+    named: &Named,
+    wanted: Wanted<'_>,
+    out: &mut W,
+) -> Result<bool, Ending>
+    ensures writes { IfOk result (Writes (index_of named.now) (mode_names named.now) wanted.entry (W.taken out.old) (W.taken out.new)) }
+    ensures err { IfErr result (EndsWriting (index_of named.now) (mode_names named.now) word.now wanted.entry) }
+    ensures nothing { IfErr result (λ e. IsTrue (is_output e) ⊎ (out.new ≡ out.old)) }
+    ensures cause { IfErr result (λ e. IsTrue (is_output e) → HasCause (W.failures out.old) (W.failures out.new)) }
 {
-    let _ = protocol;
+    match named {
+        Named::Table(table) => write_relaxed(alloc, word, &Gone(table), wanted, out),
+        Named::Ghosts(table) => write_relaxed(alloc, word, &Leaves(table), wanted, out),
+    }
 }
 
-/// Does what the words ask of a table, and answers whether it, or the one that was written, is tight. Where they name none, `help`
+/// Does what the words ask of a table, with ghosts or without, and answers whether it, or the one that was written, is tight. Where they name none, `help`
 /// gets what helps.
 pub fn relax<F: Files, W: Sink>(
     alloc: Global,
@@ -48,7 +60,6 @@ pub fn relax<F: Files, W: Sink>(
     ensures help { AddsLines (string_bytes help.old) (string_bytes help.new) }
 {
     let asked = read_words(words)?;
-    let table = table_at(alloc, asked.table, files, help)?;
-    are_laws_kept(&table);
-    write_relaxed(alloc, asked.table, &table, asked.wanted, out)
+    let named = named_with_help(alloc, asked.table, files, help)?;
+    write_named(alloc, asked.table, &named, asked.wanted, out)
 }

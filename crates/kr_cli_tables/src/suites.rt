@@ -37,8 +37,8 @@ fn write_named<W: Sink>(
     }
 }
 
-/// Does what the words ask of a table, with ghosts or without, and answers whether its suite leaves no change. Where they name none, `help` gets what
-/// helps.
+/// Does what the words ask of a table, with ghosts or without, and answers whether its suite leaves no change. Where they name
+/// none, `help` gets what helps.
 pub fn suite<F: Files, W: Sink>(
     alloc: Global,
     words: &[String],

@@ -7,7 +7,7 @@ use Rattle.kr_cli.specs.declared.endings.Ending.{Ending}
 use Rattle.kr_cli.specs.declared.endings.Ending.TheVariants.{NotUnderstood, Memory, Place, Output, Told}
 use Rattle.kr_cli.specs.Endings.{MemoryOrTold}
 use Rattle.kr_ghost.specs.Protocol.{GhostProtocol}
-use Rattle.kr_ghost_script.specs.Script.{GhostScript}
+use Rattle.kr_script.specs.GhostScript.{GhostScript}
 use Rattle.kr_ghost_run.specs.Ran.{verdict_of_moves}
 use Rattle.kr_cli.specs.GhostScripts.{IsSerialGhosts, NamesGhostScript, NameGhostScripts, TellsNoGhostScript, TellsFirstGhost}
 use Rattle.kr_cli_tasks.specs.GhostRuns.{ghost_judge_lines, AreJudged}

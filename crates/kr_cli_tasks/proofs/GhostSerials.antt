@@ -13,7 +13,7 @@ use Rattle.kr_ghost.specs.Protocol.{GhostProtocol, IsLawfulGhost}
 use Rattle.kr_ghost.proofs.AllCases.{covered_is_safe}
 use Rattle.kr_ghost_run.specs.Ran.{verdict_of_moves}
 use Rattle.kr_ghost_run.proofs.Left.{safe_programs}
-use Rattle.kr_ghost_script.specs.Script.{GhostScript}
+use Rattle.kr_script.specs.GhostScript.{GhostScript}
 use Rattle.kr_cli.specs.GhostScripts.{ghost_run_of, IsSerialGhosts}
 
 -- the verdict on the programs of a run is that it is serializable exactly where it is

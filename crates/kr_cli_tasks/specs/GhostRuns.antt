@@ -2,7 +2,7 @@
 use Rattle.std.specs.Prelude.{◌≡◌, ◌↔◌, ℕ, Bool, List, [], ◌∷◌, ◌++◌, Option, IsTrue, All, map}
 use Rattle.kr_ghost.specs.Protocol.{GhostProtocol}
 use Rattle.kr_ghost.specs.State.{opened}
-use Rattle.kr_ghost_script.specs.Script.{GhostScript}
+use Rattle.kr_script.specs.GhostScript.{GhostScript}
 use Rattle.kr_ghost_run.specs.Ran.{answers, verdict_of_moves}
 use Rattle.kr_report.specs.Report.{verdict_text}
 use Rattle.kr_ghost_report.specs.RunReport.{ghost_run_text}

@@ -4,7 +4,7 @@ use Rattle.std.specs.Io.KnownBytes.{Appends}
 use Rattle.kr_model.specs.Protocol.{Protocol, IsLawful}
 use Rattle.kr_model.specs.Covers.{IsCovered}
 use Rattle.kr_script.specs.Script.{Script}
-use Rattle.kr_ghost_script.specs.Script.{GhostScript}
+use Rattle.kr_script.specs.GhostScript.{GhostScript}
 use Rattle.kr_cli.specs.declared.endings.Ending.{Ending}
 use Rattle.kr_cli.specs.declared.tables.AnyTable.{AnyTable}
 use Rattle.kr_cli.specs.Endings.{MemoryOrTold}

@@ -5,7 +5,7 @@ ghost use Rattle.kr_sink.specs.Puts.{AppendsFront, HasCause};
 ghost use Rattle.kr_judge.specs.declared.verdict.Verdict.TheVariants as verdict;
 ghost use Rattle.kr_ghost.specs.Covers.{IsCoveredGhost};
 ghost use Rattle.kr_ghost.specs.Safe.{IsSafeGhost};
-ghost use Rattle.kr_ghost_script.specs.Script.{GhostScript};
+ghost use Rattle.kr_script.specs.GhostScript.{GhostScript};
 ghost use Rattle.kr_ghost_run.specs.Ran.{verdict_of_moves};
 ghost use Rattle.kr_report.specs.Report.{verdict_text};
 ghost use Rattle.kr_cli.specs.Endings.{MemoryOrTold, is_output};
@@ -38,7 +38,7 @@ fn all_cases_hold<P: GhostProtocol>(alloc: Global, protocol: &P) -> bool
 fn report_covered<P: GhostProtocol>(
     alloc: Global,
     protocol: &P,
-    script: &kr_ghost_script::GhostScript,
+    script: &kr_script::GhostScript,
 ) -> Result<String, AllocError>
     requires { IsCoveredGhost (P.ghosts protocol.now) }
     ensures text { IfOk result (λ text. string_bytes text ≡ ghost_report_text (P.ghosts protocol.now) (P.names protocol.now) script.now) }
@@ -53,7 +53,7 @@ fn report_covered<P: GhostProtocol>(
 fn report_judged<P: GhostProtocol>(
     alloc: Global,
     protocol: &P,
-    script: &kr_ghost_script::GhostScript,
+    script: &kr_script::GhostScript,
 ) -> Result<(String, bool), AllocError>
     ensures text { IfOk result (λ told. string_bytes told.0 ≡ ghost_report_text (P.ghosts protocol.now) (P.names protocol.now) script.now) }
     ensures serial { IfOk result (λ told. IsTrue told.1 ↔ IsSerialGhosts (P.ghosts protocol.now) script.now) }
@@ -70,7 +70,7 @@ fn report_judged<P: GhostProtocol>(
 fn reported<P: GhostProtocol>(
     alloc: Global,
     protocol: &P,
-    script: &kr_ghost_script::GhostScript,
+    script: &kr_script::GhostScript,
 ) -> Result<(String, bool), AllocError>
     ensures text { IfOk result (λ told. string_bytes told.0 ≡ ghost_report_text (P.ghosts protocol.now) (P.names protocol.now) script.now) }
     ensures serial { IfOk result (λ told. IsTrue told.1 ↔ IsSerialGhosts (P.ghosts protocol.now) script.now) }
@@ -114,7 +114,7 @@ fn verdict_on<P: GhostProtocol>(
     alloc: Global,
     protocol: &P,
     is_covered: bool,
-    script: &kr_ghost_script::GhostScript,
+    script: &kr_script::GhostScript,
 ) -> Result<Verdict, AllocError>
     requires { IsTrue is_covered → IsCoveredGhost (P.ghosts protocol.now) }
     ensures verdict { IfOk result (λ v. v ≡ verdict_of_moves (P.ghosts protocol.now) script.now.opening script.now.moves) }

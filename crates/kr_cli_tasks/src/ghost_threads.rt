@@ -3,7 +3,7 @@ ghost use Rattle.std.specs.Prelude.{◌≡◌, ◌⊎◌, ◌++◌, ◌∷◌, [
 ghost use Rattle.std.specs.Io.KnownBytes.{Appends};
 ghost use Rattle.kr_sink.specs.Puts.{HasCause};
 ghost use Rattle.kr_ghost.specs.Covers.{IsCoveredGhost};
-ghost use Rattle.kr_ghost_script.specs.Script.{GhostScript};
+ghost use Rattle.kr_script.specs.GhostScript.{GhostScript};
 ghost use Rattle.kr_ghost_threads.specs.declared.made.GhostThreaded.{GhostThreaded};
 ghost use Rattle.kr_ghost_threads.specs.Threaded.{IsGhostThreaded};
 ghost use Rattle.kr_cli.specs.Endings.{is_output};
@@ -31,7 +31,7 @@ fn told<T: Threads + Wait + Sync, P: GhostProtocol + Sync>(
     threads: &T,
     alloc: Global,
     protocol: &P,
-    script: &kr_ghost_script::GhostScript,
+    script: &kr_script::GhostScript,
     workers: Workers,
 ) -> Result<String, GhostRunFault>
     requires { IsCoveredGhost (P.ghosts protocol.now) }

@@ -40,8 +40,9 @@ fn threads_at<T: Threads + Wait + Sync, F: Files, W: Sink>(
     }
 }
 
-/// Does what the words ask, which are `check`, `run`, `judge` or `threads` and what stands behind it, and answers whether the table is accepted, or each run
-/// is serializable. Under a table with ghosts scripts may have purges. Scripts are read only where that word names a table.
+/// Does what the words ask, which are `check`, `run`, `judge` or `threads` and what stands behind it, and answers whether the
+/// table is accepted, or each run is serializable. Under a table with ghosts scripts may have purges. Scripts are read only where
+/// that word names a table.
 pub fn task<T: Threads + Wait + Sync, F: Files + Sync, W: Sink>(
     threads: &T,
     alloc: Global,

@@ -7,7 +7,6 @@ ghost use Rattle.kr_model.specs.Safe.{IsSafe};
 ghost use Rattle.kr_model.specs.Difference.{first_difference};
 ghost use Rattle.kr_model.specs.Serial.{AreSerial};
 ghost use Rattle.kr_judge.specs.Verdicts.{verdict_of};
-ghost use Rattle.kr_judge.specs.declared.verdict.Verdict.TheVariants as verdict;
 ghost use Rattle.kr_script.specs.Script.{Script};
 ghost use Rattle.kr_report.specs.Report.{run_text};
 ghost use Rattle.kr_cli.specs.Endings.{is_output};

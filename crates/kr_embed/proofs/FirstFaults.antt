@@ -13,7 +13,7 @@ use Rattle.kr_script.specs.declared.faults.ScriptFault.{ScriptFault}
 use Rattle.kr_script.specs.declared.faults.ScriptFault.TheVariants as of_script
 use Rattle.kr_script.specs.Faults as script
 use Rattle.kr_script.specs.Reading as script_text
-use Rattle.kr_ghost_script.specs.Reading as moves_text
+use Rattle.kr_script.specs.GhostReading as moves_text
 use Rattle.kr_cli.specs.declared.endings.Ending.{Ending}
 use Rattle.kr_cli.specs.declared.endings.Ending.TheVariants as ending
 use Rattle.kr_cli.specs.declared.named.Named.{Named}

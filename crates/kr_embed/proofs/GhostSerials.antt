@@ -8,7 +8,7 @@ use Rattle.kr_judge.specs.declared.verdict.Verdict.TheVariants.{Serial}
 use Rattle.kr_judge.specs.Verdicts.{verdict_of}
 use Rattle.kr_judge.proofs.Wholes.{serial_exactly}
 use Rattle.kr_ghost.specs.Protocol.{GhostProtocol}
-use Rattle.kr_ghost_script.specs.Script.{GhostScript}
+use Rattle.kr_script.specs.GhostScript.{GhostScript}
 use Rattle.kr_cli.specs.GhostScripts.{ghost_run_of, IsSerialGhosts}
 
 -- the verdict on the programs of a run is that it is serializable exactly where it is

@@ -7,8 +7,8 @@ use Rattle.kr_model.specs.Run.{Trace, run, replies_of, programs}
 use Rattle.kr_model.specs.Serial.{AreSerial}
 use Rattle.kr_ghost.specs.Covers as leaving
 use Rattle.kr_ghost.specs.State.{opened}
-use Rattle.kr_ghost_script.specs.Script.{GhostScript}
-use Rattle.kr_ghost_script.specs.Reading as ghost_script
+use Rattle.kr_script.specs.GhostScript.{GhostScript}
+use Rattle.kr_script.specs.GhostReading as ghost_script
 use Rattle.kr_ghost_run.specs.Ran.{answers, verdict_of_moves}
 use Rattle.kr_ghost_report.specs.RunReport.{ghost_run_text}
 use Rattle.kr_judge.specs.Verdicts.{verdict_of_run}

@@ -15,8 +15,8 @@ use Rattle.kr_script.specs.Script.{Script}
 use Rattle.kr_script.specs.Reading as gone
 use Rattle.kr_ghost.specs.State.{GhostState, opened}
 use Rattle.kr_ghost.specs.Step.{Outcome}
-use Rattle.kr_ghost_script.specs.Script.{GhostScript}
-use Rattle.kr_ghost_script.specs.Reading as ghost
+use Rattle.kr_script.specs.GhostScript.{GhostScript}
+use Rattle.kr_script.specs.GhostReading as ghost
 use Rattle.kr_kinds.specs.Kinds.{IndexProtocol, Gone, Leaves}
 use Rattle.kr_kinds.specs.Steps.{step, may_lack_memory, may_purge, purged, purge_may_lack_memory}
 use Rattle.kr_cli.specs.declared.named.Named.{Named}

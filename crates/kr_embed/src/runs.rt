@@ -16,10 +16,9 @@ use crate::tables::table_in;
 use kr_cli::{AnyGhostTable, AnyTable, Named};
 use kr_ghost_report::report_ghost_run;
 use kr_ghost_run::run_moves;
-use kr_ghost_script::GhostScript;
 use kr_judge::judge_programs;
 use kr_report::report_run;
-use kr_script::Script;
+use kr_script::{GhostScript, Script};
 use kr_serial::{Ran, judge, run_any};
 use std::alloc::{AllocError, Global};
 

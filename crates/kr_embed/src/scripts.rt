@@ -1,13 +1,12 @@
 //! Scripts from bytes.
 ghost use Rattle.std.specs.Prelude.{◌≡◌, Ok, IfOk, IfErr};
 ghost use Rattle.kr_script.specs.Reading.{reading};
-ghost use Rattle.kr_ghost_script.specs.Reading as ghost_script;
+ghost use Rattle.kr_script.specs.GhostReading as ghost_script;
 ghost use Rattle.kr_embed.specs.Inputs.{ExplainsGoneScript, ExplainsGhostScript};
 
 use crate::faults::Fault;
 use kr_cli::{Ending, at_fault};
-use kr_ghost_script::{GhostScript, read_ghost_script};
-use kr_script::{Script, read_script};
+use kr_script::{GhostScript, Script, read_ghost_script, read_script};
 use std::alloc::Global;
 
 /// The script that the bytes are, of format 1 or 2. Else the line that tells their first fault; or a growth was refused.

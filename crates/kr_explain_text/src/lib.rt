@@ -12,6 +12,7 @@ mod lists;
 mod locks;
 mod mending;
 mod orders;
+mod owns;
 mod programs;
 mod requested;
 mod requests;

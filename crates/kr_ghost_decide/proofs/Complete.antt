@@ -6,11 +6,13 @@ use Rattle.kr_ghost.specs.Protocol.{GhostProtocol, IsLawfulGhost, Inherit, inher
 use Rattle.kr_ghost.specs.Safe.{KeyUse, Free, Several, Hold, free, is_changed, Ask, FetchHit, FetchMiss, ScanName, ScanStop, Insert, Delete, Update, Revive, InsertHit, DeleteMiss, UpdateMiss, ReviveNext, InsertHitNext, MayAsk, keeps_out, is_blocked, present_after, Undone, insert, update, delete, to_insert, to_update, to_delete, to_several, Quiet, commit, leave, roll, undo, inherits, Beside, start, turn, ask, quiet, third_asks, third_undoes, new, purge, IsSafeGhost}
 use Rattle.kr_ghost_decide.specs.declared.found.Found.{Found}
 use Rattle.kr_ghost_decide.specs.declared.heir.Heirs.{Heirs}
+use Rattle.kr_ghost_decide.specs.declared.hold.Pair.{Pair}
 use Rattle.kr_ghost_decide.specs.Holds.{Fact, hold_number, place, fact_at}
 use Rattle.kr_ghost_decide.specs.Ways.{may_ask, granted, is_undone, undone, alters}
 use Rattle.kr_ghost_decide.specs.Heirs.{left, left_of, inherited, same, inherited_by}
 use Rattle.kr_ghost_decide.specs.Found.{IsReached, IsFound, AreHeirs, HasHeirs, HasLeft, HasAny, HasMoved, HasAll, HasAllOf, AreFollowed, has, is_altered, found_at}
 use Rattle.kr_ghost_decide.specs.Holes.{is_hole, HasNoHole, HaveNoHole, NoHoles}
+use Rattle.kr_ghost_decide.specs.Every.{AreAllPairs, AreListed, HasEvery, HasFactOf}
 use Rattle.kr_ghost_decide.proofs.Numbers.{hold_back, number_below}
 use Rattle.kr_ghost_decide.proofs.Within.{both_within}
 use Rattle.kr_ghost_decide.proofs.Growing.{new_below, new_back}
@@ -68,7 +70,7 @@ blocked m k true h e f = refl
 blocked m k false h e f = absurd (let g : (m && (k && true)) ≡ true = and_from m (k && true) e (and_from k true f refl) in cc)
 
 module _ (p : GhostProtocol) (laws : IsLawfulGhost p) where
-  may_true : (b : Bool) (x : Hold) (a : Ask) → MayAsk p b x a → may_ask p b x a ≡ true
+  pub may_true : (b : Bool) (x : Hold) (a : Ask) → MayAsk p b x a → may_ask p b x a ≡ true
   may_true b x FetchHit h = ap not h
   may_true b x FetchMiss h = ap not h
   may_true b x ScanName h = ap not h
@@ -237,5 +239,21 @@ module _ (p : GhostProtocol) (laws : IsLawfulGhost p) where
         let n : HasNoHole p 13 f = subst (HaveNoHole p) (found f r (all b x y s)) (none (place f) (new_below p laws f r)) in
         blocked (may_ask p b x a) (keeps_out b y a) (is_blocked p x y a) (tested f a n) (may_true b x a may) keeps
 
-  pub safe_by_test : (f : Found) → IsFound p f → IsDone p f.marks.items → IsSafeGhost p
-  safe_by_test f found done = none_open f.marks.items done.heirs found.ghost_start found.start done.are_heirs done.followed done.no_holes
+  pub safe_by_test : (f : Found) → IsFound p f → IsDone p (NoHoles p 294912) f.marks.items → IsSafeGhost p
+  safe_by_test f found done = none_open f.marks.items done.heirs found.ghost_start found.start done.are_heirs done.followed done.holds
+
+  -- Nothing is left out.
+  pub every_marked : (Holds : List Bool → Type 0) (f : Found) → IsFound p f → IsDone p Holds f.marks.items → HasEvery p f.marks.items
+  every_marked Holds f found done b x y s = all f.marks.items done.heirs found.ghost_start found.start done.are_heirs done.followed b x y s
+
+  pub every_listed : (marks : List Bool) (list : List Pair) → HasEvery p marks → AreListed p marks 294912 list → AreAllPairs p list
+  every_listed marks list has_every are = record {
+    reached = are.reached;
+    listed = λ b x y s.
+        let f : Fact = pair b x y in
+        let r = reached p laws f s in
+        subst (HasFactOf list) (marked_at marks f r (has_every b x y s)) (are.listed (place f) (new_below p laws f r));
+  }
+    where
+      marked_at : (marks : List Bool) (f : Fact) → IsReached p f → has marks f ≡ true → found_at marks (place f) ≡ Some f
+      marked_at marks f r h = ap (λ (b : Bool). if b then Some (fact_at (place f)) else None) h ∙ ap Some (new_back p laws f r)

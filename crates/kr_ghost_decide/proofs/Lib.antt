@@ -5,4 +5,5 @@ pub mod Moved
 pub mod News
 pub mod Lefts
 pub mod Holed
+pub mod Listing
 pub mod Complete

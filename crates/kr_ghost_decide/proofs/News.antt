@@ -12,7 +12,6 @@ use Rattle.kr_ghost_decide.specs.Holds.{Fact, fact, facts, hold_at}
 use Rattle.kr_ghost_decide.specs.Ways.{moved, alters}
 use Rattle.kr_ghost_decide.specs.Heirs.{inherited_by}
 use Rattle.kr_ghost_decide.specs.Found.{IsReached, IsNew, IsFound, IsPassed, IsLeft, AreHeirs, HasAny, HasAll, HasAllOf, AreFollowed, has, is_altered, altered, found_at}
-use Rattle.kr_ghost_decide.specs.Holes.{NoHoles}
 use Rattle.kr_ghost_decide.proofs.Within.{both_within}
 use Rattle.kr_ghost_decide.proofs.Growing.{marked_reached}
 use Rattle.kr_ghost_decide.proofs.Moved.{by_way, by_third, by_heirs}
@@ -30,21 +29,21 @@ pub record IsGoing (p : GhostProtocol) (old new : Found) : Type 0 where
   pub more : old.count ≤ new.count
   pub same : new.count ≡ old.count → new.marks.items ≡ old.marks.items
 
--- No marked pair has a hole, and all that comes of each is marked.
-pub record IsDone (p : GhostProtocol) (marks : List Bool) : Type 0 where
+-- All that comes of each marked pair is marked, and of the marks this holds.
+pub record IsDone (p : GhostProtocol) (Holds : List Bool → Type 0) (marks : List Bool) : Type 0 where
   pub heirs : List Heirs
   pub are_heirs : AreHeirs p marks 294912 heirs
   pub followed : AreFollowed p heirs 294912 marks
-  pub no_holes : NoHoles p 294912 marks
+  pub holds : Holds marks
 
 -- After a pass from so many marks: it is so where none is new.
-pub record IsPassing (p : GhostProtocol) (before : ℕ) (f : Found) : Type 0 where
+pub record IsPassing (p : GhostProtocol) (Holds : List Bool → Type 0) (before : ℕ) (f : Found) : Type 0 where
   pub found : IsFound p f
   pub more : before ≤ f.count
-  pub done : f.count ≡ before → IsDone p f.marks.items
+  pub done : f.count ≡ before → IsDone p Holds f.marks.items
 
-pub passing : (p : GhostProtocol) (a b : Found) (heirs : List Heirs) → NoHoles p 294912 a.marks.items → AreHeirs p a.marks.items 294912 heirs → IsPassed p (AreFollowed p heirs 294912) a b → IsPassing p a.count b
-passing p a b heirs none are one = record {
+pub passing : (p : GhostProtocol) (Holds : List Bool → Type 0) (a b : Found) (heirs : List Heirs) → Holds a.marks.items → AreHeirs p a.marks.items 294912 heirs → IsPassed p (AreFollowed p heirs 294912) a b → IsPassing p Holds a.count b
+passing p Holds a b heirs held are one = record {
   found = one.found;
   more = one.more;
   done = λ e.
@@ -53,7 +52,7 @@ passing p a b heirs none are one = record {
         heirs = heirs;
         are_heirs = subst (λ m. AreHeirs p m 294912 heirs) (sym z.0) are;
         followed = subst (AreFollowed p heirs 294912) (sym z.0) z.1;
-        no_holes = subst (NoHoles p 294912) (sym z.0) none;
+        holds = subst Holds (sym z.0) held;
       };
 }
 

@@ -3,3 +3,4 @@ pub mod Ways
 pub mod Heirs
 pub mod Found
 pub mod Holes
+pub mod Every

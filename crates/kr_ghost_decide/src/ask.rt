@@ -28,8 +28,8 @@ pub enum Ask {
     InsertHitNext,
 }
 
-/// All requests, in order.
-pub(crate) fn asks() -> &'static [Ask]
+/// All requests, in order, each once.
+pub fn asks() -> &'static [Ask]
     ensures { result.now ≡ asks }
 {
     &[
@@ -133,8 +133,9 @@ fn mode_after<P: GhostProtocol>(protocol: &P, own: Mode, asked: Option<(Mode, Sp
     }
 }
 
-/// Whether one with this lock state may come to request this.
-pub(crate) fn may_ask<P: GhostProtocol>(protocol: &P, present: bool, own: Hold, ask: Ask) -> bool
+/// Whether one with this lock state may come to request this of a name whose key is present or not: it doesn't roll back; only a
+/// ghost is revived, an insert finds only a present key, and an update is offered.
+pub fn may_ask<P: GhostProtocol>(protocol: &P, present: bool, own: Hold, ask: Ask) -> bool
     ensures { result ≡ may_ask (P.ghosts protocol.now) present (hold own) (asking ask) }
 {
     if own.rolling {

@@ -37,11 +37,11 @@ pub struct Hold {
 
 /// What two transactions have on one name at the same time.
 #[derive(Clone, Copy)]
-pub(crate) struct Pair {
+pub struct Pair {
     /// Whether the key is present.
-    pub(crate) present: bool,
-    pub(crate) own: Hold,
-    pub(crate) other: Hold,
+    pub present: bool,
+    pub own: Hold,
+    pub other: Hold,
 }
 
 /// Nothing.
@@ -58,8 +58,8 @@ pub(crate) const HOLDS: usize = 384;
 /// How many pairs there are.
 pub(crate) const PLACES: usize = 294912;
 
-/// Whether a key has been changed.
-pub(crate) fn is_changed(key: KeyUse) -> bool
+/// Whether a key has been changed, and not only read.
+pub fn is_changed(key: KeyUse) -> bool
     ensures { result ≡ is_changed (key_use key) }
 {
     match key {

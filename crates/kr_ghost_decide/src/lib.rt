@@ -3,11 +3,13 @@
 
 mod ask;
 mod decision;
+mod every;
 mod found;
 mod heir;
 mod hold;
 mod way;
 
-pub use ask::Ask;
+pub use ask::{Ask, asks, may_ask};
 pub use decision::{Hole, find_hole, is_safe_ghost};
-pub use hold::{Hold, KeyUse};
+pub use every::pairs_of;
+pub use hold::{Hold, KeyUse, Pair, is_changed};

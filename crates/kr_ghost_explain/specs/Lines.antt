@@ -1,7 +1,7 @@
 -- Lines that read as scripts with purges.
 use Rattle.std.specs.Prelude.{◌≡◌, ◌≢◌, ℕ, List, All, Ok}
-use Rattle.kr_ghost_script.specs.Script.{GhostScript}
-use Rattle.kr_ghost_script.specs.Reading.{reading}
+use Rattle.kr_script.specs.GhostScript.{GhostScript}
+use Rattle.kr_script.specs.GhostReading.{reading}
 
 -- A text reads as the script, and has no line feed.
 pub record IsGhostLineOf (script : GhostScript) (text : List ℕ) : Type 0 where

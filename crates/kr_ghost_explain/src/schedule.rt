@@ -8,9 +8,10 @@ use crate::judging::goes_wrong;
 use crate::search::search;
 use kr_ghost::Move;
 use kr_ghost_protocol::GhostProtocol;
-use kr_ghost_script::{GhostScript, read_ghost_script};
 use kr_model::Memory;
-use kr_script::{separator, write_pairs, write_step, write_with_number};
+use kr_script::{
+    GhostScript, read_ghost_script, separator, write_pairs, write_step, write_with_number,
+};
 use std::alloc::Global;
 
 /// A schedule that goes wrong.

@@ -5,8 +5,8 @@ use kr_explain_text::{answer_text, op_text};
 use kr_ghost::Move;
 use kr_ghost_protocol::GhostProtocol;
 use kr_ghost_run::{Answer, GhostRan, run_moves};
-use kr_ghost_script::GhostScript;
 use kr_model::{Memory, Txn};
+use kr_script::GhostScript;
 use std::alloc::Global;
 
 /// The transactions of moves, each once, rising.

@@ -7,9 +7,9 @@ use kr_explain_text::{
 };
 use kr_ghost_protocol::GhostProtocol;
 use kr_ghost_run::run_moves;
-use kr_ghost_script::GhostScript;
 use kr_judge::{Verdict, judge_programs};
 use kr_model::{Memory, Program, Txn};
+use kr_script::GhostScript;
 use std::alloc::Global;
 
 /// A schedule, behind an empty line.

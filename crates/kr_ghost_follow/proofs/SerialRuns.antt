@@ -1,5 +1,5 @@
 -- Lines beside which a state stands are those of a run that is serializable in commit order, as they were given.
-use Rattle.std.specs.Prelude.{◌≡◌, List, map}
+use Rattle.std.specs.Prelude.{List, map}
 use Rattle.kr_model.specs.Map.{Map, IsMap}
 use Rattle.kr_model.specs.Run.{programs}
 use Rattle.kr_model.specs.Serial.{AreSerial, IsSerialRun}

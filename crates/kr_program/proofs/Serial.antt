@@ -8,7 +8,7 @@ use Rattle.kr_theorem.proofs.run.Runs.{runs_are_serial, safe_runs_are_serial}
 use Rattle.kr_ghost.proofs.AllCases.{covered_runs_are_serial}
 use Rattle.kr_ghost.proofs.Runs as ghost_runs
 use Rattle.kr_script.specs.Script.{Script}
-use Rattle.kr_ghost_script.specs.Script.{GhostScript}
+use Rattle.kr_script.specs.GhostScript.{GhostScript}
 use Rattle.kr_model.specs.Protocol.{IsLawful}
 use Rattle.kr_ghost.specs.Protocol.{IsLawfulGhost}
 use Rattle.kr_batch.specs.Names.{IsNamed}

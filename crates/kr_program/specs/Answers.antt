@@ -7,7 +7,7 @@ use Rattle.kr_script.specs.Script.{Script}
 use Rattle.kr_sink.specs.Puts.{HasCause}
 use Rattle.kr_batch.specs.Names.{AreNamed}
 use Rattle.kr_ghost.specs.Covers.{IsCoveredGhost}
-use Rattle.kr_ghost_script.specs.Script.{GhostScript}
+use Rattle.kr_script.specs.GhostScript.{GhostScript}
 use Rattle.kr_cli.specs.declared.endings.Ending.{Ending}
 use Rattle.kr_cli.specs.declared.endings.Ending.TheVariants as ending
 use Rattle.kr_cli.specs.declared.named.Named.{Named}

@@ -7,7 +7,7 @@ use Rattle.kr_script.specs.Script.{Script}
 use Rattle.kr_ghost.specs.Protocol.{IsLawfulGhost}
 use Rattle.kr_ghost.specs.Covers.{IsCoveredGhost}
 use Rattle.kr_ghost.specs.Run.{GhostRunsAreSerial}
-use Rattle.kr_ghost_script.specs.Script.{GhostScript}
+use Rattle.kr_script.specs.GhostScript.{GhostScript}
 use Rattle.kr_cli.specs.Named.{NamesScript}
 use Rattle.kr_cli.specs.Tables.{table_of}
 use Rattle.kr_cli.specs.NamedTables.{Names}

@@ -116,7 +116,9 @@ status: 0 no entry is left; 1 some are; 2 a fault
 
 pub const RELAX_USAGE: &str = "usage: kr relax TABLE [--write | --why ENTRY]\n";
 
-pub const RELAX_WORDS: &str = r#"  TABLE       @kvl, @kvl-update, @im, @range-key, or a file in TOML
+pub const RELAX_WORDS: &str =
+    r#"  TABLE       @kvl, @kvl-update, @im, @range-key, @record-gap, @range-ghost,
+              @next-key-ghost, or a file in TOML
   --write     print the table with one relaxation after another, as long as a script shows one
   --why ENTRY print what each change of this entry does, as of 'fetch-hit current' or 'X beside S'
   -h, --help  print this text

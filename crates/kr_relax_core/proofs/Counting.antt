@@ -5,16 +5,17 @@ use Rattle.std.proofs.lemmas.List.{get_or_default}
 use Rattle.std.proofs.lemmas.List.Elements.{All-push, Contains-append_left, Contains-get_or, Contains-push, Contains-push_cases}
 use Rattle.std.proofs.lemmas.List.Quantifiers.{all_pairs_push}
 use Rattle.std.proofs.Math.ListN.{length-append}
-use Rattle.kr_model.specs.Protocol.{Protocol}
+use Rattle.kr_kinds.specs.Kinds.{IndexProtocol, table_of}
 use Rattle.kr_model.specs.declared.Row.TheVariants.{FetchHit}
 use Rattle.kr_model.specs.declared.Side.TheVariants.{Current}
-use Rattle.kr_relax_core.specs.declared.met.Spot.{Spot}
+use Rattle.kr_relax_core.specs.declared.place.Place.TheVariants as place
+use Rattle.kr_relax_core.specs.declared.place.Spot.{Spot}
 use Rattle.kr_relax_core.specs.Met.{IsMetBy, AreApart, spot}
 use Rattle.kr_relax_core.specs.Twins.{Differs}
 use Rattle.kr_relax_core.specs.Width.{IsGained, AreGained}
 
 -- Of the first n spots, so many are gained.
-pub record AreCounted (p q : Protocol) (spots : List Spot) (n number : ℕ) : Type 0 where
+pub record AreCounted (p q : IndexProtocol) (spots : List Spot) (n number : ℕ) : Type 0 where
   pub list : List Spot
   pub apart : AreApart list
   pub among : (x : Spot) → Contains list x → (k : ℕ) × (k < n) × (get_or spots k x ≡ x)
@@ -24,7 +25,7 @@ pub record AreCounted (p q : Protocol) (spots : List Spot) (n number : ℕ) : Ty
   pub low : number ≤ n
 
 -- At first none is.
-pub counted_none : (p q : Protocol) (spots : List Spot) → AreCounted p q spots 0 0
+pub counted_none : (p q : IndexProtocol) (spots : List Spot) → AreCounted p q spots 0 0
 counted_none p q spots = record {
   list = [];
   apart = λ i j d before low. absurd (omega arith);
@@ -42,7 +43,7 @@ same_spot : (spots : List Spot) (k n : ℕ) (d x : Spot) → n < length spots �
 same_spot spots k n d x low is e = ap (λ (i : ℕ). get_or spots i d) e ∙ get_or_default spots n d x low ∙ is
 
 -- One spot more, which is gained,
-pub counted_more : (p q : Protocol) (spots : List Spot) (n number : ℕ) (x : Spot) → AreApart spots → n < length spots → get_or spots n x ≡ x → IsGained p q x
+pub counted_more : (p q : IndexProtocol) (spots : List Spot) (n number : ℕ) (x : Spot) → AreApart spots → n < length spots → get_or spots n x ≡ x → IsGained p q x
     → AreCounted p q spots n number → AreCounted p q spots (n + 1) (number + 1)
 counted_more p q spots n number x apart low is gained old = record {
   list = old.list ++ x ∷ [];
@@ -68,7 +69,7 @@ counted_more p q spots n number x apart low is gained old = record {
     there k d here (inr e) = subst (Contains (old.list ++ x ∷ [])) (sym (same_spot spots k n d x low is e)) (Contains-push old.list x)
 
 -- and one that isn't.
-pub counted_other : (p q : Protocol) (spots : List Spot) (n number : ℕ) (x : Spot) → n < length spots → get_or spots n x ≡ x → (IsGained p q x → ⊥)
+pub counted_other : (p q : IndexProtocol) (spots : List Spot) (n number : ℕ) (x : Spot) → n < length spots → get_or spots n x ≡ x → (IsGained p q x → ⊥)
     → AreCounted p q spots n number → AreCounted p q spots (n + 1) number
 counted_other p q spots n number x low is isnt old = record {
   list = old.list;
@@ -85,22 +86,22 @@ counted_other p q spots n number x low is isnt old = record {
     there k d here (inr e) = absurd (isnt (subst (IsGained p q) (same_spot spots k n d x low is e) here))
 
 -- All have been counted.
-pub counted_all : (p q : Protocol) (spots : List Spot) (n number : ℕ) → IsMetBy p spots → length spots ≤ n → AreCounted p q spots n number → AreGained p q number
+pub counted_all : (p q : IndexProtocol) (spots : List Spot) (n number : ℕ) → IsMetBy p spots → length spots ≤ n → AreCounted p q spots n number → AreGained p q number
 counted_all p q spots n number met end counted = record {
   spots = counted.list;
   apart = counted.apart;
   each = counted.each;
   all = λ x gained.
-      let h = met.listed x.request.row x.request.side x.request.own x.request.next x.held gained.met in
+      let h = met.listed x.request.place x.request.own x.request.next x.held gained.met in
       let low : h.0 < n = (let l = h.1 in omega (arith, l)) in
       subst (Contains counted.list) h.2 (counted.all h.0 x low (subst (IsGained p q) (sym h.2) gained));
   number = counted.size;
 }
 
 -- Where none is gained, nothing more is granted,
-pub none_gained : (p q : Protocol) (n : ℕ) → AreGained p q n → n ≡ 0 → Differs p q true → ⊥
+pub none_gained : (p q : IndexProtocol) (n : ℕ) → AreGained p q n → n ≡ 0 → Differs p q true → ⊥
 none_gained p q n gained e d =
-    let x : Spot = spot d.row d.side d.own d.next d.held in
+    let x : Spot = spot d.place d.own d.next d.held in
     let is : IsGained p q x = record { own = d.own'; next = d.next'; held = d.held'; met = d.met; own_twin = d.own_twin; next_twin = d.next_twin; held_twin = d.held_twin; blocked = d.before; granted = d.after } in
     let there = gained.all x is in
     let low = there.1 in
@@ -108,12 +109,12 @@ none_gained p q n gained e d =
     absurd (omega (arith, low))
 
 -- and where one is, more is.
-pub some_gained : (p q : Protocol) (n : ℕ) → AreGained p q n → (n ≡ 0 → ⊥) → Differs p q true
+pub some_gained : (p q : IndexProtocol) (n : ℕ) → AreGained p q n → (n ≡ 0 → ⊥) → Differs p q true
 some_gained p q n gained some =
     let x : Spot = get_or gained.spots 0 (spot_default) in
     let number = gained.number in
     let is : IsGained p q x = gained.each 0 spot_default (omega arith) in
-    record { row = x.request.row; side = x.request.side; own = x.request.own; next = x.request.next; held = x.held; own' = is.own; next' = is.next; held' = is.held; met = is.met; own_twin = is.own_twin; next_twin = is.next_twin; held_twin = is.held_twin; before = is.blocked; after = is.granted }
+    record { place = x.request.place; own = x.request.own; next = x.request.next; held = x.held; own' = is.own; next' = is.next; held' = is.held; met = is.met; own_twin = is.own_twin; next_twin = is.next_twin; held_twin = is.held_twin; before = is.blocked; after = is.granted }
   where
     spot_default : Spot
-    spot_default = spot FetchHit Current 0 0 0
+    spot_default = spot (place.Row FetchHit Current) 0 0 0

@@ -1,8 +1,8 @@
 -- Where two protocols differ, by the lists of what schedules bring together and of twins.
 use Rattle.std.proofs.Common.{ℕ, Bool, true, not, ◌≡◌, ◌<◌, ◌+◌, ◌∙◌, ◌⊎◌, inl, inr, List, length, get_or, ap, sym, subst, arith}
 use Rattle.std.proofs.lemmas.List.{get_or_default}
-use Rattle.kr_model.specs.Protocol.{Protocol}
-use Rattle.kr_relax_core.specs.declared.met.Spot.{Spot}
+use Rattle.kr_kinds.specs.Kinds.{IndexProtocol, table_of}
+use Rattle.kr_relax_core.specs.declared.place.Spot.{Spot}
 use Rattle.kr_relax_core.specs.declared.twins.Twin.{Twin}
 use Rattle.kr_relax_core.specs.Met.{IsMetBy, IsMetSpot, is_blocked_at, spot}
 use Rattle.kr_relax_core.specs.Twins.{AreTwins, HasTwins, Differs, DiffersHeld, DiffersNext, DiffersOwn, DiffersSpot, twin_of, twin_at}
@@ -13,9 +13,9 @@ below_or_last : (k n : ℕ) → k < n + 1 → (k < n) ⊎ (k ≡ n)
 below_or_last k n h = grind arith
 
 -- One spot more, at which they don't differ.
-pub spot_step : (p q : Protocol) (list : List Twin) (spots : List Spot) (blocked : Bool) (n : ℕ) (x : Spot) → n < length spots → get_or spots n x ≡ x
+pub spot_step : (p q : IndexProtocol) (list : List Twin) (spots : List Spot) (blocked : Bool) (n : ℕ) (x : Spot) → n < length spots → get_or spots n x ≡ x
     → (DiffersSpot p q list spots blocked n → ⊥)
-    → (is_blocked_at p x.request.row x.request.side x.request.own x.request.next x.held ≡ blocked → DiffersOwn p q list x blocked (length list) → ⊥)
+    → (is_blocked_at p x.request.place x.request.own x.request.next x.held ≡ blocked → DiffersOwn p q list x blocked (length list) → ⊥)
     → DiffersSpot p q list spots blocked (n + 1) → ⊥
 spot_step p q list spots blocked n x low is none here h = split (below_or_last h.place n h.within)
   where
@@ -25,12 +25,12 @@ spot_step p q list spots blocked n x low is none here h = split (below_or_last h
     split : (h.place < n) ⊎ (h.place ≡ n) → ⊥
     split (inl b) = none (record { place = h.place; spot = h.spot; within = b; there = h.there; before = h.before; differs = h.differs })
     split (inr e) =
-        here (subst (λ (y : Spot). is_blocked_at p y.request.row y.request.side y.request.own y.request.next y.held ≡ blocked) (same e) h.before)
+        here (subst (λ (y : Spot). is_blocked_at p y.request.place y.request.own y.request.next y.held ≡ blocked) (same e) h.before)
         (subst (λ (y : Spot). DiffersOwn p q list y blocked (length list)) (same e) h.differs)
 
 -- Twins by which they differ at a spot are in the list,
-pub at_own : (p q : Protocol) (list : List Twin) (x : Spot) (own next held : ℕ) (blocked : Bool) → HasTwins p q list → AreTwins p q x.request.own own → AreTwins p q x.request.next next → AreTwins p q x.held held
-    → is_blocked_at q x.request.row x.request.side own next held ≡ not blocked → DiffersOwn p q list x blocked (length list)
+pub at_own : (p q : IndexProtocol) (list : List Twin) (x : Spot) (own next held : ℕ) (blocked : Bool) → HasTwins p q list → AreTwins p q x.request.own own → AreTwins p q x.request.next next → AreTwins p q x.held held
+    → is_blocked_at q x.request.place own next held ≡ not blocked → DiffersOwn p q list x blocked (length list)
 at_own p q list x own next held blocked twins own_twin next_twin held_twin after =
     let a = twins.listed x.request.own own own_twin in
     let b = twins.listed x.request.next next next_twin in
@@ -42,7 +42,7 @@ at_own p q list x own next held blocked twins own_twin next_twin held_twin after
       place = c.0;
       within = c.1;
       held = ap (λ (t : Twin). t.mode) there_held;
-      after = subst (λ (t : Twin). is_blocked_at q x.request.row x.request.side own next t.twin ≡ not blocked) (sym there_held) after;
+      after = subst (λ (t : Twin). is_blocked_at q x.request.place own next t.twin ≡ not blocked) (sym there_held) after;
     } in
     let on_next : DiffersNext p q list x own blocked (length list) = record {
       place = b.0;
@@ -58,14 +58,14 @@ at_own p q list x own next held blocked twins own_twin next_twin held_twin after
     }
 
 -- and where they differ, they do so at a spot of the list.
-pub at_spot : (p q : Protocol) (list : List Twin) (spots : List Spot) (blocked : Bool) → HasTwins p q list → IsMetBy p spots → Differs p q blocked → DiffersSpot p q list spots blocked (length spots)
+pub at_spot : (p q : IndexProtocol) (list : List Twin) (spots : List Spot) (blocked : Bool) → HasTwins p q list → IsMetBy p spots → Differs p q blocked → DiffersSpot p q list spots blocked (length spots)
 at_spot p q list spots blocked twins met d =
-    let x : Spot = spot d.row d.side d.own d.next d.held in
-    let there = met.listed d.row d.side d.own d.next d.held d.met in
+    let x : Spot = spot d.place d.own d.next d.held in
+    let there = met.listed d.place d.own d.next d.held d.met in
     record { place = there.0; spot = x; within = there.1; there = there.2; before = d.before; differs = at_own p q list x d.own' d.next' d.held' blocked twins d.own_twin d.next_twin d.held_twin d.after }
 
 -- A spot that p blocks is gained where they differ there,
-pub gained_if_differs : (p q : Protocol) (list : List Twin) (x : Spot) → HasTwins p q list → IsMetSpot p x → is_blocked_at p x.request.row x.request.side x.request.own x.request.next x.held ≡ true
+pub gained_if_differs : (p q : IndexProtocol) (list : List Twin) (x : Spot) → HasTwins p q list → IsMetSpot p x → is_blocked_at p x.request.place x.request.own x.request.next x.held ≡ true
     → DiffersOwn p q list x true (length list) → IsGained p q x
 gained_if_differs p q list x twins met blocked d = record {
   own = (twin_at list d.place).twin;
@@ -80,5 +80,5 @@ gained_if_differs p q list x twins met blocked d = record {
 }
 
 -- and nowhere else.
-pub differs_if_gained : (p q : Protocol) (list : List Twin) (x : Spot) → HasTwins p q list → IsGained p q x → DiffersOwn p q list x true (length list)
+pub differs_if_gained : (p q : IndexProtocol) (list : List Twin) (x : Spot) → HasTwins p q list → IsGained p q x → DiffersOwn p q list x true (length list)
 differs_if_gained p q list x twins is = at_own p q list x is.own is.next is.held true twins is.own_twin is.next_twin is.held_twin is.granted

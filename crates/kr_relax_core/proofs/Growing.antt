@@ -8,19 +8,19 @@ use Rattle.std.proofs.lemmas.List.Elements.{All-push, Contains-append_left, Cont
 use Rattle.std.proofs.lemmas.List.Quantifiers.{all_pairs_push}
 use Rattle.std.specs.List.{AllPairs}
 use Rattle.std.proofs.Math.ListN.{length-append}
-use Rattle.kr_model.specs.Protocol.{Protocol}
-use Rattle.kr_relax_core.specs.declared.met.Request.{Request}
-use Rattle.kr_relax_core.specs.declared.met.Spot.{Spot}
+use Rattle.kr_kinds.specs.Kinds.{IndexProtocol, table_of}
+use Rattle.kr_relax_core.specs.declared.place.Request.{Request}
+use Rattle.kr_relax_core.specs.declared.place.Spot.{Spot}
 use Rattle.kr_relax_core.specs.declared.twins.Twin.{Twin}
 use Rattle.kr_relax_core.specs.declared.twins.Twins.{Twins}
 use Rattle.kr_relax_core.specs.Met.{IsMet, mode_then}
 use Rattle.kr_relax_core.specs.Twins.{AreTwins, IsTwin, IsFoundWell, Grows, LeadsTo, LeadsNexts, LeadsOwns, LeadsAll, twin_of, twin_at, left, none, grown}
 
-pub grows_none : (p q : Protocol) (t : Twins) → IsFoundWell p q t → Grows p q t t
+pub grows_none : (p q : IndexProtocol) (t : Twins) → IsFoundWell p q t → Grows p q t t
 grows_none p q t well = record { well = well; kept = λ x h. h; more = omega arith; same = λ e. refl }
 
 -- What has grown twice has grown.
-pub grows_on : (p q : Protocol) (a b c : Twins) → Grows p q a b → Grows p q b c → Grows p q a c
+pub grows_on : (p q : IndexProtocol) (a b c : Twins) → Grows p q a b → Grows p q b c → Grows p q a c
 grows_on p q a b c ab bc = record {
   well = bc.well;
   kept = λ x h. bc.kept x (ab.kept x h);
@@ -74,7 +74,7 @@ unseen_more xs us m n within old a b ra rb e there = split (cases_eq (a * 16 + b
     split (inr apart) = here apart (Contains-push_cases xs (twin_of m n) (twin_of a b) there)
 
 -- Twins that weren't seen are put behind the others.
-pub grown_by : (p q : Protocol) (t t' : Twins) (m n : ℕ) → IsFoundWell p q t → IsTwin p q (twin_of m n) → m ≤ 15 → n ≤ 15
+pub grown_by : (p q : IndexProtocol) (t t' : Twins) (m n : ℕ) → IsFoundWell p q t → IsTwin p q (twin_of m n) → m ≤ 15 → n ≤ 15
     → get_or t.unseen.items (m * 16 + n) true ≡ true
     → t'.twins.items ≡ t.twins.items ++ twin_of m n ∷ [] → t'.unseen.items ≡ set t.unseen.items (m * 16 + n) false → Grows p q t t'
 grown_by p q t t' m n old is rm rn unseen twins unseens =
@@ -107,7 +107,7 @@ grown_by p q t t' m n old is rm rn unseen twins unseens =
     }
 
 -- At first nobody has a lock.
-pub found_first : (p q : Protocol) (t : Twins) → t.twins.items ≡ twin_of 0 0 ∷ [] → t.unseen.items ≡ set (replicate 256 true) 0 false → IsFoundWell p q t
+pub found_first : (p q : IndexProtocol) (t : Twins) → t.twins.items ≡ twin_of 0 0 ∷ [] → t.unseen.items ≡ set (replicate 256 true) 0 false → IsFoundWell p q t
 found_first p q t twins unseens = record {
   apart = subst (AllPairs (λ (a : Twin) (b : Twin). a ≡ b → ⊥)) (sym twins) (all_pairs_push (λ (a : Twin) (b : Twin). a ≡ b → ⊥) [] (twin_of 0 0) (λ i j d before low. absurd (omega arith)) (λ k d low. absurd (omega arith)));
   unfound = λ a b ra rb e there.
@@ -132,7 +132,7 @@ below_or_last : (k n : ℕ) → k < n + 1 → (k < n) ⊎ (k ≡ n)
 below_or_last k n h = grind arith
 
 -- With one more of them on the next name,
-pub nexts_step : (p q : Protocol) (a b : Twins) (from : List Twin) (n : ℕ) (x : Request) (own : ℕ) → Grows p q a b
+pub nexts_step : (p q : IndexProtocol) (a b : Twins) (from : List Twin) (n : ℕ) (x : Request) (own : ℕ) → Grows p q a b
     → LeadsNexts p q a.twins.items from n x own → ((twin_at from n).mode ≡ x.next → LeadsTo p q b.twins.items x own (twin_at from n).twin) → LeadsNexts p q b.twins.items from (n + 1) x own
 nexts_step p q a b from n x own g old new j below same = split (below_or_last j n below)
   where
@@ -141,7 +141,7 @@ nexts_step p q a b from n x own g old new j below same = split (below_or_last j 
     split (inr e) = subst (λ (i : ℕ). LeadsTo p q b.twins.items x own (twin_at from i).twin) (sym e) (new (subst (λ (i : ℕ). (twin_at from i).mode ≡ x.next) e same))
 
 -- one more on the name,
-pub owns_step : (p q : Protocol) (a b : Twins) (from : List Twin) (n : ℕ) (x : Request) → Grows p q a b
+pub owns_step : (p q : IndexProtocol) (a b : Twins) (from : List Twin) (n : ℕ) (x : Request) → Grows p q a b
     → LeadsOwns p q a.twins.items from n x → ((twin_at from n).mode ≡ x.own → LeadsNexts p q b.twins.items from (length from) x (twin_at from n).twin) → LeadsOwns p q b.twins.items from (n + 1) x
 owns_step p q a b from n x g old new j below same = split (below_or_last j n below)
   where
@@ -150,7 +150,7 @@ owns_step p q a b from n x g old new j below same = split (below_or_last j n bel
     split (inr e) = subst (λ (i : ℕ). LeadsNexts p q b.twins.items from (length from) x (twin_at from i).twin) (sym e) (new (subst (λ (i : ℕ). (twin_at from i).mode ≡ x.own) e same))
 
 -- and one more request.
-pub all_step : (p q : Protocol) (a b : Twins) (from : List Twin) (spots : List Spot) (n : ℕ) → Grows p q a b
+pub all_step : (p q : IndexProtocol) (a b : Twins) (from : List Twin) (spots : List Spot) (n : ℕ) → Grows p q a b
     → LeadsAll p q a.twins.items from spots n → ((d : Spot) → (get_or spots n d).held ≡ 0 → LeadsOwns p q b.twins.items from (length from) (get_or spots n d).request) → LeadsAll p q b.twins.items from spots (n + 1)
 all_step p q a b from spots n g old new m d below same = split (below_or_last m n below)
   where
@@ -159,12 +159,12 @@ all_step p q a b from spots n g old new m d below same = split (below_or_last m 
     split (inr e) = subst (λ (i : ℕ). LeadsOwns p q b.twins.items from (length from) (get_or spots i d).request) (sym e) (new d (subst (λ (i : ℕ). (get_or spots i d).held ≡ 0) e same))
 
 -- What a request leads to, with twins of its own modes, are twins.
-pub twins_then : (p q : Protocol) (x : Request) (own next m t : ℕ) → IsMet p x.row x.side x.own x.next 0 → IsTwin p q (twin_of x.own own) → IsTwin p q (twin_of x.next next)
-    → m ≡ mode_then p x.row x.side x.own x.next → t ≡ mode_then q x.row x.side own next → m ≤ p.count → t ≤ q.count → q.count ≡ p.count → IsTwin p q (twin_of m t)
+pub twins_then : (p q : IndexProtocol) (x : Request) (own next m t : ℕ) → IsMet p x.place x.own x.next 0 → IsTwin p q (twin_of x.own own) → IsTwin p q (twin_of x.next next)
+    → m ≡ mode_then p x.place x.own x.next → t ≡ mode_then q x.place own next → m ≤ (table_of p).count → t ≤ (table_of q).count → (table_of q).count ≡ (table_of p).count → IsTwin p q (twin_of m t)
 twins_then p q x own next m t met one two em et rm rt same = record {
   twins =
       subst (λ (k : ℕ). AreTwins p q k t) (sym em)
-      (subst (AreTwins p q (mode_then p x.row x.side x.own x.next)) (sym et) (grown x.row x.side x.own x.next own next met one.twins two.twins));
+      (subst (AreTwins p q (mode_then p x.place x.own x.next)) (sym et) (grown x.place x.own x.next own next met one.twins two.twins));
   mode = rm;
   twin = omega arith;
 }

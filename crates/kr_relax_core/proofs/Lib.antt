@@ -1,7 +1,10 @@
+pub mod OfKind
+pub mod Finding
+pub mod GoneSpots
+pub mod LeavingSpots
 pub mod Growing
 pub mod Closed
 pub mod Differing
-pub mod Meeting
 pub mod Counting
 pub mod Selecting
 pub mod Judging

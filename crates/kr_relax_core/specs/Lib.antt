@@ -1,4 +1,5 @@
 pub mod Met
+pub mod Finding
 pub mod Twins
 pub mod Selects
 pub mod Width

@@ -1,8 +1,8 @@
 -- Which requests schedules bring beside which locks, by the modes alone.
-use Rattle.std.specs.Prelude.{◌≡◌, ◌≢◌, ℕ, ◌+◌, ◌*◌, ◌<◌, ◌≤◌, ◌⊎◌, Bool, true, false, Option, List, [], ◌∷◌, All, Contains, length, slice_index_or, if◌then◌else◌}
+use Rattle.std.specs.Prelude.{◌≡◌, ◌≢◌, ℕ, ◌≤◌, Bool, false, true, Option, None, List, All, Contains, if◌then◌else◌}
 use Rattle.std.specs.List.{AllPairs}
 use Rattle.kr_model.specs.declared.Row.{Row}
-use Rattle.kr_model.specs.declared.Row.TheVariants.{FetchHit, FetchMiss, ScanKey, ScanStop, Insert, Delete, Update}
+use Rattle.kr_model.specs.declared.Row.TheVariants as row
 use Rattle.kr_model.specs.declared.Side.{Side}
 use Rattle.kr_model.specs.declared.Side.TheVariants.{Current, Next}
 use Rattle.kr_model.specs.declared.Span.{Span}
@@ -10,34 +10,63 @@ use Rattle.kr_model.specs.declared.LockState.{LockState}
 use Rattle.kr_model.specs.Protocol.{Protocol}
 use Rattle.kr_model.specs.Covers.{mode_after, conflicts_with}
 use Rattle.kr_model.specs.Safe.{free, MayAsk, MayBeside, Beside}
-use Rattle.kr_decide.specs.declared.pair.Pair.{Pair}
-use Rattle.kr_decide.specs.Pairs.{pair_at}
 use Rattle.kr_decide.specs.Findings.{goes_by_next}
-use Rattle.kr_relax_core.specs.declared.met.Request.{Request}
-use Rattle.kr_relax_core.specs.declared.met.Spot.{Spot}
-use Rattle.kr_relax_core.specs.declared.met.Finder.{Finder}
+use Rattle.kr_ghost.specs.declared.vain.Vain.TheVariants as vain
+use Rattle.kr_ghost.specs.Protocol.{GhostProtocol, heir_of, inherits}
+use Rattle.kr_ghost.specs.Safe as ghost
+use Rattle.kr_ghost.specs.Step as step
+use Rattle.kr_kinds.specs.Kinds.{IndexProtocol, Gone, Leaves, table_of}
+use Rattle.kr_change.specs.declared.change.GhostRow.{GhostRow}
+use Rattle.kr_change.specs.declared.change.GhostRow.TheVariants as ghost_row
+use Rattle.kr_relax_core.specs.declared.place.Place.{Place}
+use Rattle.kr_relax_core.specs.declared.place.Place.TheVariants as place
+use Rattle.kr_relax_core.specs.declared.place.Request.{Request}
+use Rattle.kr_relax_core.specs.declared.place.Spot.{Spot}
 
 -- Requests by modes --
 
 -- The own mode that the request of an insert or delete goes by, of one who holds `own` on the requested name and `next` on the next one; any other request goes by none. At the side next the two names are one.
 abbrev pub given_mode : Row → Side → ℕ → ℕ → ℕ
-given_mode Insert Next own next = own
-given_mode Delete Next own next = own
-given_mode Insert Current own next = next
-given_mode Delete Current own next = next
-given_mode _ _ own next = 0
+given_mode row.Insert Next own next = own
+given_mode row.Delete Next own next = own
+given_mode row.Insert Current own next = next
+given_mode row.Delete Current own next = next
+given_mode row.FetchHit s own next = 0
+given_mode row.FetchMiss s own next = 0
+given_mode row.ScanKey s own next = 0
+given_mode row.ScanStop s own next = 0
+given_mode row.Update s own next = 0
 
--- What is requested there, or nothing.
-abbrev pub request_at : Protocol → Row → Side → ℕ → ℕ → Option (ℕ × Span)
-request_at p r s own next = p.ask r s (given_mode r s own next)
+-- What a row requests that only tables with ghosts have.
+abbrev pub ghost_request : GhostProtocol → GhostRow → Side → Option (ℕ × Span)
+ghost_request p ghost_row.Revive Current = p.revive
+ghost_request p ghost_row.Revive Next = p.revive_next
+ghost_request p ghost_row.InsertHit Current = step.vain p vain.InsertHit
+ghost_request p ghost_row.InsertHit Next = p.insert_hit_next
+ghost_request p ghost_row.DeleteMiss s = step.vain p vain.DeleteMiss
+ghost_request p ghost_row.UpdateMiss s = step.vain p vain.UpdateMiss
+
+-- What is requested at a place, or nothing; a purge requests nothing.
+abbrev pub request_at : IndexProtocol → Place → ℕ → ℕ → Option (ℕ × Span)
+request_at p (place.Row r s) own next = (table_of p).ask r s (given_mode r s own next)
+request_at (Gone p) (place.GhostRow g s) own next = None
+request_at (Leaves p) (place.GhostRow g s) own next = ghost_request p g s
+request_at p place.Purge own next = None
 
 -- Whether another's lock in mode `held` blocks the request.
-abbrev pub is_blocked_at : Protocol → Row → Side → ℕ → ℕ → ℕ → Bool
-is_blocked_at p r s own next held = conflicts_with p held own (request_at p r s own next)
+abbrev pub is_blocked_at : IndexProtocol → Place → ℕ → ℕ → ℕ → Bool
+is_blocked_at p x own next held = conflicts_with (table_of p) held own (request_at p x own next)
 
--- The mode on the requested name once it is granted.
-abbrev pub mode_then : Protocol → Row → Side → ℕ → ℕ → ℕ
-mode_then p r s own next = mode_after p own (request_at p r s own next)
+-- The mode that is inherited of this one on a ghost that is purged, 0 for none.
+abbrev pub heir : IndexProtocol → ℕ → ℕ
+heir (Gone p) m = 0
+heir (Leaves p) m = heir_of p.purges m
+
+-- The mode on the requested name once it is granted; or on the name above a ghost with the lock `next`, once that is purged.
+abbrev pub mode_then : IndexProtocol → Place → ℕ → ℕ → ℕ
+mode_then p (place.Row r s) own next = mode_after (table_of p) own (request_at p (place.Row r s) own next)
+mode_then p (place.GhostRow g s) own next = mode_after (table_of p) own (request_at p (place.GhostRow g s) own next)
+mode_then p place.Purge own next = (table_of p).convert own (heir p next)
 
 -- What schedules bring together --
 
@@ -45,8 +74,8 @@ mode_then p r s own next = mode_after p own (request_at p r s own next)
 abbrev pub next_mode : Row → Side → LockState → ℕ
 next_mode r s n = if goes_by_next r s then n.mode else 0
 
--- Of two transactions that can have these lock states on one name, the first may come to make the request beside the second. It holds `own` there, and `next` on the next name where the request goes by that; the second holds `held`, 0 for no lock.
-pub record IsMet (p : Protocol) (r : Row) (s : Side) (own next held : ℕ) : Type 0 where
+-- Without ghosts: of two transactions that can have these lock states on one name, the first may come to make the request beside the second. It holds `own` there, and `next` on the next name where the request goes by that; the second holds `held`, 0 for no lock.
+pub record IsMetGone (p : Protocol) (r : Row) (s : Side) (own next held : ℕ) : Type 0 where
   pub first : LockState
   pub second : LockState
   -- what the first has on the next name
@@ -59,89 +88,56 @@ pub record IsMet (p : Protocol) (r : Row) (s : Side) (own next held : ℕ) : Typ
   pub above_mode : next_mode r s above ≡ next
   pub held_mode : second.mode ≡ held
 
--- It is met, by its modes.
-abbrev pub IsMetSpot : Protocol → Spot → Type 0
-IsMetSpot p x = IsMet p x.request.row x.request.side x.request.own x.request.next x.held
+-- With ghosts: where what is requested of a name is asked for.
+abbrev pub place_of : ghost.Ask → Place
+place_of ghost.FetchHit = place.Row row.FetchHit Current
+place_of ghost.FetchMiss = place.Row row.FetchMiss Next
+place_of ghost.ScanName = place.Row row.ScanKey Current
+place_of ghost.ScanStop = place.Row row.ScanStop Next
+place_of ghost.Insert = place.Row row.Insert Next
+place_of ghost.Delete = place.Row row.Delete Current
+place_of ghost.Update = place.Row row.Update Current
+place_of ghost.Revive = place.GhostRow ghost_row.Revive Current
+place_of ghost.InsertHit = place.GhostRow ghost_row.InsertHit Current
+place_of ghost.DeleteMiss = place.GhostRow ghost_row.DeleteMiss Next
+place_of ghost.UpdateMiss = place.GhostRow ghost_row.UpdateMiss Next
+place_of ghost.ReviveNext = place.GhostRow ghost_row.Revive Next
+place_of ghost.InsertHitNext = place.GhostRow ghost_row.InsertHit Next
 
--- Each row, at each side at which it requests a lock.
-abbrev pub all_places : List (Row × Side)
-all_places = (FetchHit, Current) ∷ (FetchMiss, Next) ∷ (ScanKey, Current) ∷ (ScanStop, Next) ∷ (Insert, Current) ∷ (Insert, Next) ∷ (Delete, Current) ∷ (Delete, Next) ∷ (Update, Current) ∷ []
+-- A transaction requests a lock on a name beside another that can be there; it requests one on a key that it has inserted below a name; or it has this lock on a name while a ghost below, where it has that one and has changed nothing, is purged.
+pub data IsMetLeaving (p : GhostProtocol) : Place → ℕ → ℕ → ℕ → Type 0 where
+  asks : (a : ghost.Ask) (present : Bool) (x y : ghost.Hold) → ghost.Beside p present x y → ghost.MayAsk p present x a → IsMetLeaving p (place_of a) x.mode 0 y.mode
+  on_new_key : (present : Bool) (x : ghost.Hold) → ghost.Beside p present x ghost.free → x.rolling ≡ false → IsMetLeaving p (place.Row row.Insert Current) 0 x.mode 0
+  purged : (present : Bool) (x y : ghost.Hold) → inherits p.purges ≡ true → ghost.Beside p present x ghost.free → x.rolling ≡ false
+      → ghost.Beside p false y ghost.free → y.rolling ≡ false → ghost.is_changed y.key ≡ false → IsMetLeaving p place.Purge x.mode y.mode 0
+
+-- Schedules bring it, by its kind.
+abbrev pub IsMet : IndexProtocol → Place → ℕ → ℕ → ℕ → Type 0
+IsMet (Gone p) (place.Row r s) own next held = IsMetGone p r s own next held
+IsMet (Gone p) (place.GhostRow g s) own next held = ⊥
+IsMet (Gone p) place.Purge own next held = ⊥
+IsMet (Leaves p) x own next held = IsMetLeaving p x own next held
+
+-- It is met, by its modes.
+abbrev pub IsMetSpot : IndexProtocol → Spot → Type 0
+IsMetSpot p x = IsMet p x.request.place x.request.own x.request.next x.held
 
 -- The request with these parts.
-abbrev pub request : Row → Side → ℕ → ℕ → Request
-request r s own next = record { row = r; side = s; own = own; next = next }
+abbrev pub request : Place → ℕ → ℕ → Request
+request x own next = record { place = x; own = own; next = next }
 
 -- And beside a lock.
-abbrev pub spot : Row → Side → ℕ → ℕ → ℕ → Spot
-spot r s own next held = record { request = request r s own next; held = held }
+abbrev pub spot : Place → ℕ → ℕ → ℕ → Spot
+spot x own next held = record { request = request x own next; held = held }
 
 -- The list has exactly what schedules bring together, and all its modes are modes of p, or no lock.
-pub record IsMetBy (p : Protocol) (spots : List Spot) : Type 0 where
+pub record IsMetBy (p : IndexProtocol) (spots : List Spot) : Type 0 where
   pub sound : All (IsMetSpot p) spots
-  pub listed : (r : Row) (s : Side) (own next held : ℕ) → IsMet p r s own next held → Contains spots (spot r s own next held)
-  pub own : All (λ x. x.request.own ≤ p.count) spots
-  pub next : All (λ x. x.request.next ≤ p.count) spots
-  pub held : All (λ x. x.held ≤ p.count) spots
+  pub listed : (x : Place) (own next held : ℕ) → IsMet p x own next held → Contains spots (spot x own next held)
+  pub own : All (λ x. x.request.own ≤ (table_of p).count) spots
+  pub next : All (λ x. x.request.next ≤ (table_of p).count) spots
+  pub held : All (λ x. x.held ≤ (table_of p).count) spots
 
 -- No spot stands twice in the list.
 abbrev pub AreApart : List Spot → Type 0
 AreApart spots = AllPairs (λ x y. x ≢ y) spots
-
--- Finding them --
-
--- A number below 4096 for each three modes up to 15.
-abbrev pub modes_number : ℕ → ℕ → ℕ → ℕ
-modes_number own next held = (own * 16 + next) * 16 + held
-
--- Each spot of the list is met, by modes of p, and stands there once.
-pub record AreMet (p : Protocol) (spots : List Spot) : Type 0 where
-  pub apart : AreApart spots
-  pub sound : All (IsMetSpot p) spots
-  pub own : All (λ x. x.request.own ≤ p.count) spots
-  pub next : All (λ x. x.request.next ≤ p.count) spots
-  pub held : All (λ x. x.held ≤ p.count) spots
-
--- And of a row and side the list has what has been seen, and nothing else.
-pub record IsFinding (p : Protocol) (r : Row) (s : Side) (f : Finder) : Type 0 where
-  pub met : AreMet p f.spots.items
-  pub size : length f.seen.items ≡ 4096
-  pub seen : (own next held : ℕ) → own ≤ 15 → next ≤ 15 → held ≤ 15 → slice_index_or f.seen.items (modes_number own next held) false ≡ true → Contains f.spots.items (spot r s own next held)
-  pub unseen : (own next held : ℕ) → own ≤ 15 → next ≤ 15 → held ≤ 15 → slice_index_or f.seen.items (modes_number own next held) false ≡ false → Contains f.spots.items (spot r s own next held) → ⊥
-
--- The list has no request at that row and side.
-abbrev pub Lacks : List Spot → Row → Side → Type 0
-Lacks spots r s = (own next held : ℕ) → Contains spots (spot r s own next held) → ⊥
-
--- The spot is at that row and side.
-abbrev pub IsAt : Row → Side → Spot → Type 0
-IsAt r s x = (x.request.row ≡ r) × (x.request.side ≡ s)
-
--- What is new is at that row and side.
-abbrev pub AddsAt : Row → Side → List Spot → List Spot → Type 0
-AddsAt r s old new = (x : Spot) → Contains new x → Contains old x ⊎ IsAt r s x
-
--- What was found still is.
-abbrev pub Keeps : List Spot → List Spot → Type 0
-Keeps old new = (x : Spot) → Contains old x → Contains new x
-
--- More has been found, at that row and side alone.
-pub record FindsMore (p : Protocol) (r : Row) (s : Side) (old new : Finder) : Type 0 where
-  pub finding : IsFinding p r s new
-  pub kept : Keeps old.spots.items new.spots.items
-  pub added : AddsAt r s old.spots.items new.spots.items
-
--- The request of one who has x on a name, and n on the next one, beside another who has y, is found.
-abbrev pub FindsAt : Protocol → List Spot → Row → Side → LockState → LockState → LockState → Type 0
-FindsAt p spots r s x y n = MayAsk p r s x n → MayBeside p r s y → Contains spots (spot r s x.mode (next_mode r s n) y.mode)
-
--- So it is with each of the first k of these on the next name, where nobody else has anything there,
-abbrev pub FindsNexts : Protocol → List Spot → Row → Side → List Pair → ℕ → LockState → LockState → Type 0
-FindsNexts p spots r s pairs k x y = (j : ℕ) → j < k → (pair_at pairs j).other ≡ free → FindsAt p spots r s x y (pair_at pairs j).own
-
--- for each of the first k pairs,
-abbrev pub FindsPairs : Protocol → List Spot → Row → Side → List Pair → ℕ → Type 0
-FindsPairs p spots r s pairs k = (i : ℕ) → i < k → FindsNexts p spots r s pairs (length pairs) (pair_at pairs i).own (pair_at pairs i).other
-
--- and for each of the first k places.
-abbrev pub FindsPlaces : Protocol → List Spot → List Pair → ℕ → Type 0
-FindsPlaces p spots pairs k = (m : ℕ) → m < k → FindsPairs p spots (slice_index_or all_places m (FetchHit, Current)).0 (slice_index_or all_places m (FetchHit, Current)).1 pairs (length pairs)

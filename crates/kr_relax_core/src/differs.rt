@@ -1,16 +1,17 @@
 //! Whether one of two protocols grants what the other blocks.
 ghost use Rattle.std.specs.Prelude.{◌≡◌, ◌≤◌, ◌↔◌, IsTrue, length};
+ghost use Rattle.kr_kinds.specs.Kinds.{table_of};
 ghost use Rattle.kr_relax_core.specs.Met.{IsMetBy};
 ghost use Rattle.kr_relax_core.specs.Twins.{HasTwins, Differs, DiffersHeld, DiffersNext, DiffersOwn, DiffersSpot};
 
-use crate::met::{Request, Spot, is_blocked_at};
+use crate::place::{Request, Spot, is_blocked_at};
 use crate::twins::Twin;
+use kr_kinds::IndexProtocol;
 use kr_model::Mode;
-use kr_protocol::Protocol;
 
 /// Whether the second protocol grants the request of a spot beside some twin of the lock there, or blocks it, other than
 /// `blocked` says; with these twins of its own modes.
-fn differs_held<P: Protocol, Q: Protocol>(
+fn differs_held<P: IndexProtocol, Q: IndexProtocol>(
     base: &P,
     other: &Q,
     twins: &[Twin],
@@ -19,16 +20,15 @@ fn differs_held<P: Protocol, Q: Protocol>(
     next: Mode,
     blocked: bool,
 ) -> bool
-    requires same { (Q.table other.now).count ≡ (P.table base.now).count }
-    requires twins { HasTwins (P.table base.now) (Q.table other.now) twins.now }
-    requires own { own ≤ (P.table base.now).count }
-    requires next { next ≤ (P.table base.now).count }
-    ensures { IsTrue result ↔ DiffersHeld (P.table base.now) (Q.table other.now) twins.now spot own next blocked (length twins.now) }
+    requires same { (table_of (Q.index other.now)).count ≡ (table_of (P.index base.now)).count }
+    requires twins { HasTwins (P.index base.now) (Q.index other.now) twins.now }
+    requires own { own ≤ (table_of (P.index base.now)).count }
+    requires next { next ≤ (table_of (P.index base.now)).count }
+    ensures { IsTrue result ↔ DiffersHeld (P.index base.now) (Q.index other.now) twins.now spot own next blocked (length twins.now) }
 {
     let _ = base;
     let there = Request {
-        row: spot.request.row,
-        side: spot.request.side,
+        place: spot.request.place,
         own,
         next,
     };
@@ -42,7 +42,7 @@ fn differs_held<P: Protocol, Q: Protocol>(
 }
 
 /// The same with some twin of its own mode on the next name.
-fn differs_next<P: Protocol, Q: Protocol>(
+fn differs_next<P: IndexProtocol, Q: IndexProtocol>(
     base: &P,
     other: &Q,
     twins: &[Twin],
@@ -50,10 +50,10 @@ fn differs_next<P: Protocol, Q: Protocol>(
     own: Mode,
     blocked: bool,
 ) -> bool
-    requires same { (Q.table other.now).count ≡ (P.table base.now).count }
-    requires twins { HasTwins (P.table base.now) (Q.table other.now) twins.now }
-    requires own { own ≤ (P.table base.now).count }
-    ensures { IsTrue result ↔ DiffersNext (P.table base.now) (Q.table other.now) twins.now spot own blocked (length twins.now) }
+    requires same { (table_of (Q.index other.now)).count ≡ (table_of (P.index base.now)).count }
+    requires twins { HasTwins (P.index base.now) (Q.index other.now) twins.now }
+    requires own { own ≤ (table_of (P.index base.now)).count }
+    ensures { IsTrue result ↔ DiffersNext (P.index base.now) (Q.index other.now) twins.now spot own blocked (length twins.now) }
 {
     for at in 0..twins.len() {
         let next = twins[at];
@@ -67,16 +67,16 @@ fn differs_next<P: Protocol, Q: Protocol>(
 }
 
 /// The same with some twin of its own mode on the name.
-pub(crate) fn differs_own<P: Protocol, Q: Protocol>(
+pub(crate) fn differs_own<P: IndexProtocol, Q: IndexProtocol>(
     base: &P,
     other: &Q,
     twins: &[Twin],
     spot: Spot,
     blocked: bool,
 ) -> bool
-    requires same { (Q.table other.now).count ≡ (P.table base.now).count }
-    requires twins { HasTwins (P.table base.now) (Q.table other.now) twins.now }
-    ensures { IsTrue result ↔ DiffersOwn (P.table base.now) (Q.table other.now) twins.now spot blocked (length twins.now) }
+    requires same { (table_of (Q.index other.now)).count ≡ (table_of (P.index base.now)).count }
+    requires twins { HasTwins (P.index base.now) (Q.index other.now) twins.now }
+    ensures { IsTrue result ↔ DiffersOwn (P.index base.now) (Q.index other.now) twins.now spot blocked (length twins.now) }
 {
     for at in 0..twins.len() {
         let own = twins[at];
@@ -90,17 +90,17 @@ pub(crate) fn differs_own<P: Protocol, Q: Protocol>(
 }
 
 /// Whether the second protocol differs at some spot that the first blocks, or at one that it grants.
-pub(crate) fn differs<P: Protocol, Q: Protocol>(
+pub(crate) fn differs<P: IndexProtocol, Q: IndexProtocol>(
     base: &P,
     other: &Q,
     twins: &[Twin],
     spots: &[Spot],
     blocked: bool,
 ) -> bool
-    requires same { (Q.table other.now).count ≡ (P.table base.now).count }
-    requires twins { HasTwins (P.table base.now) (Q.table other.now) twins.now }
-    requires spots { IsMetBy (P.table base.now) spots.now }
-    ensures { IsTrue result ↔ Differs (P.table base.now) (Q.table other.now) blocked }
+    requires same { (table_of (Q.index other.now)).count ≡ (table_of (P.index base.now)).count }
+    requires twins { HasTwins (P.index base.now) (Q.index other.now) twins.now }
+    requires spots { IsMetBy (P.index base.now) spots.now }
+    ensures { IsTrue result ↔ Differs (P.index base.now) (Q.index other.now) blocked }
 {
     for at in 0..spots.len() {
         let spot = spots[at];

@@ -1,12 +1,12 @@
 //! What one history of a transaction gives under two protocols.
 ghost use Rattle.std.specs.Prelude.{◌≡◌, ◌≤◌, ◌<◌, ◌+◌, ◌*◌, All, IfOk, OnOk, length};
-ghost use Rattle.kr_model.specs.Protocol.{Protocol};
+ghost use Rattle.kr_kinds.specs.Kinds.{table_of};
 ghost use Rattle.kr_relax_core.specs.Met.{IsMet, IsMetBy};
 ghost use Rattle.kr_relax_core.specs.Twins.{HasTwins, Grows, IsFoundWell, IsTwin, AreTwins, LeadsTo, LeadsNexts, LeadsOwns, LeadsAll};
 
-use crate::met::{Request, Spot, mode_then};
+use crate::place::{Request, Spot, mode_then};
+use kr_kinds::IndexProtocol;
 use kr_model::{Memory, Mode};
-use kr_protocol::Protocol;
 use std::alloc::Global;
 
 /// The mode of a transaction on a name under one protocol, and its mode there under another, by the same requests: 0 for no
@@ -37,9 +37,13 @@ fn twin_number(mode: Mode, twin: Mode) -> usize
 
 impl Twins {
     /// At first nobody has a lock.
-    fn new<P: Protocol, Q: Protocol>(alloc: Global, base: &P, other: &Q) -> Result<Twins, Memory>
-        requires { (Q.table other.now).count ≡ (P.table base.now).count }
-        ensures { IfOk result (IsFoundWell (P.table base.now) (Q.table other.now)) }
+    fn new<P: IndexProtocol, Q: IndexProtocol>(
+        alloc: Global,
+        base: &P,
+        other: &Q,
+    ) -> Result<Twins, Memory>
+        requires { (table_of (Q.index other.now)).count ≡ (table_of (P.index base.now)).count }
+        ensures { IfOk result (IsFoundWell (P.index base.now) (Q.index other.now)) }
     {
         let _ = base;
         let _ = other;
@@ -51,7 +55,7 @@ impl Twins {
     }
 
     /// Adds what a request leads to under the two protocols, where its own modes are twins.
-    fn add<P: Protocol, Q: Protocol>(
+    fn add<P: IndexProtocol, Q: IndexProtocol>(
         &mut self,
         base: &P,
         other: &Q,
@@ -59,18 +63,17 @@ impl Twins {
         own: Mode,
         next: Mode,
     ) -> Result<(), Memory>
-        requires same { (Q.table other.now).count ≡ (P.table base.now).count }
-        requires well { IsFoundWell (P.table base.now) (Q.table other.now) self.old }
-        requires is_met { IsMet (P.table base.now) request.row request.side request.own request.next 0 }
-        requires own_twin { IsTwin (P.table base.now) (Q.table other.now) (record { mode = request.own; twin = own }) }
-        requires next_twin { IsTwin (P.table base.now) (Q.table other.now) (record { mode = request.next; twin = next }) }
-        ensures grows { OnOk result (Grows (P.table base.now) (Q.table other.now) self.old self.new) }
-        ensures leads { OnOk result (LeadsTo (P.table base.now) (Q.table other.now) self.new.twins.items request own next) }
+        requires same { (table_of (Q.index other.now)).count ≡ (table_of (P.index base.now)).count }
+        requires well { IsFoundWell (P.index base.now) (Q.index other.now) self.old }
+        requires is_met { IsMet (P.index base.now) request.place request.own request.next 0 }
+        requires own_twin { IsTwin (P.index base.now) (Q.index other.now) (record { mode = request.own; twin = own }) }
+        requires next_twin { IsTwin (P.index base.now) (Q.index other.now) (record { mode = request.next; twin = next }) }
+        ensures grows { OnOk result (Grows (P.index base.now) (Q.index other.now) self.old self.new) }
+        ensures leads { OnOk result (LeadsTo (P.index base.now) (Q.index other.now) self.new.twins.items request own next) }
     {
         let mode = mode_then(base, request);
         let there = Request {
-            row: request.row,
-            side: request.side,
+            place: request.place,
             own,
             next,
         };
@@ -84,7 +87,7 @@ impl Twins {
     }
 
     /// The same with each of these twins on the next name.
-    fn add_nexts<P: Protocol, Q: Protocol>(
+    fn add_nexts<P: IndexProtocol, Q: IndexProtocol>(
         &mut self,
         base: &P,
         other: &Q,
@@ -92,13 +95,13 @@ impl Twins {
         request: Request,
         own: Mode,
     ) -> Result<(), Memory>
-        requires same { (Q.table other.now).count ≡ (P.table base.now).count }
-        requires well { IsFoundWell (P.table base.now) (Q.table other.now) self.old }
-        requires from { All (IsTwin (P.table base.now) (Q.table other.now)) from.now }
-        requires is_met { IsMet (P.table base.now) request.row request.side request.own request.next 0 }
-        requires own_twin { IsTwin (P.table base.now) (Q.table other.now) (record { mode = request.own; twin = own }) }
-        ensures grows { OnOk result (Grows (P.table base.now) (Q.table other.now) self.old self.new) }
-        ensures leads { OnOk result (LeadsNexts (P.table base.now) (Q.table other.now) self.new.twins.items from.now (length from.now) request own) }
+        requires same { (table_of (Q.index other.now)).count ≡ (table_of (P.index base.now)).count }
+        requires well { IsFoundWell (P.index base.now) (Q.index other.now) self.old }
+        requires from { All (IsTwin (P.index base.now) (Q.index other.now)) from.now }
+        requires is_met { IsMet (P.index base.now) request.place request.own request.next 0 }
+        requires own_twin { IsTwin (P.index base.now) (Q.index other.now) (record { mode = request.own; twin = own }) }
+        ensures grows { OnOk result (Grows (P.index base.now) (Q.index other.now) self.old self.new) }
+        ensures leads { OnOk result (LeadsNexts (P.index base.now) (Q.index other.now) self.new.twins.items from.now (length from.now) request own) }
     {
         for at in 0..from.len() {
             let next = from[at];
@@ -110,19 +113,19 @@ impl Twins {
     }
 
     /// The same with each of them on the name.
-    fn add_owns<P: Protocol, Q: Protocol>(
+    fn add_owns<P: IndexProtocol, Q: IndexProtocol>(
         &mut self,
         base: &P,
         other: &Q,
         from: &[Twin],
         request: Request,
     ) -> Result<(), Memory>
-        requires same { (Q.table other.now).count ≡ (P.table base.now).count }
-        requires well { IsFoundWell (P.table base.now) (Q.table other.now) self.old }
-        requires from { All (IsTwin (P.table base.now) (Q.table other.now)) from.now }
-        requires is_met { IsMet (P.table base.now) request.row request.side request.own request.next 0 }
-        ensures grows { OnOk result (Grows (P.table base.now) (Q.table other.now) self.old self.new) }
-        ensures leads { OnOk result (LeadsOwns (P.table base.now) (Q.table other.now) self.new.twins.items from.now (length from.now) request) }
+        requires same { (table_of (Q.index other.now)).count ≡ (table_of (P.index base.now)).count }
+        requires well { IsFoundWell (P.index base.now) (Q.index other.now) self.old }
+        requires from { All (IsTwin (P.index base.now) (Q.index other.now)) from.now }
+        requires is_met { IsMet (P.index base.now) request.place request.own request.next 0 }
+        ensures grows { OnOk result (Grows (P.index base.now) (Q.index other.now) self.old self.new) }
+        ensures leads { OnOk result (LeadsOwns (P.index base.now) (Q.index other.now) self.new.twins.items from.now (length from.now) request) }
     {
         for at in 0..from.len() {
             let own = from[at];
@@ -134,19 +137,19 @@ impl Twins {
     }
 
     /// The same for each request that is met beside no lock.
-    fn add_all<P: Protocol, Q: Protocol>(
+    fn add_all<P: IndexProtocol, Q: IndexProtocol>(
         &mut self,
         base: &P,
         other: &Q,
         from: &[Twin],
         spots: &[Spot],
     ) -> Result<(), Memory>
-        requires same { (Q.table other.now).count ≡ (P.table base.now).count }
-        requires well { IsFoundWell (P.table base.now) (Q.table other.now) self.old }
-        requires from { All (IsTwin (P.table base.now) (Q.table other.now)) from.now }
-        requires spots { IsMetBy (P.table base.now) spots.now }
-        ensures grows { OnOk result (Grows (P.table base.now) (Q.table other.now) self.old self.new) }
-        ensures leads { OnOk result (LeadsAll (P.table base.now) (Q.table other.now) self.new.twins.items from.now spots.now (length spots.now)) }
+        requires same { (table_of (Q.index other.now)).count ≡ (table_of (P.index base.now)).count }
+        requires well { IsFoundWell (P.index base.now) (Q.index other.now) self.old }
+        requires from { All (IsTwin (P.index base.now) (Q.index other.now)) from.now }
+        requires spots { IsMetBy (P.index base.now) spots.now }
+        ensures grows { OnOk result (Grows (P.index base.now) (Q.index other.now) self.old self.new) }
+        ensures leads { OnOk result (LeadsAll (P.index base.now) (Q.index other.now) self.new.twins.items from.now spots.now (length spots.now)) }
     {
         for at in 0..spots.len() {
             let spot = spots[at];
@@ -160,18 +163,18 @@ impl Twins {
 
 /// Finds the twins under two protocols, each once: each mode that a transaction can come to hold on a name under `base`, with
 /// each mode that it then holds there under `other`, after the same requests, which are all granted. One that has requested
-/// nothing has the twins 0 and 0. A mode can have several twins, and 0 can have a twin that is a lock. Requests follow by
+/// nothing has the twins 0 and 0. With ghosts, what is inherited counts as requests do. A mode can have several twins, and 0 can have a twin that is a lock. Requests follow by
 /// modes alone: where two histories give one mode, what can follow the one counts for the other too. The two protocols have
-/// as many modes, and `spots` is what `spots_of` finds for `base`. The only fault is that a growth was refused.
-pub fn twins_of<P: Protocol, Q: Protocol>(
+/// as many modes and are of one kind, and `spots` is what `spots_of` finds for `base`. The only fault is that a growth was refused.
+pub fn twins_of<P: IndexProtocol, Q: IndexProtocol>(
     alloc: Global,
     base: &P,
     other: &Q,
     spots: &[Spot],
 ) -> Result<Vec<Twin>, Memory>
-    requires same { (Q.table other.now).count ≡ (P.table base.now).count }
-    requires spots { IsMetBy (P.table base.now) spots.now }
-    ensures { IfOk result (λ list. HasTwins (P.table base.now) (Q.table other.now) list.items) }
+    requires same { (table_of (Q.index other.now)).count ≡ (table_of (P.index base.now)).count }
+    requires spots { IsMetBy (P.index base.now) spots.now }
+    ensures { IfOk result (λ list. HasTwins (P.index base.now) (Q.index other.now) list.items) }
 {
     let mut found = Twins::new(alloc, base, other)?;
     loop {

@@ -1,13 +1,15 @@
 //! Entries of a table that no schedule comes to.
 //!
 //! The functions put their entries behind those so far, in order.
-ghost use Rattle.std.specs.Prelude.{◌≡◌, ◌++◌, ◌↔◌, IsTrue, IfOk, OnOk};
-ghost use Rattle.kr_decide.specs.Survey.{IsSurvey};
+ghost use Rattle.std.specs.Prelude.{◌≡◌, ◌++◌, ◌↔◌, ◌≤◌, IsTrue, IfOk, IfSome, OnOk};
+ghost use Rattle.std.specs.List.{flat_map};
+ghost use Rattle.kr_kinds.specs.Kinds.{table_of};
 ghost use Rattle.kr_relax_core.specs.Met.{IsMetBy};
-ghost use Rattle.kr_relax_core.specs.Unused.{conversions, conversions_from, entries_of, moving, pairs, pairs_with, requests, requests_at, AreUnused, IsRequested, IsUsed};
+ghost use Rattle.kr_relax_core.specs.Unused.{conversions, conversions_from, deletes, entries_of, inserts, mode_asked, pairs, pairs_with, requests, requests_at, AreUnused, ComesTo, IsAskedAt, IsRequestedAt, IsTestedAt, IsUsed};
 
-use crate::met::{Spot, given_mode, spots_of};
-use kr_decide::Survey;
+use crate::place::{Place, Request, Spot, given_mode, heir, request_at};
+use crate::spots::spots_of;
+use kr_kinds::IndexProtocol;
 use kr_model::{Memory, Mode, Row, Side};
 use kr_protocol::Protocol;
 use std::alloc::Global;
@@ -81,18 +83,6 @@ fn conversions<P: Protocol>(protocol: &P, entries: &mut Vec<Entry>) -> Result<()
     Ok(())
 }
 
-/// The rows that move keys, at each side.
-fn moving() -> &'static [(Row, Side)]
-    ensures { result.now ≡ moving }
-{
-    &[
-        (Row::Insert, Side::Current),
-        (Row::Insert, Side::Next),
-        (Row::Delete, Side::Current),
-        (Row::Delete, Side::Next),
-    ]
-}
-
 /// What a row requests at a side, with each own mode on the next name.
 fn requests_at<P: Protocol>(
     protocol: &P,
@@ -112,81 +102,129 @@ fn requests_at<P: Protocol>(
     Ok(())
 }
 
-/// All requests of rows that move keys.
-fn requests<P: Protocol>(protocol: &P, entries: &mut Vec<Entry>) -> Result<(), Memory>
-    ensures { OnOk result (entries.new.items ≡ entries.old.items ++ requests (P.table protocol.now)) }
+/// Requests of an insert.
+fn insert_requests<P: Protocol>(protocol: &P, entries: &mut Vec<Entry>) -> Result<(), Memory>
+    ensures { OnOk result (entries.new.items ≡ entries.old.items ++ flat_map (requests_at (P.table protocol.now)) inserts) }
 {
-    for place in moving() {
-        let (row, side) = *place;
-        requests_at(protocol, entries, row, side)?;
+    requests_at(protocol, entries, Row::Insert, Side::Current)?;
+    requests_at(protocol, entries, Row::Insert, Side::Next)
+}
+
+/// Requests of a delete, where it goes by the own mode on the next name.
+fn delete_requests<P: IndexProtocol>(protocol: &P, entries: &mut Vec<Entry>) -> Result<(), Memory>
+    ensures { OnOk result (entries.new.items ≡ entries.old.items ++ flat_map (requests_at (table_of (P.index protocol.now))) (deletes (P.index protocol.now))) }
+{
+    if protocol.leaves_ghosts() {
+        return Ok(());
     }
-    Ok(())
+    requests_at(protocol, entries, Row::Delete, Side::Current)?;
+    requests_at(protocol, entries, Row::Delete, Side::Next)
 }
 
 /// All entries.
-fn entries_of<P: Protocol>(alloc: Global, protocol: &P) -> Result<Vec<Entry>, Memory>
-    ensures { IfOk result (λ list. list.items ≡ entries_of (P.table protocol.now)) }
+fn entries_of<P: IndexProtocol>(alloc: Global, protocol: &P) -> Result<Vec<Entry>, Memory>
+    ensures { IfOk result (λ list. list.items ≡ entries_of (P.index protocol.now)) }
 {
     let mut entries = Vec::new(alloc);
     pairs(protocol, &mut entries)?;
     conversions(protocol, &mut entries)?;
-    requests(protocol, &mut entries)?;
+    insert_requests(protocol, &mut entries)?;
+    delete_requests(protocol, &mut entries)?;
     Ok(entries)
 }
 
-/// Whether some transaction may come to make the request of a row at a side, by an own mode on the next name.
-fn is_requested<P: Protocol>(
-    protocol: &P,
-    spots: &[Spot],
-    row: Row,
-    side: Side,
-    own_next: Mode,
-) -> bool
-    requires { IsMetBy (P.table protocol.now) spots.now }
-    ensures { IsTrue result ↔ IsRequested (P.table protocol.now) row side own_next }
+/// The mode that is requested, or inherited, if any is.
+fn mode_asked<P: IndexProtocol>(protocol: &P, request: Request) -> Option<Mode>
+    requires own { request.own ≤ (table_of (P.index protocol.now)).count }
+    requires next { request.next ≤ (table_of (P.index protocol.now)).count }
+    ensures asked { result ≡ mode_asked (P.index protocol.now) request.place request.own request.next }
+    ensures in_range { IfSome result (λ m. m ≤ (P.table protocol.now).count) }
 {
-    let _ = protocol;
+    if request.place == Place::Purge {
+        return Some(heir(protocol, request.next));
+    }
+    match request_at(protocol, request) {
+        Some((mode, _)) => Some(mode),
+        None => None,
+    }
+}
+
+/// Whether a request is tested in this converted mode, beside this lock.
+fn is_tested<P: IndexProtocol>(protocol: &P, spot: Spot, requested: Mode, held: Mode) -> bool
+    requires own { spot.request.own ≤ (table_of (P.index protocol.now)).count }
+    requires next { spot.request.next ≤ (table_of (P.index protocol.now)).count }
+    ensures { IsTrue result ↔ IsTestedAt (P.index protocol.now) requested held spot }
+{
+    match mode_asked(protocol, spot.request) {
+        Some(mode) => { spot.held == held && protocol.convert(spot.request.own, mode) == requested }
+        None => false,
+    }
+}
+
+/// Whether one who holds a mode requests this, or inherits it.
+fn is_asked<P: IndexProtocol>(protocol: &P, spot: Spot, held: Mode, requested: Mode) -> bool
+    requires own { spot.request.own ≤ (table_of (P.index protocol.now)).count }
+    requires next { spot.request.next ≤ (table_of (P.index protocol.now)).count }
+    ensures { IsTrue result ↔ IsAskedAt (P.index protocol.now) held requested spot }
+{
+    match mode_asked(protocol, spot.request) {
+        Some(mode) => mode == requested && spot.request.own == held,
+        None => false,
+    }
+}
+
+/// Whether a request is of a row at a side, by this own mode on the next name.
+fn is_requested(spot: Spot, row: Row, side: Side, own_next: Mode) -> bool
+    ensures { IsTrue result ↔ IsRequestedAt row side own_next spot }
+{
+    spot.request.place == Place::Row(row, side)
+        && given_mode(row, side, spot.request.own, spot.request.next) == own_next
+}
+
+/// Whether a request comes to an entry.
+fn comes_to<P: IndexProtocol>(protocol: &P, entry: Entry, spot: Spot) -> bool
+    requires own { spot.request.own ≤ (table_of (P.index protocol.now)).count }
+    requires next { spot.request.next ≤ (table_of (P.index protocol.now)).count }
+    ensures { IsTrue result ↔ ComesTo (P.index protocol.now) entry spot }
+{
+    match entry {
+        Entry::Pair { requested, held } => is_tested(protocol, spot, requested, held),
+        Entry::Conversion { held, requested } => is_asked(protocol, spot, held, requested),
+        Entry::Request {
+            row,
+            side,
+            own_next,
+        } => is_requested(spot, row, side, own_next),
+    }
+}
+
+/// Whether some schedule comes to an entry.
+fn is_used<P: IndexProtocol>(protocol: &P, spots: &[Spot], entry: Entry) -> bool
+    requires { IsMetBy (P.index protocol.now) spots.now }
+    ensures { IsTrue result ↔ IsUsed (P.index protocol.now) entry }
+{
     for at in 0..spots.len() {
-        let request = spots[at].request;
-        if request.row == row && request.side == side && given_mode(request) == own_next {
+        if comes_to(protocol, entry, spots[at]) {
             return true;
         }
     }
     false
 }
 
-/// Whether some schedule comes to an entry.
-fn is_used<P: Protocol>(protocol: &P, survey: &Survey, spots: &[Spot], entry: Entry) -> bool
-    requires survey { IsSurvey (P.table protocol.now) survey.now }
-    requires spots { IsMetBy (P.table protocol.now) spots.now }
-    ensures { IsTrue result ↔ IsUsed (P.table protocol.now) entry }
+/// The entries of a protocol of either kind that no schedule comes to, each once: pairs of modes that no request tests, by the
+/// requested mode and then the held one; conversions of modes that nobody who holds the one mode comes to request the other in, or
+/// to inherit it, by the held mode and then the requested one; and what inserts request with own modes on the next name with which
+/// nobody comes to make the request, and without ghosts what deletes do, of each row the current key before the next one, own
+/// modes rising. Schedules are followed by one name and the next one, as in `spots_of`. The error is memory alone.
+pub fn unused_entries<P: IndexProtocol>(alloc: Global, protocol: &P) -> Result<Vec<Entry>, Memory>
+    ensures { IfOk result (λ list. AreUnused (P.index protocol.now) list.items) }
 {
-    match entry {
-        Entry::Pair { requested, held } => survey.is_tested(requested, held),
-        Entry::Conversion { held, requested } => survey.is_asked(held, requested),
-        Entry::Request {
-            row,
-            side,
-            own_next,
-        } => is_requested(protocol, spots, row, side, own_next),
-    }
-}
-
-/// The entries of a protocol that no schedule comes to, each once: pairs of modes that no request tests, by the requested mode
-/// and then the held one; conversions of modes that nobody who holds the one mode comes to request the other in, by the held
-/// mode and then the requested one; and what inserts and deletes request with own modes on the next name with which nobody
-/// comes to make the request, inserts first, of each row the current key before the next one, own modes rising. Schedules are
-/// followed by one name and the next one, as in `Survey` and `spots_of`. The error is memory alone.
-pub fn unused_entries<P: Protocol>(alloc: Global, protocol: &P) -> Result<Vec<Entry>, Memory>
-    ensures { IfOk result (λ list. AreUnused (P.table protocol.now) list.items) }
-{
-    let survey = Survey::of(alloc, protocol)?;
     let spots = spots_of(alloc, protocol)?;
     let entries = entries_of(alloc, protocol)?;
     let mut list = Vec::new(alloc);
     for at in 0..entries.len() {
         let entry = entries[at];
-        if !is_used(protocol, &survey, &spots, entry) {
+        if !is_used(protocol, &spots, entry) {
             list.push(entry)?;
         }
     }

@@ -3,4 +3,3 @@ pub mod Steps
 pub mod Unused
 pub mod Reasons
 pub mod Whole
-pub mod Same

@@ -6,10 +6,15 @@ use Rattle.kr_model.specs.Map.{Map}
 use Rattle.kr_model.specs.Protocol.{Protocol}
 use Rattle.kr_theorem.specs.Wrong.{GoesWrong}
 use Rattle.kr_change.specs.declared.change.Change.{Change}
-use Rattle.kr_change.specs.Changes.{changed}
-use Rattle.kr_change.specs.Every.{changes_of}
+use Rattle.kr_change.specs.GhostChanges.{changed_index}
+use Rattle.kr_change.specs.GhostEvery.{index_changes_of}
 use Rattle.kr_change.specs.ChangeNames.{change_words, entry_words}
 use Rattle.kr_explain_core.specs.Lines.{IsLineOf}
+use Rattle.kr_ghost.specs.Protocol.{GhostProtocol}
+use Rattle.kr_ghost_explain.specs.Lines.{IsGhostLineOf}
+use Rattle.kr_ghost_explain.specs.Wrong.{GoesWrongBy}
+use Rattle.kr_kinds.specs.Kinds.{IndexProtocol, Gone, Leaves, table_of}
+use Rattle.kr_script.specs.GhostScript.{GhostScript}
 use Rattle.kr_relax_core.specs.declared.outcome.Judged.{Judged}
 use Rattle.kr_relax_core.specs.declared.outcome.Outcome.{Outcome}
 use Rattle.kr_relax_core.specs.declared.outcome.Outcome.TheVariants.{NoChange, BlocksMore, LetsNothingMore, Unsafe, Relaxes}
@@ -21,22 +26,33 @@ abbrev pub of_entry : Protocol → List (List ℕ) → List ℕ → List Change 
 of_entry p names name all = filter (λ c. bytes_eq (entry_words p names c) name) all
 
 -- The changes of p that are of it.
-abbrev pub changes_of_entry : Protocol → List (List ℕ) → List ℕ → List Change
-changes_of_entry p names name = of_entry p names name (changes_of p)
+abbrev pub changes_of_entry : IndexProtocol → List (List ℕ) → List ℕ → List Change
+changes_of_entry p names name = of_entry (table_of p) names name (index_changes_of p)
 
 -- A line reads as a script that goes wrong under p.
-pub record IsWrongLine (p : Protocol) (line : List ℕ) : Type 0 where
+pub record IsWrongGone (p : Protocol) (line : List ℕ) : Type 0 where
   pub opening : Map
   pub steps : List Event
   pub wrong : GoesWrong p opening steps
   pub is_line : IsLineOf opening steps line
 
+-- The same with ghosts, whose purges may come between the steps.
+pub record IsWrongLeaving (p : GhostProtocol) (line : List ℕ) : Type 0 where
+  pub script : GhostScript
+  pub wrong : GoesWrongBy p script.opening script.moves
+  pub is_line : IsGhostLineOf script line
+
+-- By the kind of p.
+abbrev pub IsWrongLine : IndexProtocol → List ℕ → Type 0
+IsWrongLine (Gone p) line = IsWrongGone p line
+IsWrongLine (Leaves p) line = IsWrongLeaving p line
+
 -- A script, if there is one, goes wrong under p with the change.
-abbrev pub HasWrong : Protocol → Change → Option (String Global) → Type 0
-HasWrong p c script = IfSome script (λ line. IsWrongLine (changed p c) (string_bytes line))
+abbrev pub HasWrong : IndexProtocol → Change → Option (String Global) → Type 0
+HasWrong p c script = IfSome script (λ line. IsWrongLine (changed_index p c) (string_bytes line))
 
 -- So does that of a reason.
-abbrev pub IsWrong : Protocol → Reason → Type 0
+abbrev pub IsWrong : IndexProtocol → Reason → Type 0
 IsWrong p r = HasWrong p r.judged.change r.wrong
 
 -- A reason has a script only where the table with the change isn't safe.
@@ -48,7 +64,7 @@ abbrev pub judged_in : List Reason → List Judged
 judged_in list = map (λ r. r.judged) list
 
 -- The list says what each of these changes does to p, in their order; its scripts go wrong, and only a change that leaves p unsafe has one.
-pub record AreReasons (p : Protocol) (changes : List Change) (list : List Reason) : Type 0 where
+pub record AreReasons (p : IndexProtocol) (changes : List Change) (list : List Reason) : Type 0 where
   pub same : map (λ j. j.change) (judged_in list) ≡ changes
   pub judged : All (IsJudged p) (judged_in list)
   pub wrong : All (IsWrong p) list

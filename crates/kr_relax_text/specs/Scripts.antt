@@ -3,15 +3,13 @@ use Rattle.std.specs.Prelude.{◌≡◌, ◌-◌, Bool, true, false, List, All, 
 use Rattle.std.specs.Option.{option_map_or}
 use Rattle.kr_model.specs.declared.Event.{Event}
 use Rattle.kr_model.specs.declared.Reply.{Reply}
-use Rattle.kr_model.specs.Protocol.{Protocol}
 use Rattle.kr_model.specs.Map.{Map}
-use Rattle.kr_model.specs.State.{start}
-use Rattle.kr_model.specs.Run.{run, replies_of, is_granted}
-use Rattle.kr_kinds.specs.Kinds.{Gone}
+use Rattle.kr_model.specs.Run.{is_granted}
+use Rattle.kr_kinds.specs.Kinds.{IndexProtocol}
 use Rattle.kr_change.specs.declared.change.Change.{Change}
-use Rattle.kr_change.specs.Changes.{changed}
+use Rattle.kr_change.specs.GhostChanges.{changed_index}
 use Rattle.kr_relax_core.specs.declared.relax.Relaxed.{Relaxed}
-use Rattle.kr_apart.specs.Apart.{TellsApart, is_blocked}
+use Rattle.kr_apart.specs.Apart.{TellsApart, is_blocked, replies_under}
 use Rattle.kr_relax_text.specs.declared.scripts.Relaxation.{Relaxation}
 use Rattle.kr_relax_text.specs.declared.scripts.Shown.{Shown}
 
@@ -20,20 +18,20 @@ abbrev pub last_is : (Reply → Bool) → List Reply → Bool
 last_is kind replies = option_map_or kind (slice_get replies (length replies - 1)) false
 
 -- The script's replies under p and q are the same and granted up to the last, which p blocks and q grants.
-pub record LetsThrough (p q : Protocol) (opening : Map) (events : List Event) : Type 0 where
-  pub tells : TellsApart (Gone p) (Gone q) opening events
-  pub before : last_is is_blocked (replies_of (run p (start opening) events).history) ≡ true
-  pub after : last_is is_granted (replies_of (run q (start opening) events).history) ≡ true
+pub record LetsThrough (p q : IndexProtocol) (opening : Map) (events : List Event) : Type 0 where
+  pub tells : TellsApart p q opening events
+  pub before : last_is is_blocked (replies_under p opening events) ≡ true
+  pub after : last_is is_granted (replies_under q opening events) ≡ true
 
 -- The table p blocks the last step of the script, and grants it with the change.
-abbrev pub Shows : Protocol → Change → Shown → Type 0
-Shows p c s = LetsThrough p (changed p c) s.opening.items s.events.items
+abbrev pub Shows : IndexProtocol → Change → Shown → Type 0
+Shows p c s = LetsThrough p (changed_index p c) s.opening.items s.events.items
 
 -- Where a relaxation has a script, the script shows it.
-abbrev pub IsShown : Protocol → Relaxation → Type 0
+abbrev pub IsShown : IndexProtocol → Relaxation → Type 0
 IsShown p r = IfSome r.script (Shows p r.relaxed.change)
 
 -- The list has these relaxations, in their order, and the script of each shows it.
-pub record AreShown (p : Protocol) (wanted : List Relaxed) (list : List Relaxation) : Type 0 where
+pub record AreShown (p : IndexProtocol) (wanted : List Relaxed) (list : List Relaxation) : Type 0 where
   pub relaxations : map (λ r. r.relaxed) list ≡ wanted
   pub scripts : All (IsShown p) list

@@ -5,11 +5,11 @@ ghost use Rattle.kr_relax_text.specs.Scripts.{AreShown, IsShown, LetsThrough, Sh
 use crate::replies::{ends_blocked, ends_granted};
 use kr_apart::{Flat, Part, parts, tells_apart};
 use kr_change::{Change, Changed};
-use kr_kinds::Gone;
+use kr_judge::is_map;
+use kr_kinds::IndexProtocol;
 use kr_model::{Event, Memory};
-use kr_protocol::Protocol;
 use kr_relax_core::Relaxed;
-use kr_serial::{is_map, play};
+use kr_stepping::play_any;
 use std::alloc::Global;
 
 /// A script of which a table grants all steps but the last, which it blocks.
@@ -30,21 +30,21 @@ pub struct Relaxation {
 
 /// Whether a script has the same replies under two tables, all granted, up to the last, which the first blocks and the second
 /// grants.
-fn lets_through<P: Protocol, Q: Protocol>(
+fn lets_through<P: IndexProtocol, Q: IndexProtocol>(
     alloc: Global,
     one: &P,
     other: &Q,
     opening: &[(u64, u64)],
     events: &[Event],
 ) -> Result<bool, Memory>
-    ensures { IfOk result (λ is. IsTrue is ↔ LetsThrough (P.table one.now) (Q.table other.now) opening.now events.now) }
+    ensures { IfOk result (λ is. IsTrue is ↔ LetsThrough (P.index one.now) (Q.index other.now) opening.now events.now) }
 {
-    if !is_map(opening) || !tells_apart(alloc, &Gone(one), &Gone(other), opening, events)? {
+    if !is_map(opening) || !tells_apart(alloc, one, other, opening, events)? {
         return Ok(false);
     }
-    let before = play(alloc, one, opening, events)?;
-    let after = play(alloc, other, opening, events)?;
-    Ok(ends_blocked(before.replies.as_slice()) && ends_granted(after.replies.as_slice()))
+    let before = play_any(alloc, one, opening, events)?;
+    let after = play_any(alloc, other, opening, events)?;
+    Ok(ends_blocked(before.as_slice()) && ends_granted(after.as_slice()))
 }
 
 /// A script that was found for the change of this number, if there is one.
@@ -59,16 +59,15 @@ fn found_for(alloc: Global, found: &[Part], number: usize) -> Result<Option<Show
 }
 
 /// A script, if it shows a change. It is tried under both tables.
-fn if_shows<P: Protocol>(
+fn if_shows<P: IndexProtocol>(
     alloc: Global,
     protocol: &P,
     change: Change,
     shown: Shown,
 ) -> Result<Option<Shown>, Memory>
-    ensures { IfOk result (λ script. IfSome script (Shows (P.table protocol.now) change)) }
+    ensures { IfOk result (λ script. IfSome script (Shows (P.index protocol.now) change)) }
 {
-    let gone = Gone(protocol);
-    let Some(changed) = Changed::new(&gone, change) else {
+    let Some(changed) = Changed::new(protocol, change) else {
         return Ok(None);
     };
     if !lets_through(alloc, protocol, &changed, &shown.opening, &shown.events)? {
@@ -78,7 +77,7 @@ fn if_shows<P: Protocol>(
 }
 
 /// A relaxation with the script that was found for its number, if that shows it.
-fn with_script<P: Protocol>(
+fn with_script<P: IndexProtocol>(
     alloc: Global,
     protocol: &P,
     found: &[Part],
@@ -86,7 +85,7 @@ fn with_script<P: Protocol>(
     relaxed: Relaxed,
 ) -> Result<Relaxation, Memory>
     ensures relaxed { IfOk result (λ r. r.relaxed ≡ relaxed) }
-    ensures script { IfOk result (IsShown (P.table protocol.now)) }
+    ensures script { IfOk result (IsShown (P.index protocol.now)) }
 {
     let script = match found_for(alloc, found, number)? {
         Some(shown) => if_shows(alloc, protocol, relaxed.change, shown)?,
@@ -96,7 +95,7 @@ fn with_script<P: Protocol>(
 }
 
 /// Scripts that may show relaxations, by their numbers.
-fn search<P: Protocol>(
+fn search<P: IndexProtocol>(
     alloc: Global,
     protocol: &P,
     relaxations: &[Relaxed],
@@ -105,17 +104,17 @@ fn search<P: Protocol>(
     for relaxed in relaxations {
         changes.push(relaxed.change)?;
     }
-    parts(alloc, &Flat::of(&Gone(protocol)), &changes)
+    parts(alloc, &Flat::of(protocol), &changes)
 }
 
 /// The relaxations, each with a script that shows it, if one is found: under the table with the change the script's last step is
 /// granted, and without it blocked. The error is memory alone.
-pub fn with_scripts<P: Protocol>(
+pub fn with_scripts<P: IndexProtocol>(
     alloc: Global,
     protocol: &P,
     relaxations: &[Relaxed],
 ) -> Result<Vec<Relaxation>, Memory>
-    ensures { IfOk result (λ list. AreShown (P.table protocol.now) relaxations.now list.items) }
+    ensures { IfOk result (λ list. AreShown (P.index protocol.now) relaxations.now list.items) }
 {
     let found = search(alloc, protocol, relaxations)?;
     let mut list = Vec::new(alloc);

@@ -23,7 +23,6 @@ use Rattle.kr_model.specs.Map.{Map, is_above, is_rising}
 use Rattle.kr_script.specs.Json.{whole}
 use Rattle.kr_script.specs.Line.{document_of, format_number}
 use Rattle.kr_script.specs.Pairs.{pair_data, pairs_data}
-use Rattle.kr_script.specs.Script.{Script}
 use Rattle.kr_script.specs.Steps.{event_of, step_of, items_of_op}
 use Rattle.kr_script.specs.Faults.{format_faults, is_two, opening_faults, step_faults}
 use Rattle.kr_script.specs.Reading.{pairs_of, events_of, document, reading_of}
@@ -103,6 +102,32 @@ array_next depth a b r ds some h e =
       shorter = let low = no_longer (depth - 1) a b ds h in let end = after_end_array-shorter b r e in omega arith;
     }
 
+-- Elements that read back --
+
+-- there is an item for each element
+pub as_many : {A : Type 0} (write : A → Data) (xs : List A) → items_len (items_of (map write xs)) ≡ length xs
+as_many write [] = refl
+as_many write (x ∷ xs) = let more = as_many write xs in omega arith
+
+-- at most 100,000 elements are few items
+pub few_items : {A : Type 0} (write : A → Data) (xs : List A) → length xs ≤ 100000 → nat_lt (items_len (items_of (map write xs))) 100001 ≡ true
+few_items write xs few = rw (as_many write xs) (grind (arith, nat_tests))
+
+-- elements that read back from what they are written as
+abbrev pub ReadBack : {A : Type 0} → (A → Data) → (Data → Option A) → List A → Type 0
+ReadBack write read xs = map (λ x. read (write x)) xs ≡ map Some xs
+
+module _ {A : Type 0} (write : A → Data) (read : Data → Option A) where
+  pub first_back : (x : A) (xs : List A) → ReadBack write read (x ∷ xs) → (read (write x) ≡ Some x) × ReadBack write read xs
+  first_back x xs h = parts (read (write x)) (Some x) (map (λ y. read (write y)) xs) (map Some xs) h
+    where
+      parts : {B : Type 0} (a b : B) (us vs : List B) → a ∷ us ≡ b ∷ vs → (a ≡ b) × (us ≡ vs)
+      parts a b us vs e = (cc, cc)
+
+  pub back_further : (xs : List A) (x : A) → ReadBack write read xs → read (write x) ≡ Some x → ReadBack write read (xs ++ x ∷ [])
+  back_further [] x h k = rw k refl
+  back_further (y ∷ xs) x h k = let parts = first_back y xs h in rw (parts.0, back_further xs x parts.1 k) refl
+
 -- Pairs --
 
 -- the key before what comes next
@@ -132,10 +157,6 @@ pub pairs_back : (ps : Map) → pairs_of (items_of (map pair_data ps)) ≡ ps
 pairs_back [] = refl
 pairs_back (p ∷ ps) = ap (λ l. p ∷ l) (pairs_back ps)
 
-pub many_pairs : (ps : Map) → items_len (items_of (map pair_data ps)) ≡ length ps
-many_pairs [] = refl
-many_pairs (p ∷ ps) = let more = many_pairs ps in omega arith
-
 -- Steps --
 
 -- a step's values are its word and what is behind it
@@ -150,32 +171,14 @@ items_of_step Commit = refl
 items_of_step Abort = refl
 items_of_step Back = refl
 
--- events whose steps read back, in format 2 or in format 1
-abbrev pub ReadBack : Bool → List Event → Type 0
-ReadBack two es = map (λ e. event_of two (step_of e)) es ≡ map Some es
-
 module _ (two : Bool) where
-  first_back : (e : Event) (es : List Event) → ReadBack two (e ∷ es) → (event_of two (step_of e) ≡ Some e) × ReadBack two es
-  first_back e es h = parts (event_of two (step_of e)) (Some e) (map (λ f. event_of two (step_of f)) es) (map Some es) h
-    where
-      parts : {A : Type 0} (a b : A) (xs ys : List A) → a ∷ xs ≡ b ∷ ys → (a ≡ b) × (xs ≡ ys)
-      parts a b xs ys e = (cc, cc)
-
-  pub back_further : (es : List Event) (e : Event) → ReadBack two es → event_of two (step_of e) ≡ Some e → ReadBack two (es ++ e ∷ [])
-  back_further [] e h k = rw k refl
-  back_further (f ∷ es) e h k = let parts = first_back f es h in rw (parts.0, back_further es e parts.1 k) refl
-
-  pub no_step_fault : (i : ℕ) (es : List Event) → ReadBack two es → step_faults two i (items_of (map step_of es)) ≡ []
+  pub no_step_fault : (i : ℕ) (es : List Event) → ReadBack step_of (event_of two) es → step_faults two i (items_of (map step_of es)) ≡ []
   no_step_fault i [] h = refl
-  no_step_fault i (e ∷ es) h = let parts = first_back e es h in rw (parts.0, no_step_fault (i + 1) es parts.1) refl
+  no_step_fault i (e ∷ es) h = let parts = first_back step_of (event_of two) e es h in rw (parts.0, no_step_fault (i + 1) es parts.1) refl
 
-  pub events_back : (es : List Event) → ReadBack two es → events_of two (items_of (map step_of es)) ≡ es
+  pub events_back : (es : List Event) → ReadBack step_of (event_of two) es → events_of two (items_of (map step_of es)) ≡ es
   events_back [] h = refl
-  events_back (e ∷ es) h = let parts = first_back e es h in rw (parts.0, events_back es parts.1) refl
-
-pub many_steps : (es : List Event) → items_len (items_of (map step_of es)) ≡ length es
-many_steps [] = refl
-many_steps (e ∷ es) = let more = many_steps es in omega arith
+  events_back (e ∷ es) h = let parts = first_back step_of (event_of two) e es h in rw (parts.0, events_back es parts.1) refl
 
 -- The document --
 
@@ -183,16 +186,20 @@ pub three_put : (f o s : Data) → put (codes "steps") s (put (codes "opening") 
 unfolding serde_json_on_literals
 three_put f o s = refl
 
+-- a document of this format, with these pairs and these steps
+abbrev pub document_with : ℕ → Map → List Data → Data
+document_with n ps ds = object (member (codes "format") (whole n) (member (codes "opening") (pairs_data ps) (member (codes "steps") (array (items_of ds)) no_members)))
+
 -- the tokens of a script are those of its document
-pub document_next : (t0 t1 t2 t3 t4 t5 t6 t7 : List Token) (two : Bool) (ps : Map) (es : List Event)
-    → read_key t0 ≡ Some (Some (codes "format"), t1) → IsNext 126 t1 (whole (format_number two)) t2
+pub document_next : (t0 t1 t2 t3 t4 t5 t6 t7 : List Token) (n : ℕ) (ps : Map) (ds : List Data)
+    → read_key t0 ≡ Some (Some (codes "format"), t1) → IsNext 126 t1 (whole n) t2
     → read_key t2 ≡ Some (Some (codes "opening"), t3) → IsNext 126 t3 (pairs_data ps) t4
-    → read_key t4 ≡ Some (Some (codes "steps"), t5) → IsNext 126 t5 (array (items_of (map step_of es))) t6
+    → read_key t4 ≡ Some (Some (codes "steps"), t5) → IsNext 126 t5 (array (items_of ds)) t6
     → read_key t6 ≡ Some (None, t7)
-    → (j : json.Json) × (value 127 (Token.begin_object ∷ t0) ≡ Some (j, t7)) × (of_json j ≡ Some (document_of two ps es))
-document_next t0 t1 t2 t3 t4 t5 t6 t7 two ps es kf f ko o ks s end =
+    → (j : json.Json) × (value 127 (Token.begin_object ∷ t0) ≡ Some (j, t7)) × (of_json j ≡ Some (document_with n ps ds))
+document_next t0 t1 t2 t3 t4 t5 t6 t7 n ps ds kf f ko o ks s end =
     let p = value 126 in
-    let n = length t0 in
+    let len = length t0 in
     let s1 = read_key-shorter t0 (Some (codes "format")) t1 kf in
     let s2 = f.shorter in
     let s3 = read_key-shorter t2 (Some (codes "opening")) t3 ko in
@@ -203,13 +210,13 @@ document_next t0 t1 t2 t3 t4 t5 t6 t7 two ps es kf f ko o ks s end =
       json.object ms,
       value-begin_object 127 t0 (omega arith)
           ∙ ap (parse_map json.object)
-          (members_more p n (codes "format") t0 t1 t2 f.json (omega arith) kf f.is
+          (members_more p len (codes "format") t0 t1 t2 f.json (omega arith) kf f.is
           ∙ ap (parse_map (json.member (codes "format") f.json))
-          (members_more p (n - 1) (codes "opening") t2 t3 t4 o.json (omega arith) ko o.is
+          (members_more p (len - 1) (codes "opening") t2 t3 t4 o.json (omega arith) ko o.is
           ∙ ap (parse_map (json.member (codes "opening") o.json))
-          (members_more p (n - 1 - 1) (codes "steps") t4 t5 t6 s.json (omega arith) ks s.is
-          ∙ ap (parse_map (json.member (codes "steps") s.json)) (members_end p (n - 1 - 1 - 1) t6 t7 (omega arith) end)))),
-      rw (f.reads, o.reads, s.reads) (ap (λ l. Some (object l)) (three_put (whole (format_number two)) (pairs_data ps) (array (items_of (map step_of es))))),
+          (members_more p (len - 1 - 1) (codes "steps") t4 t5 t6 s.json (omega arith) ks s.is
+          ∙ ap (parse_map (json.member (codes "steps") s.json)) (members_end p (len - 1 - 1 - 1) t6 t7 (omega arith) end)))),
+      rw (f.reads, o.reads, s.reads) (ap (λ l. Some (object l)) (three_put (whole n) (pairs_data ps) (array (items_of ds)))),
     )
 
 -- the number of a format has no fault, and is of that format
@@ -218,18 +225,14 @@ format_reads true = (refl, refl)
 format_reads false = (refl, refl)
 
 -- the document of a script has no fault, and is that script
-pub document_reads : (two : Bool) (ps : Map) (es : List Event) → opening_faults 0 None (items_of (map pair_data ps)) ≡ [] → ReadBack two es → length ps ≤ 100000 → length es ≤ 100000
+pub document_reads : (two : Bool) (ps : Map) (es : List Event) → opening_faults 0 None (items_of (map pair_data ps)) ≡ [] → ReadBack step_of (event_of two) es → length ps ≤ 100000 → length es ≤ 100000
     → reading_of (Some (document_of two ps es)) ≡ Ok (record { opening = ps; steps = es })
 unfolding serde_json_on_literals
 document_reads two ps es rising back few_pairs few_steps =
-    let pairs = items_of (map pair_data ps) in
-    let steps = items_of (map step_of es) in
     let format = format_reads two in
-    let low_pairs : nat_lt (items_len pairs) 100001 ≡ true = rw (many_pairs ps) (grind (arith, nat_tests)) in
-    let low_steps : nat_lt (items_len steps) 100001 ≡ true = rw (many_steps es) (grind (arith, nat_tests)) in
-    rw (format.0, format.1, low_pairs, low_steps, rising, no_step_fault two 0 es back, pairs_back ps, events_back two es back) refl
+    rw (format.0, format.1, few_items pair_data ps few_pairs, few_items step_of es few_steps, rising, no_step_fault two 0 es back, pairs_back ps, events_back two es back) refl
 
 -- a text whose tokens are a document with this reading reads so
-pub text_reads : (bytes : List ℕ) (s : Script) → IsUtf8 bytes → ((j : json.Json) × (value 127 (tokens bytes) ≡ Some (j, [])) × (reading_of (of_json j) ≡ Ok s))
-    → reading_of (document bytes) ≡ Ok s
-text_reads bytes s utf8 h = rw (is_utf8-from_IsUtf8 bytes utf8, h.1) h.2
+pub text_reads : {R : Type 0} (reads : Option Data → R) (bytes : List ℕ) (r : R) → IsUtf8 bytes → ((j : json.Json) × (value 127 (tokens bytes) ≡ Some (j, [])) × (reads (of_json j) ≡ r))
+    → reads (document bytes) ≡ r
+text_reads reads bytes r utf8 h = rw (is_utf8-from_IsUtf8 bytes utf8, h.1) h.2

@@ -9,6 +9,8 @@ use Rattle.kr_model.specs.Firsts.{unless}
 use Rattle.kr_model.proofs.RisingKeys.{sorted_rising}
 use Rattle.kr_script.specs.Faults.{Fault, opening, pair_of, pair_faults, opening_faults}
 use Rattle.kr_script.specs.Reading.{with_some, pairs_of, events_of}
+use Rattle.kr_script.specs.Moves.{move_of}
+use Rattle.kr_script.specs.GhostReading.{moves_of}
 
 -- no fault before the rest, and none in it
 none_left : (b : Bool) (f : Fault) (fs : List Fault) → unless b f ++ fs ≡ [] → (b ≡ true) × (fs ≡ [])
@@ -49,6 +51,14 @@ length-events_of two no_items = omega arith
 length-events_of two (item d ds) =
     let more = length-events_of two ds in
     let here = length-with_some (event_of two d) (events_of two ds) in
+    omega arith
+
+-- there are no more moves than elements
+pub length-moves_of : (n : ℕ) (ds : Items) → length (moves_of n ds) ≤ items_len ds
+length-moves_of n no_items = omega arith
+length-moves_of n (item d ds) =
+    let more = length-moves_of n ds in
+    let here = length-with_some (move_of n d) (moves_of n ds) in
     omega arith
 
 -- where no fault tells of too many, there are at most 100,000

@@ -4,3 +4,5 @@ pub mod Written
 pub mod Documents
 pub mod Numbers
 pub mod LineReads
+pub mod GhostFirsts
+pub mod GhostDocuments

@@ -33,7 +33,7 @@ use Rattle.kr_script.specs.Line.{needs_two, format_number, steps_data, document_
 use Rattle.kr_script.specs.Pairs.{pair_data, pairs_data}
 use Rattle.kr_script.specs.Reading.{reading}
 use Rattle.kr_script.specs.Script.{IsScript}
-use Rattle.kr_script.specs.Steps.{is_later, items_of_op, step_of}
+use Rattle.kr_script.specs.Steps.{event_of, is_later, items_of_op, step_of}
 use Rattle.kr_script.proofs.Documents.{ReadBack, no_opening_fault, three_put, document_reads}
 use Rattle.kr_script.proofs.Written.{reads_back}
 
@@ -223,7 +223,7 @@ or_right : (a b : Bool) → b ≡ true → a || b ≡ true
 or_right true b h = refl
 or_right false b h = h
 
-all_back : (two : Bool) (es : List Event) → All EventFits es → (needs_two es ≡ true → two ≡ true) → ReadBack two es
+all_back : (two : Bool) (es : List Event) → All EventFits es → (needs_two es ≡ true → two ≡ true) → ReadBack step_of (event_of two) es
 all_back two [] h k = refl
 all_back two (e ∷ es) h k =
     let first = All-head EventFits e es h in

@@ -7,3 +7,6 @@ pub mod Faults
 pub mod Reading
 pub mod Line
 pub mod Tokens
+pub mod GhostScript
+pub mod Moves
+pub mod GhostReading

@@ -2,10 +2,13 @@
 use Rattle.std.specs.Prelude.{◌≡◌, ◌<◌, ℕ, List, [], ◌∷◌, length, codes, Some, None}
 use Rattle.json.specs.Token.{Token}
 use Rattle.json.specs.Json.{Json, after_end_array, value}
-use Rattle.serde_json.specs.Data.{Data}
+use Rattle.serde_json.specs.Data.{Data, array, string}
 use Rattle.serde_json.specs.Read.{of_json}
+use Rattle.serde_json.specs.View.{items_of}
 use Rattle.kr_model.specs.declared.Op.{Op}
 use Rattle.kr_model.specs.declared.Op.TheVariants.{Fetch, Scan, Go, Insert, Delete, Update, Commit, Abort, Back}
+use Rattle.kr_ghost.specs.declared.moves.Move.{Move}
+use Rattle.kr_ghost.specs.declared.moves.Move.TheVariants.{Attempt, Purge}
 use Rattle.kr_script.specs.Json.{whole}
 
 -- One value comes next, which nests no deeper than the number, and then these tokens.
@@ -44,3 +47,12 @@ behind_word (Update k v) = whole k ∷ whole v ∷ []
 behind_word Commit = []
 behind_word Abort = []
 behind_word Back = []
+
+-- The values of a move: the number of a transaction, and the word of an operation with its numbers; or the word of a purge with its key.
+abbrev pub values_of_move : Move → List Data
+values_of_move (Attempt e) = whole e.txn ∷ string (word_of e.op) ∷ behind_word e.op
+values_of_move (Purge k) = string (codes "purge") ∷ whole k ∷ []
+
+-- The step that a move is written as.
+abbrev pub step_of_move : Move → Data
+step_of_move m = array (items_of (values_of_move m))

@@ -42,7 +42,8 @@ fn decimal(bytes: &[u8]) -> Option<u64>
 }
 
 /// The whole number that a number's text is.
-fn whole_number(text: &str) -> Option<u64>
+#[inline(always)]
+pub(crate) fn whole_number(text: &str) -> Option<u64>
     ensures { IfSome result (λ n. number_of text.now ≡ Some (unsigned n)) }
 {
     let bytes = text.as_bytes();
@@ -56,7 +57,7 @@ fn whole_number(text: &str) -> Option<u64>
     numeral.to_u64()
 }
 
-fn read_number(reader: &mut Reader<'_>) -> Option<u64>
+pub(crate) fn read_number(reader: &mut Reader<'_>) -> Option<u64>
     ensures { IfSome result (λ n. (depth : ℕ) → IsNext depth reader.old (whole n) reader.new) }
 {
     let token = reader.next()?;
@@ -66,6 +67,7 @@ fn read_number(reader: &mut Reader<'_>) -> Option<u64>
     }
 }
 
+#[inline(always)]
 fn read_word<'a>(reader: &mut Reader<'a>) -> Option<&'a str>
     ensures { IfSome result (λ word. (depth : ℕ) → IsNext depth reader.old (string word.now) reader.new) }
 {
@@ -77,7 +79,7 @@ fn read_word<'a>(reader: &mut Reader<'a>) -> Option<&'a str>
 }
 
 /// Passes the bracket that opens an array.
-fn open_array(reader: &mut Reader<'_>) -> Option<()>
+pub(crate) fn open_array(reader: &mut Reader<'_>) -> Option<()>
     ensures { OnSome result (reader.old ≡ begin_array ∷ reader.new) }
 {
     let token = reader.next()?;
@@ -88,7 +90,7 @@ fn open_array(reader: &mut Reader<'_>) -> Option<()>
 }
 
 /// Passes the brace that opens an object.
-fn open_object(reader: &mut Reader<'_>) -> Option<()>
+pub(crate) fn open_object(reader: &mut Reader<'_>) -> Option<()>
     ensures { OnSome result (reader.old ≡ begin_object ∷ reader.new) }
 {
     let token = reader.next()?;
@@ -99,7 +101,7 @@ fn open_object(reader: &mut Reader<'_>) -> Option<()>
 }
 
 /// Passes the name of a member.
-fn pass_name(reader: &mut Reader<'_>, name: &str) -> Option<()>
+pub(crate) fn pass_name(reader: &mut Reader<'_>, name: &str) -> Option<()>
     ensures { OnSome result (read_key reader.old ≡ Some (Some name.now, reader.new)) }
 {
     match reader.next_key() {
@@ -115,6 +117,17 @@ fn close_object(reader: &mut Reader<'_>) -> Option<()>
     match reader.next_key() {
         Ok(None) => Some(()),
         _ => None,
+    }
+}
+
+/// Passes the brace that closes the document: nothing comes behind it.
+pub(crate) fn close_document(reader: &mut Reader<'_>) -> Option<()>
+    ensures { OnSome result (read_key reader.old ≡ Some (None, [])) }
+{
+    close_object(reader)?;
+    match reader.next() {
+        None => Some(()),
+        Some(_) => None,
     }
 }
 
@@ -146,7 +159,7 @@ fn read_pair(reader: &mut Reader<'_>) -> Option<(u64, u64)>
 }
 
 /// The pairs of an array, if their keys rise.
-fn read_pairs(alloc: Global, reader: &mut Reader<'_>) -> Option<Vec<(u64, u64)>>
+pub(crate) fn read_pairs(alloc: Global, reader: &mut Reader<'_>) -> Option<Vec<(u64, u64)>>
     ensures next { IfSome result (λ pairs. IsNext 126 reader.old (pairs_data pairs.items) reader.new) }
     ensures rising { IfSome result (λ pairs. opening_faults 0 None (items_of (map pair_data pairs.items)) ≡ []) }
     ensures few { IfSome result (λ pairs. vec_len pairs ≤ 100000) }
@@ -194,16 +207,28 @@ fn read_op(two: bool, reader: &mut Reader<'_>, word: &str) -> Option<Op>
     }
 }
 
+/// The event of a step, in format 2 or in format 1, from behind the number of its transaction up to the closing bracket.
+#[inline(always)]
+pub(crate) fn read_step(two: bool, reader: &mut Reader<'_>, txn: u64) -> Option<Event>
+    ensures next { IfSome result (λ event. AreNext 124 reader.old (string (word_of event.op) ∷ behind_word event.op) reader.new) }
+    ensures txn { IfSome result (λ event. event.txn ≡ txn) }
+    ensures back { IfSome result (λ event. event_of two (step_of event) ≡ Some event) }
+{
+    let txn = u32::try_from(txn).ok()?;
+    let word = read_word(reader)?;
+    let op = read_op(two, reader, word)?;
+    Some(Event { txn, op })
+}
+
 fn read_event(two: bool, reader: &mut Reader<'_>) -> Option<Event>
     ensures next { IfSome result (λ event. IsNext 125 reader.old (step_of event) reader.new) }
     ensures back { IfSome result (λ event. event_of two (step_of event) ≡ Some event) }
 {
     open_array(reader)?;
-    let txn = u32::try_from(read_number(reader)?).ok()?;
-    let word = read_word(reader)?;
-    let op = read_op(two, reader, word)?;
+    let txn = read_number(reader)?;
+    let event = read_step(two, reader, txn)?;
     if reader.take_end_array() {
-        Some(Event { txn, op })
+        Some(event)
     } else {
         None
     }
@@ -240,7 +265,7 @@ fn read_format(reader: &mut Reader<'_>) -> Option<bool>
 }
 
 fn read_members(alloc: Global, reader: &mut Reader<'_>) -> Option<Script>
-    ensures { IfSome result (λ script. (j : Json) × (value 127 reader.old ≡ Some (j, reader.new)) × (reading_of (of_json j) ≡ Ok script)) }
+    ensures { IfSome result (λ script. (j : Json) × (value 127 reader.old ≡ Some (j, [])) × (reading_of (of_json j) ≡ Ok script)) }
 {
     open_object(reader)?;
     pass_name(reader, "format")?;
@@ -249,18 +274,8 @@ fn read_members(alloc: Global, reader: &mut Reader<'_>) -> Option<Script>
     let opening = read_pairs(alloc, reader)?;
     pass_name(reader, "steps")?;
     let steps = read_events(alloc, two, reader)?;
-    close_object(reader)?;
+    close_document(reader)?;
     Some(Script::new(opening, steps))
-}
-
-fn read_tokens(alloc: Global, reader: &mut Reader<'_>) -> Option<Script>
-    ensures { IfSome result (λ script. (j : Json) × (value 127 reader.old ≡ Some (j, [])) × (reading_of (of_json j) ≡ Ok script)) }
-{
-    let script = read_members(alloc, reader)?;
-    match reader.next() {
-        None => Some(script),
-        Some(_) => None,
-    }
 }
 
 /// The script that the bytes are, where they have the plain form. Nothing is told of other bytes, nor where a growth was
@@ -275,5 +290,5 @@ pub fn read_plain(alloc: Global, bytes: &[u8]) -> Option<Script>
     let Ok(mut reader) = Reader::new(text, &mut scratch) else {
         return None;
     };
-    read_tokens(alloc, &mut reader)
+    read_members(alloc, &mut reader)
 }

@@ -1,5 +1,5 @@
 //! The replies to events under a protocol of either kind.
-ghost use Rattle.std.specs.Prelude.{◌≡◌, [], false, true, IfOk, OnOk};
+ghost use Rattle.std.specs.Prelude.{◌≡◌, false, true, IfOk};
 ghost use Rattle.kr_model.specs.Map.{IsMap};
 ghost use Rattle.kr_ghost.specs.State.{opened};
 ghost use Rattle.kr_kinds.specs.Kinds.{leaves_ghosts};

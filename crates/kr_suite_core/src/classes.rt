@@ -4,8 +4,8 @@ ghost use Rattle.std.specs.Prelude.{◌≡◌, ◌↔◌, IsTrue, []};
 use crate::tested::Tested;
 use kr_change::Change;
 
-/// The tests for a table of either kind. Each table that differs in one entry is exactly one of: told apart by a part that names it, alike,
-/// or left. Those that are alike, and those that are left, come in the order of `index_changes_of`.
+/// The tests for a table of either kind. Each table that differs in one entry is exactly one of: told apart by a part that names
+/// it, alike, or left. Those that are alike, and those that are left, come in the order of `index_changes_of`.
 #[derive(Drop)]
 pub struct Suite {
     /// The scripts; those that take changes back come last.

@@ -16,9 +16,9 @@ use kr_kinds::IndexProtocol;
 use kr_model::Memory;
 use std::alloc::Global;
 
-/// The tests for a table of either kind: an engine that follows it passes each part, and one of which the table differs in one entry fails
-/// a part, unless that entry's change is alike or left. Nothing says how few are left. Where deletes leave ghosts, no change is said
-/// to be alike. The only fault is that a growth was refused.
+/// The tests for a table of either kind: an engine that follows it passes each part, and one of which the table differs in one
+/// entry fails a part, unless that entry's change is alike or left. Nothing says how few are left. Where deletes leave ghosts, no
+/// change is said to be alike. The only fault is that a growth was refused.
 pub fn suite<P: IndexProtocol>(alloc: Global, protocol: &P) -> Result<Suite, Memory>
     ensures { IfOk result (IsSuite (P.index protocol.now)) }
 {

@@ -1,5 +1,5 @@
 //! Parts of a suite: scripts that were tried.
-ghost use Rattle.std.specs.Prelude.{◌≡◌, ◌<◌, ◌↔◌, IsTrue, IfOk, IfSome, OnOk, All, length};
+ghost use Rattle.std.specs.Prelude.{◌<◌, IsTrue, IfOk, IfSome, OnOk, All, length};
 ghost use Rattle.std.specs.List.{Contains};
 ghost use Rattle.kr_change.specs.GhostChanges.{changed_index};
 ghost use Rattle.kr_change.specs.GhostEvery.{index_changes_of};

@@ -15,9 +15,9 @@ ghost use Rattle.kr_cli_tables.specs.View.{EndsSo, NamesNoMemberTwice, ShowsGhos
 use kr_cli::{AnyGhostTable, Ending, Files};
 use kr_cli_diagnosis::ghost_script_with_help;
 use kr_ghost_protocol::GhostProtocol;
-use kr_ghost_script::GhostScript;
 use kr_ghost_view::ghost_picture;
 use kr_ghost_view_table::ghost_table_page;
+use kr_script::GhostScript;
 use kr_sink::{Sink, put_all};
 use std::alloc::Global;
 

@@ -1,16 +1,16 @@
 //! The table that is left where one relaxation after another is taken.
-ghost use Rattle.std.specs.Prelude.{◌≡◌, true, IfOk, IfSome};
-ghost use Rattle.kr_cli_tables.specs.Tightest.{IsTaken, IsTightest, RelaxedFrom, protocol_in};
+ghost use Rattle.std.specs.Prelude.{◌≡◌, ◌↔◌, true, IfOk, IfSome, IsTrue};
+ghost use Rattle.kr_kinds.specs.Kinds.{IsSafeIndex};
+ghost use Rattle.kr_cli_tables.specs.Tightest.{IsTaken, IsTightest, RelaxedFrom};
 ghost use Rattle.kr_relax_core.specs.Relaxations.{IsRelaxation, IsTight};
+ghost use Rattle.kr_table_copy.specs.Same.{index_in, names_in};
 
 use kr_change::{Change, Changed};
-use kr_decide::{Decision, decide};
-use kr_kinds::Gone;
+use kr_kinds::{Gone, IndexProtocol, Leaves};
 use kr_model::Memory;
-use kr_protocol::Protocol;
-use kr_relax_core::relaxations;
-use kr_relax_text::{Relaxation, copy_of, with_scripts};
-use kr_table::Table;
+use kr_relax_core::{is_safe_index, relaxations};
+use kr_relax_text::{Relaxation, with_scripts};
+use kr_table_copy::{Copy, copy_of};
 use std::alloc::Global;
 
 /// What becomes of a table where a relaxation of it is taken that a script shows.
@@ -21,7 +21,7 @@ enum Taken {
     /// It has some, and no script is known for any.
     Unshown,
     /// The table with it.
-    Relaxed(Table),
+    Relaxed(Copy),
     /// That table isn't read as it is written.
     Unwritten,
 }
@@ -29,7 +29,7 @@ enum Taken {
 /// A table that relaxations made, and whether it has none.
 #[derive(Drop)]
 pub(crate) struct Reached {
-    pub table: Table,
+    pub table: Copy,
     pub is_tight: bool,
 }
 
@@ -42,12 +42,11 @@ fn is_shown(list: &[Relaxation], at: usize) -> bool {
 }
 
 /// Takes a relaxation of a table.
-fn take(alloc: Global, table: &Table, change: Change) -> Result<Taken, Memory>
-    requires { IsRelaxation (protocol_in table.now) change }
-    ensures { IfOk result (IsTaken table.now) }
+fn take<P: IndexProtocol>(alloc: Global, table: &P, change: Change) -> Result<Taken, Memory>
+    requires { IsRelaxation (P.index table.now) change }
+    ensures { IfOk result (IsTaken (P.index table.now) (P.names table.now)) }
 {
-    let gone = Gone(table);
-    let Some(changed) = Changed::new(&gone, change) else {
+    let Some(changed) = Changed::new(table, change) else {
         return Ok(Taken::Unwritten);
     };
     match copy_of(alloc, &changed)? {
@@ -58,8 +57,8 @@ fn take(alloc: Global, table: &Table, change: Change) -> Result<Taken, Memory>
 
 /// Takes the first relaxation of a table that a script shows. Most often that is the first of all, for which a search alone is
 /// quicker than for all. Without a script two tables can each be a relaxation of the other.
-fn take_one(alloc: Global, table: &Table) -> Result<Taken, Memory>
-    ensures { IfOk result (IsTaken table.now) }
+fn take_shown<P: IndexProtocol>(alloc: Global, table: &P) -> Result<Taken, Memory>
+    ensures { IfOk result (IsTaken (P.index table.now) (P.names table.now)) }
 {
     let list = relaxations(alloc, table)?;
     if list.is_empty() {
@@ -78,21 +77,43 @@ fn take_one(alloc: Global, table: &Table) -> Result<Taken, Memory>
     Ok(Taken::Unshown)
 }
 
+/// The same of a table of either kind.
+fn take_one(alloc: Global, table: &Copy) -> Result<Taken, Memory>
+    ensures { IfOk result (IsTaken (index_in table.now) (names_in table.now)) }
+{
+    match table {
+        Copy::Gone(table) => take_shown(alloc, &Gone(table)),
+        Copy::Leaving(table) => take_shown(alloc, &Leaves(table)),
+    }
+}
+
+/// Whether a table is safe.
+fn is_safe_copy(alloc: Global, table: &Copy) -> Result<bool, Memory>
+    ensures { IfOk result (λ safe. IsTrue safe ↔ IsSafeIndex (index_in table.now)) }
+{
+    match table {
+        Copy::Gone(table) => is_safe_index(alloc, &Gone(table)),
+        Copy::Leaving(table) => is_safe_index(alloc, &Leaves(table)),
+    }
+}
+
 /// A table that relaxations made, if it is decided to be safe.
-fn if_safe<P: Protocol>(
+fn if_safe<P: IndexProtocol>(
     alloc: Global,
     protocol: &P,
-    table: Table,
+    table: Copy,
     is_tight: bool,
 ) -> Result<Option<Reached>, Memory>
-    requires from { RelaxedFrom (P.table protocol.now) (P.names protocol.now) table }
-    requires tight { is_tight ≡ true → IsTight (protocol_in table) }
-    ensures { IfOk result (λ found. IfSome found (λ it. IsTightest (P.table protocol.now) (P.names protocol.now) it.table it.is_tight)) }
+    requires from { RelaxedFrom (P.index protocol.now) (P.names protocol.now) table }
+    requires tight { is_tight ≡ true ↔ IsTight (index_in table) }
+    ensures { IfOk result (λ found. IfSome found (λ it. IsTightest (P.index protocol.now) (P.names protocol.now) it.table it.is_tight)) }
 {
     let _ = protocol;
-    match decide(alloc, &table)? {
-        Decision::Safe => Ok(Some(Reached { table, is_tight })),
-        Decision::Unsafe(_) => Ok(None),
+    let safe = is_safe_copy(alloc, &table)?;
+    if safe {
+        Ok(Some(Reached { table, is_tight }))
+    } else {
+        Ok(None)
     }
 }
 
@@ -100,8 +121,11 @@ fn if_safe<P: Protocol>(
 /// and so on until no script shows one. It is `None` where a table on the way isn't read as it is written, which no clause rules
 /// out.
 #[tactic(auto, using(crate::proofs::RelaxTaken::begun, crate::proofs::RelaxTaken::gone_on))]
-pub(crate) fn tightest<P: Protocol>(alloc: Global, protocol: &P) -> Result<Option<Reached>, Memory>
-    ensures { IfOk result (λ found. IfSome found (λ it. IsTightest (P.table protocol.now) (P.names protocol.now) it.table it.is_tight)) }
+pub(crate) fn tightest<P: IndexProtocol>(
+    alloc: Global,
+    protocol: &P,
+) -> Result<Option<Reached>, Memory>
+    ensures { IfOk result (λ found. IfSome found (λ it. IsTightest (P.index protocol.now) (P.names protocol.now) it.table it.is_tight)) }
 {
     let Some(first) = copy_of(alloc, protocol)? else {
         return Ok(None);

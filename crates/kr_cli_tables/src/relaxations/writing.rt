@@ -1,6 +1,6 @@
 //! From a locking protocol to its relaxations, to the tightest table, or to what the changes of an entry do, on a sink.
 ghost use Rattle.std.specs.Prelude.{◌≡◌, ◌⊎◌, false, IfErr, IfOk, IsTrue};
-ghost use Rattle.kr_model.specs.Safe.{IsSafe};
+ghost use Rattle.kr_kinds.specs.Kinds.{IsSafeIndex};
 ghost use Rattle.kr_cli.specs.Endings.{MemoryOrTold, is_output};
 ghost use Rattle.kr_cli.specs.Lines.{told_line};
 ghost use Rattle.kr_sink.specs.Puts.{HasCause};
@@ -9,8 +9,8 @@ ghost use Rattle.kr_cli_tables.specs.Relax.{EndsWriting, Writes, unmade_words, u
 use crate::relaxations::making::make;
 use crate::relaxations::words::Wanted;
 use kr_cli::Ending;
-use kr_decide::{Decision, decide};
-use kr_protocol::Protocol;
+use kr_kinds::IndexProtocol;
+use kr_relax_core::is_safe_index;
 use kr_sink::{Sink, put_all};
 use std::alloc::Global;
 
@@ -41,16 +41,16 @@ fn unmade_ending(alloc: Global, word: &str, wanted: Wanted<'_>) -> Ending
 }
 
 /// Writes what is wanted of a safe protocol.
-fn write_safe<P: Protocol, W: Sink>(
+fn write_safe<P: IndexProtocol, W: Sink>(
     alloc: Global,
     word: &str,
     protocol: &P,
     wanted: Wanted<'_>,
     out: &mut W,
 ) -> Result<bool, Ending>
-    requires { IsSafe (P.table protocol.now) }
-    ensures writes { IfOk result (Writes (P.table protocol.now) (P.names protocol.now) wanted.entry (W.taken out.old) (W.taken out.new)) }
-    ensures err { IfErr result (EndsWriting (P.table protocol.now) (P.names protocol.now) word.now wanted.entry) }
+    requires { IsSafeIndex (P.index protocol.now) }
+    ensures writes { IfOk result (Writes (P.index protocol.now) (P.names protocol.now) wanted.entry (W.taken out.old) (W.taken out.new)) }
+    ensures err { IfErr result (EndsWriting (P.index protocol.now) (P.names protocol.now) word.now wanted.entry) }
     ensures nothing { IfErr result (λ e. IsTrue (is_output e) ⊎ (out.new ≡ out.old)) }
     ensures cause { IfErr result (λ e. IsTrue (is_output e) → HasCause (W.failures out.old) (W.failures out.new)) }
 {
@@ -66,20 +66,20 @@ fn write_safe<P: Protocol, W: Sink>(
 /// name that no entry has. Where a growth was refused, nothing is written; where printing fails, a prefix of the
 /// text was.
 #[tactic(auto, using(crate::proofs::RelaxEnded::unsafe_ends))]
-pub fn write_relaxed<P: Protocol, W: Sink>(
+pub fn write_relaxed<P: IndexProtocol, W: Sink>(
     alloc: Global,
     word: &str,
     protocol: &P,
     wanted: Wanted<'_>,
     out: &mut W,
 ) -> Result<bool, Ending>
-    ensures writes { IfOk result (Writes (P.table protocol.now) (P.names protocol.now) wanted.entry (W.taken out.old) (W.taken out.new)) }
-    ensures err { IfErr result (EndsWriting (P.table protocol.now) (P.names protocol.now) word.now wanted.entry) }
+    ensures writes { IfOk result (Writes (P.index protocol.now) (P.names protocol.now) wanted.entry (W.taken out.old) (W.taken out.new)) }
+    ensures err { IfErr result (EndsWriting (P.index protocol.now) (P.names protocol.now) word.now wanted.entry) }
     ensures nothing { IfErr result (λ e. IsTrue (is_output e) ⊎ (out.new ≡ out.old)) }
     ensures cause { IfErr result (λ e. IsTrue (is_output e) → HasCause (W.failures out.old) (W.failures out.new)) }
 {
-    match decide(alloc, protocol)? {
-        Decision::Safe => write_safe(alloc, word, protocol, wanted, out),
-        Decision::Unsafe(_) => Err(unsafe_ending(alloc, word)),
+    if !is_safe_index(alloc, protocol)? {
+        return Err(unsafe_ending(alloc, word));
     }
+    write_safe(alloc, word, protocol, wanted, out)
 }

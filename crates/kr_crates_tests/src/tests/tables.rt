@@ -3,6 +3,7 @@
 mod alike;
 mod cases;
 mod causes;
+mod copies;
 mod decide;
 mod ghosts;
 mod model;

@@ -1,6 +1,5 @@
-use Rattle.std.proofs.Common.{◌≡◌, ◌++◌, [], ◌∷◌, ap, subst, ◌∙◌}
+use Rattle.std.proofs.Common.{◌++◌, [], ◌∷◌, ap, subst, ◌∙◌}
 use Rattle.std.specs.Io.KnownBytes.{Appends}
-use Rattle.kr_cli_tasks.specs.Threads.{ghost_threads_line}
 use Rattle.kr_cli_tasks.proofs.ghost_threads.thread_ghosts.Goals as goal
 
 -- The text that was printed is the line of what the threads did.

@@ -100,7 +100,7 @@ fn table_of(rt: &impl Abort, alloc: Global, texts: &[&str]) -> Result<GhostTable
 }
 
 /// Whether two protocols say the same of ghosts.
-fn have_ghosts_alike<P: GhostProtocol, Q: GhostProtocol>(one: &P, other: &Q) -> bool {
+pub(super) fn have_ghosts_alike<P: GhostProtocol, Q: GhostProtocol>(one: &P, other: &Q) -> bool {
     for mode in 0..one.count() + 1 {
         if mode > other.count() || one.heir(mode) != other.heir(mode) {
             return false;
@@ -113,6 +113,7 @@ fn have_ghosts_alike<P: GhostProtocol, Q: GhostProtocol>(one: &P, other: &Q) -> 
     }
     one.revive() == other.revive()
         && one.revive_next() == other.revive_next()
+        && one.insert_hit_next() == other.insert_hit_next()
         && one.inherits() == other.inherits()
 }
 

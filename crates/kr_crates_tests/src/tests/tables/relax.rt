@@ -1,12 +1,14 @@
 //! What a table blocks needlessly, compared with what a search in another language found (`tests/relax`).
-use kr_change::changes_of;
+use kr_change::index_changes_of;
+use kr_ghost_protocol::{NextKeyGhost, RecordGap};
+use kr_kinds::{Gone, Leaves};
 use kr_protocol::{Im, Protocol};
 use kr_relax_core::{
-    Change, Entry, Judged, Mode, Outcome, Relaxed, Row, Side, Span, Twin, outcomes_of, relaxations,
-    spots_of, twins_of, unused_entries,
+    Change, Entry, Judged, Mode, Outcome, Place, Relaxed, Row, Side, Span, Twin, is_safe_index,
+    outcomes_of, relaxations, spots_of, twins_of, unused_entries,
 };
 use kr_relax_text::{
-    changes_of_entry, copy_of, one_relaxes, reasons_for, reasons_text, relaxed_text, unused_text,
+    changes_of_entry, one_relaxes, reasons_for, reasons_text, relaxed_text, unused_text,
     with_scripts,
 };
 use kr_table::bundled::{IM, KVL, RANGE_KEY};
@@ -40,7 +42,7 @@ fn instant_with(own: u32) -> Change {
 #[test]
 fn a_needless_lock_is_named(rt: HostRuntime) -> Result<(), Fail> {
     let table = inserts_to_commit(rt.alloc())?;
-    let list = relaxations(rt.alloc(), &table)?;
+    let list = relaxations(rt.alloc(), &Gone(&table))?;
     let widest = Relaxed {
         change: instant_with(0),
         width: 9,
@@ -50,7 +52,7 @@ fn a_needless_lock_is_named(rt: HostRuntime) -> Result<(), Fail> {
         width: 4,
     };
     same!(rt; list.as_slice(), [widest, other].as_slice());
-    let list = with_scripts(rt.alloc(), &table, &list)?;
+    let list = with_scripts(rt.alloc(), &Gone(&table), &list)?;
     assert!(rt; list.iter().all(|it| it.script.is_some()));
     let text = relaxed_text(rt.alloc(), &table, &list)?;
     assert!(rt; text.as_str().starts_with(FIRST));
@@ -66,22 +68,13 @@ const FIRST: &str = "1. insert next own none: X instant
 #[test]
 fn a_tight_table_has_none(rt: HostRuntime) -> Result<(), Fail> {
     let alloc = rt.alloc();
-    assert!(rt; relaxations(alloc, &Im)?.is_empty());
+    assert!(rt; relaxations(alloc, &Gone(Im))?.is_empty());
     same!(rt; relaxed_text(alloc, &Im, &[])?.as_str(), "tight: no single entry can be relaxed\n");
-    let spots = spots_of(alloc, &Im)?;
+    let spots = spots_of(alloc, &Gone(Im))?;
     same!(rt; spots.len(), 59);
-    let twins = twins_of(alloc, &Im, &Im, &spots)?;
+    let twins = twins_of(alloc, &Gone(Im), &Gone(Im), &spots)?;
     same!(rt; twins.len(), 3);
     assert!(rt; twins.contains(&Twin { mode: 2, twin: 2 }));
-    Ok(())
-}
-
-#[test]
-fn a_table_is_copied(rt: HostRuntime) -> Result<(), Fail> {
-    let copy = copy_of(rt.alloc(), &Im)?.ok_or("no copy")?;
-    same!(rt; copy.count(), Im.count());
-    same!(rt; copy.name(1), "S");
-    same!(rt; copy.ask(Row::Delete, Side::Next, 0), Im.ask(Row::Delete, Side::Next, 0));
     Ok(())
 }
 
@@ -99,7 +92,7 @@ fn without_lock(mode: Mode, span: Span) -> Change {
 fn the_widest_come_first(rt: HostRuntime) -> Result<(), Fail> {
     let alloc = rt.alloc();
     let table = with_commit(alloc, KVL, r#"next = [{ mode = "IX", span = "instant" }]"#)?;
-    let list = relaxations(alloc, &table)?;
+    let list = relaxations(alloc, &Gone(&table))?;
     same!(rt; list.len(), 7);
     for (it, width) in list.iter().zip([12, 11, 11, 4, 4, 4, 2].iter()) {
         same!(rt; it.width, *width);
@@ -120,14 +113,14 @@ fn number_of(list: &[Judged], outcome: Outcome) -> usize {
 fn each_change_has_its_outcome(rt: HostRuntime) -> Result<(), Fail> {
     let alloc = rt.alloc();
     let table = inserts_to_commit(alloc)?;
-    let mut changes = changes_of(alloc, &table)?;
+    let mut changes = index_changes_of(alloc, &Gone(&table))?;
     same!(rt; changes.len(), 72);
     changes.push(Change::Compatible {
         requested: 3,
         held: 1,
         is_compatible: true,
     })?;
-    let list = outcomes_of(alloc, &table, &changes)?;
+    let list = outcomes_of(alloc, &Gone(&table), &changes)?;
     same!(rt; list.len(), 73);
     assert!(rt;
         list.iter()
@@ -150,7 +143,7 @@ fn each_change_has_its_outcome(rt: HostRuntime) -> Result<(), Fail> {
 fn unused_of(alloc: Global, text: &str) -> Result<[usize; 3], Fail> {
     let table = read(alloc, text.as_bytes()).map_err(|_| "no table")?;
     let mut counts = [0; 3];
-    for entry in &unused_entries(alloc, &table)? {
+    for entry in &unused_entries(alloc, &Gone(&table))? {
         match entry {
             Entry::Pair { .. } => counts[0] += 1,
             Entry::Conversion { .. } => counts[1] += 1,
@@ -167,7 +160,7 @@ fn unused_entries_are_named(rt: HostRuntime) -> Result<(), Fail> {
     same!(rt; unused_of(alloc, KVL)?, [12, 13, 4]);
     same!(rt; unused_of(alloc, RANGE_KEY)?, [69, 79, 16]);
     let kvl = read(alloc, KVL.as_bytes()).map_err(|_| "no table")?;
-    let list = unused_entries(alloc, &kvl)?;
+    let list = unused_entries(alloc, &Gone(&kvl))?;
     same!(rt; list[0], Entry::Pair { requested: 1, held: 1 });
     same!(rt; list[12], Entry::Conversion { held: 1, requested: 1 });
     same!(rt; list[25], Entry::Request { row: Row::Insert, side: Side::Current, own_next: 1 });
@@ -178,11 +171,11 @@ fn unused_entries_are_named(rt: HostRuntime) -> Result<(), Fail> {
 fn each_change_of_an_entry_has_a_reason(rt: HostRuntime) -> Result<(), Fail> {
     let alloc = rt.alloc();
     let table = inserts_to_commit(alloc)?;
-    assert!(rt; changes_of_entry(alloc, &table, "insert next own")?.is_empty());
-    let changes = changes_of_entry(alloc, &table, "insert next own none")?;
+    assert!(rt; changes_of_entry(alloc, &Gone(&table), "insert next own")?.is_empty());
+    let changes = changes_of_entry(alloc, &Gone(&table), "insert next own none")?;
     same!(rt; changes.len(), 4);
     assert!(rt; changes.contains(&instant_with(0)));
-    let list = reasons_for(alloc, &table, &changes)?;
+    let list = reasons_for(alloc, &Gone(&table), &changes)?;
     same!(rt; list.iter().filter(|it| it.wrong.is_some()).count(), 3);
     assert!(rt; one_relaxes(&list));
     assert!(rt; !one_relaxes(&list[..1]));
@@ -222,5 +215,35 @@ fn unused_entries_are_told_together(rt: HostRuntime) -> Result<(), Fail> {
     let text = unused_text(rt.alloc(), &Im, &entries)?;
     let lines = "unused: S beside S X\nunused: X held, S asked\nunused: delete next own none\n";
     same!(rt; text.as_str(), lines);
+    Ok(())
+}
+
+/// What an update requests on its key.
+fn update_to(request: Option<(Mode, Span)>) -> Change {
+    Change::Request {
+        row: Row::Update,
+        side: Side::Current,
+        own_next: None,
+        request,
+    }
+}
+
+#[test]
+fn a_table_with_ghosts_has_relaxations(rt: HostRuntime) -> Result<(), Fail> {
+    let alloc = rt.alloc();
+    let table = Leaves(NextKeyGhost);
+    assert!(rt; is_safe_index(alloc, &table)?);
+    same!(rt; spots_of(alloc, &table)?.len(), 173);
+    let spots = spots_of(alloc, &Leaves(RecordGap))?;
+    same!(rt; spots.len(), 354);
+    assert!(rt; spots.iter().any(|spot| spot.request.place == Place::Purge));
+    let weaker = (1..table.count() + 1)
+        .find(|mode| table.name(*mode) == "KW")
+        .ok_or("no KW")?;
+    let changes = [update_to(Some((weaker, Span::Commit))), update_to(None)];
+    let list = outcomes_of(alloc, &table, &changes)?;
+    same!(rt; list[0].outcome, Outcome::Relaxes(1));
+    same!(rt; list[1].outcome, Outcome::Unsafe);
+    same!(rt; unused_entries(alloc, &table)?.len(), 20);
     Ok(())
 }

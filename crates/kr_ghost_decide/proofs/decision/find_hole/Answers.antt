@@ -1,6 +1,7 @@
 use Rattle.std.proofs.Common.{subst, arith, List}
 use Rattle.kr_ghost_decide.specs.declared.heir.Heirs.{Heirs}
 use Rattle.kr_ghost_decide.specs.Found.{IsPassed, AreFollowed}
+use Rattle.kr_ghost_decide.specs.Holes.{NoHoles}
 use Rattle.kr_ghost_decide.proofs.News.{passing}
 use Rattle.kr_ghost_decide.proofs.Complete.{safe_by_test}
 use Rattle.kr_ghost_decide.proofs.decision.find_hole.Goals as goal
@@ -11,7 +12,7 @@ loop-before-init g c = let f = c.in_ok-found.ensures in record { found = f; more
 pub loop-before-preserved : goal.loop-before-preserved
 loop-before-preserved g c =
     let p = g.P.GhostProtocol.ghosts c.args.protocol.now in
-    passing p c.loop-before.found c.pass.new.self c.in_ok-heirs.heirs.items c.in_default.ensures.none c.in_ok-heirs.ensures
+    passing p (NoHoles p 294912) c.loop-before.found c.pass.new.self c.in_ok-heirs.heirs.items c.in_default.ensures.none c.in_ok-heirs.ensures
     (subst (λ (h : List Heirs). IsPassed p (AreFollowed p h 294912) c.loop-before.found c.pass.new.self) c.deref.ensures.value c.pass.ensures)
 
 pub returns : goal.returns

@@ -1,4 +1,4 @@
-use Rattle.std.proofs.Common.{◌≡◌, ◌-◌, ◌++◌, ◌≤◌}
+use Rattle.std.proofs.Common.{◌≡◌, ◌-◌, ◌++◌}
 use Rattle.kr_ghost_follow.specs.Points.{parts}
 use Rattle.kr_ghost_follow.proofs.downwards.parts.Given as goal
 

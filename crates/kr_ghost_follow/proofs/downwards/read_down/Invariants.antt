@@ -1,6 +1,6 @@
 use Rattle.std.proofs.Common.{◌≡◌, drop}
 use Rattle.kr_ghost_follow.specs.Points.{falling, read_down, unread}
-use Rattle.kr_ghost_follow.specs.Tries.{line_of, moment, tried_so}
+use Rattle.kr_ghost_follow.specs.Tries.{moment, tried_so}
 use Rattle.kr_ghost_follow.proofs.downwards.read_down.Given as goal
 
 -- What is left ends with the last step of all.

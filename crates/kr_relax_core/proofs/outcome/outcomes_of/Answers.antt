@@ -4,7 +4,7 @@ use Rattle.kr_relax_core.proofs.outcome.outcomes_of.Goals as goal
 -- one change more is judged
 pub loop-at-preserved : goal.loop-at-preserved
 loop-at-preserved g c =
-    let p = g.P.Protocol.table c.args.protocol.now in
+    let p = g.P.IndexProtocol.index c.args.protocol.now in
     let changes = c.args.changes.now in
     let old = c.loop-at.list.items in
     let new = c.push.new.self.items in

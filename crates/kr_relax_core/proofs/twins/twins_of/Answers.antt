@@ -9,8 +9,8 @@ use Rattle.kr_relax_core.proofs.twins.twins_of.Goals as goal
 -- where nothing was added, the list has all
 pub returns-then-len : goal.returns-then-len
 returns-then-len g c =
-    let p = g.P.Protocol.table c.args.base.now in
-    let q = g.Q.Protocol.table c.args.other.now in
+    let p = g.P.IndexProtocol.index c.args.base.now in
+    let q = g.Q.IndexProtocol.index c.args.other.now in
     let spots = c.args.spots.now in
     let old = c.loop-found.found.twins.items in
     let new = c.add_all.new.self.twins.items in

@@ -10,13 +10,13 @@ use Rattle.kr_relax_core.proofs.unused.unused_entries.Goals.{then-not-is_used+in
 -- at first no entry has been looked at
 pub loop-at-init : goal.loop-at-init
 loop-at-init g c =
-    let p = g.P.Protocol.table c.args.protocol.now in
+    let p = g.P.IndexProtocol.index c.args.protocol.now in
     subst (Selects (IsUnused p) []) (sym c.new-list.ensures.items) none
 
 -- with one entry more
 pub loop-at-preserved : goal.loop-at-preserved
 loop-at-preserved g c =
-    let p = g.P.Protocol.table c.args.protocol.now in
+    let p = g.P.IndexProtocol.index c.args.protocol.now in
     let entries = c.in_ok-entries.entries.items in
     let at = c.loop-at.at in
     let x = c.index-entry.result.now in
@@ -39,7 +39,7 @@ loop-at-preserved g c =
 -- all entries have been
 pub returns : goal.returns
 returns g c =
-    let p = g.P.Protocol.table c.args.protocol.now in
+    let p = g.P.IndexProtocol.index c.args.protocol.now in
     let entries = c.in_ok-entries.entries.items in
     let list = c.loop-at.list.items in
     let end : length entries ≤ c.loop-at.at = omega (arith, c.len-at-end.ensures, c.loop-at-test.false) in

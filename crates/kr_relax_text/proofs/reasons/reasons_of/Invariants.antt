@@ -5,4 +5,4 @@ use Rattle.kr_relax_text.specs.Reasons.{IsWrong, IsWrongOnly, judged_in}
 use Rattle.kr_relax_text.proofs.reasons.reasons_of.Given as goal
 
 abbrev pub invariant-loop-one : goal.invariant-loop-one
-invariant-loop-one g l = (judged_in l.list.items ≡ take l.one-index l.judged) × (All (IsWrong (g.P.Protocol.table l.protocol)) l.list.items × All IsWrongOnly l.list.items)
+invariant-loop-one g l = (judged_in l.list.items ≡ take l.one-index l.judged) × (All (IsWrong (g.P.IndexProtocol.index l.protocol)) l.list.items × All IsWrongOnly l.list.items)

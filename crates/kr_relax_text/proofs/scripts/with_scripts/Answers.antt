@@ -5,7 +5,7 @@ use Rattle.kr_relax_text.proofs.scripts.with_scripts.Goals as goal
 
 pub loop-relaxed-preserved : goal.loop-relaxed-preserved
 loop-relaxed-preserved g c =
-    let p = g.P.Protocol.table c.args.protocol.now in
+    let p = g.P.IndexProtocol.index c.args.protocol.now in
     let k = c.loop-relaxed.relaxed-index in
     let within : k < length c.args.relaxations.now = search (rules, c.loop-relaxed-test.true) in
     let is : c.in_ok-one.one.relaxed ≡ get_or c.args.relaxations.now k c.in_ok-one.one.relaxed = search (rules, within, c.in_ok-one.ensures.relaxed) in

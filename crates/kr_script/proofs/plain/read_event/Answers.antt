@@ -9,13 +9,13 @@ use Rattle.kr_script.proofs.plain.read_event.Goals as goal
 
 pub returns-then-take_end_array-clause-next : goal.returns-then-take_end_array-clause-next
 returns-then-take_end_array-clause-next c =
-    let op = c.in_ok-op.op in
-    let txn : ℕ = c.in_ok-txn.txn in
+    let event = c.in_ok-event.event in
+    let op = event.op in
+    let txn : ℕ = event.txn in
     let last = c.take_end_array.new.self in
-    let end : after_end_array c.read_op.new.reader ≡ Some last = grind arith in
-    let number : IsNext 124 c.open_array.new.reader (whole txn) c.read_number.new.reader = grind (arith, c.in_ok-read_number.ensures 124) in
-    let word : IsNext 124 c.read_number.new.reader (string (word_of op)) c.read_word.new.reader = subst (λ s. IsNext 124 c.read_number.new.reader (string s) c.read_word.new.reader) c.in_ok-op.ensures.word (c.in_ok-word.ensures 124) in
-    let all = array_next 125 c.open_array.new.reader c.read_op.new.reader last (whole txn ∷ string (word_of op) ∷ behind_word op) (omega arith)
-    (c.read_number.new.reader, number, (c.read_word.new.reader, word, c.in_ok-op.ensures.next)) end in
+    let end : after_end_array c.read_step.new.reader ≡ Some last = grind arith in
+    let number : IsNext 124 c.open_array.new.reader (whole txn) c.read_number.new.reader = subst (λ (n : ℕ). IsNext 124 c.open_array.new.reader (whole n) c.read_number.new.reader) (sym c.in_ok-event.ensures.txn) (c.in_ok-txn.ensures 124) in
+    let all = array_next 125 c.open_array.new.reader c.read_step.new.reader last (whole txn ∷ string (word_of op) ∷ behind_word op) (omega arith)
+    (c.read_number.new.reader, number, c.in_ok-event.ensures.next) end in
     subst (λ ds. IsNext 125 c.args.reader.now (array (item (whole txn) ds)) last) (items_of_step op)
     (subst (λ ts. IsNext 125 ts (array (item (whole txn) (item (string (word_of op)) (items_of (behind_word op))))) last) (sym c.in_ok-open_array.ensures) all)

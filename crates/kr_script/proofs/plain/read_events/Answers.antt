@@ -3,7 +3,7 @@ use Rattle.std.proofs.lemmas.List.{map-append}
 use Rattle.json.specs.Json.{after_end_array}
 use Rattle.serde_json.specs.Data.{array}
 use Rattle.serde_json.specs.View.{items_of}
-use Rattle.kr_script.specs.Steps.{step_of}
+use Rattle.kr_script.specs.Steps.{event_of, step_of}
 use Rattle.kr_script.specs.Tokens.{IsNext, AreNext}
 use Rattle.kr_script.proofs.Documents.{array_next, one_more_next, back_further, ReadBack}
 use Rattle.kr_script.proofs.plain.read_events.Goals as goal
@@ -21,7 +21,7 @@ events-preserved c =
       next = subst (λ ds. AreNext 125 start ds c.read_event.new.reader) (sym (ap (map step_of) items ∙ map-append step_of before (event ∷ [])))
           (one_more_next 125 start l.reader c.read_event.new.reader (map step_of before) (step_of event) l.invariant.next next);
       opened = l.invariant.opened;
-      back = subst (ReadBack c.args.two) (sym items) (back_further c.args.two before event l.invariant.back c.in_ok-event.ensures.back);
+      back = subst (ReadBack step_of (event_of c.args.two)) (sym items) (back_further step_of (event_of c.args.two) before event l.invariant.back c.in_ok-event.ensures.back);
       few = grind arith;
     }
 

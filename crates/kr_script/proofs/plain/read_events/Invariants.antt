@@ -1,6 +1,6 @@
 use Rattle.std.proofs.Common.{◌≡◌, ◌≤◌, ◌∷◌, map, length}
 use Rattle.json.specs.Token.{Token}
-use Rattle.kr_script.specs.Steps.{step_of}
+use Rattle.kr_script.specs.Steps.{event_of, step_of}
 use Rattle.kr_script.specs.Tokens.{AreNext}
 use Rattle.kr_script.proofs.Documents.{ReadBack}
 use Rattle.kr_script.proofs.plain.read_events.Given as goal
@@ -10,7 +10,7 @@ abbrev pub invariant-events : goal.invariant-events
 invariant-events l = record {
   next : AreNext 125 l.initial.reader (map step_of l.events.items) l.reader;
   opened : l.fn.reader ≡ Token.begin_array ∷ l.initial.reader;
-  back : ReadBack l.two l.events.items;
+  back : ReadBack step_of (event_of l.two) l.events.items;
   few : length l.events.items ≤ 100000;
 }
 

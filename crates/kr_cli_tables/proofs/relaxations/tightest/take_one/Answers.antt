@@ -1,20 +1,11 @@
-use Rattle.std.proofs.Common.{◌≡◌, ◌<◌, length, rules, vec_len}
-use Rattle.kr_cli_tables.specs.Tightest.{protocol_in}
-use Rattle.kr_cli_tables.proofs.RelaxTaken.{is_one, some_if, tight_if_none}
+use Rattle.std.proofs.Common.{IfOk, sym, subst}
+use Rattle.kr_table_copy.specs.declared.copying.Copy.{Copy}
+use Rattle.kr_table_copy.specs.Same.{index_in, names_in}
+use Rattle.kr_cli_tables.specs.Tightest.{IsTaken}
 use Rattle.kr_cli_tables.proofs.relaxations.tightest.take_one.Goals as goal
 
-pub returns-then-is_empty : goal.returns-then-is_empty
-returns-then-is_empty c =
-    let none : length c.in_ok-list.list.items ≡ 0 = search (rules, c.is_empty.ensures, c.if-is_empty.true) in
-    tight_if_none (protocol_in c.args.table.now) c.in_ok-list.list.items none c.in_ok-list.ensures.exactly
+pub returns-in-Gone : goal.returns-in-Gone
+returns-in-Gone c = subst (λ (t : Copy). IfOk c.take_shown.result (IsTaken (index_in t) (names_in t))) (sym c.in-Gone.is) c.take_shown.ensures
 
-pub take-requires : goal.take-requires
-take-requires c =
-    let least : 0 < vec_len c.in_ok-list.list = some_if (vec_len c.in_ok-list.list) c.is_empty.result c.is_empty.ensures c.if-is_empty.false in
-    let some : 0 < length c.in_ok-list.list.items = search (rules, least) in
-    is_one (protocol_in c.args.table.now) c.in_ok-list.list.items 0 c.index-first.result.now c.in_ok-list.ensures.exactly some c.index-first.ensures
-
-pub take-requires-then-is_shown-2 : goal.take-requires-then-is_shown-2
-take-requires-then-is_shown-2 c =
-    let within : c.loop-at.at < length c.in_ok-list.list.items = search (rules, c.loop-at-test.true, c.len-at-end.ensures) in
-    is_one (protocol_in c.args.table.now) c.in_ok-list.list.items c.loop-at.at c.index.result.now c.loop-at.invariant within c.index.ensures
+pub returns-in-Leaving : goal.returns-in-Leaving
+returns-in-Leaving c = subst (λ (t : Copy). IfOk c.take_shown-in-Leaving.result (IsTaken (index_in t) (names_in t))) (sym c.in-Leaving.is) c.take_shown-in-Leaving.ensures

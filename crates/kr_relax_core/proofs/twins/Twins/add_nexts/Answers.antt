@@ -7,8 +7,8 @@ use Rattle.kr_relax_core.proofs.twins.Twins.add_nexts.Goals.{then-next-request+i
 
 pub loop-at-preserved : goal.loop-at-preserved
 loop-at-preserved g c =
-    let p = g.P.Protocol.table c.args.base.now in
-    let q = g.Q.Protocol.table c.args.other.now in
+    let p = g.P.IndexProtocol.index c.args.base.now in
+    let q = g.Q.IndexProtocol.index c.args.other.now in
     let from = c.args.from.now in
     let at = c.loop-at.at in
     let old = c.loop-at.self in

@@ -6,6 +6,6 @@ use Rattle.kr_relax_core.proofs.twins.Twins.new.Goals as goal
 
 pub returns : goal.returns
 returns g c =
-    found_first (g.P.Protocol.table c.args.base.now) (g.Q.Protocol.table c.args.other.now) _
+    found_first (g.P.IndexProtocol.index c.args.base.now) (g.Q.IndexProtocol.index c.args.other.now) _
     (c.in_ok-push.ensures.items ∙ ap (λ (l : List Twin). l ++ twin_of 0 0 ∷ []) c.new-twins.ensures.items)
     (ap (λ (l : List Bool). set l 0 false) (let h = c.in_ok-unseen.ensures in h.items_if_clones_equal (λ y e. e)))

@@ -1,6 +1,0 @@
--- the held modes so far
-use Rattle.kr_relax_text.specs.Same.{SamePairs}
-use Rattle.kr_relax_text.proofs.same.has_same_pairs.Given as goal
-
-abbrev pub invariant-loop-held : goal.invariant-loop-held
-invariant-loop-held g l = SamePairs (g.P.Protocol.table l.one) (g.Q.Protocol.table l.other) l.requested l.held

@@ -1,6 +1,0 @@
--- the own modes so far
-use Rattle.kr_relax_text.specs.Same.{SameRequests}
-use Rattle.kr_relax_text.proofs.same.has_same_requests.Given as goal
-
-abbrev pub invariant-loop-own : goal.invariant-loop-own
-invariant-loop-own g l = SameRequests (g.P.Protocol.table l.one) (g.Q.Protocol.table l.other) l.row l.side l.own
