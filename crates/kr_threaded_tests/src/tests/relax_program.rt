@@ -6,7 +6,7 @@ use kr_table::bundled::IM;
 use std::test::Fail;
 
 /// A table under which schedules go wrong, and a text that is none.
-const SHELF: Shelf = Shelf(&[("nothing", ASKS_NOTHING), ("im", IM), ("bad", "format = 3")]);
+const SHELF: Shelf = Shelf(&[("nothing", ASKS_NOTHING), ("im", IM), ("bad", "format = 4")]);
 
 /// Words that aren't understood.
 const NOT_UNDERSTOOD: &str =
